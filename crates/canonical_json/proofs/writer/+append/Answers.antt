@@ -1,0 +1,42 @@
+use Rattle.std.proofs.Common.{◌≡◌, ◌++◌, ◌∷◌, [], sym, ap, subst, OnOk, ◌∙◌, rules}
+use Rattle.canonical_json.specs.Json.{object}
+use Rattle.canonical_json.specs.Spelling.{spelling}
+use Rattle.canonical_json.specs.View.{view, members_view}
+use Rattle.canonical_json.proofs.Appending.{more_front, item_inside, list_written, member_inside, member_written, object_written}
+use Rattle.canonical_json.proofs.Turns.{view_object}
+use Rattle.canonical_json.proofs.writer.+append.Goals as goal
+
+pub list-value-requires : goal.list-value-requires
+list-value-requires t c =
+    let within = item_inside c.items.rest.now c.in-Some.later.now c.args.values.now c.in-Some.item.now c.in-Some.ensures.cases.0 c.items.invariant.inside in
+    search rules
+
+pub list-returns-clause-ok : goal.list-returns-clause-ok
+list-returns-clause-ok t c =
+    list_written c.items.first c.args.out.now.items c.items.out.items c.push-2.new.self.items c.args.values.now c.items.rest.now c.in_default.ensures.cases c.items.invariant.text c.in_ok-push-2.ensures.items
+
+pub object-value-requires : goal.object-value-requires
+object-value-requires t c =
+    let within = member_inside c.members.rest.now c.in-Some.later.now c.args.members.now c.in-Some.member.now c.in-Some.ensures.cases.0 c.members.invariant.inside in
+    search rules
+
+pub object-members-preserved : goal.object-members-preserved
+object-members-preserved t c =
+    let m = c.in-Some.member.now in
+    let within = member_inside c.members.rest.now c.in-Some.later.now c.args.members.now m c.in-Some.ensures.cases.0 c.members.invariant.inside in
+    let written = member_written c.members.first c.members.out.items c.comma.new.out.items c.text.new.out.items c.push-in-Some.new.self.items c.value.new.out.items c.members.rest.now c.in-Some.later.now m
+    c.in-Some.ensures.cases.0 c.in_ok-comma.ensures.ok (search rules) c.in_ok-push-2.ensures.items c.in_ok-value.ensures.ok in
+    let commas = more_front _ _ _ c.members.invariant.front c.comma.ensures.front in
+    let named = more_front _ _ _ commas c.text.ensures.front in
+    let colon = more_front _ _ c.push-in-Some.new.self.items named (58 ∷ [], c.in_ok-push-2.ensures.items) in
+    record { front = more_front _ _ _ colon c.value.ensures.front; inside = within.1; text = written ∙ c.members.invariant.text }
+
+pub object-returns-clause-ok : goal.object-returns-clause-ok
+object-returns-clause-ok t c =
+    object_written c.members.first c.args.out.now.items c.members.out.items c.push-2.new.self.items c.args.members.now c.members.rest.now c.in_default.ensures.cases c.members.invariant.text c.in_ok-push-3.ensures.items
+
+pub value-returns-in-Object-clause-ok : goal.value-returns-in-Object-clause-ok
+value-returns-in-Object-clause-ok t c =
+    let seen : object (members_view c.deref-in-Object.result.now) ≡ view c.args.value.now =
+    ap (λ ms. object (members_view ms)) c.deref-in-Object.ensures.value ∙ sym (view_object c.in-Object.members) ∙ ap view (sym c.in-Object.is) in
+    subst (λ j. OnOk c.object.result (c.object.new.out.items ≡ c.args.out.now.items ++ spelling j)) seen c.object.ensures.ok

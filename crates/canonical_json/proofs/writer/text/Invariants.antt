@@ -1,0 +1,13 @@
+use Rattle.std.proofs.Common.{◌≡◌, [], ◌∷◌, ◌++◌, length}
+use Rattle.canonical_json.specs.Writing.{GoesOn}
+use Rattle.canonical_json.specs.Texts.{closed_text}
+use Rattle.canonical_json.proofs.writer.text.Given as goal
+
+abbrev pub invariant-bytes : goal.invariant-bytes
+invariant-bytes l = record {
+  front : GoesOn l.fn.out.items l.out.items;
+  text : l.out.items ++ closed_text l.rest [] ≡ l.fn.out.items ++ 34 ∷ closed_text l.fn.text [];
+}
+
+abbrev pub decreases-bytes : goal.decreases-bytes
+decreases-bytes l = length l.rest
