@@ -1,10 +1,10 @@
 -- What a reader meets: a value with its separators and its closing bracket, from the front on.
-use Rattle.std.proofs.Common.{◌≡◌, ℕ, ◌≤◌, List, [], ◌∷◌, ◌++◌, Bool, true, false, if◌then◌else◌, Option, Some, None, refl, sym, ap, ◌∙◌, append_assoc, flat_map, IsUtf8, Less, Equal, Greater, Ordering}
+use Rattle.std.proofs.Common.{◌≡◌, ℕ, ◌≤◌, length, ap₂, arith, List, [], ◌∷◌, ◌++◌, Bool, true, false, if◌then◌else◌, Option, Some, None, refl, sym, ap, ◌∙◌, append_assoc, flat_map, IsUtf8, Less, Equal, Greater, Ordering}
 use Rattle.std.specs.Ordering.{is_lt, nat_cmp}
 use Rattle.std.specs.Cmp.Lexicographic.{slice_cmp}
 use Rattle.std.specs.List.{AllByRecursion, join_with_byte}
 use Rattle.canonical_json.specs.Json.{Json, Items, no_items, item, Members, no_members, member, Everywhere, EachItem, EachMember, depth, items_depth, members_depth, names}
-use Rattle.canonical_json.specs.Spelling.{byte_spelling, text_spelling, spelling, item_spellings, member_spellings, AreRising, IsSound, IntegerFits, IsProper}
+use Rattle.canonical_json.specs.Spelling.{byte_spelling, text_spelling, spelling, item_spellings, member_spellings, AreRising, IsSound, IntegerFits, IsProper, IsAllowed}
 use Rattle.canonical_json.specs.Texts.{closed_text}
 use Rattle.canonical_json.specs.Reading.{Outcome, got, bad, reading, as_read, is_behind, most}
 use Rattle.canonical_json.specs.declared.ReadFault.{ReadFault}
@@ -61,6 +61,13 @@ member_front_is k rest = ap (λ (xs : List ℕ). 34 ∷ xs) (append_assoc (flat_
 
 abbrev pub Good : Bool → ℕ → Json → Type 0
 Good limited levels v = IsProper v × (limited ≡ true → Everywhere IntegerFits v) × (depth v ≤ levels)
+
+-- within the limits of a canonical text
+pub allowed : (v : Json) → Good true 32 v → IsAllowed v
+allowed v g = record { proper = g.0; integers = g.1 refl; nesting = g.2 }
+
+pub good : (v : Json) → IsAllowed v → Good true 32 v
+good v a = (a.proper, (λ l. a.integers), a.nesting)
 
 abbrev pub GoodItems : Bool → ℕ → Items → Type 0
 GoodItems limited levels vs = EachItem IsSound vs × (limited ≡ true → EachItem IntegerFits vs) × (items_depth vs ≤ levels)
@@ -129,3 +136,15 @@ reading_got (bad f s) k y r e = absurd (bad_got f s y r e)
 pub as_read_got : {A B : Type 0} (f : A → B) (o : Outcome A) (y : B) (r : List ℕ) → as_read f o ≡ got y r → (x : A) × (o ≡ got x r) × (y ≡ f x)
 as_read_got f (got x s) y r e = let p = got_parts (f x) y s r e in (x, ap (got x) p.1, sym p.0)
 as_read_got f (bad g s) y r e = absurd (bad_got g s y r e)
+
+-- ---- beginnings
+
+-- of two beginnings of the same bytes the shorter begins the longer
+pub shorter_begins : (xs ys more rest : List ℕ) → xs ++ more ≡ ys ++ rest → length xs ≤ length ys → (between : List ℕ) × (ys ≡ xs ++ between) × (more ≡ between ++ rest)
+shorter_begins [] ys more rest e h = (ys, refl, e)
+shorter_begins (x ∷ xs) [] more rest e h = absurd (omega arith)
+shorter_begins (x ∷ xs) (y ∷ ys) more rest e h =
+    let head : x ≡ y = cc in
+    let tail : xs ++ more ≡ ys ++ rest = cc in
+    let b = shorter_begins xs ys more rest tail (omega arith) in
+    (b.0, ap₂ (λ (c : ℕ) (zs : List ℕ). c ∷ zs) (sym head) b.1, b.2)

@@ -22,6 +22,14 @@ seam pre b front rest = append_assoc (pre ++ b ∷ []) front rest ∙ append_ass
 closes : (front more text : List ℕ) (b : ℕ) → front ++ more ≡ text → front ++ (more ++ b ∷ []) ≡ text ++ b ∷ []
 closes front more text b e = sym (append_assoc front more (b ∷ [])) ∙ ap (λ (xs : List ℕ). xs ++ b ∷ []) e
 
+-- a value with the comma behind it, and so a member
+item_splits : (bs : List ℕ) (v : Json) (rest tail : List ℕ) → bs ≡ spelling v ++ rest → rest ≡ 44 ∷ tail → bs ≡ (spelling v ++ 44 ∷ []) ++ tail
+item_splits bs v rest tail e f = e ∙ ap (λ (xs : List ℕ). spelling v ++ xs) f ∙ sym (append_assoc (spelling v) (44 ∷ []) tail)
+
+member_splits : (bs k behind : List ℕ) (v : Json) (rest tail : List ℕ) → bs ≡ 34 ∷ closed_text k (58 ∷ behind) → behind ≡ spelling v ++ rest → rest ≡ 44 ∷ tail → bs ≡ (member_text k v ++ 44 ∷ []) ++ tail
+member_splits bs k behind v rest tail e f g =
+    e ∙ ap (λ (xs : List ℕ). 34 ∷ closed_text k (58 ∷ xs)) (f ∙ ap (λ (xs : List ℕ). spelling v ++ xs) g) ∙ sym (member_closed_is k v (44 ∷ tail)) ∙ sym (append_assoc (member_text k v) (44 ∷ []) tail)
+
 -- the byte at a limit closes no list and no object
 no_closing : (e : ReadFault) (c : ℕ) → LimitByte e c → (c ≡ 93) ⊎ (c ≡ 125) → ⊥
 no_closing TooDeep c (inl p) (inl q) = omega arith
@@ -124,7 +132,7 @@ module _ (levels : ℕ) (p : List ℕ → Outcome Json) (sound : SoundReader tru
             let m = more_items_bad (items_at p n) r.1 e rest limit (as_read_bad _ _ e rest r.3) in
             let s = sound bs r.0 r.1 r.2 in
             limit_on (ItemsHold e) (ItemsHold e) e (spelling r.0 ++ 44 ∷ []) m.0 bs rest
-            (s.1 ∙ ap (λ (xs : List ℕ). spelling r.0 ++ xs) m.1 ∙ sym (append_assoc (spelling r.0) (44 ∷ []) m.0))
+            (item_splits bs r.0 r.1 m.0 s.1 m.1)
             (λ front c behind byte splits k. item_before e r.0 front c s.0 k)
             (items_limit n m.0 e rest limit m.2)
       ]
@@ -258,8 +266,7 @@ module _ (levels : ℕ) (p : List ℕ → Outcome Json) (sound : SoundReader tru
                     let m = more_members_bad (members_at p (Some k.0) n) v.1 e rest limit (as_read_bad _ _ e rest v.3) in
                     let s = sound colon.1 v.0 v.1 v.2 in
                     limit_on (MembersHold (Some k.0) e) (MembersHold before e) e (member_text k.0 v.0 ++ 44 ∷ []) m.0 bs rest
-                    (begins ∙ ap (λ (xs : List ℕ). 34 ∷ closed_text k.0 (58 ∷ xs)) (s.1 ∙ ap (λ (xs : List ℕ). spelling v.0 ++ xs) m.1)
-                    ∙ sym (member_closed_is k.0 v.0 (44 ∷ m.0)) ∙ sym (append_assoc (member_text k.0 v.0) (44 ∷ []) m.0))
+                    (member_splits bs k.0 colon.1 v.0 v.1 m.0 begins s.1 m.1)
                     (λ front c behind byte splits holds. member_before before e k.0 v.0 front c name.0 name.1 s.0 holds)
                     (members_limit (Some k.0) n m.0 e rest limit m.2)
               ]

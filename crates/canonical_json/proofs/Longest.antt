@@ -9,7 +9,8 @@ use Rattle.canonical_json.specs.declared.ReadFault.{ReadFault}
 use Rattle.canonical_json.specs.declared.ReadFault.TheVariants.{OutOfMemory}
 use Rattle.canonical_json.specs.Reading.{Outcome, got, bad, value_at, closed, whole_at, Stops}
 use Rattle.canonical_json.proofs.Whole.{closed_got, whole_sound, whole_refused}
-use Rattle.canonical_json.proofs.WhichFault.{allowed, good, which_fault}
+use Rattle.canonical_json.proofs.WhichFault.{which_fault}
+use Rattle.canonical_json.proofs.Forms.{allowed, good}
 use Rattle.canonical_json.proofs.TextEndings.{Bytes}
 use Rattle.canonical_json.proofs.Endings.{enough, value_ends}
 

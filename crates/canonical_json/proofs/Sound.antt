@@ -188,6 +188,12 @@ value_with_sound limited levels a o lists objects (b ∷ bs) v rest e =
 
 -- ---- lists and objects
 
+member_joined : (bs k after behind : List ℕ) (v : Json) (later : List ℕ) (ms : Members) (rest : List ℕ) → bs ≡ 34 ∷ closed_text k after → after ≡ 58 ∷ behind → behind ≡ spelling v ++ later
+    → later ≡ members_tail ms ++ rest → bs ≡ members_text (member k v ms) ++ rest
+member_joined bs k after behind v later ms rest name colon value tail =
+    name ∙ ap (λ (xs : List ℕ). 34 ∷ closed_text k xs) (colon ∙ ap (λ (xs : List ℕ). 58 ∷ xs) (value ∙ ap (λ (xs : List ℕ). spelling v ++ xs) tail))
+    ∙ sym (member_closed_is k v (members_tail ms ++ rest)) ∙ sym (append_assoc (member_text k v) (members_tail ms) rest)
+
 module _ (limited : Bool) (levels : ℕ) (p : List ℕ → Outcome Json) (sound : SoundReader limited levels p) where
   more_items_sound : (next : List ℕ → Outcome Items) → ((bs : List ℕ) (vs : Items) (rest : List ℕ) → next bs ≡ got vs rest → GoodItems limited levels vs × IsFull vs × (bs ≡ items_text vs ++ rest))
       → (bs : List ℕ) (vs : Items) (rest : List ℕ) → more_items next bs ≡ got vs rest → GoodItems limited levels vs × (bs ≡ items_tail vs ++ rest)
@@ -270,8 +276,7 @@ module _ (limited : Bool) (levels : ℕ) (p : List ℕ → Outcome Json) (sound 
       subst (λ (x : Members). GoodMembers limited levels before x × HasMembers x × (bs ≡ members_text x ++ rest)) (sym b.2) (
         ((s.0.0, m.0.0), (λ l. (s.0.1 l, m.0.1 l)), (let x = s.0.2 in let y = m.0.2 in omega arith), (k.0, m.0.3), rising_more before a.0 _ k.1 m.0.4),
         tt,
-        k.2 ∙ ap (λ (xs : List ℕ). 34 ∷ closed_text a.0 xs) (colon ∙ ap (λ (xs : List ℕ). 58 ∷ xs) (s.1 ∙ ap (λ (xs : List ℕ). spelling w.0 ++ xs) m.1))
-            ∙ sym (member_closed_is a.0 w.0 (members_tail b.0 ++ rest)) ∙ sym (append_assoc (member_text a.0 w.0) (members_tail b.0) rest),
+        member_joined bs a.0 a.1 c.1 w.0 w.1 b.0 rest k.2 colon s.1 m.1,
       )
 
   pub object_sound : SoundFrom limited (suc levels) 123 (λ bs. as_read object (object_at p bs))

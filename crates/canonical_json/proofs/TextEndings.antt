@@ -12,7 +12,7 @@ use Rattle.std.specs.List.{AllByRecursion}
 use Rattle.std.specs.Ordering.{nat_cmp, ordering_then}
 use Rattle.canonical_json.specs.Spelling.{byte_spelling, numeral, integer_spelling, IsBefore}
 use Rattle.canonical_json.specs.Texts.{closed_text}
-use Rattle.canonical_json.proofs.WhichFault.{shorter_begins}
+use Rattle.canonical_json.proofs.Forms.{shorter_begins}
 
 -- ---- bytes
 
@@ -137,40 +137,44 @@ pub record CutText (most : ℕ) (text xs : List ℕ) : Type 0 where
   pub few : length more ≤ 8 * most + 9
   pub bytes : Bytes more
 
-cut_spelled : (most : ℕ) (t xs ys : List ℕ) → length xs ≤ most → xs ++ ys ≡ 34 ∷ flat_map byte_spelling t → Cut (suc most) t → CutText most t xs
-cut_spelled most t xs ys l e c =
-    let front = encodes c.chars in
-    let size = spelled_length front in
-    let short = c.short in
-    let spelled : 34 ∷ flat_map byte_spelling t ≡ (34 ∷ flat_map byte_spelling front) ++ flat_map byte_spelling c.behind =
-    ap (λ (zs : List ℕ). 34 ∷ flat_map byte_spelling zs) c.splits ∙ ap (λ (zs : List ℕ). 34 ∷ zs) (flat_map-append byte_spelling front c.behind) in
+spelled_parts : (t front behind : List ℕ) → t ≡ front ++ behind → 34 ∷ flat_map byte_spelling t ≡ (34 ∷ flat_map byte_spelling front) ++ flat_map byte_spelling behind
+spelled_parts t front behind e = ap (λ (zs : List ℕ). 34 ∷ flat_map byte_spelling zs) e ∙ ap (λ (zs : List ℕ). 34 ∷ zs) (flat_map-append byte_spelling front behind)
+
+cut_holds : (most : ℕ) (t xs ys front behind : List ℕ) → length xs ≤ most → xs ++ ys ≡ 34 ∷ flat_map byte_spelling t → t ≡ front ++ behind → (most < length front) ⊎ (behind ≡ [])
+    → length xs ≤ length (34 ∷ flat_map byte_spelling front)
+cut_holds most t xs ys front behind l e splits (inl h) = let size = spelled_length front in omega arith
+cut_holds most t xs ys front behind l e splits (inr h) =
     let both = length-append xs ys in
     let all = ap length e in
-    let room : length xs ≤ length (34 ∷ flat_map byte_spelling front) =
-    elim c.long as (λ d. length xs ≤ length (34 ∷ flat_map byte_spelling front)) [
-      | inl h ↦ omega arith
-      | inr h ↦
-          let same : length (34 ∷ flat_map byte_spelling t) ≡ length (34 ∷ flat_map byte_spelling front) =
-          ap length (spelled ∙ ap (λ (zs : List ℕ). (34 ∷ flat_map byte_spelling front) ++ flat_map byte_spelling zs) h ∙ append-nil (34 ∷ flat_map byte_spelling front)) in
-          omega arith
-    ] in
-    let b = shorter_begins xs (34 ∷ flat_map byte_spelling front) ys (flat_map byte_spelling c.behind) (e ∙ spelled) room in
+    let same : t ≡ front = splits ∙ ap (λ (zs : List ℕ). front ++ zs) h ∙ append-nil front in
+    let count = ap (λ (zs : List ℕ). length (34 ∷ flat_map byte_spelling zs)) same in
+    omega arith
+
+cut_spelled : (most : ℕ) (t xs ys front behind : List ℕ) → length xs ≤ most → xs ++ ys ≡ 34 ∷ flat_map byte_spelling t → IsUtf8 front → Bytes front → t ≡ front ++ behind
+    → (most < length front) ⊎ (behind ≡ []) → length front ≤ 4 * suc most → CutText most t xs
+cut_spelled most t xs ys front behind l e utf8 bytes splits long short =
+    let size = spelled_length front in
+    let b =
+    shorter_begins xs (34 ∷ flat_map byte_spelling front) ys (flat_map byte_spelling behind) (e ∙ spelled_parts t front behind splits) (cut_holds most t xs ys front behind l e splits long) in
     let parts = length-append xs b.0 in
     let count = ap length b.1 in
     record {
       front = front;
-      behind = c.behind;
-      utf8 = (c.chars, (c.are, refl));
-      splits = c.splits;
-      long = c.long;
+      behind = behind;
+      utf8 = utf8;
+      splits = splits;
+      long = long;
       more = b.0;
       spells = sym b.1;
       few = omega arith;
-      bytes = bytes_behind xs b.0 (subst Bytes b.1 (omega arith, spelled_bytes front (encodes_bytes c.chars c.are)));
+      bytes = bytes_behind xs b.0 (subst Bytes b.1 (omega arith, spelled_bytes front bytes));
     }
 
 pub cut_text : (most : ℕ) (t xs ys : List ℕ) → IsUtf8 t → length xs ≤ most → xs ++ ys ≡ 34 ∷ flat_map byte_spelling t → CutText most t xs
-cut_text most t xs ys u l e = cut_spelled most t xs ys l e (subst (Cut (suc most)) u.1.1 (cut_behind (suc most) u.0 u.1.0))
+cut_text most t xs ys u l e = by_cut (subst (Cut (suc most)) u.1.1 (cut_behind (suc most) u.0 u.1.0))
+  where
+    by_cut : Cut (suc most) t → CutText most t xs
+    by_cut c = cut_spelled most t xs ys (encodes c.chars) c.behind l e (c.chars, (c.are, refl)) (encodes_bytes c.chars c.are) c.splits c.long c.short
 
 -- ---- integers within the limit have few digits
 

@@ -1,5 +1,5 @@
 -- The fault at which the reader stops is the one that the byte behind the longest beginning makes.
-use Rattle.std.proofs.Common.{◌≡◌, ◌≢◌, ℕ, suc, ◌+◌, ◌<◌, ◌≤◌, ◌⊎◌, inl, inr, List, [], ◌∷◌, ◌++◌, true, length, take, drop, slice_index, refl, sym, subst, ap, ap₂, ◌∙◌, append_assoc, append-nil, arith, length-append, length-take-le}
+use Rattle.std.proofs.Common.{◌≡◌, ◌≢◌, ℕ, suc, ◌+◌, ◌<◌, ◌⊎◌, inl, inr, List, [], ◌∷◌, ◌++◌, true, length, take, drop, slice_index, refl, sym, subst, ap, ap₂, ◌∙◌, append_assoc, append-nil, arith, length-append, length-take-le}
 use Rattle.std.proofs.lemmas.Bool.{cases_lt}
 use Rattle.std.proofs.lemmas.List.{take-append-drop}
 use Rattle.std.proofs.Math.Seq.{take-append_seam, get_or-append_seam}
@@ -9,31 +9,15 @@ use Rattle.canonical_json.specs.Faults.{Begins, OnlyLimitForbids, FaultAt, IsLon
 use Rattle.canonical_json.specs.Reading.{Outcome, got, bad, value_at, closed, whole_at, Stops}
 use Rattle.canonical_json.specs.declared.ReadFault.{ReadFault}
 use Rattle.canonical_json.specs.declared.ReadFault.TheVariants.{NotCanonical, TooDeep, IntegerRange, OutOfMemory}
-use Rattle.canonical_json.proofs.Forms.{Good}
+use Rattle.canonical_json.proofs.Forms.{shorter_begins, allowed, good}
 use Rattle.canonical_json.proofs.Sound.{value_sound}
 use Rattle.canonical_json.proofs.Complete.{value_again}
 use Rattle.canonical_json.proofs.Raised.{AtLimit, proper_read}
 use Rattle.canonical_json.proofs.Limits.{LimitByte, Limit, ValueHolds, bad_parts, got_bad}
 use Rattle.canonical_json.proofs.LimitsInside.{value_limit}
 
--- of two beginnings of the same bytes the shorter begins the longer
-pub shorter_begins : (xs ys more rest : List ℕ) → xs ++ more ≡ ys ++ rest → length xs ≤ length ys → (between : List ℕ) × (ys ≡ xs ++ between) × (more ≡ between ++ rest)
-shorter_begins [] ys more rest e h = (ys, refl, e)
-shorter_begins (x ∷ xs) [] more rest e h = absurd (omega arith)
-shorter_begins (x ∷ xs) (y ∷ ys) more rest e h =
-    let head : x ≡ y = cc in
-    let tail : xs ++ more ≡ ys ++ rest = cc in
-    let b = shorter_begins xs ys more rest tail (omega arith) in
-    (b.0, ap₂ (λ (c : ℕ) (zs : List ℕ). c ∷ zs) (sym head) b.1, b.2)
-
 abbrev AllowedAt : List ℕ → ReadFault → List ℕ → Type 0
 AllowedAt bytes e rest = Limit (ValueHolds (value_at true 32) 32 e) e bytes rest
-
-pub allowed : (v : Json) → Good true 32 v → IsAllowed v
-allowed v g = record { proper = g.0; integers = g.1 refl; nesting = g.2 }
-
-pub good : (v : Json) → IsAllowed v → Good true 32 v
-good v a = (a.proper, (λ l. a.integers), a.nesting)
 
 accepts : (v : Json) → IsAllowed v → value_at true 32 (spelling v) ≡ got v []
 accepts v a = ap (value_at true 32) (sym (append-nil (spelling v))) ∙ value_again true v 32 [] (good v a) tt

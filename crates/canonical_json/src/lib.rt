@@ -106,9 +106,10 @@ pub fn longest_beginning()
     ensures { (bytes : List ℕ) → (place : ℕ) × IsLongestBeginning bytes place }
 {}
 
-/// Bytes have at most one fault.
+/// Bytes are a canonical text, or they have exactly one fault.
 pub fn one_fault()
-    ensures { (bytes : List ℕ) (e f : ReadFault) → IsReadFault bytes e → IsReadFault bytes f → e ≡ f }
+    ensures one { (bytes : List ℕ) (e f : ReadFault) → IsReadFault bytes e → IsReadFault bytes f → e ≡ f }
+    ensures some { (bytes : List ℕ) → ((v : Json) × IsCanonical v bytes) ⊎ ((e : ReadFault) × IsReadFault bytes e) }
 {}
 
 /// A canonical text has one value, and a value one canonical text. A value of the code has one exactly where `write`
