@@ -1,9 +1,9 @@
 //! Canonical JSON: a value has one spelling, and only that is read.
 #![tactic(auto)]
 
-ghost use Rattle.std.specs.Prelude.{◌≡◌, ◌⊎◌, ◌++◌, ℕ, List, [], None, Some, Option, IfOk, IfErr, IfSome, IsSome, OnOk, OnErr};
-ghost use Rattle.canonical_json.specs.Json.{Json, HasMember, Everywhere};
-ghost use Rattle.canonical_json.specs.Spelling.{spelling, IsCanonical, IsAllowed, IsOfCode};
+ghost use Rattle.std.specs.Prelude.{◌≡◌, ◌⊎◌, ◌≤◌, ◌++◌, ℕ, List, [], None, Some, Option, IfOk, IfErr, IfSome, IsSome, OnOk, OnErr};
+ghost use Rattle.canonical_json.specs.Json.{Json, HasMember, Everywhere, depth};
+ghost use Rattle.canonical_json.specs.Spelling.{spelling, max_depth, IsCanonical, IsProper, IsOfCode};
 ghost use Rattle.canonical_json.specs.Faults.{IsLongestBeginning, IsReadFault, GoesOnInDigits, write_fault};
 ghost use Rattle.canonical_json.specs.Skipping.{member_front};
 ghost use Rattle.canonical_json.specs.View.{view};
@@ -119,7 +119,7 @@ pub fn one_spelling()
     ensures one_value { (v w : Json) (bytes : List ℕ) → IsCanonical v bytes → IsCanonical w bytes → v ≡ w }
     ensures one_text { (v : Json) (a b : List ℕ) → IsCanonical v a → IsCanonical v b → a ≡ b }
     ensures written { (v : Json) → Everywhere IsOfCode v → write_fault v ≡ None → IsCanonical v (spelling v) }
-    ensures writable { (v : Json) → IsAllowed v → write_fault v ≡ None }
+    ensures writable { (v : Json) → IsProper v → depth v ≤ max_depth → write_fault v ≡ None }
     ensures appended { (v w : Json) (bytes more : List ℕ) → IsCanonical v bytes → IsCanonical w (bytes ++ more)
         → (more ≡ []) ⊎ GoesOnInDigits v more }
 {}
