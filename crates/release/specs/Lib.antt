@@ -1,0 +1,3 @@
+pub mod Canon
+pub mod CommandLine
+pub mod Statuses
