@@ -8,7 +8,6 @@ ghost use Rattle.serde_json.specs.View.{number_view, view as loose_view, items_v
 ghost use Rattle.serde_json.specs.Data.{Data};
 ghost use Rattle.release.specs.Canon.{Reads, plain, plain_items, plain_members, IsProperObject, IsCanonicalForm, HasNoCanonicalForm};
 
-
 use canonical_json::{Value, WriteFault, one_spelling, write};
 use serde_json::{Map, Number};
 use std::alloc::{AllocError, AllocFailed, Global};

@@ -5,9 +5,9 @@ ghost use Rattle.clap.specs.declared.builder.command.Command.TheViews.{out-Comma
 ghost use Rattle.clap.specs.declared.builder.value_parser.ValueParser.{ValueParser};
 ghost use Rattle.release.specs.CommandLine.{at_rule, file_rule, canon_line, release_line, IsMoment, SaysCanon, Says, IsTaskOf};
 
+use crate::tasks::{LAST_MOMENT, Subcommand, Task, Usage};
 use clap::error::ErrorKind;
 use clap::{Arg, ArgAction, ArgMatches, Command, value_parser};
-use crate::tasks::{LAST_MOMENT, Subcommand, Task, Usage};
 use std::alloc::{AllocError, Global};
 
 /// The task that the words ask for, the program's own name first: the subcommand, its options and operands, each one
