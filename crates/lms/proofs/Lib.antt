@@ -1,0 +1,10 @@
+pub mod Nodes
+pub mod Readings
+pub mod Ends
+pub mod Placed
+pub mod Counts
+pub mod Bytes
+pub mod Runs
+pub mod SignLaws
+pub mod TreeLaws
+pub mod Rows

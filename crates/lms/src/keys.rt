@@ -1,0 +1,77 @@
+// The tree of a seed (RFC 8554, section 5.3 and appendix A).
+
+ghost use Rattle.std.specs.Prelude.{◌≡◌, ◌+◌, ◌*◌, ◌^◌, ◌≤◌};
+ghost use Rattle.lms.specs.Keys.{derived as derived_of, leaf_key as leaf_key_of, node_hash as node_hash_of, public_of as public_key_of};
+
+use crate::arrays::place;
+use crate::chains::chain;
+use crate::hashes::{ENDS, finish, marked};
+use crate::tree::{inner_hash, leaf_hash};
+use crate::{OtsType, Params, Seed, Steps};
+use sha2::{Digest, Sha256};
+
+/// The secret text number `i` of leaf `q`: a private element, or the randomizer.
+pub fn derived(seed: &Seed, q: u32, i: u16) -> [u8; 32]
+    ensures { result ≡ derived_of seed.now.identifier seed.now.secret q i }
+{
+    let mut hasher = Sha256::new();
+    hasher.update(&seed.identifier);
+    hasher.update(q.to_be_bytes());
+    hasher.update(i.to_be_bytes());
+    hasher.update([0xff]);
+    hasher.update(&seed.secret);
+    hasher.finalize()
+}
+
+// The one-time public key of leaf `q`.
+fn leaf_key(ots: OtsType, seed: &Seed, q: u32) -> [u8; 32]
+    ensures { result ≡ leaf_key_of ots seed.now.identifier seed.now.secret q }
+{
+    let mut ends = marked(&seed.identifier, q, ENDS);
+    let count = ots.chain_count();
+    for i in 0..count {
+        let start = derived(seed, q, i);
+        let end = chain(
+            &seed.identifier,
+            q,
+            i,
+            0,
+            ots.chain_end(),
+            &start,
+            &mut Steps::new(),
+        );
+        ends.update(end);
+    }
+    finish(ends, &mut Steps::new())
+}
+
+/// The hash of a node with so many levels below it, in a tree with so many leaves. Each node below is hashed once.
+pub fn node_hash(ots: OtsType, seed: &Seed, leaves: u32, levels: u32, node: u32) -> [u8; 32]
+    requires first { leaves ≤ node * 2 ^ levels }
+    requires last { (node + 1) * 2 ^ levels ≤ 2 ^ 31 }
+    ensures { result ≡ node_hash_of ots seed.now.identifier seed.now.secret leaves levels node }
+{
+    let identifier = &seed.identifier;
+    if levels == 0 {
+        let key = leaf_key(ots, seed, node - leaves);
+        return leaf_hash(identifier, node, &key, &mut Steps::new());
+    }
+    let left = node_hash(ots, seed, leaves, levels - 1, 2 * node);
+    let right = node_hash(ots, seed, leaves, levels - 1, 2 * node + 1);
+    inner_hash(identifier, node, &left, &right, &mut Steps::new())
+}
+
+/// The public key of the seed (sections 4.3 and 5.3): the types, I and T[1], in 56 bytes. It hashes each node of the tree
+/// once and takes no memory but the stack of one node for each level.
+pub fn public_of(seed: &Seed, params: Params) -> [u8; 56]
+    ensures { result ≡ public_key_of seed.now params }
+{
+    let lms = params.height.lms_type();
+    let root = node_hash(params.ots, seed, lms.leaves(), lms.height(), 1);
+    let mut public = [0; 56];
+    place(&mut public, 0, &lms.code().to_be_bytes());
+    place(&mut public, 4, &params.ots.code().to_be_bytes());
+    place(&mut public, 8, &seed.identifier);
+    place(&mut public, 24, &root);
+    public
+}

@@ -1,0 +1,91 @@
+//! Leighton-Micali hash-based signatures (RFC 8554) with SHA-256 and 32-byte hashes: the parameter sets
+//! LMOTS_SHA256_N32_W1, W2, W4 and W8 under LMS_SHA256_M32_H5, H10, H15, H20 and H25.
+//!
+//! `verify` tells whether a signature is one of a message under a public key, at all of them. `public_of` and `sign`
+//! make the key and the signatures of a seed at heights 5 and 10. The definitions are those of the RFC by its
+//! sections, in specs/.
+#![tactic(auto)]
+
+ghost use Rattle.std.specs.Prelude.{◌≡◌, ◌<◌, ◌^◌, ℕ, List, length};
+ghost use Rattle.lms.specs.declared.OtsType.{OtsType};
+ghost use Rattle.lms.specs.declared.LmsType.{LmsType};
+ghost use Rattle.lms.specs.Parameters.{height};
+ghost use Rattle.lms.specs.Verifies.{Verifies};
+ghost use Rattle.lms.specs.Keys.{public_bytes, signature_bytes};
+
+/// An LM-OTS type by its width w, the bits of a coefficient (section 4.1). A chain has 2^w - 1 steps.
+#[derive(Debug, Clone, Copy, PartialEq, Eq)]
+pub enum OtsType {
+    W1,
+    W2,
+    W4,
+    W8,
+}
+
+/// An LMS type by the height h of its tree, which has 2^h leaves (section 5.1).
+#[derive(Debug, Clone, Copy, PartialEq, Eq)]
+pub enum LmsType {
+    H5,
+    H10,
+    H15,
+    H20,
+    H25,
+}
+
+/// The heights of the trees that are signed with.
+#[derive(Debug, Clone, Copy, PartialEq, Eq)]
+pub enum SigningHeight {
+    H5,
+    H10,
+}
+
+/// What a key pair is made by, besides its seed.
+#[derive(Debug, Clone, Copy, PartialEq, Eq)]
+pub struct Params {
+    pub ots: OtsType,
+    pub height: SigningHeight,
+}
+
+/// What all private elements of a key pair come from (appendix A). It has no `Debug`, so that no secret is printed.
+#[derive(Clone, Copy)]
+pub struct Seed {
+    /// I, which stands in the public key.
+    pub identifier: [u8; 16],
+    /// SEED.
+    pub secret: [u8; 32],
+}
+
+/// Why nothing is signed.
+#[derive(Debug, Clone, Copy, PartialEq, Eq)]
+pub enum SignFault {
+    /// The tree has no leaf of this number: it is 2^h or more.
+    LeafRange,
+    /// The output could not grow by a signature.
+    OutOfMemory,
+}
+
+mod arrays;
+mod chains;
+mod hashes;
+mod keys;
+mod parameters;
+mod parts;
+mod signing;
+mod steps;
+#[cfg(test)]
+mod tests;
+mod tree;
+mod verifying;
+
+pub use keys::public_of;
+pub use signing::sign;
+pub use steps::Steps;
+pub use verifying::{verify, verify_counted};
+
+/// The law that what is signed with a leaf of a tree verifies under the tree's public key, at each parameter set, each
+/// leaf and each message. The call does nothing.
+pub fn signatures_verify()
+    ensures { (lms : LmsType) (ots : OtsType) (identifier secret : List ℕ) (q : ℕ) (message : List ℕ)
+        → length identifier ≡ 16 → q < 2 ^ height lms
+        → Verifies (public_bytes lms ots identifier secret) message (signature_bytes lms ots identifier secret q message) }
+{}
