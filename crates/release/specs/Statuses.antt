@@ -2,6 +2,10 @@
 use Rattle.std.specs.Prelude.{ℕ}
 use Rattle.release.specs.declared.fault.Fault.{Fault}
 use Rattle.release.specs.declared.fault.Fault.TheVariants.{Usage, Help, NotCanonical, Memory, File, Clock}
+use Rattle.release.specs.declared.tasks.Usage.{Usage as Usages}
+use Rattle.release.specs.declared.tasks.Usage.TheVariants as usages
+use Rattle.release.specs.declared.canon.CanonFault.{CanonFault}
+use Rattle.release.specs.declared.canon.CanonFault.TheVariants as canon_faults
 
 -- help is no fault: it is printed as asked
 abbrev pub status_of : Fault → ℕ
@@ -11,3 +15,13 @@ status_of (Usage text) = 2
 status_of Memory = 3
 status_of File = 3
 status_of Clock = 3
+
+-- what a fault of the command line comes to, and one of `canon`
+abbrev pub fault_of_usage : Usages → Fault
+fault_of_usage (usages.Text text) = Usage text
+fault_of_usage (usages.Help text) = Help text
+fault_of_usage usages.OutOfMemory = Memory
+
+abbrev pub fault_of_canon : CanonFault → Fault
+fault_of_canon canon_faults.NotCanonical = NotCanonical
+fault_of_canon canon_faults.OutOfMemory = Memory

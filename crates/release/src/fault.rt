@@ -42,12 +42,22 @@ impl Fault {
 }
 
 impl From<AllocError> for Fault {
+    ghost use Rattle.std.specs.Prelude.{◌≡◌};
+    ghost use Rattle.release.specs.declared.fault.Fault.TheVariants.{Memory};
+
+    ghost from_gives = { λ _ f. f ≡ Memory };
+
     fn from(_: AllocError) -> Fault {
         Fault::Memory
     }
 }
 
 impl From<Usage> for Fault {
+    ghost use Rattle.std.specs.Prelude.{◌≡◌};
+    ghost use Rattle.release.specs.Statuses.{fault_of_usage};
+
+    ghost from_gives = { λ u f. f ≡ fault_of_usage u };
+
     fn from(usage: Usage) -> Fault {
         match usage {
             Usage::Text(text) => Fault::Usage(text),
@@ -58,6 +68,11 @@ impl From<Usage> for Fault {
 }
 
 impl From<CanonFault> for Fault {
+    ghost use Rattle.std.specs.Prelude.{◌≡◌};
+    ghost use Rattle.release.specs.Statuses.{fault_of_canon};
+
+    ghost from_gives = { λ c f. f ≡ fault_of_canon c };
+
     fn from(fault: CanonFault) -> Fault {
         match fault {
             CanonFault::NotCanonical => Fault::NotCanonical,

@@ -1,0 +1,82 @@
+ghost use Rattle.std.specs.Prelude.{◌≡◌};
+ghost use Rattle.measure.specs.Failure.{status_of};
+
+use canonical_json::{ReadFault, WriteFault};
+use std::alloc::AllocError;
+use std::{fmt, io};
+
+const USAGE: &str = "usage: measure canon FILE N
+  canon FILE N   reads and writes the canonical JSON of FILE, each N times (N from 1 to 4294967295),
+                 and prints the bytes per second of each: `read B` and `write B`";
+
+/// Why nothing was measured.
+#[derive(Debug, Clone, Copy, PartialEq, Eq)]
+pub enum Failure {
+    /// The words ask for no measurement.
+    Usage,
+    /// The file is not one canonical text within the limits.
+    NotRead,
+    Memory,
+    File,
+    Clock,
+}
+
+impl Failure {
+    /// The exit status: 1 for a file that is no canonical text, 2 for the words, and 3 for what is outside of both.
+    pub fn status(self) -> u8
+        ensures { result ≡ status_of self }
+    {
+        match self {
+            Failure::NotRead => 1,
+            Failure::Usage => 2,
+            Failure::Memory | Failure::File | Failure::Clock => 3,
+        }
+    }
+}
+
+impl fmt::Display for Failure {
+    fn fmt<W: fmt::Write>(&self, f: &mut fmt::Formatter<W>) -> fmt::Result {
+        f.write_str(match self {
+            Failure::Usage => USAGE,
+            Failure::NotRead => "not canonical JSON",
+            Failure::Memory => "fault memory",
+            Failure::File => "fault file",
+            Failure::Clock => "fault clock",
+        })
+    }
+}
+
+impl From<io::Error> for Failure {
+    fn from(error: io::Error) -> Self {
+        match error.kind() {
+            io::ErrorKind::OutOfMemory => Failure::Memory,
+            _ => Failure::File,
+        }
+    }
+}
+
+impl From<AllocError> for Failure {
+    fn from(_: AllocError) -> Self {
+        Failure::Memory
+    }
+}
+
+impl From<ReadFault> for Failure {
+    fn from(fault: ReadFault) -> Self {
+        match fault {
+            ReadFault::OutOfMemory => Failure::Memory,
+            ReadFault::NotCanonical | ReadFault::TooDeep | ReadFault::IntegerRange => {
+                Failure::NotRead
+            }
+        }
+    }
+}
+
+impl From<WriteFault> for Failure {
+    fn from(fault: WriteFault) -> Self {
+        match fault {
+            WriteFault::OutOfMemory => Failure::Memory,
+            WriteFault::TooDeep | WriteFault::Unordered => Failure::NotRead,
+        }
+    }
+}

@@ -1,0 +1,31 @@
+//! Times what the project does. It is run by hand, and never by a test.
+#![tactic(auto)]
+
+mod canon;
+mod failure;
+mod rate;
+mod task;
+
+use failure::Failure;
+use std::env;
+use std::process::ExitCode;
+use std::rt::{Clock, Env, Files};
+use task::Task;
+
+fn main(rt: HostRuntime) -> ExitCode {
+    match run(&rt) {
+        Ok(()) => ExitCode::SUCCESS,
+        Err(failure) => {
+            let _ = rt.eprintln(failure);
+            ExitCode::from(failure.status())
+        }
+    }
+}
+
+// Makes the measurement that the words of the command line ask for.
+fn run(rt: &(impl Env + Files + Clock + Print + AllocGlobal)) -> Result<(), Failure> {
+    let words: Vec<String> = env::args(rt)?.collect(rt.alloc())?;
+    match Task::parse(&words)? {
+        Task::Canon { file, rounds } => canon::measure(rt, file, rounds),
+    }
+}

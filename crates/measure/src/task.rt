@@ -1,0 +1,29 @@
+use crate::failure::Failure;
+
+/// What is to be measured, by the first word of the command line.
+#[derive(Debug, Clone, Copy, PartialEq, Eq)]
+pub enum Task<'a> {
+    /// `canon FILE N`: the file is read and its value written, each so many times.
+    Canon { file: &'a str, rounds: u32 },
+}
+
+impl<'a> Task<'a> {
+    /// The words of the command line, of which the first is the program's name.
+    pub fn parse(words: &'a [String]) -> Result<Self, Failure> {
+        match words {
+            [_, kind, file, rounds] if kind.as_str() == "canon" => Ok(Task::Canon {
+                file: file.as_str(),
+                rounds: rounds_of(rounds)?,
+            }),
+            _ => Err(Failure::Usage),
+        }
+    }
+}
+
+// How often a measurement is repeated: at least once.
+fn rounds_of(word: &str) -> Result<u32, Failure> {
+    match word.parse::<u32>() {
+        Ok(rounds) if rounds > 0 => Ok(rounds),
+        _ => Err(Failure::Usage),
+    }
+}

@@ -1,0 +1,3 @@
+mod FirstLine
+mod Hexes
+mod SoFar

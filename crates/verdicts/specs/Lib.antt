@@ -1,0 +1,4 @@
+pub mod Case
+pub mod Verdict
+pub mod Lines
+pub mod Failure
