@@ -1,0 +1,6 @@
+pub mod Elements
+pub mod KeyObjects
+pub mod LookingUp
+pub mod Examples
+pub mod Signatures
+pub mod Tops

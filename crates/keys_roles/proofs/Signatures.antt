@@ -1,0 +1,77 @@
+-- Signatures in hex digits: how long they are, and how they are read.
+use Rattle.std.proofs.Common.{◌≡◌, ℕ, zero, suc, ◌*◌, ◌<◌, ◌≤◌, List, [], ◌∷◌, length, Result, Ok, Err, ap, ◌∙◌, arith}
+use Rattle.std.specs.Prelude.{IsOk, OnOk}
+use Rattle.std.specs.List.{AllByRecursion}
+use Rattle.hex.specs.Hex.{lower_digits, decode_sized, IsBytes}
+use Rattle.hex.proofs.HexLemmas.{length-encode_with, decode_sized-encode_lower}
+use Rattle.lms.specs.declared.OtsType.{OtsType}
+use Rattle.lms.specs.declared.OtsType.TheVariants.{W1, W2, W4, W8}
+use Rattle.lms.specs.declared.LmsType.{LmsType}
+use Rattle.lms.specs.declared.LmsType.TheVariants.{H5, H10, H15, H20, H25}
+use Rattle.lms.specs.Parameters.{chain_count, height}
+use Rattle.lms.specs.Verifies.{Verifies}
+use Rattle.lms.proofs.Bytes.{signature_length}
+use Rattle.lms.specs.Parts.{IsSignatureOf}
+use Rattle.keys_roles.specs.Plain.{Key, lms}
+use Rattle.keys_roles.specs.Keys.{VerifiesUnder}
+use Rattle.keys_roles.specs.Rules.{AreDigitsOf}
+use Rattle.keys_roles.specs.Counting.{SpellsSignature}
+
+chains_most : (ots : OtsType) → chain_count ots ≤ 265
+chains_most W1 = omega arith
+chains_most W2 = omega arith
+chains_most W4 = omega arith
+chains_most W8 = omega arith
+
+height_most : (t : LmsType) → height t ≤ 25
+height_most H5 = omega arith
+height_most H10 = omega arith
+height_most H15 = omega arith
+height_most H20 = omega arith
+height_most H25 = omega arith
+
+parts_of : (public message signature : List ℕ) (v : Verifies public message signature) → IsSignatureOf v.lms v.ots signature v.q v.randomizer v.elements v.path
+parts_of public message signature v = record {
+  randomizer_len = v.randomizer_len;
+  elements_count = v.elements_count;
+  elements_len = v.elements_len;
+  path_count = v.path_count;
+  path_len = v.path_len;
+  spelled = v.spelled;
+  leaf = v.leaf;
+}
+
+lms_longest : (public message signature : List ℕ) → Verifies public message signature → length signature ≤ 9324
+lms_longest public message signature v =
+    let len = signature_length v.lms v.ots signature v.q v.randomizer v.elements v.path (parts_of public message signature v) in
+    omega (arith, len, chains_most v.ots, height_most v.lms)
+
+pub longest : (key : Key) (message signature : List ℕ) → VerifiesUnder key message signature → length signature ≤ 9324
+longest (lms public) message signature v = lms_longest public message signature v
+
+pub digits_length : (digits bytes : List ℕ) → AreDigitsOf digits bytes → length digits ≡ 2 * length bytes
+digits_length digits bytes are = ap length are.1 ∙ length-encode_with lower_digits bytes
+
+pub spelled_length : (key : Key) (signed digits : List ℕ) → SpellsSignature key signed digits → (n : ℕ) × (length digits ≡ 2 * n) × (n ≤ 9324)
+spelled_length key signed digits s = (length s.signature, digits_length digits s.signature s.spelled, longest key signed s.signature s.verifies)
+
+pub bytes_at : (bytes : List ℕ) → AllByRecursion (λ b. b < 256) bytes → IsBytes bytes
+bytes_at [] all i = omega arith
+bytes_at (b ∷ bs) all zero = all.0
+bytes_at (b ∷ bs) all (suc i) = bytes_at bs all.1 i
+
+pub bytes_each : (bytes : List ℕ) → IsBytes bytes → AllByRecursion (λ b. b < 256) bytes
+bytes_each [] at = tt
+bytes_each (b ∷ bs) at = (at zero, bytes_each bs (λ i. at (suc i)))
+
+-- the digits of some bytes decode to them, in room for as many
+pub decodes : (digits bytes : List ℕ) (n : ℕ) → AreDigitsOf digits bytes → length digits ≡ 2 * n → decode_sized digits n ≡ Ok bytes
+decodes digits bytes n are two =
+    let len = digits_length digits bytes are in
+    let room : length bytes ≡ n = omega (arith, len, two) in
+    ap (λ d. decode_sized d n) are.1 ∙ decode_sized-encode_lower bytes n room (bytes_at bytes are.0)
+
+-- what is written where there is a value
+pub on_ok : {A E : Type 0} (r : Result A E) (P : Type 0) → IsOk r → OnOk r P → P
+on_ok (Ok x) P is then = then
+on_ok (Err e) P is then = absurd (cc is)

@@ -1,0 +1,13 @@
+use Rattle.std.proofs.Common.{length}
+use Rattle.keys_roles.specs.Counting.{IsIn}
+use Rattle.keys_roles.specs.Views.{id_text, ids_view}
+use Rattle.keys_roles.proofs.ids.is_listed.Given as goal
+
+abbrev pub invariant-ids : goal.invariant-ids
+invariant-ids l = record {
+  ahead : IsIn (ids_view l.fn.ids) (id_text l.id) → IsIn (ids_view l.rest) (id_text l.id);
+  back : IsIn (ids_view l.rest) (id_text l.id) → IsIn (ids_view l.fn.ids) (id_text l.id);
+}
+
+abbrev pub decreases-ids : goal.decreases-ids
+decreases-ids l = length l.rest

@@ -1,0 +1,28 @@
+-- What single entries make count. The parts of `Rules` that one call judges.
+use Rattle.std.specs.Prelude.{◌≡◌, ℕ, ◌⊎◌, ◌++◌, List, [], ◌∷◌, Some}
+use Rattle.keys_roles.specs.Plain.{Key, Table, RoleRule, Signature, look_up}
+use Rattle.keys_roles.specs.Keys.{top_key, VerifiesUnder}
+use Rattle.keys_roles.specs.Rules.{AreDigitsOf}
+
+-- x is an element of the list, by recursion
+abbrev pub IsIn : {X : Type 0} → List X → X → Type 0
+IsIn [] x = ⊥
+IsIn (y ∷ ys) x = (y ≡ x) ⊎ IsIn ys x
+
+-- the digits are those of a signature that verifies under the key
+pub record SpellsSignature (key : Key) (signed digits : List ℕ) : Type 0 where
+  pub signature : List ℕ
+  pub spelled : AreDigitsOf digits signature
+  pub verifies : VerifiesUnder key signed signature
+
+-- the entry makes the public key count
+pub record CountsBy (rule : RoleRule) (table : Table) (signed : List ℕ) (entry : Signature) (top : List ℕ) : Type 0 where
+  pub key : Key
+  pub of_rule : IsIn rule.keyids entry.keyid
+  pub of_table : look_up table entry.keyid ≡ Some key
+  pub is_top : top_key key ≡ top
+  pub signs : SpellsSignature key signed entry.sig
+
+-- the list after x was taken in behind it, where x was no element
+abbrev pub IsTaken : List ℕ → List (List ℕ) → List (List ℕ) → Type 0
+IsTaken x xs ys = (IsIn xs x × (ys ≡ xs)) ⊎ ((IsIn xs x → ⊥) × (ys ≡ xs ++ x ∷ []))

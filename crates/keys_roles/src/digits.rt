@@ -1,0 +1,67 @@
+// Signatures in hex digits, and whether they verify.
+ghost use Rattle.std.specs.Prelude.{◌≡◌, ◌↔◌, ◌+◌, ◌*◌, ◌<◌, ◌≤◌, ◌^◌, List, ℕ, length, IsTrue};
+ghost use Rattle.keys_roles.specs.Keys.{VerifiesUnder};
+ghost use Rattle.keys_roles.specs.Rules.{AreDigitsOf};
+ghost use Rattle.keys_roles.specs.Counting.{SpellsSignature};
+ghost use Rattle.keys_roles.specs.Views.{key_view};
+
+use crate::Key;
+use lms::{Steps, verify};
+
+// The bytes of the longest signature.
+const LONGEST: usize = 9324;
+
+/// Whether the digits are those of a signature of the message under the key, with one tick if that takes a check of a
+/// signature.
+pub(crate) fn digits_verify(key: &Key, signed: &[u8], digits: &[u8], steps: &mut Steps) -> bool
+    requires { steps.old + 1 < 2 ^ 64 }
+    ensures valid { IsTrue result ↔ (SpellsSignature (key_view key.now) signed.now digits.now) }
+    ensures grows { steps.old ≤ steps.new }
+    ensures most { steps.new ≤ steps.old + 1 }
+{
+    let count = digits.len() / 2;
+    if digits.len() % 2 != 0 || count > LONGEST {
+        return false;
+    }
+    let mut buffer = [0; LONGEST];
+    let bytes = &mut buffer[..count];
+    if !read_digits(digits, bytes) {
+        return false;
+    }
+    verifies(key, signed, bytes, steps)
+}
+
+// Whether the signature is one of the message under the key, with one tick.
+fn verifies(key: &Key, signed: &[u8], signature: &[u8], steps: &mut Steps) -> bool
+    requires { steps.old + 1 < 2 ^ 64 }
+    ensures valid { IsTrue result ↔ (VerifiesUnder (key_view key.now) signed.now signature.now) }
+    ensures counted { steps.new ≡ steps.old + 1 }
+{
+    steps.tick();
+    match key {
+        Key::Lms(public) => verify(public, signed, signature),
+    }
+}
+
+// Reads lower-case hex digits as bytes, two for each. Whether they are such digits.
+fn read_digits(digits: &[u8], bytes: &mut [u8]) -> bool
+    requires two { length digits.now ≡ 2 * length bytes.old }
+    requires few { length bytes.old ≤ 9324 }
+    ensures read { IsTrue result → AreDigitsOf digits.now bytes.new }
+    ensures all { (s : List ℕ) → AreDigitsOf digits.now s → IsTrue result × (bytes.new ≡ s) }
+{
+    if hex::decode_to_slice(digits, &mut *bytes).is_err() {
+        return false;
+    }
+    let mut text = [0; 2 * LONGEST];
+    spells(bytes, digits, &mut text[..digits.len()])
+}
+
+// Whether the digits are those of the bytes, which it writes as a text of its own.
+fn spells(bytes: &[u8], digits: &[u8], text: &mut [u8]) -> bool
+    requires { length text.old ≡ 2 * length bytes.now }
+    ensures { IsTrue result ↔ (AreDigitsOf digits.now bytes.now) }
+{
+    let _ = hex::encode_to_slice(bytes, &mut *text);
+    *digits == *text
+}

@@ -1,0 +1,108 @@
+// Key ids, and keys by their ids (TUF 1.0, section 4.2).
+ghost use Rattle.std.specs.Prelude.{◌≡◌, ◌↔◌, ◌++◌, List, ℕ, Some, None, IsTrue, IfOk, MatchOption};
+ghost use Rattle.std.specs.Str.{bytes_eq};
+ghost use Rattle.sha2.specs.Sha256.{sha256};
+ghost use Rattle.hex.specs.Hex.{encode_lower};
+ghost use Rattle.keys_roles.specs.Plain.{look_up, lms};
+ghost use Rattle.keys_roles.specs.Keys.{key_bytes, id_of, top_key};
+ghost use Rattle.keys_roles.specs.Counting.{IsIn};
+ghost use Rattle.keys_roles.specs.Views.{id_text, key_view, ids_view, rows_view};
+
+use crate::{Key, KeyId, NoMemory};
+use sha2::{Digest, Sha256};
+use std::alloc::Global;
+
+/// The id of a key: the SHA-256 of the canonical form of its key object (TUF 1.0, section 4.2). It takes no memory.
+pub fn key_id(alloc: Global, key: &Key) -> Result<KeyId, NoMemory>
+    ensures { IfOk result (λ id. id_text id ≡ id_of (key_view key.now)) }
+{
+    let _ = alloc;
+    Ok(KeyId(object_digest(key)))
+}
+
+// The SHA-256 of the canonical form of the key object.
+fn object_digest(key: &Key) -> [u8; 32]
+    ensures { result ≡ sha256 (key_bytes (key_view key.now)) }
+{
+    match key {
+        Key::Lms(public) => lms_digest(public),
+    }
+}
+
+// The same for an LMS key.
+fn lms_digest(public: &[u8; 56]) -> [u8; 32]
+    ensures { result ≡ sha256 (key_bytes (lms public.now)) }
+{
+    let mut digits = [0; 112];
+    let _ = hex::encode_to_slice(public, &mut digits);
+    digest_around(
+        b"{\"keytype\":\"lms\",\"keyval\":{\"public\":\"",
+        &digits,
+        b"\"},\"scheme\":\"lms-sha256\"}",
+    )
+}
+
+// The SHA-256 of the digits between what stands before them and what stands behind them.
+fn digest_around(front: &[u8], digits: &[u8], back: &[u8]) -> [u8; 32]
+    ensures { result ≡ sha256 ((front.now ++ digits.now) ++ back.now) }
+{
+    let mut hasher = Sha256::new();
+    hasher.update(front);
+    hasher.update(digits);
+    hasher.update(back);
+    hasher.finalize()
+}
+
+/// The LMS public key by which keys are counted.
+pub(crate) fn top(key: &Key) -> &[u8; 56]
+    ensures { result.now ≡ top_key (key_view key.now) }
+{
+    match key {
+        Key::Lms(public) => public,
+    }
+}
+
+/// Whether the ids are one.
+pub(crate) fn same_id(a: &KeyId, b: &KeyId) -> bool
+    ensures text { result ≡ bytes_eq (id_text a.now) (id_text b.now) }
+    ensures same { IsTrue result ↔ id_text a.now ≡ id_text b.now }
+{
+    same_digits(&a.0, &b.0)
+}
+
+// Whether the bytes have the same hex digits.
+fn same_digits(a: &[u8], b: &[u8]) -> bool
+    ensures text { result ≡ bytes_eq (encode_lower a.now) (encode_lower b.now) }
+    ensures same { IsTrue result ↔ encode_lower a.now ≡ encode_lower b.now }
+{
+    *a == *b
+}
+
+/// Whether the id stands in the list.
+pub(crate) fn is_listed(ids: &[KeyId], id: &KeyId) -> bool
+    ensures { IsTrue result ↔ (IsIn (ids_view ids.now) (id_text id.now)) }
+{
+    let mut rest = ids;
+    'ids: while let Some((first, later)) = rest.split_first() {
+        if same_id(first, id) {
+            return true;
+        }
+        rest = later;
+    }
+    false
+}
+
+/// The key that stands first beside the id.
+pub(crate) fn key_of<'a>(rows: &'a [(KeyId, Key)], id: &KeyId) -> Option<&'a Key>
+    ensures { MatchOption result (look_up (rows_view rows.now) (id_text id.now) ≡ None)
+        (λ key. look_up (rows_view rows.now) (id_text id.now) ≡ Some (key_view key.now)) }
+{
+    let mut rest = rows;
+    'rows: while let Some((row, later)) = rest.split_first() {
+        if same_id(&row.0, id) {
+            return Some(&row.1);
+        }
+        rest = later;
+    }
+    None
+}

@@ -1,0 +1,46 @@
+//! Keys, their ids, and when a rule of keys and a threshold is met.
+#![tactic(auto)]
+
+use std::alloc::AllocError;
+
+/// The error of a call that has no other: no memory.
+pub type NoMemory = AllocError;
+
+/// The id of a key, as the digest that its hex digits spell.
+#[derive(Debug, Clone, Copy, PartialEq, Eq, PartialOrd, Ord)]
+pub struct KeyId(pub [u8; 32]);
+
+/// A public key with its scheme.
+#[derive(Debug, Clone, Copy, PartialEq, Eq)]
+pub enum Key {
+    Lms([u8; 56]),
+}
+
+/// Keys by their ids.
+#[derive(Debug, Drop)]
+pub struct KeyTable {
+    pub entries: Vec<(KeyId, Key)>,
+}
+
+/// The keys of a role, and how many of them must sign.
+#[derive(Debug, Drop)]
+pub struct RoleRule {
+    pub keyids: Vec<KeyId>,
+    pub threshold: u8,
+}
+
+/// A signature entry of a file: `sig` is hex digits.
+#[derive(Debug, Drop)]
+pub struct Signature {
+    pub keyid: KeyId,
+    pub sig: String,
+}
+
+mod digits;
+mod ids;
+mod meeting;
+#[cfg(test)]
+mod tests;
+
+pub use ids::key_id;
+pub use meeting::{meets, meets_counted};

@@ -1,0 +1,104 @@
+// When a rule of keys and a threshold is met (TUF 1.0, sections 4.2 and 5).
+ghost use Rattle.std.specs.Prelude.{◌≡◌, ◌↔◌, ◌⊎◌, ◌∷◌, [], ◌++◌, ◌+◌, ◌<◌, ◌≤◌, ◌^◌, List, ℕ, Some, length, take, IsTrue, IfSome};
+ghost use Rattle.keys_roles.specs.Rules.{Meets};
+ghost use Rattle.keys_roles.specs.Counting.{IsIn, CountsBy, IsTaken};
+ghost use Rattle.keys_roles.specs.Views.{rule_view, table_view, entry_view, entries_view};
+
+use crate::digits::digits_verify;
+use crate::ids::{is_listed, key_of, top};
+use crate::{KeyTable, RoleRule, Signature};
+use lms::Steps;
+
+// The most keys that a threshold asks for.
+const MOST: usize = 255;
+
+/// Whether the rule is met: as many distinct public keys as its threshold, each the table's key of an id of the rule,
+/// have a listed signature by that id that verifies over the signed bytes (TUF 1.0, sections 4.2 and 5). It takes no
+/// memory.
+pub fn meets(rule: &RoleRule, table: &KeyTable, signed: &[u8], signatures: &[Signature]) -> bool
+    ensures { IsTrue result ↔ (Meets (rule_view rule.now) (table_view table.now) signed.now (entries_view signatures.now)) }
+{
+    meets_counted(rule, table, signed, signatures, &mut Steps::new())
+}
+
+/// The same, with one tick for each signature check.
+pub fn meets_counted(
+    rule: &RoleRule,
+    table: &KeyTable,
+    signed: &[u8],
+    signatures: &[Signature],
+    steps: &mut Steps,
+) -> bool
+    requires { steps.old < 2 ^ 63 }
+    ensures met { IsTrue result ↔ (Meets (rule_view rule.now) (table_view table.now) signed.now (entries_view signatures.now)) }
+    ensures grows { steps.old ≤ steps.new }
+    ensures most { steps.new ≤ steps.old + length signatures.now }
+{
+    let threshold = usize::from(rule.threshold);
+    let mut tops = [[0; 56]; MOST];
+    let mut count = 0usize;
+    let mut rest = signatures;
+    'entries: while let Some((entry, later)) = rest.split_first() {
+        if count >= threshold {
+            return true;
+        }
+        if let Some(top) = counted(rule, table, signed, entry, steps) {
+            count = take_in(&mut tops, count, &top);
+        }
+        rest = later;
+    }
+    count >= threshold
+}
+
+// The public key that the entry makes count.
+fn counted(
+    rule: &RoleRule,
+    table: &KeyTable,
+    signed: &[u8],
+    entry: &Signature,
+    steps: &mut Steps,
+) -> Option<[u8; 56]>
+    requires { steps.old + 1 < 2 ^ 64 }
+    ensures found { IfSome result (λ top. CountsBy (rule_view rule.now) (table_view table.now) signed.now (entry_view entry.now) top) }
+    ensures all { (top : List ℕ) → CountsBy (rule_view rule.now) (table_view table.now) signed.now (entry_view entry.now) top → result ≡ Some top }
+    ensures grows { steps.old ≤ steps.new }
+    ensures most { steps.new ≤ steps.old + 1 }
+{
+    if !is_listed(&rule.keyids, &entry.keyid) {
+        return None;
+    }
+    let key = key_of(&table.entries, &entry.keyid)?;
+    if digits_verify(key, signed, entry.sig.as_bytes(), steps) {
+        Some(*top(key))
+    } else {
+        None
+    }
+}
+
+// Puts the key behind the first `count` of the list, where it is none of them. How many they are then.
+fn take_in(tops: &mut [[u8; 56]; MOST], count: usize, top: &[u8; 56]) -> usize
+    requires { count < 255 }
+    ensures taken { IsTaken top.now (take count tops.old) (take result tops.new) }
+    ensures grows { count ≤ result }
+    ensures most { result ≤ count + 1 }
+{
+    if is_among(&tops[..count], top) {
+        return count;
+    }
+    tops[count] = *top;
+    count + 1
+}
+
+// Whether the key is one of them.
+fn is_among(tops: &[[u8; 56]], top: &[u8; 56]) -> bool
+    ensures { IsTrue result ↔ (IsIn tops.now top.now) }
+{
+    let mut rest = tops;
+    'tops: while let Some((first, later)) = rest.split_first() {
+        if *first == *top {
+            return true;
+        }
+        rest = later;
+    }
+    false
+}
