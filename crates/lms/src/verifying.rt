@@ -52,6 +52,9 @@ pub fn verify_counted(
         → IsKeyOf public.now lms ots identifier root → IsSignatureOf lms ots signature.now q randomizer elements path
         → steps.new ≡ steps.old + hash_count lms ots identifier message.now q randomizer }
     ensures unread { (lms : LmsType) (ots : OtsType) → HasTypes public.now lms ots → length signature.now ≢ signature_len ots lms → steps.new ≡ steps.old }
+    ensures refused { ((lms : LmsType) (ots : OtsType) (identifier root : List ℕ) (q : ℕ) (randomizer : List ℕ) (elements path : List (List ℕ))
+        → IsKeyOf public.now lms ots identifier root → IsSignatureOf lms ots signature.now q randomizer elements path → ⊥)
+        → steps.new ≡ steps.old }
     ensures grows { steps.old ≤ steps.new }
     ensures bound { (lms : LmsType) (ots : OtsType) → HasTypes public.now lms ots → steps.new ≤ steps.old + hash_bound ots lms }
     ensures most { steps.new ≤ steps.old + 8698 }

@@ -57,6 +57,13 @@ returns-clause-unread c lms ots types other =
     found.lms found.ots found.identifier.now found.root.now parts.q parts.randomizer.now parts.elements.now parts.path.now
     lms ots c.in-Some.ensures c.in-Some-read_signature.ensures types))
 
+pub returns-clause-refused : goal.returns-clause-refused
+returns-clause-refused c none =
+    let key = c.in-Some.key in
+    let parts = c.in-Some-read_signature.parts in
+    absurd (none key.lms key.ots key.identifier.now key.root.now parts.q parts.randomizer.now parts.elements.now parts.path.now
+    c.in-Some.ensures c.in-Some-read_signature.ensures)
+
 pub returns-clause-bound : goal.returns-clause-bound
 returns-clause-bound c lms ots types =
     let found = c.in-Some.key in
