@@ -1,11 +1,11 @@
--- Words that write no bytes down, and lists of two words.
-use Rattle.std.proofs.Common.{◌≡◌, ℕ, ◌≤◌, ◌<◌, ◌∙◌, sym, refl, List, [], ◌∷◌, length, map, slice_index_or, Bor, Ok, Err, false, codes, arith}
+-- Words that write no bytes down, or not so many.
+use Rattle.std.proofs.Common.{◌≡◌, ℕ, ◌*◌, ◌∙◌, sym, ap, refl, List, [], ◌∷◌, length, Ok, Err, false, codes, arith}
 use Rattle.std.proofs.lemmas.Bool.{false≢true}
 use Rattle.std.specs.Str.{bytes_eq}
-use Rattle.hex.specs.Hex.{IsBytes, decode_of, encode_lower}
+use Rattle.hex.specs.Hex.{IsBytes, decode_of, encode_lower, lower_digits}
 use Rattle.hex.specs.declared.error.FromHexError.{FromHexError}
-use Rattle.hex.proofs.HexLemmas.{decode_of-encode_lower, decode_of-same}
-use Rattle.verdicts.specs.Case.{hex_word}
+use Rattle.hex.proofs.HexLemmas.{decode_of-encode_lower, decode_of-same, length-encode_with}
+use Rattle.verdicts.specs.Words.{hex_word}
 
 -- the word stands for no bytes
 abbrev pub IsNoHex : List ℕ → Type 0
@@ -40,10 +40,20 @@ empty word bytes other good none =
     let one : length (b ∷ bs) ≡ 0 = rw same at none in
     omega (arith, one))
 
--- two words
-pub two : (ws : List (Bor (List ℕ))) (d : Bor (List ℕ)) → 2 ≤ length ws → length ws < 3
-    → map (λ w. w.now) ws ≡ (slice_index_or ws 0 d).now ∷ (slice_index_or ws 1 d).now ∷ []
-two [] d least below = absurd (omega (arith, least))
-two (a ∷ []) d least below = absurd (omega (arith, least))
-two (a ∷ b ∷ []) d least below = refl
-two (a ∷ b ∷ x ∷ ws) d least below = absurd (omega (arith, below))
+-- bytes have one word
+pub hex_word_one : (a b : List ℕ) → IsBytes a → IsBytes b → hex_word a ≡ hex_word b → a ≡ b
+hex_word_one [] [] _ _ _ = refl
+hex_word_one [] (b ∷ bs) _ _ same =
+    let e : length (codes "-") ≡ length (encode_lower (b ∷ bs)) = ap length same in
+    absurd (omega (arith, e, length-encode_with lower_digits (b ∷ bs)))
+hex_word_one (a ∷ as') [] _ _ same =
+    let e : length (encode_lower (a ∷ as')) ≡ length (codes "-") = ap length same in
+    absurd (omega (arith, e, length-encode_with lower_digits (a ∷ as')))
+hex_word_one (a ∷ as') (b ∷ bs) p q same =
+    decode_of-same (encode_lower (a ∷ as')) (a ∷ as') (b ∷ bs) (decode_of-encode_lower (a ∷ as') p) (rw same (decode_of-encode_lower (b ∷ bs) q))
+
+-- a word of bytes is no word of another number of bytes
+pub of_another_length : (word bytes : List ℕ) (n : ℕ) → word ≡ hex_word bytes → IsBytes bytes → (length bytes ≡ n → ⊥)
+    → (other : List ℕ) → IsBytes other → length other ≡ n → word ≡ hex_word other → ⊥
+of_another_length word bytes n is fits unlike other fits' long is' =
+    unlike (ap length (hex_word_one bytes other fits fits' (sym is ∙ is')) ∙ long)

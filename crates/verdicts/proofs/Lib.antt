@@ -1,3 +1,5 @@
 mod FirstLine
 mod Hexes
+mod Leaves
+mod Signing
 mod SoFar

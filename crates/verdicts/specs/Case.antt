@@ -1,35 +1,34 @@
 -- How a line writes a case down.
-use Rattle.std.specs.Prelude.{◌≡◌, ◌==◌, ℕ, List, [], ◌∷◌, codes}
+use Rattle.std.specs.Prelude.{◌≡◌, ◌==◌, ◌<◌, ◌^◌, ℕ, List, [], ◌∷◌, codes, decimal, length}
 use Rattle.std.specs.List.{slice_split}
-use Rattle.hex.specs.Hex.{encode_lower, IsBytes}
-use Rattle.hex.specs.declared.error.FromHexError.{FromHexError}
-use Rattle.hex.specs.declared.error.FromHexError.TheVariants as hex_errors
+use Rattle.hex.specs.Hex.{IsBytes}
 use Rattle.verdicts.specs.declared.case.Case.{Case}
-use Rattle.verdicts.specs.declared.case.Case.TheVariants.{Json}
+use Rattle.verdicts.specs.declared.case.Case.TheVariants.{Json, Lms, Key, Sign}
 use Rattle.verdicts.specs.declared.case.CaseFault.{CaseFault}
 use Rattle.verdicts.specs.declared.case.CaseFault.TheVariants.{NotUnderstood, OutOfMemory}
+use Rattle.verdicts.specs.Words.{hex_word, ots_word, height_word}
 
 -- the words of a line, parted at each space
 abbrev pub words_of : List ℕ → List (List ℕ)
 words_of line = slice_split (λ b. b == 32) line
 
--- bytes are written in lower-case hex, and no bytes as a dash
-abbrev pub hex_word : List ℕ → List ℕ
-hex_word [] = codes "-"
-hex_word (b ∷ bs) = encode_lower (b ∷ bs)
+-- so many bytes
+abbrev pub IsBytesOf : ℕ → List ℕ → Type 0
+IsBytesOf n bytes = IsBytes bytes × (length bytes ≡ n)
 
 -- the words write the case down: its kind, and then a word for each of its parts
 abbrev pub IsCase : List (List ℕ) → Case → Type 0
 IsCase words (Json part) = (words ≡ codes "json" ∷ hex_word part.items ∷ []) × IsBytes part.items
+IsCase words (Lms public signature message) =
+    (words ≡ codes "lms" ∷ hex_word public.items ∷ hex_word signature.items ∷ hex_word message.items ∷ [])
+    × IsBytes public.items × IsBytes signature.items × IsBytes message.items
+IsCase words (Key public) = (words ≡ codes "key" ∷ hex_word public ∷ []) × IsBytesOf 56 public
+IsCase words (Sign seed params leaf message) =
+    (words ≡ codes "sign" ∷ ots_word params.ots ∷ height_word params.height ∷ hex_word seed.identifier
+    ∷ hex_word seed.secret ∷ decimal leaf ∷ hex_word message.items ∷ [])
+    × IsBytesOf 16 seed.identifier × IsBytesOf 32 seed.secret × (leaf < 2 ^ 32) × IsBytes message.items
 
 -- why words are no case
 abbrev pub IsCaseFault : List (List ℕ) → CaseFault → Type 0
 IsCaseFault words NotUnderstood = (c : Case) → IsCase words c → ⊥
 IsCaseFault words OutOfMemory = Unit {0}
-
--- what an error of the hex decoder comes to
-abbrev pub fault_of : FromHexError → CaseFault
-fault_of hex_errors.OutOfMemory = OutOfMemory
-fault_of hex_errors.OddLength = NotUnderstood
-fault_of hex_errors.InvalidStringLength = NotUnderstood
-fault_of (hex_errors.InvalidHexCharacter c i) = NotUnderstood

@@ -1,3 +1,4 @@
+pub mod Words
 pub mod Case
 pub mod Verdict
 pub mod Lines

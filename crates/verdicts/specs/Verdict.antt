@@ -1,13 +1,23 @@
 -- What a case comes to, and how that is printed.
-use Rattle.std.specs.Prelude.{ℕ, List, codes}
+use Rattle.std.specs.Prelude.{◌≡◌, ◌<◌, ◌≤◌, ℕ, List, ◌∷◌, ◌++◌, codes, decimal, string_bytes}
+use Rattle.hex.specs.Hex.{encode_lower}
 use Rattle.canonical_json.specs.Json.{Json}
 use Rattle.canonical_json.specs.Spelling.{IsCanonical}
 use Rattle.canonical_json.specs.Faults.{IsReadFault}
 use Rattle.canonical_json.specs.declared.ReadFault.TheVariants as read_faults
+use Rattle.lms.specs.declared.OtsType.{OtsType}
+use Rattle.lms.specs.declared.LmsType.{LmsType}
+use Rattle.lms.specs.declared.Params.{Params}
+use Rattle.lms.specs.declared.Seed.{Seed}
+use Rattle.lms.specs.Keys.{public_of, signature_of, leaf_count}
+use Rattle.lms.specs.Parts.{IsKeyOf, IsSignatureOf}
+use Rattle.lms.specs.Verifies.{Verifies, hash_count}
+use Rattle.keys_roles.specs.Keys.{id_of}
+use Rattle.keys_roles.specs.Plain as plain
 use Rattle.verdicts.specs.declared.case.Case.{Case}
 use Rattle.verdicts.specs.declared.case.Case.TheVariants as cases
 use Rattle.verdicts.specs.declared.verdict.Verdict.{Verdict}
-use Rattle.verdicts.specs.declared.verdict.Verdict.TheVariants.{Canonical, NotCanonical, TooDeep, IntegerRange}
+use Rattle.verdicts.specs.declared.verdict.Verdict.TheVariants.{Canonical, NotCanonical, TooDeep, IntegerRange, Valid, Invalid, KeyId, Signed, LeafRange}
 use Rattle.verdicts.specs.Case.{IsCase, words_of}
 
 -- whether the bytes are the canonical text of a value, and else which fault they have
@@ -16,10 +26,42 @@ IsReading bytes Canonical = (v : Json) × IsCanonical v bytes
 IsReading bytes NotCanonical = IsReadFault bytes read_faults.NotCanonical
 IsReading bytes TooDeep = IsReadFault bytes read_faults.TooDeep
 IsReading bytes IntegerRange = IsReadFault bytes read_faults.IntegerRange
+IsReading bytes verdict = ⊥
+
+-- so many hashes has the check of the signature: those of RFC 8554, section 5.4.2, where the bytes are a key and a
+-- signature of its types, and else none
+pub record IsCount (public signature message : List ℕ) (n : ℕ) : Type 0 where
+  pub counted : (lms : LmsType) (ots : OtsType) (identifier root : List ℕ) (q : ℕ) (randomizer : List ℕ) (elements path : List (List ℕ))
+      → IsKeyOf public lms ots identifier root → IsSignatureOf lms ots signature q randomizer elements path
+      → n ≡ hash_count lms ots identifier message q randomizer
+  pub refused : ((lms : LmsType) (ots : OtsType) (identifier root : List ℕ) (q : ℕ) (randomizer : List ℕ) (elements path : List (List ℕ))
+      → IsKeyOf public lms ots identifier root → IsSignatureOf lms ots signature q randomizer elements path → ⊥) → n ≡ 0
+
+-- whether the signature is one of the message under the public key, and after how many hashes
+abbrev pub IsVerifying : List ℕ → List ℕ → List ℕ → Verdict → Type 0
+IsVerifying public signature message (Valid n) = Verifies public message signature × IsCount public signature message n
+IsVerifying public signature message (Invalid n) = (Verifies public message signature → ⊥) × IsCount public signature message n
+IsVerifying public signature message verdict = ⊥
+
+-- the id of the LMS public key
+abbrev pub IsIdentifying : List ℕ → Verdict → Type 0
+IsIdentifying public (KeyId digits) = string_bytes digits ≡ id_of (plain.lms public)
+IsIdentifying public verdict = ⊥
+
+-- the public key of the seed and its signature of the message with this leaf, or that there is no such leaf
+abbrev pub IsSigning : Seed → Params → ℕ → List ℕ → Verdict → Type 0
+IsSigning seed params leaf message (Signed public signature) =
+    (leaf < leaf_count params) × (string_bytes public ≡ encode_lower (public_of seed params))
+    × (string_bytes signature ≡ encode_lower (signature_of seed params leaf message))
+IsSigning seed params leaf message LeafRange = leaf_count params ≤ leaf
+IsSigning seed params leaf message verdict = ⊥
 
 -- the verdict on a case
 abbrev pub IsVerdict : Case → Verdict → Type 0
 IsVerdict (cases.Json part) verdict = IsReading part.items verdict
+IsVerdict (cases.Lms public signature message) verdict = IsVerifying public.items signature.items message.items verdict
+IsVerdict (cases.Key public) verdict = IsIdentifying public verdict
+IsVerdict (cases.Sign seed params leaf message) verdict = IsSigning seed params leaf message.items verdict
 
 -- the line writes a case down, and this is the verdict on it
 abbrev pub IsAnswer : List ℕ → Verdict → Type 0
@@ -31,3 +73,8 @@ text_of Canonical = codes "canonical"
 text_of NotCanonical = codes "not_canonical"
 text_of TooDeep = codes "too_deep"
 text_of IntegerRange = codes "integer_range"
+text_of (Valid n) = codes "valid " ++ decimal n
+text_of (Invalid n) = codes "invalid " ++ decimal n
+text_of (KeyId digits) = string_bytes digits
+text_of (Signed public signature) = string_bytes public ++ (codes " " ++ string_bytes signature)
+text_of LeafRange = codes "leaf_range"

@@ -1,15 +1,31 @@
-ghost use Rattle.std.specs.Prelude.{◌≡◌, ◌⊎◌, ◌↔◌, ℕ, List, IsTrue, IfOk, IfErr, map};
-ghost use Rattle.hex.specs.Hex.{IsBytes, encode_lower};
-ghost use Rattle.verdicts.specs.Case.{words_of, hex_word, IsCase, IsCaseFault};
+ghost use Rattle.std.specs.Prelude.{◌≡◌, ◌∷◌, IfOk, IfErr, codes, map};
+ghost use Rattle.verdicts.specs.Case.{words_of, IsCase, IsCaseFault};
 
+use crate::words::{array_of, bytes_of, height_of, leaf_of, ots_of};
 use hex::FromHexError;
+use lms::{Params, Seed};
 use std::alloc::{AllocError, Global};
 
 /// One line, taken apart.
-#[derive(Debug, Drop)]
+#[derive(Drop)]
 pub enum Case {
     /// `json HEX`: is this the canonical text of a value?
     Json(Vec<u8>),
+    /// `lms PUBLIC SIGNATURE MESSAGE`: is this a signature of the message under the key?
+    Lms {
+        public: Vec<u8>,
+        signature: Vec<u8>,
+        message: Vec<u8>,
+    },
+    /// `key PUBLIC`: which id has this key?
+    Key([u8; 56]),
+    /// `sign W HEIGHT I SEED Q MESSAGE`: which key has this seed, and which signature of the message makes its leaf Q?
+    Sign {
+        seed: Seed,
+        params: Params,
+        leaf: u32,
+        message: Vec<u8>,
+    },
 }
 
 /// Why a line is not taken apart.
@@ -32,7 +48,7 @@ impl From<AllocError> for CaseFault {
 
 impl From<FromHexError> for CaseFault {
     ghost use Rattle.std.specs.Prelude.{◌≡◌};
-    ghost use Rattle.verdicts.specs.Case.{fault_of};
+    ghost use Rattle.verdicts.specs.Words.{fault_of};
 
     ghost from_gives = { λ error fault. fault ≡ fault_of error };
 
@@ -51,9 +67,19 @@ impl Case {
         ensures fault { IfErr result (IsCaseFault (words_of line.now)) }
     {
         let words = words(alloc, line)?;
-        match words.as_slice() {
-            [kind, bytes] if *kind == b"json".as_slice() => Ok(Case::Json(bytes_of(alloc, bytes)?)),
-            _ => Err(CaseFault::NotUnderstood),
+        let Some((kind, parts)) = words.split_first() else {
+            return Err(CaseFault::NotUnderstood);
+        };
+        if *kind == b"json".as_slice() {
+            json_case(alloc, parts)
+        } else if *kind == b"lms".as_slice() {
+            lms_case(alloc, parts)
+        } else if *kind == b"key".as_slice() {
+            key_case(alloc, parts)
+        } else if *kind == b"sign".as_slice() {
+            sign_case(alloc, parts)
+        } else {
+            Err(CaseFault::NotUnderstood)
         }
     }
 }
@@ -65,27 +91,63 @@ fn words<'a>(alloc: Global, line: &'a [u8]) -> Result<Vec<&'a [u8]>, AllocError>
     line.split(|b| *b == b' ').collect(alloc)
 }
 
-// The bytes that a word writes down: lower-case hex, or a dash where there are none.
-fn bytes_of(alloc: Global, word: &[u8]) -> Result<Vec<u8>, CaseFault>
-    ensures bytes { IfOk result (λ v. (word.now ≡ hex_word v.items) × IsBytes v.items) }
-    ensures fault { IfErr result (λ e. (e ≡ CaseFault.OutOfMemory)
-        ⊎ ((bytes : List ℕ) → IsBytes bytes → word.now ≡ hex_word bytes → ⊥)) }
+// The case of a line that begins with `json`, by the words behind.
+fn json_case(alloc: Global, parts: &[&[u8]]) -> Result<Case, CaseFault>
+    ensures case { IfOk result (IsCase (codes "json" ∷ map (λ w. w.now) parts.now)) }
+    ensures fault { IfErr result (IsCaseFault (codes "json" ∷ map (λ w. w.now) parts.now)) }
 {
-    if word == b"-".as_slice() {
-        return Ok(Vec::new(alloc));
-    }
-    let bytes = hex::decode(alloc, word)?;
-    if bytes.is_empty() || !is_text_of(alloc, word, &bytes)? {
+    let [bytes] = parts else {
         return Err(CaseFault::NotUnderstood);
-    }
-    Ok(bytes)
+    };
+    Ok(Case::Json(bytes_of(alloc, bytes)?))
 }
 
-// Whether the word is the lower-case hex of the bytes.
-fn is_text_of(alloc: Global, word: &[u8], bytes: &[u8]) -> Result<bool, AllocError>
-    ensures same { IfOk result (λ same. IsTrue same ↔ (word.now ≡ encode_lower bytes.now)) }
-    ensures bytes { IsBytes bytes.now }
+// The same for `lms`.
+fn lms_case(alloc: Global, parts: &[&[u8]]) -> Result<Case, CaseFault>
+    ensures case { IfOk result (IsCase (codes "lms" ∷ map (λ w. w.now) parts.now)) }
+    ensures fault { IfErr result (IsCaseFault (codes "lms" ∷ map (λ w. w.now) parts.now)) }
 {
-    let text = hex::encode(alloc, bytes)?;
-    Ok(text.as_bytes() == word)
+    let [public, signature, message] = parts else {
+        return Err(CaseFault::NotUnderstood);
+    };
+    Ok(Case::Lms {
+        public: bytes_of(alloc, public)?,
+        signature: bytes_of(alloc, signature)?,
+        message: bytes_of(alloc, message)?,
+    })
+}
+
+// The same for `key`.
+fn key_case(alloc: Global, parts: &[&[u8]]) -> Result<Case, CaseFault>
+    ensures case { IfOk result (IsCase (codes "key" ∷ map (λ w. w.now) parts.now)) }
+    ensures fault { IfErr result (IsCaseFault (codes "key" ∷ map (λ w. w.now) parts.now)) }
+{
+    let [public] = parts else {
+        return Err(CaseFault::NotUnderstood);
+    };
+    Ok(Case::Key(array_of(alloc, public)?))
+}
+
+// The same for `sign`.
+fn sign_case(alloc: Global, parts: &[&[u8]]) -> Result<Case, CaseFault>
+    ensures case { IfOk result (IsCase (codes "sign" ∷ map (λ w. w.now) parts.now)) }
+    ensures fault { IfErr result (IsCaseFault (codes "sign" ∷ map (λ w. w.now) parts.now)) }
+{
+    let [ots, height, identifier, secret, leaf, message] = parts else {
+        return Err(CaseFault::NotUnderstood);
+    };
+    let params = Params {
+        ots: ots_of(ots)?,
+        height: height_of(height)?,
+    };
+    let seed = Seed {
+        identifier: array_of(alloc, identifier)?,
+        secret: array_of(alloc, secret)?,
+    };
+    Ok(Case::Sign {
+        seed,
+        params,
+        leaf: leaf_of(alloc, leaf)?,
+        message: bytes_of(alloc, message)?,
+    })
 }

@@ -7,6 +7,7 @@ mod lines;
 #[cfg(test)]
 mod tests;
 mod verdict;
+mod words;
 
 use failure::Failure;
 use std::io::{self, BufReader, BufWriter};

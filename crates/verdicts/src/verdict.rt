@@ -1,19 +1,31 @@
 ghost use Rattle.std.specs.Prelude.{IfOk, IfErr};
 ghost use Rattle.verdicts.specs.Case.{words_of, IsCaseFault};
-ghost use Rattle.verdicts.specs.Verdict.{IsReading, IsVerdict, IsAnswer};
+ghost use Rattle.verdicts.specs.Verdict.{IsReading, IsVerifying, IsIdentifying, IsSigning, IsVerdict, IsAnswer};
 
 use crate::case::{Case, CaseFault};
 use canonical_json::ReadFault;
+use keys_roles::{Key, key_id};
+use lms::{Params, Seed, SignFault, Steps, public_of, sign, verify_counted};
 use std::alloc::{AllocError, Global};
 use std::fmt;
 
 /// What a case comes to.
-#[derive(Debug, Clone, Copy, PartialEq, Eq)]
+#[derive(Debug, Drop)]
 pub enum Verdict {
     Canonical,
     NotCanonical,
     TooDeep,
     IntegerRange,
+    /// The signature is valid, and so many hashes were made to tell.
+    Valid(u64),
+    /// The same of one that is not.
+    Invalid(u64),
+    /// The id of a key, in hex digits.
+    KeyId(String),
+    /// A public key and a signature, in hex digits.
+    Signed { public: String, signature: String },
+    /// The tree has no such leaf.
+    LeafRange,
 }
 
 impl fmt::Display for Verdict {
@@ -23,12 +35,17 @@ impl fmt::Display for Verdict {
     ghost output = { λ verdict. Some (text_of verdict) };
 
     fn fmt<W: fmt::Write>(&self, f: &mut fmt::Formatter<W>) -> fmt::Result {
-        f.write_str(match self {
-            Verdict::Canonical => "canonical",
-            Verdict::NotCanonical => "not_canonical",
-            Verdict::TooDeep => "too_deep",
-            Verdict::IntegerRange => "integer_range",
-        })
+        match self {
+            Verdict::Canonical => f.write_str("canonical"),
+            Verdict::NotCanonical => f.write_str("not_canonical"),
+            Verdict::TooDeep => f.write_str("too_deep"),
+            Verdict::IntegerRange => f.write_str("integer_range"),
+            Verdict::Valid(count) => write!(f, "valid {count}"),
+            Verdict::Invalid(count) => write!(f, "invalid {count}"),
+            Verdict::KeyId(digits) => f.write_str(digits),
+            Verdict::Signed { public, signature } => write!(f, "{public} {signature}"),
+            Verdict::LeafRange => f.write_str("leaf_range"),
+        }
     }
 }
 
@@ -47,6 +64,18 @@ pub fn judge(alloc: Global, case: &Case) -> Result<Verdict, AllocError>
 {
     match case {
         Case::Json(bytes) => reading(alloc, bytes),
+        Case::Lms {
+            public,
+            signature,
+            message,
+        } => Ok(verifying(public, signature, message)),
+        Case::Key(public) => identifying(alloc, public),
+        Case::Sign {
+            seed,
+            params,
+            leaf,
+            message,
+        } => signing(alloc, seed, *params, *leaf, message),
     }
 }
 
@@ -61,4 +90,50 @@ fn reading(alloc: Global, bytes: &[u8]) -> Result<Verdict, AllocError>
         Err(ReadFault::IntegerRange) => Ok(Verdict::IntegerRange),
         Err(ReadFault::OutOfMemory) => Err(AllocError),
     }
+}
+
+// Whether the signature is one of the message under the public key, and after how many hashes.
+fn verifying(public: &[u8], signature: &[u8], message: &[u8]) -> Verdict
+    ensures { IsVerifying public.now signature.now message.now result }
+{
+    let Some(public) = public.as_array::<56>() else {
+        return Verdict::Invalid(0);
+    };
+    let mut steps = Steps::new();
+    let valid = verify_counted(public, message, signature, &mut steps);
+    if valid {
+        Verdict::Valid(steps.count())
+    } else {
+        Verdict::Invalid(steps.count())
+    }
+}
+
+// The id of the LMS public key.
+fn identifying(alloc: Global, public: &[u8; 56]) -> Result<Verdict, AllocError>
+    ensures { IfOk result (IsIdentifying public.now) }
+{
+    let id = key_id(alloc, &Key::Lms(*public))?;
+    Ok(Verdict::KeyId(hex::encode(alloc, &id.0)?))
+}
+
+// The public key of the seed, and its signature of the message with this leaf.
+fn signing(
+    alloc: Global,
+    seed: &Seed,
+    params: Params,
+    leaf: u32,
+    message: &[u8],
+) -> Result<Verdict, AllocError>
+    ensures { IfOk result (IsSigning seed.now params leaf message.now) }
+{
+    let mut signature = Vec::new(alloc);
+    match sign(seed, params, leaf, message, &mut signature) {
+        Ok(()) => {}
+        Err(SignFault::LeafRange) => return Ok(Verdict::LeafRange),
+        Err(SignFault::OutOfMemory) => return Err(AllocError),
+    }
+    Ok(Verdict::Signed {
+        public: hex::encode(alloc, &public_of(seed, params))?,
+        signature: hex::encode(alloc, &signature)?,
+    })
 }

@@ -1,11 +1,11 @@
 use Rattle.std.proofs.Common.{rules, ◌≡◌, ap, inl, inr, codes, false, length}
 use Rattle.std.proofs.lemmas.Result.{err_from_is_err_and}
 use Rattle.std.specs.Str.{bytes_eq}
-use Rattle.verdicts.specs.Case.{fault_of}
+use Rattle.verdicts.specs.Words.{fault_of}
 use Rattle.verdicts.proofs.Hexes.{refused, respelled, empty}
 use Rattle.hex.specs.Hex.{encode_lower}
-use Rattle.verdicts.proofs.case.bytes_of.Goals as goal
-use Rattle.verdicts.proofs.case.bytes_of.Goals.{then-is_empty-via-then-is_empty, then-is_empty-via-else-is_empty+in_ok-is_text_of+then-not-branch}
+use Rattle.verdicts.proofs.words.bytes_of.Goals as goal
+use Rattle.verdicts.proofs.words.bytes_of.Goals.{then-is_empty-via-then-is_empty, then-is_empty-via-else-is_empty+in_ok-is_text_of+then-not-branch}
 
 pub returns-in_err-bytes-clause-fault : goal.returns-in_err-bytes-clause-fault
 returns-in_err-bytes-clause-fault c =

@@ -1,0 +1,34 @@
+-- How a word of a line writes its part of a case down.
+use Rattle.std.specs.Prelude.{ℕ, List, [], ◌∷◌, codes}
+use Rattle.hex.specs.Hex.{encode_lower}
+use Rattle.hex.specs.declared.error.FromHexError.{FromHexError}
+use Rattle.hex.specs.declared.error.FromHexError.TheVariants as hex_errors
+use Rattle.lms.specs.declared.OtsType.{OtsType}
+use Rattle.lms.specs.declared.OtsType.TheVariants.{W1, W2, W4, W8}
+use Rattle.lms.specs.declared.SigningHeight.{SigningHeight}
+use Rattle.lms.specs.declared.SigningHeight.TheVariants.{H5, H10}
+use Rattle.verdicts.specs.declared.case.CaseFault.{CaseFault}
+use Rattle.verdicts.specs.declared.case.CaseFault.TheVariants.{NotUnderstood, OutOfMemory}
+
+-- bytes are written in lower-case hex, and no bytes as a dash
+abbrev pub hex_word : List ℕ → List ℕ
+hex_word [] = codes "-"
+hex_word (b ∷ bs) = encode_lower (b ∷ bs)
+
+-- an LM-OTS type is written by its width, and a tree by its height
+abbrev pub ots_word : OtsType → List ℕ
+ots_word W1 = codes "1"
+ots_word W2 = codes "2"
+ots_word W4 = codes "4"
+ots_word W8 = codes "8"
+
+abbrev pub height_word : SigningHeight → List ℕ
+height_word H5 = codes "5"
+height_word H10 = codes "10"
+
+-- what an error of the hex decoder comes to
+abbrev pub fault_of : FromHexError → CaseFault
+fault_of hex_errors.OutOfMemory = OutOfMemory
+fault_of hex_errors.OddLength = NotUnderstood
+fault_of hex_errors.InvalidStringLength = NotUnderstood
+fault_of (hex_errors.InvalidHexCharacter c i) = NotUnderstood
