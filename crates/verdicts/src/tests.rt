@@ -57,6 +57,12 @@ fn stops_at_the_first_line_that_is_no_case(rt: HostRuntime) {
         ("JSON 30\n", 1, ""),
         ("jsons 30\n", 1, ""),
         ("# json 30\n", 1, ""),
+        ("lms - -\n", 1, ""),
+        ("lms - - - -\n", 1, ""),
+        ("lms - - 0A\n", 1, ""),
+        ("key -\n", 1, ""),
+        ("key 00\n", 1, ""),
+        ("sign 1 5 - - 0 -\n", 1, ""),
         ("json 30\n\njson 31\n", 2, "canonical\n"),
         ("json 30\njson -\njson x", 3, "canonical\nnot_canonical\n"),
     ] {
@@ -71,6 +77,25 @@ fn takes_bytes_that_are_no_text(rt: HostRuntime) {
     let (output, result) = answered(rt.alloc(), b"json 30\njson \xff\xfe\n");
     assert!(rt; result == Err(Failure::NotUnderstood(2)));
     assert!(rt; output.as_slice() == b"canonical\n".as_slice());
+}
+
+#[test]
+fn prints_what_lms_answers(rt: HostRuntime) {
+    for (text, printed) in [
+        ("lms - 00 -\n", "invalid 0\n"),
+        (
+            "key 0000000000000000000000000000000000000000000000000000000000000000000000000000000000000000000000000000000000000000\n",
+            "b17ac8552fb62b5ade95039250fe2a823de6978b8eae322968a81dac7e2eb6c2\n",
+        ),
+        (
+            "sign 8 10 00000000000000000000000000000000 ffffffffffffffffffffffffffffffffffffffffffffffffffffffffffffffff 1024 -\n",
+            "leaf_range\n",
+        ),
+    ] {
+        let (output, result) = answered(rt.alloc(), text.as_bytes());
+        assert!(rt; result == Ok(()), "{text}");
+        assert!(rt; output.as_slice() == printed.as_bytes(), "{text}");
+    }
 }
 
 // A list of so many zeros, as hex in a line.
