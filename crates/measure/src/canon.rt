@@ -1,9 +1,9 @@
 use crate::failure::Failure;
-use crate::rate::rate;
+use crate::rate::{now, rate};
 use canonical_json::Value;
 use std::alloc::Global;
 use std::rt::{Clock, Files};
-use std::time::{Duration, Instant};
+use std::time::Duration;
 use std::{fs, io};
 
 /// Reads the file, and prints how fast its text is read and its value is written.
@@ -15,10 +15,10 @@ pub fn measure(
     let alloc = rt.alloc();
     let bytes = fs::read(rt, file)?;
     let reading = time_of_reading(rt, alloc, &bytes, rounds)?;
-    println!(rt; "read {}", rate(bytes.len(), rounds, reading))?;
+    println!(rt; "read {}", rate(bytes.len() as u64, rounds, reading))?;
     let value = canonical_json::read(alloc, &bytes)?;
     let writing = time_of_writing(rt, alloc, &value, rounds)?;
-    println!(rt; "write {}", rate(bytes.len(), rounds, writing))?;
+    println!(rt; "write {}", rate(bytes.len() as u64, rounds, writing))?;
     Ok(())
 }
 
@@ -47,8 +47,4 @@ fn time_of_writing(
         canonical_json::write(value, &mut out)?;
     }
     Ok(now(rt)?.duration_since(start))
-}
-
-fn now(rt: &impl Clock) -> Result<Instant, Failure> {
-    Instant::now(rt).map_err(|_| Failure::Clock)
 }

@@ -2,12 +2,16 @@ ghost use Rattle.std.specs.Prelude.{◌≡◌};
 ghost use Rattle.measure.specs.Failure.{status_of};
 
 use canonical_json::{ReadFault, WriteFault};
+use lms::SignFault;
 use std::alloc::AllocError;
 use std::{fmt, io};
 
-const USAGE: &str = "usage: measure canon FILE N
-  canon FILE N   reads and writes the canonical JSON of FILE, each N times (N from 1 to 4294967295),
-                 and prints the bytes per second of each: `read B` and `write B`";
+const USAGE: &str = "usage: measure canon FILE N | measure lms N   (N from 1 to 4294967295)
+  canon FILE N   reads and writes the canonical JSON of FILE, each N times, and prints the bytes per second of
+                 each: `read B` and `write B`
+  lms N          signs once and verifies N times with each LM-OTS type at height 5, and prints the signings,
+                 verifications and hashes per second: `w8 sign S verify V hashes H`; then the hashes of 55 bytes
+                 per second of SHA-256 alone, `sha2 H`, and the hashes of each type in hundredths of that";
 
 /// Why nothing was measured.
 #[derive(Debug, Clone, Copy, PartialEq, Eq)]
@@ -16,18 +20,21 @@ pub enum Failure {
     Usage,
     /// The file is not one canonical text within the limits.
     NotRead,
+    /// What was signed does not verify.
+    NotVerified,
     Memory,
     File,
     Clock,
 }
 
 impl Failure {
-    /// The exit status: 1 for a file that is no canonical text, 2 for the words, and 3 for what is outside of both.
+    /// The exit status: 1 for a file that is no canonical text or a signature that does not verify, 2 for the words,
+    /// and 3 for what is outside of these.
     pub fn status(self) -> u8
         ensures { result ≡ status_of self }
     {
         match self {
-            Failure::NotRead => 1,
+            Failure::NotRead | Failure::NotVerified => 1,
             Failure::Usage => 2,
             Failure::Memory | Failure::File | Failure::Clock => 3,
         }
@@ -39,6 +46,7 @@ impl fmt::Display for Failure {
         f.write_str(match self {
             Failure::Usage => USAGE,
             Failure::NotRead => "not canonical JSON",
+            Failure::NotVerified => "not verified",
             Failure::Memory => "fault memory",
             Failure::File => "fault file",
             Failure::Clock => "fault clock",
@@ -77,6 +85,15 @@ impl From<WriteFault> for Failure {
         match fault {
             WriteFault::OutOfMemory => Failure::Memory,
             WriteFault::TooDeep | WriteFault::Unordered => Failure::NotRead,
+        }
+    }
+}
+
+impl From<SignFault> for Failure {
+    fn from(fault: SignFault) -> Self {
+        match fault {
+            SignFault::OutOfMemory => Failure::Memory,
+            SignFault::LeafRange => Failure::NotVerified,
         }
     }
 }

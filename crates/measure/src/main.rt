@@ -3,6 +3,7 @@
 
 mod canon;
 mod failure;
+mod lms_rates;
 mod rate;
 mod task;
 
@@ -27,5 +28,6 @@ fn run(rt: &(impl Env + Files + Clock + Print + AllocGlobal)) -> Result<(), Fail
     let words: Vec<String> = env::args(rt)?.collect(rt.alloc())?;
     match Task::parse(&words)? {
         Task::Canon { file, rounds } => canon::measure(rt, file, rounds),
+        Task::Lms { rounds } => lms_rates::measure(rt, rounds),
     }
 }

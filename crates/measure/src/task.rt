@@ -5,6 +5,8 @@ use crate::failure::Failure;
 pub enum Task<'a> {
     /// `canon FILE N`: the file is read and its value written, each so many times.
     Canon { file: &'a str, rounds: u32 },
+    /// `lms N`: messages are signed once and verified so many times.
+    Lms { rounds: u32 },
 }
 
 impl<'a> Task<'a> {
@@ -13,6 +15,9 @@ impl<'a> Task<'a> {
         match words {
             [_, kind, file, rounds] if kind.as_str() == "canon" => Ok(Task::Canon {
                 file: file.as_str(),
+                rounds: rounds_of(rounds)?,
+            }),
+            [_, kind, rounds] if kind.as_str() == "lms" => Ok(Task::Lms {
                 rounds: rounds_of(rounds)?,
             }),
             _ => Err(Failure::Usage),
