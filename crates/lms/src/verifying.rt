@@ -38,8 +38,7 @@ fn root_of(
 }
 
 /// Whether the signature is one of the message under the public key, with one tick of `steps` for each
-/// hash: those of section 5.4.2 where the bytes are a key and a signature of its types, and none for a signature of
-/// another length.
+/// hash: those of section 5.4.2 where the bytes are a key and a signature of its types, and none where they are not.
 pub fn verify_counted(
     public: &[u8; 56],
     message: &[u8],
