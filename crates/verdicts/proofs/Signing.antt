@@ -1,6 +1,5 @@
 -- The words of a line that begins with `sign`.
 use Rattle.std.proofs.Common.{◌≡◌, ◌⊎◌, ℕ, ◌≤◌, ◌<◌, refl, ap, inl, inr, List, [], ◌∷◌, length, map, get_or, slice_index_or, Bor, codes, arith}
-use Rattle.hex.specs.Hex.{IsBytes}
 use Rattle.verdicts.specs.declared.case.Case.{Case}
 use Rattle.verdicts.specs.declared.case.Case.TheVariants.{Json, Lms, Key, Sign}
 use Rattle.verdicts.specs.declared.case.CaseFault.{CaseFault}

@@ -1,4 +1,4 @@
-use Rattle.std.proofs.Common.{rules, ◌≡◌, ◌∙◌, ap, refl, List, ℕ, [], ◌∷◌, codes}
+use Rattle.std.proofs.Common.{rules, ◌∙◌, ap, refl, List, ℕ, [], ◌∷◌, codes}
 use Rattle.std.proofs.lemmas.Result.{err_from_is_err_and}
 use Rattle.verdicts.proofs.Signing.{six, by_fault, no_message}
 use Rattle.verdicts.proofs.case.sign_case.Goals as goal

@@ -1,6 +1,4 @@
 use Rattle.std.proofs.Common.{rules, ◌≡◌, inr, length}
-use Rattle.hex.specs.Hex.{IsBytes}
-use Rattle.verdicts.specs.Words.{hex_word}
 use Rattle.verdicts.proofs.Hexes.{of_another_length}
 use Rattle.verdicts.proofs.words.array_of.Goals as goal
 
