@@ -51,7 +51,7 @@ pub fn array_of<const N: usize>(alloc: Global, word: &[u8]) -> Result<[u8; N], C
 /// The LM-OTS type whose width a word writes down.
 pub fn ots_of(word: &[u8]) -> Result<OtsType, CaseFault>
     ensures ots { IfOk result (λ ots. word.now ≡ ots_word ots) }
-    ensures fault { IfErr result (λ e. (ots : OtsType) → word.now ≡ ots_word ots → ⊥) }
+    ensures fault { IfErr result (λ e. (e ≡ CaseFault.NotUnderstood) × ((ots : OtsType) → word.now ≡ ots_word ots → ⊥)) }
 {
     if word == b"1".as_slice() {
         Ok(OtsType::W1)
@@ -69,7 +69,8 @@ pub fn ots_of(word: &[u8]) -> Result<OtsType, CaseFault>
 /// The height of a tree that a word writes down.
 pub fn height_of(word: &[u8]) -> Result<SigningHeight, CaseFault>
     ensures height { IfOk result (λ height. word.now ≡ height_word height) }
-    ensures fault { IfErr result (λ e. (height : SigningHeight) → word.now ≡ height_word height → ⊥) }
+    ensures fault { IfErr result (λ e. (e ≡ CaseFault.NotUnderstood)
+        × ((height : SigningHeight) → word.now ≡ height_word height → ⊥)) }
 {
     if word == b"5".as_slice() {
         Ok(SigningHeight::H5)
