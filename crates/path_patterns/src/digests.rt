@@ -1,0 +1,1 @@
+// Digests as hex digits.
