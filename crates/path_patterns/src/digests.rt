@@ -1,1 +1,66 @@
 // Digests as hex digits.
+ghost use Rattle.std.specs.Prelude.{◌≡◌, IfOk, IfSome, IfNone, string_bytes};
+ghost use Rattle.std.specs.List.{list_all};
+ghost use Rattle.hex.specs.Hex.{encode_lower};
+ghost use Rattle.path_patterns.specs.Bytes.{is_hex};
+ghost use Rattle.path_patterns.specs.Grammar.{IsHex};
+
+use crate::{Digest, NoMemory};
+use std::alloc::Global;
+
+impl Digest {
+    /// The digest of these bytes. It takes no memory.
+    pub fn new(bytes: [u8; 32]) -> Digest
+        ensures { result.0 ≡ bytes }
+    {
+        Digest(bytes)
+    }
+
+    /// The digest's bytes. It takes no memory.
+    pub fn bytes(&self) -> [u8; 32]
+        ensures { result ≡ self.now.0 }
+    {
+        self.0
+    }
+
+    /// The digest that the text spells in exactly 64 hex digits of lower case, and `None` where the text is no such
+    /// digits. It takes no memory.
+    pub fn read(text: &str) -> Option<Digest>
+        ensures some { IfSome result (λ d. IsHex 64 text.now × (text.now ≡ encode_lower d.0)) }
+        ensures none { IfNone result (IsHex 64 text.now → ⊥) }
+    {
+        let digits = text.as_bytes();
+        if digits.len() != 64 || !are_hex_digits(digits) {
+            return None;
+        }
+        let mut bytes = [0; 32];
+        match hex::decode_to_slice(digits, &mut bytes) {
+            Ok(()) => Some(Digest(bytes)),
+            Err(_) => None,
+        }
+    }
+
+    /// The digest as 64 hex digits of lower case, in ASCII. It takes no memory.
+    pub fn digits(&self) -> [u8; 64]
+        ensures { result ≡ encode_lower self.now.0 }
+    {
+        let mut digits = [0; 64];
+        let _ = hex::encode_to_slice(&self.0, &mut digits);
+        digits
+    }
+
+    /// The digest as a text of 64 hex digits of lower case.
+    pub fn text(&self, alloc: Global) -> Result<String, NoMemory>
+        ensures { IfOk result (λ s. string_bytes s ≡ encode_lower self.now.0) }
+    {
+        hex::encode(alloc, &self.0)
+    }
+}
+
+// Whether each byte is a hex digit of lower case.
+fn are_hex_digits(text: &[u8]) -> bool
+    ensures { result ≡ list_all is_hex text.now }
+{
+    text.iter()
+        .all(|b| b.is_ascii_digit() || matches!(*b, b'a'..=b'f'))
+}
