@@ -7,6 +7,7 @@ use Rattle.hex.specs.Hex.{encode_with, encode_lower, lower_digits, decode_of, de
 use Rattle.hex.proofs.HexLemmas.{length-encode_with, decode_of-encode_lower, decode_sized-encode_lower}
 use Rattle.path_patterns.specs.Bytes.{is_digit, is_hex}
 use Rattle.path_patterns.specs.Grammar.{IsHex}
+use Rattle.path_patterns.specs.Names.{IsDigest}
 
 -- what a digit stands for
 abbrev value : ℕ → ℕ
@@ -73,16 +74,19 @@ bytes_each [] at = tt
 bytes_each (b ∷ bs) at = (at zero, bytes_each bs (λ i. at (suc i)))
 
 -- 64 digits are read as the 32 bytes that they spell
-pub read_digits : (text : List ℕ) → IsHex 64 text → (bytes : List ℕ) × (decode_sized text 32 ≡ Ok bytes) × (text ≡ encode_lower bytes)
+pub read_digits : (text : List ℕ) → IsHex 64 text → (bytes : List ℕ) × (decode_sized text 32 ≡ Ok bytes) × (text ≡ encode_lower bytes) × IsDigest bytes
 read_digits text is =
     let even : length text % 2 ≡ 0 = omega (arith, is.0) in
     let s = spelled text even is.1 in
     let len = length-encode_with lower_digits s.0 in
     let whole : length s.0 ≡ 32 = omega (arith, len, is.0, ap length s.2) in
-    (s.0, ap (λ (t : List ℕ). decode_sized t 32) s.2 ∙ decode_sized-encode_lower s.0 32 whole (bytes_at s.0 s.1), s.2)
+    (s.0, ap (λ (t : List ℕ). decode_sized t 32) s.2 ∙ decode_sized-encode_lower s.0 32 whole (bytes_at s.0 s.1), s.2, (whole, s.1))
 
 -- bytes are known by their digits
 pub digits_one : (a b : List ℕ) → IsBytes a → IsBytes b → encode_lower a ≡ encode_lower b → a ≡ b
 digits_one a b bytes bytes' same =
     let ok = sym (decode_of-encode_lower a bytes) ∙ ap decode_of same ∙ decode_of-encode_lower b bytes' in
     cc
+
+pub is_digest : (bytes : List ℕ) → length bytes ≡ 32 → IsBytes bytes → IsDigest bytes
+is_digest bytes long at = (long, bytes_each bytes at)

@@ -1,2 +1,4 @@
+pub mod ConsistentNames
 pub mod Digits
+pub mod LastSegment
 pub mod Segments

@@ -1,9 +1,10 @@
 // Digests as hex digits.
-ghost use Rattle.std.specs.Prelude.{◌≡◌, IfOk, IfSome, IfNone, string_bytes};
-ghost use Rattle.std.specs.List.{list_all};
+ghost use Rattle.std.specs.Prelude.{◌≡◌, ◌<◌, IfOk, IfSome, IfNone, string_bytes};
+ghost use Rattle.std.specs.List.{AllByRecursion, list_all};
 ghost use Rattle.hex.specs.Hex.{encode_lower};
 ghost use Rattle.path_patterns.specs.Bytes.{is_hex};
 ghost use Rattle.path_patterns.specs.Grammar.{IsHex};
+ghost use Rattle.path_patterns.specs.Names.{IsDigest};
 
 use crate::{Digest, NoMemory};
 use std::alloc::Global;
@@ -18,15 +19,17 @@ impl Digest {
 
     /// The digest's bytes. It takes no memory.
     pub fn bytes(&self) -> [u8; 32]
-        ensures { result ≡ self.now.0 }
+        ensures value { result ≡ self.now.0 }
+        ensures digest { IsDigest self.now.0 }
     {
+        are_bytes(&self.0);
         self.0
     }
 
     /// The digest that the text spells in exactly 64 hex digits of lower case, and `None` where the text is no such
     /// digits. It takes no memory.
     pub fn read(text: &str) -> Option<Digest>
-        ensures some { IfSome result (λ d. IsHex 64 text.now × (text.now ≡ encode_lower d.0)) }
+        ensures some { IfSome result (λ d. IsDigest d.0 × IsHex 64 text.now × (text.now ≡ encode_lower d.0)) }
         ensures none { IfNone result (IsHex 64 text.now → ⊥) }
     {
         let digits = text.as_bytes();
@@ -42,19 +45,29 @@ impl Digest {
 
     /// The digest as 64 hex digits of lower case, in ASCII. It takes no memory.
     pub fn digits(&self) -> [u8; 64]
-        ensures { result ≡ encode_lower self.now.0 }
+        ensures value { result ≡ encode_lower self.now.0 }
+        ensures digest { IsDigest self.now.0 }
     {
         let mut digits = [0; 64];
-        let _ = hex::encode_to_slice(&self.0, &mut digits);
+        let _ = hex::encode_to_slice(&self.bytes(), &mut digits);
         digits
     }
 
     /// The digest as a text of 64 hex digits of lower case.
     pub fn text(&self, alloc: Global) -> Result<String, NoMemory>
-        ensures { IfOk result (λ s. string_bytes s ≡ encode_lower self.now.0) }
+        ensures value { IfOk result (λ s. string_bytes s ≡ encode_lower self.now.0) }
+        ensures digest { IsDigest self.now.0 }
     {
-        hex::encode(alloc, &self.0)
+        let bytes = self.bytes();
+        hex::encode(alloc, &bytes)
     }
+}
+
+// A law, which does nothing: every byte is below 256.
+fn are_bytes(bytes: &[u8])
+    ensures { AllByRecursion (λ b. b < 256) bytes.now }
+{
+    let _count = bytes.len();
 }
 
 // Whether each byte is a hex digit of lower case.

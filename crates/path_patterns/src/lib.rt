@@ -11,8 +11,10 @@ use std::marker::Model;
 mod compared;
 mod digests;
 mod grammar;
+mod names;
 
 pub use grammar::{is_role_name, is_target_path};
+pub use names::{consistent_name, names_undo, read_asked};
 
 /// The error of a call that has no other: no memory.
 pub type NoMemory = AllocError;

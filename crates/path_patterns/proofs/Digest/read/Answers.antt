@@ -1,7 +1,8 @@
-use Rattle.std.proofs.Common.{◌≡◌, Ok, sym, ◌∙◌, ap, List, ℕ, length, true, arith}
+use Rattle.std.proofs.Common.{◌≡◌, Ok, sym, ◌∙◌, ap, subst, List, ℕ, length, true, arith}
 use Rattle.hex.specs.Hex.{decode_sized, encode_lower}
 use Rattle.std.specs.List.{list_all}
 use Rattle.path_patterns.specs.Bytes.{is_hex}
+use Rattle.path_patterns.specs.Names.{IsDigest}
 use Rattle.path_patterns.proofs.Digits.{read_digits}
 use Rattle.path_patterns.proofs.Digest.read.Goals as goal
 
@@ -13,7 +14,7 @@ returns-in-Ok-clause-some c =
     let d = read_digits c.args.text.now (long, hex) in
     let e = ap (λ (t : List ℕ). decode_sized t 32) c.as_bytes-digits.ensures.value ∙ d.1 in
     let v = rw e at c.decode_to_slice.ensures.value in
-    ((long, hex), d.2 ∙ ap encode_lower (sym v.1))
+    (subst IsDigest (sym v.1) d.3, (long, hex), d.2 ∙ ap encode_lower (sym v.1))
 
 pub returns-in-Err-clause-none : goal.returns-in-Err-clause-none
 returns-in-Err-clause-none c is =
