@@ -78,8 +78,7 @@ asks_same text p q d e a b =
     let cut = one_cut text a.folder (encode_lower d ++ 46 ∷ a.name) b.folder (encode_lower e ++ 46 ∷ b.name) (cut_of text p d a) (cut_of text q e b) in
     let front = sym (front_of d a.name (encode_lower d ++ 46 ∷ a.name) a.is_digest refl) ∙ front_of e b.name (encode_lower d ++ 46 ∷ a.name) b.is_digest cut.1 in
     let back = sym (back_of d a.name (encode_lower d ++ 46 ∷ a.name) a.is_digest refl) ∙ back_of e b.name (encode_lower d ++ 46 ∷ a.name) b.is_digest cut.1 in
-    let name : a.name ≡ b.name = cc in
-    (
+    let name : a.name ≡ b.name = cc in (
       a.without ∙ ap (λ (x : List ℕ). x ++ a.name) cut.0 ∙ ap (λ (x : List ℕ). b.folder ++ x) name ∙ sym b.without,
       digits_one d e (bytes_at d a.is_digest.1) (bytes_at e b.is_digest.1) front,
     )

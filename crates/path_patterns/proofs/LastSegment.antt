@@ -45,22 +45,22 @@ around front l = append_assoc front (47 ∷ []) l
 
 pub one_cut : (text f l g m : List ℕ) → IsCutAtLast text f l → IsCutAtLast text g m → (f ≡ g) × (l ≡ m)
 one_cut text f l g m a b = by a.is_folder b.is_folder
-    where
-      whole : f ++ l ≡ g ++ m
-      whole = sym a.whole ∙ b.whole
+  where
+    whole : f ++ l ≡ g ++ m
+    whole = sym a.whole ∙ b.whole
 
-      inside : (front k n : List ℕ) → (folder : List ℕ) → folder ≡ front ++ 47 ∷ [] → folder ++ k ≡ front ++ 47 ∷ k
-      inside front k n folder e = ap (λ (x : List ℕ). x ++ k) e ∙ around front k
+    inside : (front k n : List ℕ) → (folder : List ℕ) → folder ≡ front ++ 47 ∷ [] → folder ++ k ≡ front ++ 47 ∷ k
+    inside front k n folder e = ap (λ (x : List ℕ). x ++ k) e ∙ around front k
 
-      by : IsFolder f → IsFolder g → (f ≡ g) × (l ≡ m)
-      by (inl p) (inl q) = (p ∙ sym q, ap (λ (x : List ℕ). x ++ l) (sym p) ∙ whole ∙ ap (λ (x : List ℕ). x ++ m) q)
-      by (inl p) (inr q) =
-          absurd (no_slash_inside q.0 m (subst NoSlash (ap (λ (x : List ℕ). x ++ l) (sym p) ∙ whole ∙ inside q.0 m m g q.1) a.is_last))
-      by (inr p) (inl q) =
-          absurd (no_slash_inside p.0 l (subst NoSlash (ap (λ (x : List ℕ). x ++ m) (sym q) ∙ sym whole ∙ inside p.0 l l f p.1) b.is_last))
-      by (inr p) (inr q) =
-          let same = one_last p.0 q.0 l m a.is_last b.is_last (sym (inside p.0 l l f p.1) ∙ whole ∙ inside q.0 m m g q.1) in
-          (p.1 ∙ ap (λ (x : List ℕ). x ++ 47 ∷ []) same.0 ∙ sym q.1, same.1)
+    by : IsFolder f → IsFolder g → (f ≡ g) × (l ≡ m)
+    by (inl p) (inl q) = (p ∙ sym q, ap (λ (x : List ℕ). x ++ l) (sym p) ∙ whole ∙ ap (λ (x : List ℕ). x ++ m) q)
+    by (inl p) (inr q) =
+        absurd (no_slash_inside q.0 m (subst NoSlash (ap (λ (x : List ℕ). x ++ l) (sym p) ∙ whole ∙ inside q.0 m m g q.1) a.is_last))
+    by (inr p) (inl q) =
+        absurd (no_slash_inside p.0 l (subst NoSlash (ap (λ (x : List ℕ). x ++ m) (sym q) ∙ sym whole ∙ inside p.0 l l f p.1) b.is_last))
+    by (inr p) (inr q) =
+        let same = one_last p.0 q.0 l m a.is_last b.is_last (sym (inside p.0 l l f p.1) ∙ whole ∙ inside q.0 m m g q.1) in
+        (p.1 ∙ ap (λ (x : List ℕ). x ++ 47 ∷ []) same.0 ∙ sym q.1, same.1)
 
 -- where no byte is a slash, by index
 none_at : (text : List ℕ) → ((i : ℕ) → i < length text → get_or text i 0 ≢ 47) → NoSlash text
@@ -124,7 +124,7 @@ last_of s (t ∷ ts) all =
 
 pub last_segment : (path : List ℕ) → IsTargetPath path → LastSegment path
 last_segment path p = by p.segments p.each p.joined
-    where
-      by : (ss : List (List ℕ)) → AllByRecursion IsSegment ss → path ≡ join_with_byte 47 ss → LastSegment path
-      by [] all e = absurd (omega (arith, ap length e, p.least))
-      by (s ∷ ss) all e = subst LastSegment (sym e) (last_of s ss all)
+  where
+    by : (ss : List (List ℕ)) → AllByRecursion IsSegment ss → path ≡ join_with_byte 47 ss → LastSegment path
+    by [] all e = absurd (omega (arith, ap length e, p.least))
+    by (s ∷ ss) all e = subst LastSegment (sym e) (last_of s ss all)

@@ -7,6 +7,7 @@ ghost use Rattle.path_patterns.specs.Tests as tests;
 
 // The bytes of the longest target path, and of the longest name.
 const LONGEST_PATH: usize = 200;
+
 const LONGEST_NAME: usize = 32;
 
 /// Whether the text is a target path, as `TargetPath::read` reads it. It takes no memory.

@@ -12,6 +12,8 @@ mod compared;
 mod digests;
 mod grammar;
 mod names;
+#[cfg(test)]
+mod tests;
 
 pub use grammar::{is_role_name, is_target_path};
 pub use names::{consistent_name, names_undo, read_asked};

@@ -36,6 +36,6 @@ returns-clause-some c =
     let some = eqb-false (length c.in_ok-name.name.now) 0 (sym c.is_empty.ensures ∙ c.if-is_empty.false) in (
       c.in_ok-digest.ensures.some.0,
       put_together c.args.last.now (encode_lower c.in_ok-digest.digest.0) c.in_ok-name.name.now
-      (sym c.in_ok-digits.ensures.front ∙ c.in_ok-digest.ensures.some.2) (sym c.in_ok-digits.ensures.back ∙ is_name),
+          (sym c.in_ok-digits.ensures.front ∙ c.in_ok-digest.ensures.some.2) (sym c.in_ok-digits.ensures.back ∙ is_name),
       omega (arith, some),
     )
