@@ -160,16 +160,20 @@ const CONSISTENT: [(&str, &str); 4] = [
 
 #[test]
 fn consistent_names(rt: HostRuntime) -> Result<(), Fail> {
-    names_undo();
     let abc = digest(&rt, ABC);
     for (text, want) in CONSISTENT {
         let name = consistent_name(rt.alloc(), &path(&rt, text)?, &abc)?;
         assert_eq!(rt; name.as_str(), want);
         let (asked, with) = read_asked(rt.alloc(), want)?;
         assert_eq!(rt; asked.as_str(), text);
-        assert!(rt; with == Some(abc), "{want}");
+        assert!(rt; with == Some(abc));
     }
     Ok(())
+}
+
+#[test]
+fn laws(_rt: HostRuntime) {
+    names_undo();
 }
 
 // Texts that ask for no digest: too few digits, no dot, nothing behind it, upper case, digits in another segment, bytes of
