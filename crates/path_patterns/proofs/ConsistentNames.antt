@@ -1,38 +1,34 @@
 -- Consistent names and what they ask for undo each other.
-use Rattle.std.proofs.Common.{◌≡◌, ◌≢◌, ℕ, zero, suc, ◌+◌, ◌<◌, ◌≤◌, ◌*◌, List, [], ◌∷◌, ◌++◌, length, take, drop, get_or, Option, Some, None, refl, sym, ◌∙◌, ap, subst, arith, true, append_assoc}
+use Rattle.std.proofs.Common.{◌≡◌, ◌≢◌, ℕ, ◌+◌, ◌<◌, List, [], ◌∷◌, ◌++◌, length, take, drop, get_or, Option, Some, None, refl, sym, ◌∙◌, ap, subst, arith, true, append_assoc}
 use Rattle.std.proofs.Math.Seq.{take-append_seam, drop-append_seam}
 use Rattle.std.proofs.lemmas.List.{length-append, get_or-drop, take-append-drop}
 use Rattle.std.proofs.lemmas.Str.{IsCharBoundary-before_ascii}
 use Rattle.std.proofs.lemmas.Bool.{and_parts, true≢false}
 use Rattle.std.specs.Str.{IsCharBoundary}
 use Rattle.std.specs.Prelude.{IfNone, IsSome}
-use Rattle.std.specs.List.{AllByRecursion, list_all}
-use Rattle.hex.specs.Hex.{encode_lower, lower_digits}
-use Rattle.hex.proofs.HexLemmas.{length-encode_with}
+use Rattle.std.specs.List.{list_all}
+use Rattle.hex.specs.Hex.{encode_lower}
 use Rattle.path_patterns.specs.Bytes.{is_hex}
-use Rattle.path_patterns.specs.Grammar.{IsTargetPath, IsHex}
+use Rattle.path_patterns.specs.Grammar.{IsTargetPath}
 use Rattle.path_patterns.specs.Names.{IsDigest, IsCutAtLast, IsConsistentName, Asks}
-use Rattle.path_patterns.proofs.Digits.{spells, bytes_at, digits_one}
+use Rattle.path_patterns.proofs.Digits.{digits_of_digest, bytes_at, digits_one}
 use Rattle.path_patterns.proofs.LastSegment.{NoSlash, no_slash_joined, no_slash_behind, one_cut, last_segment}
-
-pub digits_are_hex : (d : List ℕ) → IsDigest d → IsHex 64 (encode_lower d)
-digits_are_hex d is = let len = length-encode_with lower_digits d in (omega (arith, len, is.0), spells d is.1)
 
 -- ---- what stands before the dot and behind it
 pub front_of : (d name last : List ℕ) → IsDigest d → last ≡ encode_lower d ++ 46 ∷ name → take 64 last ≡ encode_lower d
 front_of d name last is e =
-    let len = (digits_are_hex d is).0 in
+    let len = (digits_of_digest d is).0 in
     ap (λ (x : List ℕ). take 64 x) e ∙ ap (λ (n : ℕ). take n (encode_lower d ++ 46 ∷ name)) (sym len) ∙ take-append_seam (encode_lower d) (46 ∷ name)
 
 pub back_of : (d name last : List ℕ) → IsDigest d → last ≡ encode_lower d ++ 46 ∷ name → drop 64 last ≡ 46 ∷ name
 back_of d name last is e =
-    let len = (digits_are_hex d is).0 in
+    let len = (digits_of_digest d is).0 in
     ap (λ (x : List ℕ). drop 64 x) e ∙ ap (λ (n : ℕ). drop n (encode_lower d ++ 46 ∷ name)) (sym len) ∙ drop-append_seam (encode_lower d) (46 ∷ name)
 
 -- a text may be cut before the dot
 pub cut_before_dot : (d name last : List ℕ) → IsDigest d → last ≡ encode_lower d ++ 46 ∷ name → IsCharBoundary last 64
 cut_before_dot d name last is e =
-    let len = (digits_are_hex d is).0 in
+    let len = (digits_of_digest d is).0 in
     let more : length last ≡ 64 + (1 + length name) = omega (arith, ap length e, length-append (encode_lower d) (46 ∷ name), len) in
     let at : get_or last 64 0 ≡ 46 = sym (get_or-drop 64 last 0 0) ∙ ap (λ (x : List ℕ). get_or x 0 0) (back_of d name last is e) in
     IsCharBoundary-before_ascii last 64 (omega arith) (omega (arith, at))
@@ -48,7 +44,7 @@ no_slash_hex (b ∷ bs) h = let p = and_parts (is_hex b) (list_all is_hex bs) h 
 cut_of : (text path d : List ℕ) (c : IsConsistentName text path d) → IsCutAtLast text c.folder (encode_lower d ++ 46 ∷ c.name)
 cut_of text path d c = record {
   is_folder = c.is_folder;
-  is_last = no_slash_joined (encode_lower d) (46 ∷ c.name) (no_slash_hex (encode_lower d) (digits_are_hex d c.is_digest).1) ((λ e. omega (arith, e)), c.is_last);
+  is_last = no_slash_joined (encode_lower d) (46 ∷ c.name) (no_slash_hex (encode_lower d) (digits_of_digest d c.is_digest).1) ((λ e. omega (arith, e)), c.is_last);
   whole = c.with_digest;
 }
 

@@ -1,7 +1,7 @@
 -- Hex digits of lower case are just what bytes are spelled in.
-use Rattle.std.proofs.Common.{◌≡◌, ℕ, zero, suc, ◌+◌, ◌-◌, ◌*◌, ◌/◌, ◌%◌, ◌<◌, ◌≤◌, List, [], ◌∷◌, length, Bool, true, false, cond, not, ◌&&◌, ◌||◌, ◌==◌, Result, Ok, slice_index, refl, sym, ◌∙◌, ap, subst, arith, ⊎_elim}
+use Rattle.std.proofs.Common.{◌≡◌, ℕ, zero, suc, ◌+◌, ◌-◌, ◌*◌, ◌/◌, ◌%◌, ◌<◌, List, [], ◌∷◌, length, Bool, true, cond, not, ◌&&◌, ◌||◌, ◌==◌, Ok, slice_index, refl, sym, ◌∙◌, ap, arith, ⊎_elim}
 use Rattle.std.specs.Prelude.{nat_le, nat_lt}
-use Rattle.std.proofs.lemmas.Bool.{and_parts, and_from, or_cases, both_ways, not-true, ltb-true, leb-true, eqb-true, true≢false, agree_below_at}
+use Rattle.std.proofs.lemmas.Bool.{and_parts, and_from, or_cases, both_ways, not-true, ltb-true, leb-true, eqb-true, agree_below_at}
 use Rattle.std.specs.List.{AllByRecursion, list_all}
 use Rattle.hex.specs.Hex.{encode_with, encode_lower, lower_digits, decode_of, decode_sized, IsBytes}
 use Rattle.hex.proofs.HexLemmas.{length-encode_with, decode_of-encode_lower, decode_sized-encode_lower}
@@ -90,3 +90,13 @@ digits_one a b bytes bytes' same =
 
 pub is_digest : (bytes : List ℕ) → length bytes ≡ 32 → IsBytes bytes → IsDigest bytes
 is_digest bytes long at = (long, bytes_each bytes at)
+
+-- ---- the law
+pub digits_of_digest : (d : List ℕ) → IsDigest d → IsHex 64 (encode_lower d)
+digits_of_digest d is = let len = length-encode_with lower_digits d in (omega (arith, len, is.0), spells d is.1)
+
+pub digest_of_digits : (text : List ℕ) → IsHex 64 text → (d : List ℕ) × IsDigest d × (text ≡ encode_lower d)
+digest_of_digits text is = let r = read_digits text is in (r.0, r.3, r.2)
+
+pub one_digest : (d e : List ℕ) → IsDigest d → IsDigest e → encode_lower d ≡ encode_lower e → d ≡ e
+one_digest d e is is' same = digits_one d e (bytes_at d is.1) (bytes_at e is'.1) same

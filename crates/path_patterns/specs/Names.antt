@@ -1,5 +1,5 @@
 -- The names of files in a consistent snapshot: a target's file name with the digest of the file before it (TUF 1.0,
--- sections 3.6.3 and 6.2).
+-- section 6.2).
 use Rattle.std.specs.Prelude.{◌≡◌, ◌≢◌, ℕ, ◌<◌, List, [], ◌∷◌, ◌++◌, length, ◌⊎◌, Option, Some, None}
 use Rattle.std.specs.List.{AllByRecursion}
 use Rattle.hex.specs.Hex.{encode_lower}

@@ -1,5 +1,5 @@
 // Digests as hex digits.
-ghost use Rattle.std.specs.Prelude.{◌≡◌, ◌<◌, IfOk, IfSome, IfNone, string_bytes};
+ghost use Rattle.std.specs.Prelude.{◌≡◌, ◌<◌, List, ℕ, IfOk, IfSome, IfNone, string_bytes};
 ghost use Rattle.std.specs.List.{AllByRecursion, list_all};
 ghost use Rattle.hex.specs.Hex.{encode_lower};
 ghost use Rattle.path_patterns.specs.Bytes.{is_hex};
@@ -62,6 +62,13 @@ impl Digest {
         hex::encode(alloc, &bytes)
     }
 }
+
+/// A law, which does nothing: 64 hex digits of lower case spell one digest, and every digest is spelled in such digits.
+pub fn one_digest()
+    ensures spelled { (d : List ℕ) → IsDigest d → IsHex 64 (encode_lower d) }
+    ensures read { (text : List ℕ) → IsHex 64 text → (d : List ℕ) × IsDigest d × (text ≡ encode_lower d) }
+    ensures one { (d e : List ℕ) → IsDigest d → IsDigest e → encode_lower d ≡ encode_lower e → d ≡ e }
+{}
 
 // A law, which does nothing: every byte is below 256.
 fn are_bytes(bytes: &[u8])

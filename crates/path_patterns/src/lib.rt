@@ -1,5 +1,5 @@
 //! Target paths, the names of roles and the digests of files, with their grammars, and the names of files in a consistent
-//! snapshot (TUF 1.0, sections 3.6.3, 4.3 and 6.2).
+//! snapshot (TUF 1.0, sections 4.5 and 6.2).
 #![tactic(auto)]
 
 ghost use Rattle.std.specs.Prelude.{◌≡◌, ◌↔◌, IfOk, IfSome, IfNone};
@@ -11,11 +11,14 @@ use std::marker::Model;
 mod compared;
 mod digests;
 mod grammar;
+mod matching;
 mod names;
 #[cfg(test)]
 mod tests;
 
+pub use digests::one_digest;
 pub use grammar::{is_role_name, is_target_path};
+pub use matching::tests_tell;
 pub use names::{consistent_name, names_undo, read_asked};
 
 /// The error of a call that has no other: no memory.
@@ -40,8 +43,8 @@ impl Model for TargetPath {
     ghost invariant = { λ p. IsTargetPath (string_bytes p.text) };
 }
 
-/// The name of a role or of a step: 1 to 32 bytes `a-z 0-9 _ -`, the first of them `a-z 0-9` (TUF 1.0, section 4.2). Names
-/// are compared and ordered by their bytes. A clause sees the bytes.
+/// The name of a role or of a step: 1 to 32 bytes `a-z 0-9 _ -`, the first of them `a-z 0-9` (TUF 1.0, section 4.5,
+/// ROLENAME). Names are compared and ordered by their bytes. A clause sees the bytes.
 #[derive(Debug, Drop)]
 pub struct RoleName {
     text: String,

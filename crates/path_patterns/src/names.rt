@@ -7,10 +7,10 @@ ghost use Rattle.path_patterns.specs.Names.{IsDigest, IsCutAtLast, Asks};
 use crate::{Digest, NoMemory, TargetPath};
 use std::alloc::Global;
 
-/// The path that a text asks for, and the digest that it names (TUF 1.0, sections 3.6.3 and 6.2): where the last segment
-/// of the text is 64 hex digits of lower case, a dot and at least one byte, the digits are the digest and the path is the
-/// text without the digits and the dot. Otherwise the path is the text, and no digest is asked for. The last segment is
-/// what stands behind the last slash, or the whole text where there is none.
+/// The path that a text asks for, and the digest that it names (TUF 1.0, section 6.2, consistent snapshots): where the last
+/// segment of the text is 64 hex digits of lower case, a dot and at least one byte, the digits are the digest and the path
+/// is the text without the digits and the dot. Otherwise the path is the text, and no digest is asked for. The last segment
+/// is what stands behind the last slash, or the whole text where there is none.
 ///
 /// Any text may be asked. Whether the path is a target path is not judged.
 pub fn read_asked(alloc: Global, text: &str) -> Result<(String, Option<Digest>), NoMemory>

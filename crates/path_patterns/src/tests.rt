@@ -1,6 +1,6 @@
 use crate::{
     Digest, RoleName, TargetPath, consistent_name, is_role_name, is_target_path, names_undo,
-    read_asked,
+    one_digest, read_asked, tests_tell,
 };
 use std::alloc::{AllocError, Global};
 use std::process::Abort;
@@ -174,6 +174,8 @@ fn consistent_names(rt: HostRuntime) -> Result<(), Fail> {
 #[test]
 fn laws(_rt: HostRuntime) {
     names_undo();
+    one_digest();
+    tests_tell();
 }
 
 // Texts that ask for no digest: too few digits, no dot, nothing behind it, upper case, digits in another segment, bytes of
@@ -203,5 +205,34 @@ fn plain_paths(rt: HostRuntime) -> Result<(), Fail> {
     let (asked, with) = read_asked(rt.alloc(), odd)?;
     assert_eq!(rt; asked.as_str(), "/\0 \u{e9}/\u{e9} \0");
     assert!(rt; with == Some(digest(&rt, ABC)));
+    Ok(())
+}
+
+// Holds whichever one allocation is refused: the call says so, and the next one answers in full.
+#[test]
+fn goes_on_after_a_refused_allocation(rt: HostRuntime) -> Result<(), Fail> {
+    let mut read = TargetPath::read(rt.alloc(), "a/b.tgz");
+    if read.is_err() {
+        read = TargetPath::read(rt.alloc(), "a/b.tgz");
+    }
+    let path = read?.expect(&rt, "a path");
+    assert!(rt; path.as_str() == "a/b.tgz");
+    let mut copy: Result<_, _> = path.clone();
+    if copy.is_err() {
+        copy = path.clone();
+    }
+    assert!(rt; copy? == path);
+    let digest = digest(&rt, ABC);
+    let mut name = consistent_name(rt.alloc(), &path, &digest);
+    if name.is_err() {
+        name = consistent_name(rt.alloc(), &path, &digest);
+    }
+    let name = name?;
+    let mut asked = read_asked(rt.alloc(), name.as_str());
+    if asked.is_err() {
+        asked = read_asked(rt.alloc(), name.as_str());
+    }
+    let (text, with) = asked?;
+    assert!(rt; text.as_str() == "a/b.tgz" && with == Some(digest));
     Ok(())
 }

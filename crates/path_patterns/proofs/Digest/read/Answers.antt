@@ -1,4 +1,4 @@
-use Rattle.std.proofs.Common.{◌≡◌, Ok, sym, ◌∙◌, ap, subst, List, ℕ, length, true, arith}
+use Rattle.std.proofs.Common.{◌≡◌, sym, ◌∙◌, ap, subst, List, ℕ, length, true, arith}
 use Rattle.hex.specs.Hex.{decode_sized, encode_lower}
 use Rattle.std.specs.List.{list_all}
 use Rattle.path_patterns.specs.Bytes.{is_hex}

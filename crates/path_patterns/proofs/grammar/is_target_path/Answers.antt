@@ -1,4 +1,4 @@
-use Rattle.std.proofs.Common.{sym, ◌∙◌, subst, ◌↔◌, IsTrue, Bool}
+use Rattle.std.proofs.Common.{sym, subst, ◌↔◌, IsTrue, Bool}
 use Rattle.path_patterns.specs.Grammar.{IsTargetPath}
 use Rattle.path_patterns.proofs.Segments.{path_tells}
 use Rattle.path_patterns.proofs.grammar.is_target_path.Goals as goal

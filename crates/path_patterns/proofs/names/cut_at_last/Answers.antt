@@ -1,4 +1,4 @@
-use Rattle.std.proofs.Common.{arith, ◌∙◌}
+use Rattle.std.proofs.Common.{arith}
 use Rattle.std.proofs.lemmas.Str.Pattern.{rfind_char}
 use Rattle.path_patterns.proofs.LastSegment.{cut_nowhere, cut_behind}
 use Rattle.path_patterns.proofs.names.cut_at_last.Goals as goal

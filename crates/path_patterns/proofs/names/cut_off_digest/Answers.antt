@@ -1,9 +1,10 @@
-use Rattle.std.proofs.Common.{◌≡◌, ℕ, ◌<◌, List, ◌∷◌, ◌++◌, length, sym, ap, subst, ◌∙◌, arith}
+use Rattle.std.proofs.Common.{ℕ, List, length, sym, ap, subst, ◌∙◌, arith}
 use Rattle.std.proofs.lemmas.Bool.{eqb-true, eqb-false}
 use Rattle.std.proofs.lemmas.Str.Pattern.{strip_prefix_char}
 use Rattle.hex.specs.Hex.{encode_lower}
 use Rattle.path_patterns.specs.Grammar.{IsHex}
-use Rattle.path_patterns.proofs.ConsistentNames.{cut_before_dot, front_of, back_of, digits_are_hex, if_none, never_some, one_behind, put_together}
+use Rattle.path_patterns.proofs.Digits.{digits_of_digest}
+use Rattle.path_patterns.proofs.ConsistentNames.{cut_before_dot, front_of, back_of, if_none, never_some, one_behind, put_together}
 use Rattle.path_patterns.proofs.names.cut_off_digest.Goals as goal
 
 pub returns-in_err-digits-clause-none : goal.returns-in_err-digits-clause-none
@@ -13,7 +14,7 @@ returns-in_err-digits-clause-none c = if_none c.from_residual.result _ (λ d nam
 pub returns-in_err-digest-clause-none : goal.returns-in_err-digest-clause-none
 returns-in_err-digest-clause-none c = if_none c.from_residual-in_err-digest.result _ (λ d name is some e.
     c.in_err-digest.ensures.none
-    (subst (λ (x : List ℕ). IsHex 64 x) (sym (c.in_ok-digits.ensures.front ∙ front_of d name c.args.last.now is e)) (digits_are_hex d is)))
+    (subst (λ (x : List ℕ). IsHex 64 x) (sym (c.in_ok-digits.ensures.front ∙ front_of d name c.args.last.now is e)) (digits_of_digest d is)))
 
 pub returns-in_err-name-clause-none : goal.returns-in_err-name-clause-none
 returns-in_err-name-clause-none c = if_none c.from_residual-in_err-name.result _ (λ d name is some e.
