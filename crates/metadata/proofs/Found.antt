@@ -1,0 +1,41 @@
+-- What the members that are found say of all of their name, and of the whole.
+use Rattle.std.proofs.Common.{◌≡◌, ℕ, List, [], ◌∷◌, Option, Some, None, codes, sym, ap, subst, ◌∙◌}
+use Rattle.std.proofs.lemmas.List.{append_cancel_right}
+use Rattle.canonical_json.specs.Json.{Json, object, Members, no_members, member, HasMember, EachMember, names}
+use Rattle.canonical_json.specs.Spelling.{IsProper, IsSound}
+use Rattle.metadata.specs.Documents.{LayoutReference}
+use Rattle.metadata.specs.Members.{Has, HasJust}
+use Rattle.metadata.specs.Bodies.{IsMetaRow, HasLayoutReference}
+use Rattle.metadata.proofs.Once.{IsOnceNamed}
+use Rattle.metadata.proofs.PartsOnce.{meta-once, pair-is}
+
+pub none_has : (R : Json → Type 0) (v found : Json) (name : List ℕ) → ((x : Json) → HasMember v name x → x ≡ found) → (R found → ⊥) → Has v name R → ⊥
+none_has R v found name only none h = none (subst R (only h.0 h.1) h.2)
+
+one : (ms : Members) (name : List ℕ) → names ms ≡ name ∷ [] → (x : Json) × (ms ≡ member name x no_members)
+one no_members name h = absurd (cc)
+one (member n v no_members) name h =
+    let same : n ≡ name = cc in
+    (v, ap (λ z. member z v no_members) same)
+one (member n v (member m w ms)) name h = absurd (cc)
+
+pub just_one : (v : Json) (name : List ℕ) → HasJust v (name ∷ []) → (x : Json) × (v ≡ object (member name x no_members))
+just_one v name h =
+    let o = one h.0 name h.2 in
+    (o.0, h.1 ∙ ap object o.1)
+
+-- ---- members one after the other
+
+-- each is of the grammar, and so the first and those behind it
+pub each_proper : (rest later : Members) (n : List ℕ) (v : Json) → rest ≡ member n v later → EachMember IsSound rest → IsProper v × EachMember IsSound later
+each_proper rest later n v at p = subst (λ (ms : Members). EachMember IsSound ms) at p
+
+-- ---- rows and listings
+
+pub meta-row-once : IsOnceNamed IsMetaRow
+meta-row-once n v a b p h k =
+    pair-is a b (append_cancel_right a.0 b.0 (codes ".json") (sym h.0 ∙ k.0)) (meta-once v a.1 b.1 p h.2 k.2)
+
+pub no_layout : (v : Json) (l : Option LayoutReference) → HasLayoutReference v l → HasLayoutReference v None
+no_layout v None h = h
+no_layout v (Some l) h = absurd h

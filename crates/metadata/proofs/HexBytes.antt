@@ -1,0 +1,25 @@
+-- Bytes and their hex digits.
+use Rattle.std.proofs.Common.{◌≡◌, ℕ, zero, suc, ◌<◌, List, [], ◌∷◌, Ok, Err, Result, ap, ◌∙◌, arith}
+use Rattle.std.specs.Prelude.{IsOk, OnOk}
+use Rattle.std.specs.List.{AllByRecursion}
+use Rattle.hex.specs.Hex.{encode_lower, decode_sized, IsBytes}
+use Rattle.metadata.specs.Parts.{AreBytes}
+use Rattle.hex.proofs.HexLemmas.{decode_sized-encode_lower}
+
+pub bytes_at : (bytes : List ℕ) → AllByRecursion (λ b. b < 256) bytes → IsBytes bytes
+bytes_at [] all i = omega arith
+bytes_at (b ∷ bs) all zero = all.0
+bytes_at (b ∷ bs) all (suc i) = bytes_at bs all.1 i
+
+pub bytes_each : (bytes : List ℕ) → IsBytes bytes → AllByRecursion (λ b. b < 256) bytes
+bytes_each [] h = tt
+bytes_each (b ∷ bs) h = (h 0, bytes_each bs (λ i. h (suc i)))
+
+-- the digits of so many bytes are read as these
+pub decodes : (n : ℕ) (digits bytes : List ℕ) → AreBytes n bytes → digits ≡ encode_lower bytes → decode_sized digits n ≡ Ok bytes
+decodes n digits bytes are e = ap (λ d. decode_sized d n) e ∙ decode_sized-encode_lower bytes n are.0 (bytes_at bytes are.1)
+
+-- what is written where there is a value
+pub on_ok : {A E : Type 0} (r : Result A E) (P : Type 0) → IsOk r → OnOk r P → P
+on_ok (Ok x) P is then = then
+on_ok (Err e) P is then = absurd (cc is)

@@ -1,0 +1,110 @@
+-- What the parts of a value say of the files that spell it.
+use Rattle.std.proofs.Common.{◌≡◌, ◌≢◌, ℕ, List, [], ◌∷◌, map, codes, refl, sym, subst, inl, inr, ◌∙◌}
+use Rattle.std.specs.Prelude.{flat_map}
+use Rattle.std.specs.List.{AllByRecursion}
+use Rattle.canonical_json.specs.Json.{Json, HasMember}
+use Rattle.canonical_json.specs.Spelling.{spelling, IsProper}
+use Rattle.keys_roles.specs.Plain.{Signature}
+use Rattle.metadata.specs.Documents.{Body, root, timestamp, snapshot, targets, Root, Timestamp, Snapshot, Targets}
+use Rattle.metadata.specs.Faults.{IsIll, IsFaulty}
+use Rattle.metadata.specs.Parts.{IsEnvelope, NamesAreIds}
+use Rattle.metadata.specs.Bodies.{IsRoot, IsTimestamp, IsSnapshot, IsTargets}
+use Rattle.metadata.specs.Shape.{kind_name, tables, reference_tables, IsBody, IsShapeFault}
+use Rattle.metadata.specs.Reads.{IsSignedAs, IsFaultOf}
+use Rattle.metadata.specs.Views.{listing_view}
+use Rattle.metadata.specs.declared.documents.Listing.{Listing}
+use Rattle.metadata.specs.declared.documents.Kind.{Kind}
+use Rattle.metadata.specs.declared.documents.Kind.TheVariants as kinds
+use Rattle.metadata.specs.declared.documents.ShapeFault.{ShapeFault}
+use Rattle.metadata.specs.declared.documents.ShapeFault.TheVariants.{WrongShape, WrongType}
+use Rattle.metadata.proofs.Ill.{ill_again}
+use Rattle.metadata.proofs.OneDocument.{envelope-once}
+
+abbrev AreNamed : Body → Type 0
+AreNamed b = AllByRecursion NamesAreIds (tables b)
+
+-- ---- bodies by their kinds
+
+root_in : (v : Json) (b : Body) → IsBody kinds.Root v b → (r : Root) × IsRoot v r
+root_in v (root r) h = (r, h)
+root_in v (timestamp t) h = absurd h
+root_in v (snapshot s) h = absurd h
+root_in v (targets t) h = absurd h
+
+timestamp_in : (v : Json) (b : Body) → IsBody kinds.Timestamp v b → (t : Timestamp) × IsTimestamp v t
+timestamp_in v (root r) h = absurd h
+timestamp_in v (timestamp t) h = (t, h)
+timestamp_in v (snapshot s) h = absurd h
+timestamp_in v (targets t) h = absurd h
+
+snapshot_in : (v : Json) (b : Body) → IsBody kinds.Snapshot v b → (s : Snapshot) × IsSnapshot v s
+snapshot_in v (root r) h = absurd h
+snapshot_in v (timestamp t) h = absurd h
+snapshot_in v (snapshot s) h = (s, h)
+snapshot_in v (targets t) h = absurd h
+
+targets_in : (v : Json) (b : Body) → IsBody kinds.Targets v b → (t : Targets) × IsTargets v t
+targets_in v (root r) h = absurd h
+targets_in v (timestamp t) h = absurd h
+targets_in v (snapshot s) h = absurd h
+targets_in v (targets t) h = (t, h)
+
+pub root_faulty : (v : Json) (e : ShapeFault) → IsFaulty (IsRoot v) (λ r. NamesAreIds r.keys) e → IsFaulty (IsBody kinds.Root v) AreNamed e
+root_faulty v e (inl h) = inl (ill_again e h (λ b. root_in v b.0 b.1))
+root_faulty v e (inr h) = inr (h.0, (root h.1.0, h.1.1, λ all. h.1.2 all.0))
+
+pub timestamp_faulty : (v : Json) → ((t : Timestamp) → IsTimestamp v t → ⊥) → IsFaulty (IsBody kinds.Timestamp v) AreNamed WrongShape
+timestamp_faulty v none = inl (inr (refl, λ b. let t = timestamp_in v b.0 b.1 in none t.0 t.1))
+
+pub snapshot_faulty : (v : Json) (e : ShapeFault) → IsIll ((s : Snapshot) × IsSnapshot v s) e → IsFaulty (IsBody kinds.Snapshot v) AreNamed e
+snapshot_faulty v e h = inl (ill_again e h (λ b. snapshot_in v b.0 b.1))
+
+pub targets_faulty : (v : Json) (e : ShapeFault) → IsIll ((t : Targets) × IsTargets v t) e → IsFaulty (IsBody kinds.Targets v) AreNamed e
+targets_faulty v e h = inl (ill_again e h (λ b. targets_in v b.0 b.1))
+
+-- listings without layouts have no tables
+pub no_tables : (ls : List Listing) → AllByRecursion NamesAreIds (flat_map (λ l. reference_tables l.layout) (map listing_view ls))
+no_tables [] = tt
+no_tables (l ∷ ls) = no_tables ls
+
+-- ---- values
+
+pub no_envelope : (kind : Kind) (v : Json) (e : ShapeFault)
+    → IsIll ((entries : List Signature) × (signed : Json) × (type_name : List ℕ) × IsEnvelope v entries signed type_name) e → IsFaultOf kind v e
+no_envelope kind v e (inl h) = inl h
+no_envelope kind v e (inr h) = inr (λ bytes file. subst (λ (f : ShapeFault). IsShapeFault kind bytes f) (sym h.0)
+    (v, file, (λ entries signed envelope body is. h.1 (entries, signed, kind_name kind, envelope)), (λ entries signed type_name envelope. absurd (h.1 (entries, signed, type_name, envelope)))))
+
+pub other_type : (kind : Kind) (v : Json) (entries : List Signature) (signed : Json) (type_name : List ℕ)
+    → IsEnvelope v entries signed type_name → type_name ≢ kind_name kind → IsFaultOf kind v WrongType
+other_type kind v entries signed type_name envelope other =
+    inr (λ bytes file. (entries, signed, type_name, record { value = v; file = file; envelope = envelope }, other))
+
+pub bad_body : (kind : Kind) (v : Json) (entries : List Signature) (signed : Json) (type_name : List ℕ) (e : ShapeFault)
+    → IsProper v → IsEnvelope v entries signed type_name → type_name ≡ kind_name kind → IsFaulty (IsBody kind signed) AreNamed e → IsFaultOf kind v e
+bad_body kind v entries signed type_name e proper envelope same (inl (inl h)) = inl h
+bad_body kind v entries signed type_name e proper envelope same (inl (inr h)) = inr (λ bytes file. subst (λ (f : ShapeFault). IsShapeFault kind bytes f) (sym h.0) (
+  v,
+  file,
+  (λ entries' signed' envelope' body is.
+      let one = envelope-once v entries entries' signed signed' type_name (kind_name kind) proper envelope envelope' in
+      h.1 (body, subst (λ (z : Json). IsBody kind z body) (sym one.part) is)),
+  (λ entries' signed' type_name' envelope'.
+      let one = envelope-once v entries entries' signed signed' type_name type_name' proper envelope envelope' in
+      sym one.type_name ∙ same),
+))
+bad_body kind v entries signed type_name e proper envelope same (inr h) = inr (λ bytes file. subst (λ (f : ShapeFault). IsShapeFault kind bytes f) (sym h.0) (
+  record { entries = entries; signed = spelling signed; body = h.1.0 },
+  record {
+    part = signed;
+    file = record { value = v; file = file; envelope = subst (λ (t : List ℕ). IsEnvelope v entries signed t) same envelope };
+    signed = refl;
+    body = h.1.1;
+  },
+  h.1.2,
+))
+
+-- the signed part is a member of the envelope
+pub signed_there : (kind : Kind) (v : Json) (entries : List Signature) (body : Body) → (s : IsSignedAs kind v entries body) → HasMember v (codes "signed") s.part
+signed_there kind v entries body s =
+    subst (λ (z : Json). HasMember z (codes "signed") s.part) (sym s.envelope.members) (inr (inl (refl, refl)))

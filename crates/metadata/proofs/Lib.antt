@@ -1,0 +1,16 @@
+pub mod BodiesOnce
+pub mod Congruence
+pub mod DateTexts
+pub mod Elements
+pub mod Found
+pub mod Growing
+pub mod HexBytes
+pub mod Ill
+pub mod Instants
+pub mod Judged
+pub mod KeyObjects
+pub mod Named
+pub mod Once
+pub mod OneDocument
+pub mod PartsOnce
+pub mod RootRoles

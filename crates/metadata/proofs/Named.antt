@@ -1,0 +1,49 @@
+-- Ids, and the names of a table.
+use Rattle.std.proofs.Common.{◌≡◌, ℕ, List, [], ◌∷◌, map, codes, inl, inr, subst, refl, sym, Bool, true, false, not}
+use Rattle.std.specs.List.{AllByRecursion, Contains}
+use Rattle.keys_roles.specs.Plain.{Table, RoleRule}
+use Rattle.keys_roles.specs.Counting.{IsIn}
+use Rattle.path_patterns.specs.Grammar.{IsHex}
+use Rattle.canonical_json.specs.Json.{Json}
+use Rattle.canonical_json.specs.Spelling.{IsProper}
+use Rattle.metadata.specs.Documents.{Root}
+use Rattle.metadata.specs.Faults.{IsMisnamed, IsFaulty}
+use Rattle.metadata.specs.Members.{Has}
+use Rattle.metadata.specs.Parts.{IsTable, NamesAreIds, NamesAreHex, IsRuleOver}
+use Rattle.metadata.specs.Bodies.{IsRoot, AreRoles, roles_of}
+use Rattle.metadata.proofs.Once.{has-once}
+use Rattle.metadata.proofs.PartsOnce.{table-once}
+use Rattle.metadata.specs.declared.documents.ShapeFault.{ShapeFault}
+use Rattle.metadata.proofs.Elements.{in_contains}
+
+pub only_memory : {P Q : Type 0} (e : ShapeFault) → IsMisnamed P e → P → IsMisnamed Q e
+only_memory e (inl h) p = inl h
+only_memory e (inr h) p = absurd (h.1 p)
+
+name_hex : (table : Table) (id : List ℕ) → NamesAreHex table → IsIn (map (λ e. e.0) table) id → IsHex 64 id
+name_hex [] id all h = absurd h
+name_hex (e ∷ es) id all (inl h) = subst (IsHex 64) h all.0
+name_hex (e ∷ es) id all (inr h) = name_hex es id all.1 h
+
+each_hex : (table : Table) (ids : List (List ℕ)) → NamesAreHex table → AllByRecursion (Contains (map (λ e. e.0) table)) ids → AllByRecursion (IsHex 64) ids
+each_hex table [] all known = tt
+each_hex table (id ∷ ids) all known = (name_hex table id all (in_contains (map (λ e. e.0) table) id known.0), each_hex table ids all known.1)
+
+pub ids_hex : (table : Table) (rule : RoleRule) → IsRuleOver table rule → NamesAreHex table → AllByRecursion (IsHex 64) rule.keyids
+ids_hex table rule over all = each_hex table rule.keyids all over.known
+
+-- a root whose table has a name that is no id
+pub misnamed_root : (v : Json) (r : Root) (e : ShapeFault) → IsRoot v r → IsMisnamed (NamesAreIds r.keys) e → IsFaulty (IsRoot v) (λ s. NamesAreIds s.keys) e
+misnamed_root v r e is (inl h) = inl (inl h)
+misnamed_root v r e is (inr h) = inr (h.0, (r, is, h.1))
+
+-- the roles of a root are over the one table that it has
+pub same_roles : (v : Json) (keys : Table) (r : Root) → IsProper v → Has v (codes "keys") (λ x. IsTable x keys) → IsRoot v r
+    → Has v (codes "roles") (λ x. AreRoles x keys (roles_of r))
+same_roles v keys r p h is =
+    let same : r.keys ≡ keys = has-once (codes "keys") IsTable table-once v r.keys keys p is.keys h in
+    subst (λ (t : Table). Has v (codes "roles") (λ x. AreRoles x t (roles_of r))) same is.roles
+
+pub not_false : (b : Bool) → not b ≡ false → b ≡ true
+not_false true h = refl
+not_false false h = sym h

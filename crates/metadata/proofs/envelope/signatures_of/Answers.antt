@@ -1,0 +1,18 @@
+use Rattle.std.proofs.Common.{ap}
+use Rattle.canonical_json.specs.View.{view, items_view}
+use Rattle.keys_roles.specs.Views.{entries_view}
+use Rattle.metadata.specs.Parts.{IsEntry}
+use Rattle.metadata.proofs.Elements.{none_left}
+use Rattle.metadata.proofs.Growing.{items_first, items_done}
+use Rattle.metadata.proofs.Ill.{ill_again}
+use Rattle.metadata.proofs.envelope.signatures_of.Goals as goal
+
+pub returns-in-Err-clause-err : goal.returns-in-Err-clause-err
+returns-in-Err-clause-err c =
+    ill_again c.in-Err.fault c.in-Err.ensures.err
+    (items_first IsEntry (items_view c.args.items.now) (items_view c.items.rest.now) (items_view c.in-Some.later.now) (view c.in-Some.item.now)
+    (ap items_view c.in-Some.ensures.cases.0) c.items.invariant.left)
+
+pub returns-clause-ok : goal.returns-clause-ok
+returns-clause-ok c =
+    items_done IsEntry (items_view c.args.items.now) (items_view c.items.rest.now) (entries_view c.items.signatures.items) (ap items_view (none_left c.items.rest.now c.in_default.ensures.cases)) c.items.invariant.grow

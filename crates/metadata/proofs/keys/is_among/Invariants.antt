@@ -1,0 +1,13 @@
+use Rattle.std.proofs.Common.{length}
+use Rattle.keys_roles.specs.Counting.{IsIn}
+use Rattle.metadata.specs.Spelled.{texts_view}
+use Rattle.metadata.proofs.keys.is_among.Given as goal
+
+abbrev pub invariant-texts : goal.invariant-texts
+invariant-texts l = record {
+  ahead : IsIn (texts_view l.fn.texts) l.text → IsIn (texts_view l.rest) l.text;
+  back : IsIn (texts_view l.rest) l.text → IsIn (texts_view l.fn.texts) l.text;
+}
+
+abbrev pub decreases-texts : goal.decreases-texts
+decreases-texts l = length l.rest

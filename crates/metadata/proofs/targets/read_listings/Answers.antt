@@ -1,0 +1,33 @@
+use Rattle.std.proofs.Common.{◌∷◌, [], ℕ, List, string_bytes, sym, ap, subst, ◌∙◌}
+use Rattle.std.proofs.lemmas.List.{map-append}
+use Rattle.canonical_json.specs.View.{view, members_view}
+use Rattle.metadata.specs.Bodies.{IsListing}
+use Rattle.metadata.specs.Documents as plain
+use Rattle.metadata.specs.Rows.{listings_view}
+use Rattle.metadata.specs.Views.{listing_view}
+use Rattle.metadata.proofs.Elements.{none_left}
+use Rattle.metadata.proofs.Found.{each_proper}
+use Rattle.metadata.proofs.Growing.{MembersGrow, members_grow, members_left, members_done}
+use Rattle.metadata.proofs.targets.read_listings.Goals as goal
+
+pub members-preserved : goal.members-preserved
+members-preserved c =
+    let all = members_view c.args.members.now in
+    let rest = members_view c.members.rest.now in
+    let later = members_view c.in-Some.later.now in
+    let path = string_bytes c.in-Some.member.now.0 in
+    let value = view c.in-Some.member.now.1 in
+    let at = ap members_view c.in-Some.ensures.cases.0 in
+    let listing = subst (λ (n : List ℕ). IsListing n value (listing_view c.in-Ok.listing)) c.as_str.ensures.value c.in-Ok.ensures.ok in
+    let grown = members_grow IsListing all rest later path value (listing_view c.in-Ok.listing) (listings_view c.members.listings.items) at listing c.members.invariant.grow in
+    let items = ap listings_view c.in_ok-push.ensures.items ∙ map-append listing_view c.members.listings.items (c.in-Ok.listing ∷ []) in
+    record {
+      grow = subst (λ (z : List plain.Listing). MembersGrow IsListing all later z) (sym items) grown;
+      left = members_left IsListing all rest later path value at c.members.invariant.left;
+      proper = (each_proper rest later path value at c.members.invariant.proper).1;
+    }
+
+pub returns-clause-ok : goal.returns-clause-ok
+returns-clause-ok c =
+    members_done IsListing (members_view c.args.members.now) (members_view c.members.rest.now) (listings_view c.members.listings.items)
+    (ap members_view (none_left c.members.rest.now c.in_default.ensures.cases)) c.members.invariant.grow

@@ -1,0 +1,102 @@
+-- What the signed part of each kind of document is (TUF 1.0, sections 4.3 to 4.6; this project's profile). Members that are
+-- not named here may stand beside those that are, except where `HasJust` or an equation says otherwise. No delegations and
+-- no layouts are judged yet: a document that has any is none.
+use Rattle.std.specs.Prelude.{◌≡◌, ◌≢◌, ℕ, ◌≤◌, List, [], ◌∷◌, ◌++◌, length, codes, true, Option, Some, None, map, Contains, ◌⊎◌}
+use Rattle.std.specs.List.{AllByRecursion}
+use Rattle.canonical_json.specs.Json.{Json, boolean, HasMember, object, Members}
+use Rattle.path_patterns.specs.Grammar.{IsTargetPath, IsName}
+use Rattle.keys_roles.specs.Plain.{Table, RoleRule}
+use Rattle.metadata.specs.Documents.{Root, Timestamp, Snapshot, MetaFile, LayoutReference, Listing, Targets}
+use Rattle.metadata.specs.Members.{Has, HasJust, IsObject}
+use Rattle.metadata.specs.Parts.{IsVersion, IsLength, HasExpires, IsSpecVersion, IsHashes, IsTable, HasRule, IsMetaFile}
+
+-- the names of the four roles that delegations can't give
+abbrev pub top_roles : List (List ℕ)
+top_roles = codes "root" ∷ codes "snapshot" ∷ codes "targets" ∷ codes "timestamp" ∷ []
+
+-- the members that root, timestamp, snapshot and targets have in common
+abbrev pub HasHead : Json → ℕ → ℕ → Type 0
+HasHead signed version expires =
+    Has signed (codes "spec_version") IsSpecVersion
+    × Has signed (codes "version") (λ x. IsVersion x version)
+    × HasExpires signed expires
+
+-- the rule of a role over a table of keys
+abbrev pub HasRole : Json → List ℕ → Table → RoleRule → Type 0
+HasRole v role keys rule = Has v role (λ x. HasRule (codes "keyids") x keys rule)
+
+-- the rules of the four roles of a root
+pub record Roles : Type 0 where
+  pub root : RoleRule
+  pub snapshot : RoleRule
+  pub targets : RoleRule
+  pub timestamp : RoleRule
+
+-- the four roles, and no other, over a table of keys
+pub record AreRoles (v : Json) (keys : Table) (r : Roles) : Type 0 where
+  pub just : HasJust v top_roles
+  pub root : HasRole v (codes "root") keys r.root
+  pub snapshot : HasRole v (codes "snapshot") keys r.snapshot
+  pub targets : HasRole v (codes "targets") keys r.targets
+  pub timestamp : HasRole v (codes "timestamp") keys r.timestamp
+
+abbrev pub roles_of : Root → Roles
+roles_of r = record { root = r.root; snapshot = r.snapshot; targets = r.targets; timestamp = r.timestamp }
+
+abbrev pub IsConsistent : Json → Type 0
+IsConsistent signed = Has signed (codes "consistent_snapshot") (λ x. x ≡ boolean true)
+
+pub record IsRoot (signed : Json) (r : Root) : Type 0 where
+  pub head : HasHead signed r.version r.expires
+  pub consistent : IsConsistent signed
+  pub keys : Has signed (codes "keys") (λ x. IsTable x r.keys)
+  pub roles : Has signed (codes "roles") (λ x. AreRoles x r.keys (roles_of r))
+
+-- {"snapshot.json":..}
+abbrev pub IsTimestampMeta : Json → MetaFile → Type 0
+IsTimestampMeta v m = HasJust v (codes "snapshot.json" ∷ []) × Has v (codes "snapshot.json") (λ x. IsMetaFile x m)
+
+pub record IsTimestamp (signed : Json) (t : Timestamp) : Type 0 where
+  pub head : HasHead signed t.version t.expires
+  pub meta : Has signed (codes "meta") (λ x. IsTimestampMeta x t.snapshot)
+
+-- a role's file, `ROLE.json`, with what is said of it
+abbrev pub IsMetaRow : List ℕ → Json → List ℕ × MetaFile → Type 0
+IsMetaRow name v e = (name ≡ e.0 ++ codes ".json") × IsName e.0 × IsMetaFile v e.1
+
+-- the roles whose documents no snapshot lists
+abbrev pub IsListable : List ℕ → Type 0
+IsListable role = (role ≢ codes "root") × (role ≢ codes "timestamp") × (role ≢ codes "snapshot")
+
+-- at most 128 roles, with `targets`
+pub record AreMetaRows (v : Json) (rows : List (List ℕ × MetaFile)) : Type 0 where
+  pub each : IsObject IsMetaRow v rows
+  pub most : length rows ≤ 128
+  pub targets : Contains (map (λ e. e.0) rows) (codes "targets")
+  pub listable : AllByRecursion (λ e. IsListable e.0) rows
+
+pub record IsSnapshot (signed : Json) (s : Snapshot) : Type 0 where
+  pub head : HasHead signed s.version s.expires
+  pub meta : Has signed (codes "meta") (λ x. AreMetaRows x s.meta)
+
+abbrev pub NoMember : Json → List ℕ → Type 0
+NoMember v name = (x : Json) → HasMember v name x → ⊥
+
+-- `custom` is absent, or an object; there a target would refer to a layout
+abbrev pub HasLayoutReference : Json → Option LayoutReference → Type 0
+HasLayoutReference v None =
+    NoMember v (codes "custom") ⊎ Has v (codes "custom") (λ x. (ms : Members) × (x ≡ object ms) × NoMember x (codes "layout"))
+HasLayoutReference v (Some l) = ⊥
+
+abbrev pub IsListing : List ℕ → Json → Listing → Type 0
+IsListing path v l =
+    (path ≡ l.path) × IsTargetPath path
+    × Has v (codes "length") (λ x. IsLength x l.len)
+    × Has v (codes "hashes") (λ x. IsHashes x l.digest)
+    × HasLayoutReference v l.layout
+
+pub record IsTargets (signed : Json) (t : Targets) : Type 0 where
+  pub head : HasHead signed t.version t.expires
+  pub targets : Has signed (codes "targets") (λ x. IsObject IsListing x t.targets)
+  pub delegations : t.delegations ≡ None
+  pub flat : NoMember signed (codes "delegations")

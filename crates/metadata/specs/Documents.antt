@@ -1,0 +1,78 @@
+-- Documents as contracts see them: texts are lists of bytes, digests lists of 32 bytes, moments seconds
+-- since 1970-01-01T00:00:00Z. (TUF 1.0, sections 4.3 to 4.6.)
+use Rattle.std.specs.Prelude.{ℕ, List, Bool, Option}
+use Rattle.keys_roles.specs.Plain.{Table, RoleRule, Signature}
+
+-- what a file says of another: its version, and its length and digest where these are given
+pub record MetaFile : Type 0 where
+  pub version : ℕ
+  pub len : Option ℕ
+  pub digest : Option (List ℕ)
+
+pub record Root : Type 0 where
+  pub version : ℕ
+  pub expires : ℕ
+  pub keys : Table
+  pub root : RoleRule
+  pub targets : RoleRule
+  pub snapshot : RoleRule
+  pub timestamp : RoleRule
+
+pub record Timestamp : Type 0 where
+  pub version : ℕ
+  pub expires : ℕ
+  pub snapshot : MetaFile
+
+-- roles with what is said of them
+pub record Snapshot : Type 0 where
+  pub version : ℕ
+  pub expires : ℕ
+  pub meta : List (List ℕ × MetaFile)
+
+-- the layout that a target refers to
+pub record LayoutReference : Type 0 where
+  pub owners : RoleRule
+  pub keys : Table
+  pub links : List (List ℕ)
+  pub path : List ℕ
+  pub product : List ℕ
+  pub step : List ℕ
+
+pub record Listing : Type 0 where
+  pub path : List ℕ
+  pub len : ℕ
+  pub digest : List ℕ
+  pub layout : Option LayoutReference
+
+pub data Scope : Type 0 where
+  patterns : List (List ℕ) → Scope
+  prefixes : List (List ℕ) → Scope
+
+pub record Delegation : Type 0 where
+  pub name : List ℕ
+  pub rule : RoleRule
+  pub terminating : Bool
+  pub scope : Scope
+
+-- delegations in order, with their keys
+pub record Delegations : Type 0 where
+  pub keys : Table
+  pub roles : List Delegation
+
+pub record Targets : Type 0 where
+  pub version : ℕ
+  pub expires : ℕ
+  pub targets : List Listing
+  pub delegations : Option Delegations
+
+pub data Body : Type 0 where
+  root : Root → Body
+  timestamp : Timestamp → Body
+  snapshot : Snapshot → Body
+  targets : Targets → Body
+
+-- a file: its signatures, the bytes that they are over, and what these say
+pub record Document : Type 0 where
+  pub entries : List Signature
+  pub signed : List ℕ
+  pub body : Body

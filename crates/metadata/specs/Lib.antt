@@ -1,0 +1,11 @@
+pub mod Bodies
+pub mod Dates
+pub mod Documents
+pub mod Faults
+pub mod Members
+pub mod Parts
+pub mod Reads
+pub mod Rows
+pub mod Shape
+pub mod Spelled
+pub mod Views

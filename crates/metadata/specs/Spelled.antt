@@ -1,0 +1,56 @@
+-- Tables and rules as a file spells them: their ids are texts of any form.
+use Rattle.std.specs.Prelude.{ℕ, List, map, String, string_bytes}
+use Rattle.std.specs.declared.alloc.Global.{Global}
+use Rattle.keys_roles.specs.Plain as plain
+use Rattle.keys_roles.specs.Views.{key_view, table_view, rule_view}
+use Rattle.keys_roles.specs.declared.Key.{Key}
+use Rattle.metadata.specs.declared.keys.SpelledTable.{SpelledTable}
+use Rattle.metadata.specs.declared.keys.SpelledRule.{SpelledRule}
+use Rattle.metadata.specs.declared.root.SpelledRoles.{SpelledRoles}
+use Rattle.metadata.specs.declared.root.Keyed.{Keyed}
+use Rattle.metadata.specs.Parts.{IsRuleOver}
+use Rattle.metadata.specs.Bodies as bodies
+use Rattle.metadata.specs.Documents as documents
+
+abbrev pub texts_view : List (String Global) → List (List ℕ)
+texts_view ts = map string_bytes ts
+
+abbrev pub spelled_rows : List (String Global × Key) → plain.Table
+spelled_rows rows = map (λ e. (string_bytes e.0, key_view e.1)) rows
+
+abbrev pub spelled_table : SpelledTable → plain.Table
+spelled_table t = spelled_rows t.rows.items
+
+abbrev pub spelled_rule : SpelledRule → plain.RoleRule
+spelled_rule r = record { keyids = texts_view r.ids.items; threshold = r.threshold }
+
+abbrev pub spelled_roles : SpelledRoles → bodies.Roles
+spelled_roles r = record {
+  root = spelled_rule r.root;
+  snapshot = spelled_rule r.snapshot;
+  targets = spelled_rule r.targets;
+  timestamp = spelled_rule r.timestamp;
+}
+
+-- the keys and the roles of a root
+abbrev pub keyed_view : Keyed → plain.Table × bodies.Roles
+keyed_view k =
+    (table_view k.keys, record { root = rule_view k.root; snapshot = rule_view k.snapshot; targets = rule_view k.targets; timestamp = rule_view k.timestamp })
+
+abbrev pub plain_root : ℕ → ℕ → plain.Table × bodies.Roles → documents.Root
+plain_root version expires k = record {
+  version = version;
+  expires = expires;
+  keys = k.0;
+  root = k.1.root;
+  targets = k.1.targets;
+  snapshot = k.1.snapshot;
+  timestamp = k.1.timestamp;
+}
+
+-- each role's rule is one over the table
+pub record AreOver (keys : SpelledTable) (roles : SpelledRoles) : Type 0 where
+  pub root : IsRuleOver (spelled_table keys) (spelled_rule roles.root)
+  pub snapshot : IsRuleOver (spelled_table keys) (spelled_rule roles.snapshot)
+  pub targets : IsRuleOver (spelled_table keys) (spelled_rule roles.targets)
+  pub timestamp : IsRuleOver (spelled_table keys) (spelled_rule roles.timestamp)

@@ -1,0 +1,48 @@
+-- What the code's documents stand for.
+use Rattle.std.specs.Prelude.{map, option_map, None}
+use Rattle.keys_roles.specs.Views.{table_view, rule_view as role_view, entries_view}
+use Rattle.metadata.specs.Documents as plain
+use Rattle.metadata.specs.declared.documents.Meta.{Meta}
+use Rattle.metadata.specs.declared.documents.Root.{Root}
+use Rattle.metadata.specs.declared.documents.Timestamp.{Timestamp}
+use Rattle.metadata.specs.declared.documents.Snapshot.{Snapshot}
+use Rattle.metadata.specs.declared.documents.Listing.{Listing}
+use Rattle.metadata.specs.declared.documents.Targets.{Targets}
+use Rattle.metadata.specs.declared.documents.Body.{Body}
+use Rattle.metadata.specs.declared.documents.Body.TheVariants as bodies
+use Rattle.metadata.specs.declared.documents.Document.{Document}
+
+abbrev pub meta_view : Meta → plain.MetaFile
+meta_view m = record { version = m.version; len = m.length; digest = option_map (λ d. d.0) m.digest }
+
+abbrev pub root_view : Root → plain.Root
+root_view r = record {
+  version = r.version;
+  expires = r.expires;
+  keys = table_view r.keys;
+  root = role_view r.root;
+  targets = role_view r.targets;
+  snapshot = role_view r.snapshot;
+  timestamp = role_view r.timestamp;
+}
+
+abbrev pub timestamp_view : Timestamp → plain.Timestamp
+timestamp_view t = record { version = t.version; expires = t.expires; snapshot = meta_view t.snapshot }
+
+abbrev pub snapshot_view : Snapshot → plain.Snapshot
+snapshot_view s = record { version = s.version; expires = s.expires; meta = map (λ e. (e.0, meta_view e.1)) s.meta.items }
+
+abbrev pub listing_view : Listing → plain.Listing
+listing_view l = record { path = l.path; len = l.length; digest = l.digest.0; layout = None }
+
+abbrev pub targets_view : Targets → plain.Targets
+targets_view t = record { version = t.version; expires = t.expires; targets = map listing_view t.targets.items; delegations = None }
+
+abbrev pub body_view : Body → plain.Body
+body_view (bodies.Root r) = plain.root (root_view r)
+body_view (bodies.Timestamp t) = plain.timestamp (timestamp_view t)
+body_view (bodies.Snapshot s) = plain.snapshot (snapshot_view s)
+body_view (bodies.Targets t) = plain.targets (targets_view t)
+
+abbrev pub document_view : Document → plain.Document
+document_view d = record { entries = entries_view d.signatures.items; signed = d.signed.now; body = body_view d.body }

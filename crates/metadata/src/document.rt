@@ -1,0 +1,131 @@
+// Which document a file is (TUF 1.0, section 4.2).
+ghost use Rattle.std.specs.Prelude.{◌≡◌, ◌⊎◌, ◌↔◌, ℕ, List, IfOk, IfErr, IsTrue};
+ghost use Rattle.std.specs.List.{AllByRecursion};
+ghost use Rattle.canonical_json.specs.Spelling.{IsProper};
+ghost use Rattle.canonical_json.specs.View.{view};
+ghost use Rattle.keys_roles.specs.Views.{entries_view};
+ghost use Rattle.metadata.specs.Faults.{IsFaulty};
+ghost use Rattle.metadata.specs.Parts.{NamesAreIds};
+ghost use Rattle.metadata.specs.Shape.{kind_name, tables, IsBody, IsFile, IsDocument, IsShapeFault};
+ghost use Rattle.metadata.specs.Reads.{IsSignedAs, IsFaultOf};
+ghost use Rattle.metadata.specs.Views.{body_view, document_view};
+
+use crate::documents::{Body, Document, Kind, ShapeFault};
+use crate::envelope::read_envelope;
+use crate::root::read_root;
+use crate::snapshot::read_snapshot;
+use crate::targets::read_targets;
+use crate::timestamp::read_timestamp;
+use canonical_json::{ReadFault, Value, member, read};
+use keys_roles::Signature;
+use std::alloc::Global;
+
+// The bytes of the longest file.
+const MOST: usize = 262_144;
+
+/// The document of this kind that the bytes are (TUF 1.0, sections 4.2 to 4.6), or the first check that fails, in this
+/// order: at most 262,144 bytes, canonical JSON, an envelope whose signed part has a text `_type`, the kind's `_type`, the
+/// kind's members, and each name in a key table its key's id. The signed bytes are lent from the file.
+pub fn read_document<'a>(
+    alloc: Global,
+    kind: Kind,
+    bytes: &'a [u8],
+) -> Result<Document<'a>, ShapeFault>
+    ensures document { IfOk result (λ d. IsDocument kind bytes.now (document_view d)) }
+    ensures fault { IfErr result (λ e. (e ≡ ShapeFault.OutOfMemory) ⊎ IsShapeFault kind bytes.now e) }
+{
+    if bytes.len() > MOST {
+        return Err(ShapeFault::TooLong);
+    }
+    let value = match read(alloc, bytes) {
+        Ok(value) => value,
+        Err(fault) => return Err(unread(fault)),
+    };
+    let (signatures, body) = match read_value(alloc, kind, &value) {
+        Ok(parts) => parts,
+        Err(fault) => return Err(fault),
+    };
+    match member(bytes, "signed") {
+        Some(signed) => Ok(Document {
+            signatures,
+            signed,
+            body,
+        }),
+        None => Err(ShapeFault::WrongShape),
+    }
+}
+
+// What a file that is not read is refused as.
+fn unread(fault: ReadFault) -> ShapeFault
+    ensures memory { fault ≡ ReadFault.OutOfMemory → result ≡ ShapeFault.OutOfMemory }
+    ensures other { (fault ≡ ReadFault.OutOfMemory → ⊥) → result ≡ ShapeFault.NotCanonical }
+{
+    match fault {
+        ReadFault::OutOfMemory => ShapeFault::OutOfMemory,
+        ReadFault::NotCanonical => ShapeFault::NotCanonical,
+        ReadFault::TooDeep => ShapeFault::NotCanonical,
+        ReadFault::IntegerRange => ShapeFault::NotCanonical,
+    }
+}
+
+// The signatures and the body of the document that the value is.
+fn read_value(
+    alloc: Global,
+    kind: Kind,
+    value: &Value,
+) -> Result<(Vec<Signature>, Body), ShapeFault>
+    requires { IsProper (view value.now) }
+    ensures ok { IfOk result (λ r. IsSignedAs kind (view value.now) (entries_view r.0.items) (body_view r.1)) }
+    ensures err { IfErr result (IsFaultOf kind (view value.now)) }
+{
+    let envelope = match read_envelope(alloc, value) {
+        Ok(envelope) => envelope,
+        Err(fault) => return Err(fault),
+    };
+    if !is_kind(kind, envelope.type_name) {
+        return Err(ShapeFault::WrongType);
+    }
+    match read_body(alloc, kind, envelope.part) {
+        Ok(body) => Ok((envelope.signatures, body)),
+        Err(fault) => Err(fault),
+    }
+}
+
+// Whether the `_type` is the kind's.
+fn is_kind(kind: Kind, type_name: &str) -> bool
+    ensures { IsTrue result ↔ type_name.now ≡ kind_name kind }
+{
+    let name = match kind {
+        Kind::Root => "root",
+        Kind::Timestamp => "timestamp",
+        Kind::Snapshot => "snapshot",
+        Kind::Targets => "targets",
+    };
+    *type_name == *name
+}
+
+// What the signed part says, by its kind.
+fn read_body(alloc: Global, kind: Kind, part: &Value) -> Result<Body, ShapeFault>
+    requires { IsProper (view part.now) }
+    ensures ok { IfOk result (λ b. IsBody kind (view part.now) (body_view b) × AllByRecursion NamesAreIds (tables (body_view b))) }
+    ensures err { IfErr result (IsFaulty (IsBody kind (view part.now)) (λ b. AllByRecursion NamesAreIds (tables b))) }
+{
+    match kind {
+        Kind::Root => match read_root(alloc, part) {
+            Ok(root) => Ok(Body::Root(root)),
+            Err(fault) => Err(fault),
+        },
+        Kind::Timestamp => match read_timestamp(part) {
+            Some(timestamp) => Ok(Body::Timestamp(timestamp)),
+            None => Err(ShapeFault::WrongShape),
+        },
+        Kind::Snapshot => match read_snapshot(alloc, part) {
+            Ok(snapshot) => Ok(Body::Snapshot(snapshot)),
+            Err(fault) => Err(fault),
+        },
+        Kind::Targets => match read_targets(alloc, part) {
+            Ok(targets) => Ok(Body::Targets(targets)),
+            Err(fault) => Err(fault),
+        },
+    }
+}

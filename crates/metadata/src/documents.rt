@@ -1,0 +1,134 @@
+use crate::moment::Moment;
+use keys_roles::{KeyTable, RoleRule, Signature};
+use path_patterns::{Digest, RoleName, TargetPath};
+use std::alloc::{AllocError, AllocFailed};
+use thiserror::Error;
+
+/// The kinds of documents, by the `_type` of the signed part.
+#[derive(Debug, Clone, Copy, PartialEq, Eq)]
+pub enum Kind {
+    /// TUF 1.0, section 4.3.
+    Root,
+    /// TUF 1.0, section 4.6.
+    Timestamp,
+    /// TUF 1.0, section 4.4.
+    Snapshot,
+    /// TUF 1.0, section 4.5.
+    Targets,
+}
+
+/// Why a file is no document of its kind: the first check that fails.
+#[derive(Debug, Clone, Copy, PartialEq, Eq, Error)]
+pub enum ShapeFault {
+    /// The file has over 262,144 bytes.
+    #[error("too long")]
+    TooLong,
+    /// It is no canonical JSON.
+    #[error("not canonical JSON")]
+    NotCanonical,
+    /// The envelope, or the members of the signed part, are not those of the kind.
+    #[error("wrong shape")]
+    WrongShape,
+    /// The signed part is of another type.
+    #[error("wrong type")]
+    WrongType,
+    /// A name in a key table is not its key's id.
+    #[error("bad key id")]
+    BadKeyId,
+    /// Memory was refused. It says nothing of the file.
+    #[error("out of memory")]
+    OutOfMemory,
+}
+
+/// Refused memory is `OutOfMemory`.
+impl From<AllocError> for ShapeFault {
+    ghost use Rattle.std.specs.Prelude.{◌≡◌};
+    ghost use Rattle.metadata.specs.declared.documents.ShapeFault.TheVariants.{OutOfMemory};
+
+    ghost from_gives = { λ _ e. e ≡ OutOfMemory };
+
+    fn from(_: AllocError) -> Self {
+        ShapeFault::OutOfMemory
+    }
+}
+
+impl<T: Drop> From<AllocFailed<T>> for ShapeFault {
+    ghost use Rattle.std.specs.Prelude.{◌≡◌};
+    ghost use Rattle.metadata.specs.declared.documents.ShapeFault.TheVariants.{OutOfMemory};
+
+    ghost from_gives = { λ _ e. e ≡ OutOfMemory };
+
+    fn from(_: AllocFailed<T>) -> Self {
+        ShapeFault::OutOfMemory
+    }
+}
+
+/// What a file says of another (TUF 1.0, sections 4.4 and 4.6, METAFILES): its version, 1 to 4,294,967,295, and its
+/// length in bytes and digest where these are given.
+#[derive(Debug, Clone, Copy)]
+pub struct Meta {
+    pub version: u32,
+    pub length: Option<u32>,
+    pub digest: Option<Digest>,
+}
+
+/// Root metadata (TUF 1.0, section 4.3).
+#[derive(Debug, Drop)]
+pub struct Root {
+    pub version: u32,
+    pub expires: Moment,
+    pub keys: KeyTable,
+    pub root: RoleRule,
+    pub targets: RoleRule,
+    pub snapshot: RoleRule,
+    pub timestamp: RoleRule,
+}
+
+/// Timestamp metadata (TUF 1.0, section 4.6).
+#[derive(Debug, Drop)]
+pub struct Timestamp {
+    pub version: u32,
+    pub expires: Moment,
+    pub snapshot: Meta,
+}
+
+/// Snapshot metadata (TUF 1.0, section 4.4): roles with what is said of their documents, in the order of their names.
+#[derive(Debug, Drop)]
+pub struct Snapshot {
+    pub version: u32,
+    pub expires: Moment,
+    pub meta: Vec<(RoleName, Meta)>,
+}
+
+/// A target (TUF 1.0, section 4.5, TARGETS): its length in bytes and its digest.
+#[derive(Debug, Drop)]
+pub struct Listing {
+    pub path: TargetPath,
+    pub length: u32,
+    pub digest: Digest,
+}
+
+/// Targets metadata (TUF 1.0, section 4.5): the listings in the order of their paths.
+#[derive(Debug, Drop)]
+pub struct Targets {
+    pub version: u32,
+    pub expires: Moment,
+    pub targets: Vec<Listing>,
+}
+
+/// What the signed part of a document says.
+#[derive(Debug, Drop)]
+pub enum Body {
+    Root(Root),
+    Timestamp(Timestamp),
+    Snapshot(Snapshot),
+    Targets(Targets),
+}
+
+/// A file (TUF 1.0, section 4.2): its signatures, the bytes that they are over, lent from the file, and what these say.
+#[derive(Drop)]
+pub struct Document<'a> {
+    pub signatures: Vec<Signature>,
+    pub signed: &'a [u8],
+    pub body: Body,
+}

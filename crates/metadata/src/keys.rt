@@ -1,0 +1,350 @@
+// Keys, key tables and rules as a file spells them (TUF 1.0, section 4.2).
+ghost use Rattle.std.specs.Prelude.{◌≡◌, ◌≢◌, ◌↔◌, ℕ, List, length, map, codes, IsTrue, IfOk, IfErr, IfSome, IfNone, MatchOption, Contains};
+ghost use Rattle.std.specs.List.{AllByRecursion};
+ghost use Rattle.hex.specs.Hex.{encode_lower};
+ghost use Rattle.canonical_json.specs.Spelling.{IsProper};
+ghost use Rattle.canonical_json.specs.View.{view, items_view, members_view};
+ghost use Rattle.keys_roles.specs.Plain as plain;
+ghost use Rattle.keys_roles.specs.Rules.{AreDistinct};
+ghost use Rattle.keys_roles.specs.Counting.{IsIn};
+ghost use Rattle.keys_roles.specs.Keys.{id_of};
+ghost use Rattle.keys_roles.specs.Views.{id_text, ids_view, key_view, rows_view, rule_view, table_view};
+ghost use Rattle.path_patterns.specs.Grammar.{IsHex};
+ghost use Rattle.metadata.specs.Faults.{IsIll, IsMisnamed};
+ghost use Rattle.metadata.specs.Members.{Has, IsArray, IsText, IsNumber, ItemsAre, MembersAre};
+ghost use Rattle.metadata.specs.Parts.{IsKey, IsKeyval, AreBytes, IsRow, IsTable, NamesAreIds, NamesAreHex, IsRuleOver, HasRule};
+ghost use Rattle.metadata.specs.Spelled.{texts_view, spelled_rows, spelled_table, spelled_rule};
+
+use crate::documents::ShapeFault;
+use crate::members::{
+    is_text, items_of, member_of, members_of, number_at, one_member, text_of, three_members,
+};
+use canonical_json::Value;
+use keys_roles::{Key, KeyId, KeyTable, NoMemory, RoleRule, key_id};
+use path_patterns::{Digest, one_digest};
+use std::alloc::Global;
+
+// The most keys of a table.
+const MOST_KEYS: usize = 256;
+
+// The most ids of a rule, and the highest threshold.
+const MOST_IDS: usize = 16;
+
+/// A key table as a file spells it: its names need not be ids.
+#[derive(Drop)]
+pub(crate) struct SpelledTable {
+    pub rows: Vec<(String, Key)>,
+}
+
+/// A rule as a file spells it: its ids need not be ids of keys.
+#[derive(Drop)]
+pub(crate) struct SpelledRule {
+    pub ids: Vec<String>,
+    pub threshold: u8,
+}
+
+/// The key that the value is.
+pub(crate) fn read_key(value: &Value) -> Option<Key>
+    ensures { MatchOption result ((k : plain.Key) → IsKey (view value.now) k → ⊥) (λ k. IsKey (view value.now) (key_view k)) }
+{
+    let Some((kind, keyval, scheme)) = three_members(value, "keytype", "keyval", "scheme") else {
+        return None;
+    };
+    if !is_text(kind, "lms") || !is_text(scheme, "lms-sha256") {
+        return None;
+    }
+    match read_keyval(keyval) {
+        Some(public) => Some(Key::Lms(public)),
+        None => None,
+    }
+}
+
+// The 56 bytes that `keyval` holds.
+fn read_keyval(value: &Value) -> Option<[u8; 56]>
+    ensures { MatchOption result ((p : List ℕ) → IsKeyval p (view value.now) → ⊥) (λ p. IsKeyval p (view value.now)) }
+{
+    let public = one_member(value, "public")?;
+    let digits = text_of(public)?;
+    match read_public(digits) {
+        Some(bytes) => Some(bytes),
+        None => None,
+    }
+}
+
+// The 56 bytes that the text spells in hex digits of lower case.
+fn read_public(text: &str) -> Option<[u8; 56]>
+    ensures { MatchOption result ((p : List ℕ) → AreBytes 56 p → text.now ≡ encode_lower p → ⊥)
+        (λ p. AreBytes 56 p × (text.now ≡ encode_lower p)) }
+{
+    let mut bytes = [0; 56];
+    if hex::decode_to_slice(text.as_bytes(), &mut bytes).is_err() {
+        return None;
+    }
+    let mut digits = [0; 112];
+    if spells(&bytes, text.as_bytes(), &mut digits) {
+        Some(bytes)
+    } else {
+        None
+    }
+}
+
+// Whether the digits are those of the bytes, which it writes as a text of its own.
+fn spells(bytes: &[u8], digits: &[u8], text: &mut [u8]) -> bool
+    requires bytes { length bytes.now ≡ 56 }
+    requires two { length text.old ≡ 112 }
+    ensures { IsTrue result ↔ (AreBytes 56 bytes.now × (digits.now ≡ encode_lower bytes.now)) }
+{
+    let _ = hex::encode_to_slice(bytes, &mut *text);
+    *digits == *text
+}
+
+/// The key table that the value is, whatever its names.
+pub(crate) fn read_table(alloc: Global, value: &Value) -> Result<SpelledTable, ShapeFault>
+    ensures ok { IfOk result (λ t. IsTable (view value.now) (spelled_table t)) }
+    ensures err { IfErr result (IsIll ((t : plain.Table) × IsTable (view value.now) t)) }
+{
+    let Some(members) = members_of(value) else {
+        return Err(ShapeFault::WrongShape);
+    };
+    if members.len() > MOST_KEYS {
+        return Err(ShapeFault::WrongShape);
+    }
+    let rows = read_rows(alloc, members)?;
+    Ok(SpelledTable { rows })
+}
+
+fn read_rows(alloc: Global, members: &[(String, Value)]) -> Result<Vec<(String, Key)>, ShapeFault>
+    ensures ok { IfOk result (λ rows. MembersAre IsRow (members_view members.now) (spelled_rows rows.items)) }
+    ensures err { IfErr result (IsIll ((rows : plain.Table) × MembersAre IsRow (members_view members.now) rows)) }
+{
+    let mut rows = Vec::new(alloc);
+    let mut rest = members;
+    'members: while let Some((member, later)) = rest.split_first() {
+        let Some(key) = read_key(&member.1) else {
+            return Err(ShapeFault::WrongShape);
+        };
+        let name = member.0.clone()?;
+        rows.push((name, key))?;
+        rest = later;
+    }
+    Ok(rows)
+}
+
+/// The rule over the table that the object has, its ids under this name.
+pub(crate) fn read_rule(
+    alloc: Global,
+    value: &Value,
+    name: &str,
+    table: &SpelledTable,
+) -> Result<SpelledRule, ShapeFault>
+    requires { IsProper (view value.now) }
+    ensures ok { IfOk result (λ r. HasRule name.now (view value.now) (spelled_table table.now) (spelled_rule r)) }
+    ensures err { IfErr result (IsIll ((r : plain.RoleRule) × HasRule name.now (view value.now) (spelled_table table.now) r)) }
+{
+    let Some(threshold) = threshold_of(value) else {
+        return Err(ShapeFault::WrongShape);
+    };
+    let Some(list) = member_of(value, name) else {
+        return Err(ShapeFault::WrongShape);
+    };
+    let ids = read_texts(alloc, list)?;
+    let rule = SpelledRule { ids, threshold };
+    if is_over(table, &rule) {
+        Ok(rule)
+    } else {
+        Err(ShapeFault::WrongShape)
+    }
+}
+
+// The threshold that the object has.
+fn threshold_of(value: &Value) -> Option<u8>
+    requires { IsProper (view value.now) }
+    ensures { MatchOption result ((n : ℕ) → Has (view value.now) (codes "threshold") (λ x. IsNumber 1 16 x n) → ⊥)
+        (λ n. Has (view value.now) (codes "threshold") (λ x. IsNumber 1 16 x n)) }
+{
+    match number_at(value, "threshold", 1, 16) {
+        Some(number) => u8::try_from(number).ok(),
+        None => None,
+    }
+}
+
+/// The texts of the list that the value is.
+pub(crate) fn read_texts(alloc: Global, value: &Value) -> Result<Vec<String>, ShapeFault>
+    ensures ok { IfOk result (λ texts. IsArray IsText (view value.now) (texts_view texts.items)) }
+    ensures err { IfErr result (IsIll ((texts : List (List ℕ)) × IsArray IsText (view value.now) texts)) }
+{
+    let Some(items) = items_of(value) else {
+        return Err(ShapeFault::WrongShape);
+    };
+    texts_of(alloc, items)
+}
+
+fn texts_of(alloc: Global, items: &[Value]) -> Result<Vec<String>, ShapeFault>
+    ensures ok { IfOk result (λ texts. ItemsAre IsText (items_view items.now) (texts_view texts.items)) }
+    ensures err { IfErr result (IsIll ((texts : List (List ℕ)) × ItemsAre IsText (items_view items.now) texts)) }
+{
+    let mut texts = Vec::new(alloc);
+    let mut rest = items;
+    'items: while let Some((item, later)) = rest.split_first() {
+        let Some(text) = text_of(item) else {
+            return Err(ShapeFault::WrongShape);
+        };
+        let text = String::from_str(alloc, text)?;
+        texts.push(text)?;
+        rest = later;
+    }
+    Ok(texts)
+}
+
+// Whether the rule is one over the table: some ids, none twice, each a name of the table, no fewer than the threshold.
+fn is_over(table: &SpelledTable, rule: &SpelledRule) -> bool
+    ensures { IsTrue result ↔ (IsRuleOver (spelled_table table.now) (spelled_rule rule.now)) }
+{
+    let count = rule.ids.len();
+    if count == 0 || count > MOST_IDS || usize::from(rule.threshold) > count {
+        return false;
+    }
+    are_distinct(&rule.ids) && are_known(&table.rows, &rule.ids)
+}
+
+/// Whether no text stands twice.
+pub(crate) fn are_distinct(texts: &[String]) -> bool
+    ensures { IsTrue result ↔ (AreDistinct (texts_view texts.now)) }
+{
+    let mut rest = texts;
+    'texts: while let Some((text, later)) = rest.split_first() {
+        if is_among(later, text.as_str()) {
+            return false;
+        }
+        rest = later;
+    }
+    true
+}
+
+// Whether the text stands in the list.
+fn is_among(texts: &[String], text: &str) -> bool
+    ensures { IsTrue result ↔ (IsIn (texts_view texts.now) text.now) }
+{
+    let mut rest = texts;
+    'texts: while let Some((first, later)) = rest.split_first() {
+        if first.as_str() == text {
+            return true;
+        }
+        rest = later;
+    }
+    false
+}
+
+// Whether each id is a name of the table.
+fn are_known(rows: &[(String, Key)], ids: &[String]) -> bool
+    ensures { IsTrue result ↔ (AllByRecursion (Contains (map (λ e. e.0) (spelled_rows rows.now))) (texts_view ids.now)) }
+{
+    let mut rest = ids;
+    'ids: while let Some((id, later)) = rest.split_first() {
+        if !is_name(rows, id.as_str()) {
+            return false;
+        }
+        rest = later;
+    }
+    true
+}
+
+// Whether the text is a name of the table.
+#[tactic(auto, using(crate::proofs::Elements::contains_in, crate::proofs::Elements::in_contains))]
+fn is_name(rows: &[(String, Key)], text: &str) -> bool
+    ensures { IsTrue result ↔ (Contains (map (λ e. e.0) (spelled_rows rows.now)) text.now) }
+{
+    names_row(rows, text)
+}
+
+// Whether a row has this name.
+fn names_row(rows: &[(String, Key)], text: &str) -> bool
+    ensures { IsTrue result ↔ (IsIn (map (λ e. e.0) (spelled_rows rows.now)) text.now) }
+{
+    let mut rest = rows;
+    'rows: while let Some((row, later)) = rest.split_first() {
+        if row.0.as_str() == text {
+            return true;
+        }
+        rest = later;
+    }
+    false
+}
+
+/// The key table, where each name is its key's id.
+pub(crate) fn name_table(alloc: Global, table: &SpelledTable) -> Result<KeyTable, ShapeFault>
+    ensures ok { IfOk result (λ t. (table_view t ≡ spelled_table table.now) × NamesAreIds (spelled_table table.now) × NamesAreHex (spelled_table table.now)) }
+    ensures err { IfErr result (IsMisnamed (NamesAreIds (spelled_table table.now))) }
+{
+    match name_rows(alloc, &table.rows) {
+        Ok(entries) => Ok(KeyTable { entries }),
+        Err(fault) => Err(fault),
+    }
+}
+
+fn name_rows(alloc: Global, rows: &[(String, Key)]) -> Result<Vec<(KeyId, Key)>, ShapeFault>
+    ensures ok { IfOk result (λ es. (rows_view es.items ≡ spelled_rows rows.now) × NamesAreIds (spelled_rows rows.now) × NamesAreHex (spelled_rows rows.now)) }
+    ensures err { IfErr result (IsMisnamed (NamesAreIds (spelled_rows rows.now))) }
+{
+    let mut entries = Vec::new(alloc);
+    let mut rest = rows;
+    'rows: while let Some((row, later)) = rest.split_first() {
+        let Some(id) = id_named(alloc, row.0.as_str(), &row.1)? else {
+            return Err(ShapeFault::BadKeyId);
+        };
+        entries.push((id, row.1))?;
+        rest = later;
+    }
+    Ok(entries)
+}
+
+// The id of the key, where the name is its text.
+fn id_named(alloc: Global, name: &str, key: &Key) -> Result<Option<KeyId>, NoMemory>
+    ensures some { IfOk result (λ o. IfSome o (λ id. (name.now ≡ id_of (key_view key.now)) × (id_text id ≡ name.now) × IsHex 64 name.now)) }
+    ensures none { IfOk result (λ o. IfNone o (name.now ≢ id_of (key_view key.now))) }
+{
+    let id = key_id(alloc, key)?;
+    one_digest();
+    let digits = Digest(id.0).digits();
+    if are_same(name.as_bytes(), &digits) {
+        Ok(Some(id))
+    } else {
+        Ok(None)
+    }
+}
+
+fn are_same(a: &[u8], b: &[u8]) -> bool
+    ensures { IsTrue result ↔ a.now ≡ b.now }
+{
+    *a == *b
+}
+
+/// The rule, where each id is 64 hex digits.
+pub(crate) fn name_rule(alloc: Global, rule: &SpelledRule) -> Result<RoleRule, ShapeFault>
+    ensures ok { IfOk result (λ r. rule_view r ≡ spelled_rule rule.now) }
+    ensures err { IfErr result (IsMisnamed (AllByRecursion (IsHex 64) (spelled_rule rule.now).keyids)) }
+{
+    match name_ids(alloc, &rule.ids) {
+        Ok(keyids) => Ok(RoleRule {
+            keyids,
+            threshold: rule.threshold,
+        }),
+        Err(fault) => Err(fault),
+    }
+}
+
+fn name_ids(alloc: Global, ids: &[String]) -> Result<Vec<KeyId>, ShapeFault>
+    ensures ok { IfOk result (λ named. ids_view named.items ≡ texts_view ids.now) }
+    ensures err { IfErr result (IsMisnamed (AllByRecursion (IsHex 64) (texts_view ids.now))) }
+{
+    let mut named = Vec::new(alloc);
+    let mut rest = ids;
+    'ids: while let Some((id, later)) = rest.split_first() {
+        let Some(digest) = Digest::read(id.as_str()) else {
+            return Err(ShapeFault::BadKeyId);
+        };
+        named.push(KeyId(digest.0))?;
+        rest = later;
+    }
+    Ok(named)
+}

@@ -1,0 +1,49 @@
+//! Documents: which document a file is, and what of it was signed (TUF 1.0, sections 4.2 to 4.6).
+//!
+//! A file is canonical JSON of at most 262,144 bytes: an envelope of 0 to 16 signatures and the part that they are over.
+//! Members of the signed part that no rule names are allowed, and signed over.
+#![tactic(auto)]
+
+mod dates;
+mod document;
+mod documents;
+mod envelope;
+mod head;
+mod keys;
+mod members;
+mod moment;
+mod parts;
+mod root;
+mod snapshot;
+mod targets;
+#[cfg(test)]
+mod tests;
+mod timestamp;
+
+ghost use Rattle.std.specs.Prelude.{◌≡◌, List, ℕ};
+ghost use Rattle.metadata.specs.Documents as plain;
+ghost use Rattle.metadata.specs.Shape.{IsDocument, IsShapeFault};
+ghost use Rattle.metadata.specs.declared.documents.Kind.{Kind};
+ghost use Rattle.metadata.specs.declared.documents.ShapeFault.{ShapeFault};
+
+use canonical_json::one_spelling;
+pub use document::read_document;
+pub use documents::{
+    Body, Document, Kind, Listing, Meta, Root, ShapeFault, Snapshot, Targets, Timestamp,
+};
+pub use moment::{Moment, live};
+
+/// A law, which does nothing: a file spells at most one document of a kind.
+pub fn one_document()
+    ensures { (kind : Kind) (bytes : List ℕ) (d e : plain.Document) → IsDocument kind bytes d → IsDocument kind bytes e → d ≡ e }
+{
+    one_spelling();
+}
+
+/// A law, which does nothing: a file that spells a document has no fault of shape, and no file has two.
+pub fn one_shape()
+    ensures none { (kind : Kind) (bytes : List ℕ) (d : plain.Document) (f : ShapeFault) → IsDocument kind bytes d → IsShapeFault kind bytes f → ⊥ }
+    ensures one { (kind : Kind) (bytes : List ℕ) (f g : ShapeFault) → IsShapeFault kind bytes f → IsShapeFault kind bytes g → f ≡ g }
+{
+    one_spelling();
+}

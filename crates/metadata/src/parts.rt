@@ -1,0 +1,145 @@
+// The parts that documents are made of (TUF 1.0, section 4.2).
+ghost use Rattle.std.specs.Prelude.{◌≡◌, ◌↔◌, ◌<◌, ◌≤◌, ◌++◌, ℕ, List, Option, MatchOption, IsTrue, codes, length, option_map};
+ghost use Rattle.std.specs.List.{list_all};
+ghost use Rattle.path_patterns.specs.Bytes.{is_digit};
+ghost use Rattle.canonical_json.specs.Spelling.{IsProper};
+ghost use Rattle.canonical_json.specs.View.{view};
+ghost use Rattle.metadata.specs.Documents.{MetaFile};
+ghost use Rattle.metadata.specs.Members.{Has, MayHave};
+ghost use Rattle.metadata.specs.Parts.{IsVersion, IsLength, IsHashes, IsMetaFile, IsSpecVersion};
+ghost use Rattle.metadata.specs.Views.{meta_view};
+
+use crate::documents::Meta;
+use crate::members::{member_of, number_at, number_of, one_member, text_of};
+use canonical_json::Value;
+use path_patterns::{Digest, one_digest};
+
+// The greatest version and length.
+const LAST_NUMBER: u32 = 4_294_967_295;
+
+/// The version that the object has.
+pub(crate) fn version_of(value: &Value) -> Option<u32>
+    requires { IsProper (view value.now) }
+    ensures { MatchOption result ((n : ℕ) → Has (view value.now) (codes "version") (λ x. IsVersion x n) → ⊥)
+        (λ n. Has (view value.now) (codes "version") (λ x. IsVersion x n)) }
+{
+    number_at(value, "version", 1, LAST_NUMBER)
+}
+
+/// The length that the object has.
+pub(crate) fn length_of(value: &Value) -> Option<u32>
+    requires { IsProper (view value.now) }
+    ensures { MatchOption result ((n : ℕ) → Has (view value.now) (codes "length") (λ x. IsLength x n) → ⊥)
+        (λ n. Has (view value.now) (codes "length") (λ x. IsLength x n)) }
+{
+    number_at(value, "length", 0, LAST_NUMBER)
+}
+
+/// The digest that `hashes` is.
+pub(crate) fn read_hashes(value: &Value) -> Option<Digest>
+    ensures { MatchOption result ((d : List ℕ) → IsHashes (view value.now) d → ⊥) (λ d. IsHashes (view value.now) d.0) }
+{
+    let only = one_member(value, "sha256")?;
+    let digits = text_of(only)?;
+    match Digest::read(digits) {
+        Some(digest) => Some(digest),
+        None => {
+            one_digest();
+            None
+        }
+    }
+}
+
+/// The digest that the object has under `hashes`.
+pub(crate) fn hashes_of(value: &Value) -> Option<Digest>
+    requires { IsProper (view value.now) }
+    ensures { MatchOption result ((d : List ℕ) → Has (view value.now) (codes "hashes") (λ x. IsHashes x d) → ⊥)
+        (λ d. Has (view value.now) (codes "hashes") (λ x. IsHashes x d.0)) }
+{
+    let hashes = member_of(value, "hashes")?;
+    read_hashes(hashes)
+}
+
+/// The length that the object has, if it has one.
+pub(crate) fn optional_length(value: &Value) -> Option<Option<u32>>
+    requires { IsProper (view value.now) }
+    ensures { MatchOption result ((n : Option ℕ) → MayHave (view value.now) (codes "length") IsLength n → ⊥)
+        (λ n. MayHave (view value.now) (codes "length") IsLength n) }
+{
+    match member_of(value, "length") {
+        None => Some(None),
+        Some(length) => match number_of(length, 0, LAST_NUMBER) {
+            Some(number) => Some(Some(number)),
+            None => None,
+        },
+    }
+}
+
+/// The digest that the object has under `hashes`, if it has one.
+pub(crate) fn optional_hashes(value: &Value) -> Option<Option<Digest>>
+    requires { IsProper (view value.now) }
+    ensures { MatchOption result ((d : Option (List ℕ)) → MayHave (view value.now) (codes "hashes") IsHashes d → ⊥)
+        (λ d. MayHave (view value.now) (codes "hashes") IsHashes (option_map (λ b. b.0) d)) }
+{
+    match member_of(value, "hashes") {
+        None => Some(None),
+        Some(hashes) => match read_hashes(hashes) {
+            Some(digest) => Some(Some(digest)),
+            None => None,
+        },
+    }
+}
+
+/// What the value says of a file.
+pub(crate) fn read_meta(value: &Value) -> Option<Meta>
+    requires { IsProper (view value.now) }
+    ensures { MatchOption result ((m : MetaFile) → IsMetaFile (view value.now) m → ⊥)
+        (λ m. IsMetaFile (view value.now) (meta_view m)) }
+{
+    let Some(version) = version_of(value) else {
+        return None;
+    };
+    let Some(length) = optional_length(value) else {
+        return None;
+    };
+    let Some(digest) = optional_hashes(value) else {
+        return None;
+    };
+    Some(Meta {
+        version,
+        length,
+        digest,
+    })
+}
+
+/// Whether the value is `1.0.` and one to three digits.
+pub(crate) fn is_spec_version(value: &Value) -> bool
+    ensures { IsTrue result ↔ (IsSpecVersion (view value.now)) }
+{
+    match text_of(value) {
+        Some(text) => is_version_text(text.as_bytes()),
+        None => false,
+    }
+}
+
+fn is_version_text(text: &[u8]) -> bool
+    ensures { IsTrue result ↔ ((digits : List ℕ) × (text.now ≡ codes "1.0." ++ digits)
+        × (0 < length digits) × (length digits ≤ 3) × IsTrue (list_all is_digit digits)) }
+{
+    match text {
+        [b'1', b'.', b'0', b'.', digits @ ..] => are_few_digits(digits),
+        _ => false,
+    }
+}
+
+fn are_few_digits(digits: &[u8]) -> bool
+    ensures { IsTrue result ↔ ((0 < length digits.now) × (length digits.now ≤ 3) × IsTrue (list_all is_digit digits.now)) }
+{
+    !digits.is_empty() && digits.len() <= 3 && are_digits(digits)
+}
+
+fn are_digits(text: &[u8]) -> bool
+    ensures { result ≡ list_all is_digit text.now }
+{
+    text.iter().all(|b| b.is_ascii_digit())
+}

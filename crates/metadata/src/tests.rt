@@ -1,0 +1,148 @@
+mod files;
+
+use crate::{Body, Document, Kind, Root, ShapeFault, one_document, one_shape, read_document};
+use files::{DOCUMENTS, FAULTS};
+use std::alloc::Global;
+use std::process::Abort;
+use std::test::Fail;
+
+// The first check that the bytes fail.
+fn fault_of(alloc: Global, kind: Kind, bytes: &[u8]) -> Option<ShapeFault> {
+    match read_document(alloc, kind, bytes) {
+        Ok(_) => None,
+        Err(fault) => Some(fault),
+    }
+}
+
+#[test]
+fn documents(rt: HostRuntime) -> Result<(), Fail> {
+    for (kind, text) in DOCUMENTS {
+        assert_eq!(rt; fault_of(rt.alloc(), kind, text.as_bytes()), None);
+    }
+    Ok(())
+}
+
+#[test]
+fn faults(rt: HostRuntime) -> Result<(), Fail> {
+    for (kind, fault, text) in FAULTS {
+        assert_eq!(rt; fault_of(rt.alloc(), kind, text.as_bytes()), Some(fault));
+    }
+    Ok(())
+}
+
+// A timestamp of so many bytes: a further member holds the rest.
+fn timestamp_of(alloc: Global, len: usize) -> Result<Vec<u8>, Fail> {
+    let front =
+        b"{\"signatures\":[],\"signed\":{\"_type\":\"timestamp\",\"expires\":\"2030-01-01T00:00:00Z\",\"meta\":{\"snapshot.json\":{\"version\":7}},\"spec_version\":\"1.0.31\",\"version\":1,\"x\":\"";
+    let back = b"\"}}";
+    let mut file = Vec::new(alloc);
+    file.extend_from_slice(front)?;
+    for _ in front.len() + back.len()..len {
+        file.push(b'a')?;
+    }
+    file.extend_from_slice(back)?;
+    Ok(file)
+}
+
+#[test]
+fn longest_file(rt: HostRuntime) -> Result<(), Fail> {
+    let longest = timestamp_of(rt.alloc(), 262_144)?;
+    assert_eq!(rt; longest.len(), 262_144);
+    assert_eq!(rt; fault_of(rt.alloc(), Kind::Timestamp, &longest), None);
+    let mut longer = timestamp_of(rt.alloc(), 262_145)?;
+    assert_eq!(rt;
+        fault_of(rt.alloc(), Kind::Timestamp, &longer),
+        Some(ShapeFault::TooLong)
+    );
+    longer.push(b'x')?;
+    assert_eq!(rt;
+        fault_of(rt.alloc(), Kind::Timestamp, &longer),
+        Some(ShapeFault::TooLong)
+    );
+    Ok(())
+}
+
+// The version, the second of the expiry, and how many keys there are.
+fn of_root(root: &Root) -> (u32, u64, usize) {
+    (
+        root.version,
+        root.expires.seconds(),
+        root.keys.entries.len(),
+    )
+}
+
+#[test]
+fn what_a_root_says(rt: HostRuntime) -> Result<(), Fail> {
+    let text = DOCUMENTS[0].1;
+    let Document {
+        signatures,
+        signed,
+        body,
+    } = read_document(rt.alloc(), Kind::Root, text.as_bytes())?;
+    assert_eq!(rt; signatures.len(), 0);
+    assert_eq!(rt; signed.len() + 27, text.len());
+    match body {
+        Body::Root(root) => {
+            assert_eq!(rt; of_root(&root), (1, 1_893_456_000, 2));
+            assert_eq!(rt; root.keys.entries.len(), 2);
+            assert_eq!(rt; root.root.keyids.len(), 2);
+            assert_eq!(rt; root.root.threshold, 2);
+            assert_eq!(rt; root.targets.keyids[0], root.keys.entries[1].0);
+            assert_eq!(rt; root.timestamp.threshold, 1);
+        }
+        _ => assert!(rt; false),
+    }
+    Ok(())
+}
+
+#[test]
+fn what_a_snapshot_lists(rt: HostRuntime) -> Result<(), Fail> {
+    let text = DOCUMENTS[2].1;
+    let Document { body, .. } = read_document(rt.alloc(), Kind::Snapshot, text.as_bytes())?;
+    match body {
+        Body::Snapshot(snapshot) => {
+            assert_eq!(rt; snapshot.meta.len(), 2);
+            assert_eq!(rt; snapshot.meta[0].0.as_str(), "b");
+            assert_eq!(rt; snapshot.meta[0].1.version, 2);
+            assert_eq!(rt; snapshot.meta[0].1.length, Some(5));
+            assert!(rt; snapshot.meta[0].1.digest.is_some());
+            assert_eq!(rt; snapshot.meta[1].0.as_str(), "targets");
+            assert_eq!(rt; snapshot.meta[1].1.length, None);
+        }
+        _ => assert!(rt; false),
+    }
+    Ok(())
+}
+
+#[test]
+fn what_targets_list(rt: HostRuntime) -> Result<(), Fail> {
+    let text = DOCUMENTS[3].1;
+    let Document { body, .. } = read_document(rt.alloc(), Kind::Targets, text.as_bytes())?;
+    match body {
+        Body::Targets(targets) => {
+            assert_eq!(rt; targets.targets.len(), 1);
+            assert_eq!(rt; targets.targets[0].path.as_str(), "a/b.tgz");
+            assert_eq!(rt; targets.targets[0].length, 3);
+        }
+        _ => assert!(rt; false),
+    }
+    Ok(())
+}
+
+#[test]
+fn goes_on_after_a_refused_allocation(rt: HostRuntime) -> Result<(), Fail> {
+    for (kind, text) in DOCUMENTS {
+        match fault_of(rt.alloc(), kind, text.as_bytes()) {
+            None => {}
+            Some(fault) => assert_eq!(rt; fault, ShapeFault::OutOfMemory),
+        }
+    }
+    Ok(())
+}
+
+#[test]
+fn laws(_rt: HostRuntime) -> Result<(), Fail> {
+    one_document();
+    one_shape();
+    Ok(())
+}

@@ -1,0 +1,64 @@
+// Timestamp metadata (TUF 1.0, section 4.6).
+ghost use Rattle.std.specs.Prelude.{◌≡◌, ℕ, MatchOption, codes};
+ghost use Rattle.canonical_json.specs.Spelling.{IsProper};
+ghost use Rattle.canonical_json.specs.View.{view};
+ghost use Rattle.metadata.specs.Bodies.{IsTimestamp, IsTimestampMeta};
+ghost use Rattle.metadata.specs.Documents as plain;
+ghost use Rattle.metadata.specs.Members.{Has};
+ghost use Rattle.metadata.specs.Views.{meta_view, timestamp_view};
+
+use crate::documents::{Meta, Timestamp};
+use crate::head::read_head;
+use crate::members::{member_of, one_member};
+use crate::parts::read_meta;
+use canonical_json::Value;
+
+/// What the signed part of a timestamp says.
+pub(crate) fn read_timestamp(signed: &Value) -> Option<Timestamp>
+    requires { IsProper (view signed.now) }
+    ensures { MatchOption result ((t : plain.Timestamp) → IsTimestamp (view signed.now) t → ⊥)
+        (λ t. IsTimestamp (view signed.now) (timestamp_view t)) }
+{
+    let Some((version, expires)) = read_head(signed) else {
+        return None;
+    };
+    match snapshot_of(signed) {
+        Some(snapshot) => Some(Timestamp {
+            version,
+            expires,
+            snapshot,
+        }),
+        None => None,
+    }
+}
+
+// What the object says of the snapshot under `meta`.
+fn snapshot_of(signed: &Value) -> Option<Meta>
+    requires { IsProper (view signed.now) }
+    ensures { MatchOption result ((m : plain.MetaFile) → Has (view signed.now) (codes "meta") (λ x. IsTimestampMeta x m) → ⊥)
+        (λ m. Has (view signed.now) (codes "meta") (λ x. IsTimestampMeta x (meta_view m))) }
+{
+    let found = member_of(signed, "meta")?;
+    match read_row(found) {
+        Some(meta) => Some(meta),
+        None => None,
+    }
+}
+
+// What the value says of the snapshot, and of nothing else.
+fn read_row(value: &Value) -> Option<Meta>
+    requires { IsProper (view value.now) }
+    ensures { MatchOption result ((m : plain.MetaFile) → IsTimestampMeta (view value.now) m → ⊥)
+        (λ m. IsTimestampMeta (view value.now) (meta_view m)) }
+{
+    let Some(_) = one_member(value, "snapshot.json") else {
+        return None;
+    };
+    let Some(found) = member_of(value, "snapshot.json") else {
+        return None;
+    };
+    match read_meta(found) {
+        Some(meta) => Some(meta),
+        None => None,
+    }
+}
