@@ -13,6 +13,8 @@ ghost use Rattle.lms.specs.Parameters.{height};
 ghost use Rattle.lms.specs.Verifies.{Verifies};
 ghost use Rattle.lms.specs.Keys.{public_bytes, signature_bytes};
 
+use thiserror::Error;
+
 /// An LM-OTS type by its width w, the bits of a coefficient (section 4.1). A chain has 2^w - 1 steps.
 #[derive(Debug, Clone, Copy, PartialEq, Eq)]
 pub enum OtsType {
@@ -56,11 +58,13 @@ pub struct Seed {
 }
 
 /// Why nothing is signed.
-#[derive(Debug, Clone, Copy, PartialEq, Eq)]
+#[derive(Debug, Clone, Copy, PartialEq, Eq, Error)]
 pub enum SignFault {
     /// The tree has no leaf of this number: it is 2^h or more.
+    #[error("no such leaf")]
     LeafRange,
     /// The output could not grow by a signature.
+    #[error("out of memory")]
     OutOfMemory,
 }
 
