@@ -1,6 +1,7 @@
 pub mod Elements
+pub mod Examples
 pub mod KeyObjects
 pub mod LookingUp
-pub mod Examples
+pub mod Staying
 pub mod Signatures
 pub mod Tops

@@ -26,3 +26,7 @@ pub record CountsBy (rule : RoleRule) (table : Table) (signed : List ℕ) (entry
 -- the list after x was taken in behind it, where x was no element
 abbrev pub IsTaken : List ℕ → List (List ℕ) → List (List ℕ) → Type 0
 IsTaken x xs ys = (IsIn xs x × (ys ≡ xs)) ⊎ ((IsIn xs x → ⊥) × (ys ≡ xs ++ x ∷ []))
+
+-- the id is among the new ones, and names in their table what it names in the old one
+abbrev pub IsKept : Table → List (List ℕ) → Table → List ℕ → Type 0
+IsKept old_keys new new_keys id = IsIn new id × (look_up old_keys id ≡ look_up new_keys id)

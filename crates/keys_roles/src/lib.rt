@@ -39,8 +39,10 @@ pub struct Signature {
 mod digits;
 mod ids;
 mod meeting;
+mod rotation;
 #[cfg(test)]
 mod tests;
 
 pub use ids::key_id;
 pub use meeting::{meets, meets_counted};
+pub use rotation::same_rule;
