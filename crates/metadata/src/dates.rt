@@ -72,9 +72,9 @@ fn moment_at(year: u16, month: u8, day: u8, hour: u8, minute: u8, second: u8) ->
     Moment::new(seconds)
 }
 
-// The moment that the text is, `YYYY-MM-DDTHH:MM:SSZ` (RFC 3339, section 5.6) of the years 1970 to 9998, with no leap
-// second. It takes no memory.
-pub(crate) fn read_date_time(text: &str) -> Option<Moment>
+/// The moment that the text is, `YYYY-MM-DDTHH:MM:SSZ` (RFC 3339, section 5.6) of the years 1970 to 9998, with no leap
+/// second, and `None` for every other text (TUF 1.0, section 4.3, `expires`). It takes no memory.
+pub fn read_date_time(text: &str) -> Option<Moment>
     ensures some { IfSome result (λ m. IsDateTime text.now m) }
     ensures only { (seconds : ℕ) → IsDateTime text.now seconds → result ≡ Some seconds }
 {

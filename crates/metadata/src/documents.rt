@@ -1,3 +1,7 @@
+ghost use Rattle.std.specs.Prelude.{◌++◌, codes, map};
+ghost use Rattle.std.proofs.Props.{props};
+ghost use Rattle.metadata.specs.Sorted.{AreInOrder};
+
 use crate::moment::Moment;
 use keys_roles::{KeyTable, RoleRule, Signature};
 use path_patterns::{Digest, RoleName, TargetPath};
@@ -92,12 +96,14 @@ pub struct Timestamp {
     pub snapshot: Meta,
 }
 
-/// Snapshot metadata (TUF 1.0, section 4.4): roles with what is said of their documents, in the order of their names.
+/// Snapshot metadata (TUF 1.0, section 4.4): roles with what is said of their documents, in the order of their files'
+/// names, `ROLE.json`.
 #[derive(Debug, Drop)]
 pub struct Snapshot {
     pub version: u32,
     pub expires: Moment,
     pub meta: Vec<(RoleName, Meta)>,
+    ghost in_order: { AreInOrder (map (λ e. e.0 ++ codes ".json") meta.items) } by { Prim.hlevel props },
 }
 
 /// A target (TUF 1.0, section 4.5, TARGETS): its length in bytes and its digest.
@@ -114,6 +120,7 @@ pub struct Targets {
     pub version: u32,
     pub expires: Moment,
     pub targets: Vec<Listing>,
+    ghost in_order: { AreInOrder (map (λ l. l.path) targets.items) } by { Prim.hlevel props },
 }
 
 /// What the signed part of a document says.

@@ -8,13 +8,17 @@ mod dates;
 mod document;
 mod documents;
 mod envelope;
+mod file;
 mod head;
 mod keys;
+mod laws;
+mod lookups;
 mod members;
 mod moment;
 mod parts;
 mod root;
 mod snapshot;
+mod source;
 mod targets;
 #[cfg(test)]
 mod tests;
@@ -27,11 +31,15 @@ ghost use Rattle.metadata.specs.declared.documents.Kind.{Kind};
 ghost use Rattle.metadata.specs.declared.documents.ShapeFault.{ShapeFault};
 
 use canonical_json::one_spelling;
+pub use dates::read_date_time;
 pub use document::read_document;
 pub use documents::{
     Body, Document, Kind, Listing, Meta, Root, ShapeFault, Snapshot, Targets, Timestamp,
 };
+pub use file::{File, read_root_file, read_snapshot_file, read_targets_file, read_timestamp_file};
+pub use laws::{denied_shapes, one_number, snapshot_names};
 pub use moment::{Moment, live};
+pub use source::{Source, digest_of};
 
 /// A law, which does nothing: a file spells at most one document of a kind.
 pub fn one_document()

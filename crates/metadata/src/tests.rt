@@ -129,6 +129,55 @@ fn what_targets_list(rt: HostRuntime) -> Result<(), Fail> {
     Ok(())
 }
 
+// `a-b.json` stands before `a.json`, and `a` before `a-b`.
+const ROLES: &str =
+    "{\"signatures\":[],\"signed\":{\"_type\":\"snapshot\",\"expires\":\"2030-01-01T00:00:00Z\",\"meta\":{\"a-b.json\":{\"version\":2},\"a.json\":{\"version\":3},\"targets.json\":{\"version\":4}},\"spec_version\":\"1.0.31\",\"version\":1}}";
+
+#[test]
+fn looks_roles_up(rt: HostRuntime) -> Result<(), Fail> {
+    let Document { body, .. } = read_document(rt.alloc(), Kind::Snapshot, ROLES.as_bytes())?;
+    match body {
+        Body::Snapshot(snapshot) => {
+            for (role, version) in [
+                ("a", Some(3)),
+                ("a-b", Some(2)),
+                ("targets", Some(4)),
+                ("", None),
+                ("a-", None),
+                ("a.json", None),
+                ("u", None),
+            ] {
+                assert_eq!(rt;
+                    snapshot.entry(role).map(|meta| meta.version),
+                    version,
+                    "{role}"
+                );
+            }
+        }
+        _ => assert!(rt; false),
+    }
+    Ok(())
+}
+
+#[test]
+fn looks_paths_up(rt: HostRuntime) -> Result<(), Fail> {
+    let text = DOCUMENTS[3].1;
+    let Document { body, .. } = read_document(rt.alloc(), Kind::Targets, text.as_bytes())?;
+    match body {
+        Body::Targets(targets) => {
+            for (path, length) in [("a/b.tgz", Some(3)), ("a", None), ("b", None), ("", None)] {
+                assert_eq!(rt;
+                    targets.listing(path).map(|listing| listing.length),
+                    length,
+                    "{path}"
+                );
+            }
+        }
+        _ => assert!(rt; false),
+    }
+    Ok(())
+}
+
 #[test]
 fn goes_on_after_a_refused_allocation(rt: HostRuntime) -> Result<(), Fail> {
     for (kind, text) in DOCUMENTS {

@@ -1,5 +1,10 @@
 use Rattle.std.proofs.Common.{rules, refl, inr}
 use Rattle.canonical_json.specs.View.{view}
+use Rattle.metadata.specs.Bodies.{IsListing}
+use Rattle.metadata.specs.Documents as plain
+use Rattle.metadata.specs.Rows.{listings_view}
+use Rattle.metadata.specs.Views.{listing_view}
+use Rattle.metadata.proofs.Halving.{members_in_order, seen_in_order}
 use Rattle.metadata.proofs.targets.read_targets.Goals as goal
 
 pub returns-in_default-clause-err : goal.returns-in_default-clause-err
@@ -12,3 +17,9 @@ returns-in-Ok-clause-ok c = record {
   delegations = refl;
   flat = c.lacks.ensures.0 c.if-not-lacks.false;
 }
+
+pub invariant_of-result : goal.invariant_of-result
+invariant_of-result c =
+    let v = view c.in-Some-member_of.found.now in
+    let listed = members_in_order IsListing (λ l. l.path) (λ n v l h. h.0) v (listings_view c.in-Ok.targets.items) c.in-Some-member_of.ensures.proper c.in-Ok.ensures.ok in
+    record { in_order = seen_in_order listing_view (λ (l : plain.Listing). l.path) c.in-Ok.targets.items listed }

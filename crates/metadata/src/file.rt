@@ -1,0 +1,105 @@
+//! Files kept with the documents that they spell.
+ghost use Rattle.std.specs.Prelude.{◌≡◌, IfOk, IfErr, ◌⊎◌};
+ghost use Rattle.metadata.specs.File.{IsFileOf, root_form, timestamp_form, snapshot_form, targets_form};
+ghost use Rattle.metadata.specs.Kept.{root_file, timestamp_file, snapshot_file, targets_file};
+ghost use Rattle.metadata.specs.Shape.{IsShapeFault};
+
+use crate::document::read_document;
+use crate::documents::{Body, Document, Kind, Root, ShapeFault, Snapshot, Targets, Timestamp};
+use crate::source::Source;
+use std::alloc::Global;
+
+/// A file with the body of the document that it spells.
+#[derive(Drop)]
+pub struct File<B> {
+    pub source: Source,
+    pub body: B,
+}
+
+/// The file as root metadata, with a copy of its bytes, or the first check of its shape that fails.
+pub fn read_root_file(alloc: Global, bytes: &[u8]) -> Result<File<Root>, ShapeFault>
+    ensures file { IfOk result (λ f. IsFileOf root_form (root_file f) × ((root_file f).bytes ≡ bytes.now)) }
+    ensures fault { IfErr result (λ e. (e ≡ ShapeFault.OutOfMemory) ⊎ IsShapeFault Kind.Root bytes.now e) }
+{
+    let Document {
+        signatures,
+        signed,
+        body,
+    } = match read_document(alloc, Kind::Root, bytes) {
+        Ok(document) => document,
+        Err(fault) => return Err(fault),
+    };
+    match body {
+        Body::Root(body) => {
+            let source = Source::new(alloc, bytes, signed, signatures)?;
+            Ok(File { source, body })
+        }
+        _ => Err(ShapeFault::WrongShape),
+    }
+}
+
+/// The file as timestamp metadata, with a copy of its bytes, or the first check of its shape that fails.
+pub fn read_timestamp_file(alloc: Global, bytes: &[u8]) -> Result<File<Timestamp>, ShapeFault>
+    ensures file { IfOk result (λ f. IsFileOf timestamp_form (timestamp_file f) × ((timestamp_file f).bytes ≡ bytes.now)) }
+    ensures fault { IfErr result (λ e. (e ≡ ShapeFault.OutOfMemory) ⊎ IsShapeFault Kind.Timestamp bytes.now e) }
+{
+    let Document {
+        signatures,
+        signed,
+        body,
+    } = match read_document(alloc, Kind::Timestamp, bytes) {
+        Ok(document) => document,
+        Err(fault) => return Err(fault),
+    };
+    match body {
+        Body::Timestamp(body) => {
+            let source = Source::new(alloc, bytes, signed, signatures)?;
+            Ok(File { source, body })
+        }
+        _ => Err(ShapeFault::WrongShape),
+    }
+}
+
+/// The file as snapshot metadata, with a copy of its bytes, or the first check of its shape that fails.
+pub fn read_snapshot_file(alloc: Global, bytes: &[u8]) -> Result<File<Snapshot>, ShapeFault>
+    ensures file { IfOk result (λ f. IsFileOf snapshot_form (snapshot_file f) × ((snapshot_file f).bytes ≡ bytes.now)) }
+    ensures fault { IfErr result (λ e. (e ≡ ShapeFault.OutOfMemory) ⊎ IsShapeFault Kind.Snapshot bytes.now e) }
+{
+    let Document {
+        signatures,
+        signed,
+        body,
+    } = match read_document(alloc, Kind::Snapshot, bytes) {
+        Ok(document) => document,
+        Err(fault) => return Err(fault),
+    };
+    match body {
+        Body::Snapshot(body) => {
+            let source = Source::new(alloc, bytes, signed, signatures)?;
+            Ok(File { source, body })
+        }
+        _ => Err(ShapeFault::WrongShape),
+    }
+}
+
+/// The file as targets metadata, with a copy of its bytes, or the first check of its shape that fails.
+pub fn read_targets_file(alloc: Global, bytes: &[u8]) -> Result<File<Targets>, ShapeFault>
+    ensures file { IfOk result (λ f. IsFileOf targets_form (targets_file f) × ((targets_file f).bytes ≡ bytes.now)) }
+    ensures fault { IfErr result (λ e. (e ≡ ShapeFault.OutOfMemory) ⊎ IsShapeFault Kind.Targets bytes.now e) }
+{
+    let Document {
+        signatures,
+        signed,
+        body,
+    } = match read_document(alloc, Kind::Targets, bytes) {
+        Ok(document) => document,
+        Err(fault) => return Err(fault),
+    };
+    match body {
+        Body::Targets(body) => {
+            let source = Source::new(alloc, bytes, signed, signatures)?;
+            Ok(File { source, body })
+        }
+        _ => Err(ShapeFault::WrongShape),
+    }
+}
