@@ -1,0 +1,12 @@
+//! The search through delegations for a target (TUF 1.0, section 5.6.7), over the shelf of targets documents.
+#![tactic(auto)]
+
+mod laws;
+mod rows;
+mod shelf;
+mod visiting;
+
+pub use laws::no_chain_left_out;
+pub use rows::{Row, Rows};
+pub use shelf::{Found, SearchDenial, Shelf};
+pub use visiting::{has_hash, has_length, search, vouched};

@@ -1,0 +1,122 @@
+//! The visit of a role, the search for a target, and which new documents are vouched for (TUF 1.0, section 5.6.7).
+ghost use Rattle.std.specs.Prelude.{◌≡◌, ◌↔◌, ◌+◌, ◌<◌, ◌≤◌, ◌^◌, ℕ, length, IsTrue};
+ghost use Rattle.keys_roles.specs.Rules.{Meets};
+ghost use Rattle.metadata.specs.Kept.{targets_file};
+ghost use Rattle.metadata.specs.Views.{meta_view};
+ghost use Rattle.delegations.specs.Search.{visit, search, Vouched};
+ghost use Rattle.delegations.specs.Shelf.{AllFiles, HasLength, HasHash};
+ghost use Rattle.delegations.specs.Views.{shelf_view, edge_view, found_view, answer_view};
+
+use crate::shelf::{Edge, Found, SearchDenial, Shelf};
+use keys_roles::meets_counted;
+use lms::Steps;
+use metadata::{File, Meta, Moment, Source, Targets, live};
+use path_patterns::{RoleName, TargetPath};
+
+/// Whether the file has the length that is said of it, where one is (TUF 1.0, section 4.4, LENGTH). It takes no memory.
+pub fn has_length(meta: &Meta, source: &Source) -> bool
+    ensures { IsTrue result ↔ (HasLength (meta_view meta.now) source.now.bytes) }
+{
+    match meta.length {
+        None => true,
+        Some(length) => source.bytes().len() == length as usize,
+    }
+}
+
+/// Whether the file has the digest that is said of it, where one is (TUF 1.0, section 4.4, HASHES). It takes no memory and
+/// computes no digest.
+pub fn has_hash(meta: &Meta, source: &Source) -> bool
+    ensures { IsTrue result ↔ (HasHash (meta_view meta.now) source.now.bytes) }
+{
+    match meta.digest {
+        None => true,
+        Some(digest) => source.digest().0 == digest.0,
+    }
+}
+
+/// The target at the path: the role that lists it first, in the order in which the delegations are visited, with its listing,
+/// or the first check that fails. It takes no memory.
+pub fn search<'a>(
+    shelf: &Shelf<'a>,
+    path: &TargetPath,
+    now: Moment,
+) -> Result<Found<'a>, SearchDenial<'a>>
+    ensures { search (shelf_view shelf.now) path.now now (answer_view found_view result) }
+{
+    let top = shelf.top();
+    let file = match visit(shelf, &top, now, &mut Steps::new()) {
+        Ok(file) => file,
+        Err(denial) => return Err(denial),
+    };
+    match file.body.listing(path.as_str()) {
+        Some(listing) => Ok(Found {
+            role: top.role,
+            listing,
+        }),
+        None => Err(SearchDenial::NotFound),
+    }
+}
+
+/// Whether some chain of delegations vouches for a new document of the role: each document on the chain before it is good,
+/// and the new document meets the rule by which the chain leads to its role. It takes no memory.
+pub fn vouched(shelf: &Shelf, role: &RoleName, document: &File<Targets>, now: Moment) -> bool
+    ensures { IsTrue result ↔ (Vouched (shelf_view shelf.now) role.now (targets_file document.now) now) }
+{
+    let _ = now;
+    let top = shelf.top();
+    *role.as_str() == *top.role && meets_edge(&top, document, &mut Steps::new())
+}
+
+// The document of the role at the end of the edge, or the first check of it that fails, with one tick for each signature
+// check: at most as many as a document on the shelf has signatures.
+fn visit<'a>(
+    shelf: &Shelf<'a>,
+    edge: &Edge<'a>,
+    now: Moment,
+    checks: &mut Steps,
+) -> Result<&'a File<Targets>, SearchDenial<'a>>
+    requires { checks.old < 2 ^ 63 }
+    ensures grows { checks.old ≤ checks.new }
+    ensures most { (n : ℕ) → AllFiles (λ f. length f.entries ≤ n) (shelf_view shelf.now).rows → checks.new ≤ checks.old + n }
+    ensures answer { visit (shelf_view shelf.now) (edge_view edge.now) now (answer_view (λ f. targets_file f.now) result) }
+{
+    let Some(entry) = shelf.snapshot.entry(edge.role) else {
+        return Err(SearchDenial::RoleUnlisted);
+    };
+    let Some(file) = shelf.rows.row_at(edge.role, entry.version) else {
+        return Err(SearchDenial::RoleMissing {
+            role: edge.role,
+            version: entry.version,
+        });
+    };
+    if !has_length(entry, &file.source) {
+        return Err(SearchDenial::RoleLength);
+    }
+    if !has_hash(entry, &file.source) {
+        return Err(SearchDenial::RoleHash);
+    }
+    if !meets_edge(edge, file, checks) {
+        return Err(SearchDenial::RoleThreshold);
+    }
+    if live(file.body.expires, now) {
+        Ok(file)
+    } else {
+        Err(SearchDenial::RoleExpired)
+    }
+}
+
+// Whether the document meets the edge's rule, with one tick for each signature check.
+fn meets_edge(edge: &Edge, file: &File<Targets>, checks: &mut Steps) -> bool
+    requires { checks.old < 2 ^ 63 }
+    ensures met { IsTrue result ↔ (Meets (edge_view edge.now).rule (edge_view edge.now).table (targets_file file.now).signed (targets_file file.now).entries) }
+    ensures grows { checks.old ≤ checks.new }
+    ensures most { checks.new ≤ checks.old + length (targets_file file.now).entries }
+{
+    meets_counted(
+        edge.rule,
+        edge.keys,
+        file.source.signed(),
+        file.source.signatures(),
+        checks,
+    )
+}
