@@ -1,0 +1,5 @@
+use Rattle.machine.proofs.Making.{coherent_as}
+use Rattle.machine.proofs.batches.is_coherent.Goals as goal
+
+pub returns : goal.returns
+returns c = coherent_as c.timestamp.ensures c.snapshot.ensures c.rows.ensures c.are_coherent.ensures

@@ -1,0 +1,8 @@
+use Rattle.metadata.specs.Kept.{targets_file}
+use Rattle.machine.proofs.Changes.{one_more_row}
+use Rattle.machine.proofs.draft.Draft.put_row.Goals as goal
+
+pub returns-clause-view : goal.returns-clause-view
+returns-clause-view c =
+    rw (c.in_ok-push.ensures.items)
+    (one_more_row (λ r. ((r.role, r.version), targets_file r.file)) _ _ _ _ _ c.args.self.now.effects.rows.items c.args.row)

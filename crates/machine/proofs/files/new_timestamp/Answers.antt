@@ -1,0 +1,12 @@
+use Rattle.metadata.specs.File.{timestamp_form}
+use Rattle.metadata.specs.Kept.{timestamp_file}
+use Rattle.metadata.specs.Orders.{reads}
+use Rattle.machine.specs.Answers.{gives}
+use Rattle.machine.proofs.Judging.{of_another_shape}
+use Rattle.machine.proofs.files.new_timestamp.Goals as goal
+
+pub returns-in-Ok-clause-shape : goal.returns-in-Ok-clause-shape
+returns-in-Ok-clause-shape c = gives (reads c.in-Ok.ensures.file.0 c.in-Ok.ensures.file.1)
+
+pub returns-in-Err-clause-shape : goal.returns-in-Err-clause-shape
+returns-in-Err-clause-shape c = of_another_shape timestamp_form timestamp_file _ c.in-Err.fault _ c.in-Err.ensures.fault c.refused_shape.ensures

@@ -1,0 +1,38 @@
+use Rattle.std.proofs.Common.{ℕ, List, None, Err, Bor, sym, ap, subst}
+use Rattle.std.specs.Prelude.{option_map}
+use Rattle.metadata.specs.Kept.{root_file, timestamp_file, snapshot_file}
+use Rattle.metadata.specs.Orders.{pass, decide, holds}
+use Rattle.delegations.specs.Views.{found_view}
+use Rattle.machine.specs.Answers.{Gives, denies}
+use Rattle.machine.specs.Commands.{grants}
+use Rattle.machine.specs.State.{State}
+use Rattle.machine.specs.Views.{parts_view}
+use Rattle.machine.proofs.Judging.{needed, lacking, given_by, denied_in, denied_behind}
+use Rattle.machine.proofs.OnShelf.{live_as}
+use Rattle.machine.proofs.Granting.{denied_by_search, found_by_search, seen}
+use Rattle.machine.proofs.getting.get.Goals as goal
+
+pub returns-in_default : goal.returns-in_default
+returns-in_default c = rw (← c.parts-parts.ensures.view) (denies (pass (holds c.is_path.ensures) (decide (lacking _ _ (ap (option_map root_file) (sym c.in_default.ensures.value))))))
+
+pub returns-in-Err : goal.returns-in-Err
+returns-in-Err c =
+    rw (← c.parts-parts.ensures.view)
+    (denied_behind _ (holds c.is_path.ensures) (denied_behind _ (needed _ _ (root_file c.in-Some.root.now) (ap (option_map root_file) (sym c.in-Some.ensures.value)))
+    (denied_in (live_as (root_file c.in-Some.root.now) (seen timestamp_file _ _ c.as_ref-2.ensures.value) (seen snapshot_file _ _ c.as_ref-3.ensures.value) c.in-Err.ensures))))
+
+pub returns-in-Err-find : goal.returns-in-Err-find
+returns-in-Err-find c =
+    subst (λ (S : State). Gives (grants S c.args.path.now None c.args.now) (λ (b : Bor (List ℕ)). b.now) (Err c.in-Err-find.refusal)) c.parts-parts.ensures.view
+    (denied_by_search (parts_view c.parts-parts.result.now) c.args.path.now c.args.now (root_file c.in-Some.root.now) (snapshot_file c.in-Ok.snapshot.now)
+    c.is_path.ensures (ap (option_map root_file) (sym c.in-Some.ensures.value))
+    (given_by (live_as (root_file c.in-Some.root.now) (seen timestamp_file _ _ c.as_ref-2.ensures.value) (seen snapshot_file _ _ c.as_ref-3.ensures.value) c.in-Ok.ensures))
+    c.in-Err-find.ensures)
+
+pub returns : goal.returns
+returns c =
+    subst (λ (S : State). Gives (grants S c.args.path.now None c.args.now) (λ (b : Bor (List ℕ)). b.now) c.listed_blob.result) c.parts-parts.ensures.view
+    (found_by_search (parts_view c.parts-parts.result.now) c.args.path.now c.args.now (root_file c.in-Some.root.now) (snapshot_file c.in-Ok.snapshot.now)
+    (found_view c.in-Ok-find.found) c.is_path.ensures (ap (option_map root_file) (sym c.in-Some.ensures.value))
+    (given_by (live_as (root_file c.in-Some.root.now) (seen timestamp_file _ _ c.as_ref-2.ensures.value) (seen snapshot_file _ _ c.as_ref-3.ensures.value) c.in-Ok.ensures))
+    (given_by c.in-Ok-find.ensures) c.listed_blob.ensures)

@@ -1,0 +1,5 @@
+use Rattle.machine.proofs.Valid.{nothing_valid}
+use Rattle.machine.proofs.laws.nothing_is_valid.Goals as goal
+
+pub returns : goal.returns
+returns c = nothing_valid

@@ -1,0 +1,13 @@
+use Rattle.std.proofs.Common.{sym, ◌∙◌}
+use Rattle.std.proofs.lemmas.List.{map-append}
+use Rattle.std.proofs.Common.{append_assoc}
+use Rattle.machine.proofs.Changes.{last_of}
+use Rattle.machine.proofs.InOrder.{room_left}
+use Rattle.machine.proofs.taking.take_roots.Goals as goal
+
+pub loop-root-preserved : goal.loop-root-preserved
+loop-root-preserved c = record {
+  bytes = rw (c.push_root.ensures.bytes, c.loop-root.invariant.bytes) (simp (map-append, append_assoc));
+  last = c.push_root.ensures.last ∙ sym (last_of _ c.loop-root.yielded c.in-Some.root);
+  room = room_left _ _ _ c.loop-root.yielded c.in-Some.root c.loop-root.invariant.room c.push_root.ensures.room;
+}

@@ -1,0 +1,231 @@
+-- The trust machine: what each command is judged by, and what it leaves.
+use Rattle.std.specs.Prelude.{◌≡◌, ℕ, suc, ◌+◌, ◌<◌, ◌≤◌, List, [], ◌∷◌, ◌++◌, length, Option, Some, None, Result, Ok, Err, IfSome, IsNone, IsSome, option_map}
+use Rattle.std.specs.List.{AllByRecursion}
+use Rattle.keys_roles.specs.Plain.{look_up}
+use Rattle.keys_roles.specs.Rules.{SameRule}
+use Rattle.metadata.specs.Documents.{Root, Timestamp, Snapshot, Targets, Listing, MetaFile}
+use Rattle.sha2.specs.Sha256.{sha256}
+use Rattle.path_patterns.specs.Grammar.{IsTargetPath}
+use Rattle.metadata.specs.File.{Bytes, Name, File, root_form, timestamp_form, snapshot_form, targets_form}
+use Rattle.metadata.specs.Numbers as no
+use Rattle.metadata.specs.Orders.{Denial, Plain, BlobMissing, Denied, Same, Judged, Order, ◌>>=◌, ◌>>◌, give, check, need, need_or, shaped, same_if, judged}
+use Rattle.delegations.specs.Delegation.{before}
+use Rattle.delegations.specs.Shelf.{row_at, with_row, place_before, entry_of, HasLength, HasHash}
+use Rattle.machine.specs.State.{Trusted, State, nothing_trusted, most_held, blob_limit, blob_at, NamesSnapshot, MeetsTop, IsCoherent}
+use Rattle.delegations.specs.Search.{shelf_of, search, Vouched}
+
+-- no rotation: timestamp and snapshot role both keep their rules
+abbrev pub KeepsRoles : Root → Root → Type 0
+KeepsRoles old new = SameRule old.timestamp old.keys new.timestamp new.keys × SameRule old.snapshot old.keys new.snapshot new.keys
+
+-- the state with one more root. A rotation deletes timestamp, snapshot and every shelf row
+abbrev pub with_root : Trusted → File Root → Trusted
+with_root T new = record T { roots = T.roots ++ new.bytes ∷ []; root = Some new }
+
+abbrev pub emptied : Trusted → Trusted
+emptied T = record T { timestamp = None; snapshot = None; shelf = [] }
+
+pub data AfterRoot (T : Trusted) (old new : File Root) : Judged Trusted → Type 0 where
+  kept : KeepsRoles old.body new.body → AfterRoot T old new (Ok (with_root T new))
+  rotated : ¬ KeepsRoles old.body new.body → AfterRoot T old new (Ok (emptied (with_root T new)))
+
+abbrev pub after_root : Trusted → File Root → File Root → Order Trusted
+after_root T old new = AfterRoot T old new
+
+pub data Offer : Type 0 where
+  RootOffer : Offer
+  TimestampOffer : Offer
+  SnapshotOffer : Offer
+  TargetsOffer : Name → Offer
+
+-- no name that both list has a lower version in the new one, and the new one lists each name of the old one
+abbrev pub NoRollback : Snapshot → Snapshot → Type 0
+NoRollback old new = AllByRecursion (λ m. IfSome (look_up new.meta m.0) (λ e. m.1.version ≤ e.version)) old.meta
+
+abbrev pub NoDrop : Snapshot → Snapshot → Type 0
+NoDrop old new = AllByRecursion (λ m. IsSome (look_up new.meta m.0)) old.meta
+
+-- what a batch has done so far, and how it ends: the first denial with its index
+pub record Batched : Type 0 where
+  pub trusted : Trusted
+  pub accepted : ℕ
+  pub same : ℕ
+
+abbrev pub BatchOrder : Type 1
+BatchOrder = Result Batched (Denial × ℕ) → Type 0
+
+-- the end of a batch: what is trusted is coherent, or the batch is denied
+pub data Ended (B : Batched) (i : ℕ) : Result Batched (Denial × ℕ) → Type 0 where
+  coherent : IsCoherent B.trusted → Ended B i (Ok B)
+  incoherent : ¬ IsCoherent B.trusted → Ended B i (Err (Plain no.incoherent, i))
+
+abbrev pub init : State → Bytes → Order State
+init S b = do
+  check no.root_exists (IsNone S.trusted.root)
+  new ← shaped root_form b
+  check no.new_threshold (MeetsTop new new.body.root new)
+  give (record { trusted = with_root nothing_trusted new; blobs = [] })
+
+-- what a new root is judged by beside the trusted one
+abbrev pub renew_root : Trusted → File Root → File Root → Order Trusted
+renew_root T old new = do
+  check no.root_version (new.body.version ≡ old.body.version + 1)
+  check no.old_threshold (MeetsTop old old.body.root new)
+  check no.new_threshold (MeetsTop new new.body.root new)
+  check no.full (length T.roots < most_held)
+  after_root T old new
+
+abbrev pub offer_root : Trusted → Bytes → Order Trusted
+offer_root T b = do
+  old ← need no.no_root T.root
+  same_if (b ≡ old.bytes)
+  new ← shaped root_form b
+  renew_root T old new
+
+-- the held timestamp, where root and timestamp are live
+abbrev pub live_timestamp : Option (File Timestamp) → File Root → ℕ → Order (File Timestamp)
+live_timestamp timestamp root now = do
+  check no.root_expired (now < root.body.expires)
+  stamp ← need no.no_timestamp timestamp
+  check no.timestamp_expired (now < stamp.body.expires)
+  give stamp
+
+-- the held snapshot, where the live timestamp names it and it is live
+abbrev pub live_snapshot : Option (File Timestamp) → Option (File Snapshot) → File Root → ℕ → Order (File Snapshot)
+live_snapshot timestamp snapshot root now = do
+  stamp ← live_timestamp timestamp root now
+  snap ← need no.no_snapshot snapshot
+  check no.snapshot_stale (NamesSnapshot stamp snap)
+  check no.snapshot_expired (now < snap.body.expires)
+  give snap
+
+-- what a new timestamp is judged by beside the held one, where there is one
+abbrev pub after_timestamp : Option (File Timestamp) → File Timestamp → Order (Unit {0})
+after_timestamp None new = give tt
+after_timestamp (Some old) new = do
+  check no.timestamp_rollback (old.body.version ≤ new.body.version)
+  same_if (old.body.version ≡ new.body.version)
+  check no.named_snapshot_rollback (old.body.snapshot.version ≤ new.body.snapshot.version)
+
+-- what a new timestamp is judged by
+abbrev pub renew_timestamp : Trusted → File Root → File Timestamp → ℕ → Order Trusted
+renew_timestamp T root new now = do
+  check no.root_expired (now < root.body.expires)
+  check no.timestamp_threshold (MeetsTop root root.body.timestamp new)
+  after_timestamp T.timestamp new
+  check no.timestamp_expired (now < new.body.expires)
+  give (record T { timestamp = Some new })
+
+abbrev pub offer_timestamp : Trusted → Bytes → ℕ → Order Trusted
+offer_timestamp T b now = do
+  root ← need no.no_root T.root
+  new ← shaped timestamp_form b
+  renew_timestamp T root new now
+
+-- what a new snapshot is judged by beside the held one, where there is one
+abbrev pub after_snapshot : Option (File Snapshot) → File Snapshot → Order (Unit {0})
+after_snapshot None new = give tt
+after_snapshot (Some old) new = do
+  check no.snapshot_rollback (NoRollback old.body new.body)
+  check no.role_dropped (NoDrop old.body new.body)
+
+-- the timestamp names a new snapshot, which is signed
+abbrev pub named_snapshot : File Timestamp → File Root → File Snapshot → Order (Unit {0})
+named_snapshot stamp root new = do
+  check no.snapshot_length (HasLength stamp.body.snapshot new.bytes)
+  check no.snapshot_hash (HasHash stamp.body.snapshot new.bytes)
+  check no.snapshot_threshold (MeetsTop root root.body.snapshot new)
+  check no.snapshot_version (stamp.body.snapshot.version ≡ new.body.version)
+
+-- what a new snapshot is judged by
+abbrev pub renew_snapshot : Trusted → File Root → File Snapshot → ℕ → Order Trusted
+renew_snapshot T root new now = do
+  stamp ← live_timestamp T.timestamp root now
+  named_snapshot stamp root new
+  after_snapshot T.snapshot new
+  check no.snapshot_expired (now < new.body.expires)
+  same_if (option_map (λ old. old.bytes) T.snapshot ≡ Some new.bytes)
+  give (record T { snapshot = Some new })
+
+abbrev pub offer_snapshot : Trusted → Bytes → ℕ → Order Trusted
+offer_snapshot T b now = do
+  root ← need no.no_root T.root
+  new ← shaped snapshot_form b
+  renew_snapshot T root new now
+
+-- the snapshot's entry names a new targets document
+abbrev pub named_targets : MetaFile → File Targets → Order (Unit {0})
+named_targets entry new = do
+  check no.role_length (HasLength entry new.bytes)
+  check no.role_hash (HasHash entry new.bytes)
+  check no.role_version (new.body.version ≡ entry.version)
+
+-- a place on the shelf for a new targets document
+abbrev pub placed : Trusted → Name → ℕ → File Targets → Order Trusted
+placed T role version new = do
+  same_if (option_map (λ old. old.bytes) (row_at T.shelf role version) ≡ Some new.bytes)
+  check no.version_taken (IsNone (row_at T.shelf role version))
+  check no.full (length T.shelf < most_held)
+  give (record T { shelf = with_row place_before T.shelf (role, version) new })
+
+-- what a new targets document of a role is judged by
+abbrev pub renew_targets : Trusted → File Root → Name → File Targets → ℕ → Order Trusted
+renew_targets T root role new now = do
+  snap ← live_snapshot T.timestamp T.snapshot root now
+  entry ← need no.role_unlisted (entry_of snap role)
+  named_targets entry new
+  check no.role_threshold (Vouched (shelf_of root snap T.shelf) role new now)
+  check no.role_expired (now < new.body.expires)
+  placed T role entry.version new
+
+abbrev pub offer_targets : Trusted → Name → Bytes → ℕ → Order Trusted
+offer_targets T role b now = do
+  root ← need no.no_root T.root
+  new ← shaped targets_form b
+  renew_targets T root role new now
+
+abbrev pub offer : Trusted → Offer → Bytes → ℕ → Order Trusted
+offer T RootOffer b now = offer_root T b
+offer T TimestampOffer b now = offer_timestamp T b now
+offer T SnapshotOffer b now = offer_snapshot T b now
+offer T (TargetsOffer role) b now = offer_targets T role b now
+
+abbrev pub put_blob : State → Bytes → Bytes → Order State
+put_blob S digest b = do
+  root ← need no.no_root S.trusted.root
+  check no.blob_length (length b ≤ blob_limit)
+  check no.digest_mismatch (sha256 b ≡ digest)
+  same_if (IsSome (blob_at S.blobs digest))
+  check no.full (length S.blobs < most_held)
+  give (record S { blobs = with_row before S.blobs digest b })
+
+-- a batch after one offer
+abbrev pub going_on : Batched → ℕ → (Batched → BatchOrder) → Judged Trusted → BatchOrder
+going_on B i go (Ok T) = go (record { trusted = T; accepted = suc B.accepted; same = B.same })
+going_on B i go (Err Same) = go (record B { same = suc B.same })
+going_on B i go (Err (Denied d)) = λ r. r ≡ Err (d, i)
+
+abbrev pub batch_from : Batched → ℕ → List (Offer × Bytes) → ℕ → BatchOrder
+batch_from B i [] now = Ended B i
+batch_from B i (o ∷ os) now = judged (offer B.trusted o.0 o.1 now) (going_on B i (λ C. batch_from C (suc i) os now))
+
+abbrev pub batch : Trusted → List (Offer × Bytes) → ℕ → BatchOrder
+batch T os now = batch_from (record { trusted = T; accepted = 0; same = 0 }) 0 os now
+
+-- the target's file by its listing
+abbrev pub blob_of : State → Bytes → Listing → Order Bytes
+blob_of S path l = do
+  blob ← need_or (BlobMissing path l.digest l.len) (blob_at S.blobs l.digest)
+  check no.blob_length (length blob ≡ l.len)
+  give blob
+
+-- a target's bytes, or the first denial
+abbrev pub grants : State → Bytes → Option Bytes → ℕ → Order Bytes
+grants S path asked now = do
+  check no.bad_path (IsTargetPath path)
+  root ← need no.no_root S.trusted.root
+  snap ← live_snapshot S.trusted.timestamp S.trusted.snapshot root now
+  found ← search (shelf_of root snap S.trusted.shelf) path now
+  blob ← blob_of S path found.listing
+  check no.digest_mismatch (IfSome asked (λ digest. found.listing.digest ≡ digest))
+  give blob

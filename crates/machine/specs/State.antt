@@ -1,0 +1,163 @@
+-- What a repository trusts.
+use Rattle.std.specs.Prelude.{◌≡◌, ℕ, suc, ◌+◌, ◌-◌, ◌≤◌, false, List, [], ◌∷◌, ◌++◌, map, length, Option, Some, None, bytes_eq, option_map, unwrap_or, codes, decimal, All, IsTrue, IfSome, IfNone, IsSomeAnd, is_some}
+use Rattle.std.specs.List.{AllByRecursion}
+use Rattle.keys_roles.specs.Plain.{RoleRule, look_up}
+use Rattle.metadata.specs.Documents.{Root, Timestamp, Snapshot, Targets, MetaFile}
+use Rattle.metadata.specs.File.{IsFileOf, root_form, timestamp_form, snapshot_form, targets_form, Bytes, Name, File, has_name, encode_lower}
+use Rattle.delegations.specs.Delegation.{before}
+use Rattle.delegations.specs.Shelf.{Place, place_before, value_at, Rises, Rows, HasLength, HasHash, named_row}
+use Rattle.sha2.specs.Sha256.{sha256}
+use Rattle.keys_roles.specs.Rules.{Meets}
+use Rattle.path_patterns.specs.Grammar.{IsName}
+
+-- the roots in order with the document of the last, the current timestamp and snapshot, targets documents by role and version
+pub record Trusted : Type 0 where
+  pub roots : List Bytes
+  pub root : Option (File Root)
+  pub timestamp : Option (File Timestamp)
+  pub snapshot : Option (File Snapshot)
+  pub shelf : Rows
+
+-- what is trusted, and the blobs by digest
+pub record State : Type 0 where
+  pub trusted : Trusted
+  pub blobs : List (Bytes × Bytes)
+
+abbrev pub nothing_trusted : Trusted
+nothing_trusted = record { roots = []; root = None; timestamp = None; snapshot = None; shelf = [] }
+
+abbrev pub nothing : State
+nothing = record { trusted = nothing_trusted; blobs = [] }
+
+abbrev pub blob_at : List (Bytes × Bytes) → Bytes → Option Bytes
+blob_at blobs digest = value_at bytes_eq blobs digest
+
+abbrev pub most_held : ℕ
+most_held = 4096
+
+abbrev pub blob_limit : ℕ
+blob_limit = 1048576
+
+-- the entry names this file of this version
+abbrev pub IsNamedBy : {A : Type 0} → MetaFile → ℕ → File A → Type 0
+IsNamedBy e version file = (e.version ≡ version) × HasLength e file.bytes × HasHash e file.bytes
+
+abbrev pub NamesSnapshot : File Timestamp → File Snapshot → Type 0
+NamesSnapshot stamp snap = IsNamedBy stamp.body.snapshot snap.body.version snap
+
+-- the snapshot version that the timestamp names, if there is a timestamp and it does not name the held snapshot
+abbrev pub IsSnapshotDue : Trusted → Option ℕ → Type 0
+IsSnapshotDue T (Some v) =
+    IsSomeAnd T.timestamp (λ stamp. (v ≡ stamp.body.snapshot.version) × IfSome T.snapshot (λ snap. ¬ NamesSnapshot stamp snap))
+IsSnapshotDue T None = IfSome T.timestamp (λ stamp. IsSomeAnd T.snapshot (NamesSnapshot stamp))
+
+-- each root after the first is one version on and meets its predecessor's root rule and its own; the first meets its own
+abbrev pub MeetsTop : {A : Type 0} → File Root → RoleRule → File A → Type 0
+MeetsTop root rule file = Meets rule root.body.keys file.signed file.entries
+
+pub record FollowsRoot (old new : File Root) : Type 0 where
+  pub next : new.body.version ≡ old.body.version + 1
+  pub by_old : MeetsTop old old.body.root new
+  pub by_new : MeetsTop new new.body.root new
+
+pub data IsRootChain : List Bytes → File Root → Type 0 where
+  first : {b : Bytes} {root : File Root} → IsFileOf root_form root → root.bytes ≡ b → MeetsTop root root.body.root root → IsRootChain (b ∷ []) root
+  then : {bs : List Bytes} {old new : File Root} → IsRootChain bs old → IsFileOf root_form new → FollowsRoot old new → IsRootChain (bs ++ new.bytes ∷ []) new
+
+abbrev pub top_names : List Name
+top_names = codes "root" ∷ codes "timestamp" ∷ codes "snapshot" ∷ []
+
+pub record IsShelfRow (row : Place × File Targets) : Type 0 where
+  pub document : IsFileOf targets_form row.1
+  pub version : row.1.body.version ≡ row.0.1
+  pub role : IsName row.0.0
+  pub below_top : has_name top_names row.0.0 ≡ false
+
+pub record IsBlob (row : Bytes × Bytes) : Type 0 where
+  pub digest : sha256 row.1 ≡ row.0
+  pub short : length row.1 ≤ blob_limit
+
+-- what is held meets the rules of the last root
+pub record IsHeldUnder (T : Trusted) (root : File Root) : Type 0 where
+  pub chain : IsRootChain T.roots root
+  pub timestamp : IfSome T.timestamp (λ t. IsFileOf timestamp_form t × MeetsTop root root.body.timestamp t)
+  pub snapshot : IfSome T.snapshot (λ s. IsFileOf snapshot_form s × MeetsTop root root.body.snapshot s)
+
+pub record IsTrusted (T : Trusted) : Type 0 where
+  pub held : IfSome T.root (IsHeldUnder T)
+  pub none : IfNone T.root (T ≡ nothing_trusted)
+  pub rows : All IsShelfRow T.shelf
+  pub in_order : Rises place_before T.shelf
+  pub few_roots : length T.roots ≤ most_held
+  pub few_rows : length T.shelf ≤ most_held
+
+pub record IsState (S : State) : Type 0 where
+  pub trusted : IsTrusted S.trusted
+  pub none : IfNone S.trusted.root (S.blobs ≡ [])
+  pub blobs : All IsBlob S.blobs
+  pub in_order : Rises before S.blobs
+  pub few_blobs : length S.blobs ≤ most_held
+
+-- each role that the snapshot lists has its document on the shelf
+abbrev pub HoldsAll : Rows → File Snapshot → Type 0
+HoldsAll shelf snap = AllByRecursion (λ m. IsTrue (is_some (named_row shelf m.0 m.1))) snap.body.meta
+
+-- timestamp and snapshot are both absent, or the first names the second and each listed role has its document
+abbrev pub AreCoherent : Option (File Timestamp) → Option (File Snapshot) → Rows → Type 0
+AreCoherent None None shelf = Unit {0}
+AreCoherent (Some stamp) (Some snap) shelf = NamesSnapshot stamp snap × HoldsAll shelf snap
+AreCoherent _ _ shelf = ⊥
+
+abbrev pub IsCoherent : Trusted → Type 0
+IsCoherent T = AreCoherent T.timestamp T.snapshot T.shelf
+
+-- the version of root number k: roots rise by one up to the last
+abbrev pub root_version : Trusted → ℕ → ℕ
+root_version T k = unwrap_or (option_map (λ root. root.body.version) T.root) 0 + k + 1 - length T.roots
+
+-- the metadata files under their names
+abbrev pub dotted : ℕ → Name → Bytes
+dotted n name = decimal n ++ (codes "." ++ (name ++ codes ".json"))
+
+abbrev pub root_files : Trusted → ℕ → List Bytes → List (Bytes × Bytes)
+root_files T k [] = []
+root_files T k (b ∷ bs) = (dotted (root_version T k) (codes "root"), b) ∷ root_files T (suc k) bs
+
+abbrev pub one_file : {A : Type 0} → Option (File A) → (A → Bytes) → List (Bytes × Bytes)
+one_file None name = []
+one_file (Some file) name = (name file.body, file.bytes) ∷ []
+
+abbrev pub metadata_files : Trusted → List (Bytes × Bytes)
+metadata_files T =
+    one_file T.timestamp (λ t. codes "timestamp.json") ++ (root_files T 0 T.roots
+    ++ (one_file T.snapshot (λ s. dotted s.version (codes "snapshot")) ++ map (λ row. (dotted row.0.1 row.0.0, row.1.bytes)) T.shelf))
+
+abbrev pub metadata_of : Trusted → Bytes → Option Bytes
+metadata_of T name = look_up (metadata_files T) name
+
+-- the rows of the five tables; a blob's digest stands there in 64 hex digits
+pub record Tables : Type 0 where
+  pub root : List (ℕ × Bytes)
+  pub current : List (Name × ℕ × Bytes)
+  pub shelf : List (Place × Bytes)
+  pub blob : List (Bytes × Bytes)
+  pub schema : List ℕ
+
+abbrev pub root_rows : Trusted → ℕ → List Bytes → List (ℕ × Bytes)
+root_rows T k [] = []
+root_rows T k (b ∷ bs) = (root_version T k, b) ∷ root_rows T (suc k) bs
+
+abbrev pub current_rows : {A : Type 0} → Name → Option (File A) → (A → ℕ) → List (Name × ℕ × Bytes)
+current_rows slot None version = []
+current_rows slot (Some file) version = (slot, version file.body, file.bytes) ∷ []
+
+abbrev pub tables_of : State → Tables
+tables_of S = record {
+  root = root_rows S.trusted 0 S.trusted.roots;
+  current =
+      current_rows (codes "snapshot") S.trusted.snapshot (λ s. s.version)
+      ++ current_rows (codes "timestamp") S.trusted.timestamp (λ t. t.version);
+  shelf = map (λ row. (row.0, row.1.bytes)) S.trusted.shelf;
+  blob = map (λ row. (encode_lower row.0, row.1)) S.blobs;
+  schema = 1 ∷ [];
+}

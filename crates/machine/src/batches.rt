@@ -1,0 +1,116 @@
+//! Batches: documents that are judged in order, each against what the earlier ones made, and taken together or not at all.
+ghost use Rattle.std.specs.Prelude.{◌≡◌, ◌↔◌, cond, ℕ, Result, IsTrue, IfOk, IfErr, length};
+ghost use Rattle.metadata.specs.Orders as orders;
+ghost use Rattle.machine.specs.Answers.{AnswersBatch, IsDeniedAt, IsRefusedAt};
+ghost use Rattle.machine.specs.Commands as commands;
+ghost use Rattle.machine.specs.Commands.{Ended};
+ghost use Rattle.machine.specs.State.{IsCoherent};
+ghost use Rattle.machine.specs.Views.{documents_view, draft_view};
+
+use crate::calls::offer_one;
+use crate::compared::are_coherent;
+use crate::denial::Denial;
+use crate::draft::Draft;
+use crate::laws::stays_valid;
+use crate::outcome::{Batched, Offer};
+use crate::refusal::{BatchRefusal, Refusal};
+use crate::state::State;
+use metadata::Moment;
+use std::alloc::Global;
+
+/// Offers documents in order, each against what the earlier ones made. They are taken together, if what they leave belongs
+/// together: timestamp and snapshot are both absent, or the timestamp names the snapshot and the shelf holds the document of
+/// each role that it lists. A denial has the index of its document, and that of the whole batch the number of its documents.
+pub fn batch(
+    alloc: Global,
+    state: &State,
+    documents: &[(Offer, &[u8])],
+    now: Moment,
+) -> Result<Batched, BatchRefusal>
+    ensures { AnswersBatch state.now.state (commands.batch state.now.state.trusted (documents_view documents.now) now) result }
+{
+    stays_valid();
+    let draft = Draft::new(alloc, state.parts());
+    let Progress {
+        draft,
+        accepted,
+        same,
+    } = match judge_all(alloc, draft, documents, now) {
+        Ok(progress) => progress,
+        Err(refusal) => return Err(refusal),
+    };
+    if !is_coherent(&draft) {
+        return Err(BatchRefusal::Denied(Denial::Incoherent, documents.len()));
+    }
+    Ok(Batched {
+        effects: draft.into_effects(),
+        accepted,
+        same,
+    })
+}
+
+// How far a batch has come.
+#[derive(Drop)]
+struct Progress<'a> {
+    draft: Draft<'a>,
+    accepted: usize,
+    same: usize,
+}
+
+// Offers the documents to the draft.
+fn judge_all<'a>(
+    alloc: Global,
+    draft: Draft<'a>,
+    documents: &[(Offer, &[u8])],
+    now: Moment,
+) -> Result<Progress<'a>, BatchRefusal>
+    ensures ok { IfOk result (λ p. (r : Result commands.Batched (orders.Denial × ℕ))
+        → Ended (record { trusted = draft_view p.draft; accepted = p.accepted; same = p.same }) (length documents.now) r
+        → commands.batch (draft_view draft.entry) (documents_view documents.now) now r) }
+    ensures rest { IfOk result (λ p. (p.draft.base.now ≡ draft.entry.base.now) × (p.draft.effects.blobs ≡ draft.entry.effects.blobs)) }
+    ensures err { IfErr result (IsDeniedAt (commands.batch (draft_view draft.entry) (documents_view documents.now) now)) }
+{
+    let mut draft = draft;
+    let mut accepted = 0usize;
+    let mut same = 0usize;
+    let mut index = 0usize;
+    while index < documents.len() {
+        let document = &documents[index];
+        let taken = match offer_one(alloc, &mut draft, &document.0, document.1, now) {
+            Ok(taken) => taken,
+            Err(refusal) => return Err(refused_at(refusal, index)),
+        };
+        accepted += one_if(taken);
+        same += one_if(!taken);
+        index += 1;
+    }
+    Ok(Progress {
+        draft,
+        accepted,
+        same,
+    })
+}
+
+// One where it is so.
+fn one_if(holds: bool) -> usize
+    ensures { result ≡ cond holds 1 0 }
+{
+    if holds { 1 } else { 0 }
+}
+
+// The refusal of the document with this index.
+fn refused_at(refusal: Refusal, index: usize) -> BatchRefusal
+    ensures { IsRefusedAt refusal index result }
+{
+    match refusal {
+        Refusal::Denied(denial) => BatchRefusal::Denied(denial, index),
+        Refusal::OutOfMemory => BatchRefusal::OutOfMemory,
+    }
+}
+
+// Whether what is trusted belongs together.
+fn is_coherent(draft: &Draft<'_>) -> bool
+    ensures { IsTrue result ↔ (IsCoherent (draft_view draft.now)) }
+{
+    are_coherent(draft.timestamp(), draft.snapshot(), draft.rows())
+}

@@ -1,0 +1,136 @@
+//! The files of targets, which are held under their digests.
+ghost use Rattle.std.specs.Prelude.{◌≡◌, ◌↔◌, ◌<◌, ◌≤◌, ◌∷◌, [], IfOk, IsSome, IsTrue, bytes_eq, length, option_map};
+ghost use Rattle.sha2.specs.Sha256.{sha256};
+ghost use Rattle.delegations.specs.Delegation.{before};
+ghost use Rattle.delegations.specs.Shelf.{with_row};
+ghost use Rattle.machine.specs.Answers.{Answers, Judges};
+ghost use Rattle.machine.specs.Commands as commands;
+ghost use Rattle.machine.specs.Effects.{no_effects};
+ghost use Rattle.machine.specs.State.{blob_at, blob_limit, most_held};
+ghost use Rattle.machine.specs.Views.{blob_views, effects_view, parts_view};
+
+use crate::checks::are_same;
+use crate::denial::Denial;
+use crate::effects::{Blob, Effects};
+use crate::laws::stays_valid;
+use crate::outcome::Outcome;
+use crate::parts::Parts;
+use crate::refusal::Refusal;
+use crate::state::State;
+use metadata::digest_of;
+use path_patterns::Digest;
+use std::alloc::{AllocError, Global};
+
+// The most bytes of a blob.
+const MOST_BYTES: usize = 1_048_576;
+
+// The most blobs that are held.
+const MOST_HELD: usize = 4_096;
+
+/// Stores the file of a target under its digest: at most 1,048,576 bytes, and at most 4,096 blobs. Denials in their order: no
+/// root is trusted; the length; another digest than that of the bytes; where the blob is not held already, the number of blobs.
+pub fn put_blob(
+    alloc: Global,
+    state: &State,
+    digest: &Digest,
+    bytes: &[u8],
+) -> Result<Outcome, Refusal>
+    ensures { Answers state.now.state (commands.put_blob state.now.state digest.now.0 bytes.now) result }
+{
+    stays_valid();
+    match judge_blob(state.parts(), digest, bytes) {
+        Ok(true) => {}
+        Ok(false) => return Ok(Outcome::Same),
+        Err(refusal) => return Err(refusal),
+    }
+    match one_blob(alloc, digest, bytes) {
+        Ok(effects) => Ok(Outcome::Changed(effects)),
+        Err(_) => Err(Refusal::OutOfMemory),
+    }
+}
+
+/// The blob with this digest.
+pub(crate) fn blob_of<'a>(blobs: &'a [Blob], digest: &Digest) -> Option<&'a Blob>
+    ensures { option_map (λ b. b.now.bytes.items) result ≡ blob_at (blob_views blobs.now) digest.now.0 }
+{
+    let mut rest = blobs;
+    'blobs: while let Some((blob, later)) = rest.split_first() {
+        if is_same(&blob.digest, digest) {
+            return Some(blob);
+        }
+        rest = later;
+    }
+    None
+}
+
+// Whether a blob is stored, or held already.
+fn judge_blob(parts: &Parts, digest: &Digest, bytes: &[u8]) -> Result<bool, Refusal>
+    ensures { Judges (commands.put_blob (parts_view parts.now) digest.now.0 bytes.now)
+        (record (parts_view parts.now) { blobs = with_row before (parts_view parts.now).blobs digest.now.0 bytes.now }) result }
+{
+    if parts.root.is_none() {
+        return Err(Refusal::Denied(Denial::NoRoot));
+    }
+    if !is_short(bytes) {
+        return Err(Refusal::Denied(Denial::BlobLength));
+    }
+    if !is_digest_of(digest, bytes) {
+        return Err(Refusal::Denied(Denial::DigestMismatch));
+    }
+    if has_blob(&parts.blobs, digest) {
+        return Ok(false);
+    }
+    if !has_room(&parts.blobs) {
+        return Err(Refusal::Denied(Denial::Full));
+    }
+    Ok(true)
+}
+
+// One blob as the only change.
+fn one_blob(alloc: Global, digest: &Digest, bytes: &[u8]) -> Result<Effects, AllocError>
+    ensures { IfOk result (λ e. effects_view e ≡ record no_effects { blobs = (digest.now.0, bytes.now) ∷ [] }) }
+{
+    let bytes = Vec::from_slice(alloc, bytes)?;
+    let mut effects = Effects::new(alloc);
+    effects.blobs.push(Blob {
+        digest: *digest,
+        bytes,
+    })?;
+    Ok(effects)
+}
+
+// Whether the bytes are few enough for a blob.
+fn is_short(bytes: &[u8]) -> bool
+    ensures { IsTrue result ↔ length bytes.now ≤ blob_limit }
+{
+    bytes.len() <= MOST_BYTES
+}
+
+// Whether a blob with this digest is held.
+fn has_blob(blobs: &[Blob], digest: &Digest) -> bool
+    ensures { IsTrue result ↔ IsSome (blob_at (blob_views blobs.now) digest.now.0) }
+{
+    blob_of(blobs, digest).is_some()
+}
+
+// Whether one more blob may be held.
+fn has_room(blobs: &[Blob]) -> bool
+    ensures { IsTrue result ↔ length (blob_views blobs.now) < most_held }
+{
+    blobs.len() < MOST_HELD
+}
+
+// Whether the bytes have this digest.
+fn is_digest_of(digest: &Digest, bytes: &[u8]) -> bool
+    ensures { IsTrue result ↔ sha256 bytes.now ≡ digest.now.0 }
+{
+    let own = digest_of(bytes);
+    are_same(&own.0, &digest.0)
+}
+
+// Whether the digests are the same.
+fn is_same(a: &Digest, b: &Digest) -> bool
+    ensures { result ≡ bytes_eq a.now.0 b.now.0 }
+{
+    a.0 == b.0
+}

@@ -1,0 +1,97 @@
+//! The commands: each is judged on a state that is borrowed, and answers what it changes, or the first rule that fails.
+ghost use Rattle.std.specs.Prelude.{◌≡◌, ◌∷◌, [], IfOk};
+ghost use Rattle.metadata.specs.Kept.{root_file};
+ghost use Rattle.machine.specs.Answers.{Answers, Ends};
+ghost use Rattle.machine.specs.Commands as commands;
+ghost use Rattle.machine.specs.Effects.{no_effects, on_state};
+ghost use Rattle.machine.specs.Views.{draft_view, effects_view, offer_view};
+
+use crate::checks::is_signed;
+use crate::denial::Denial;
+use crate::draft::Draft;
+use crate::effects::Effects;
+use crate::files::new_root;
+use crate::laws::stays_valid;
+use crate::offers::{offer_root, offer_snapshot, offer_timestamp};
+use crate::outcome::{Offer, Outcome};
+use crate::refusal::Refusal;
+use crate::shelving::offer_targets;
+use crate::state::State;
+use metadata::{File, Moment, Root};
+use std::alloc::{AllocError, Global};
+
+/// Begins the trust with a first root, which must meet its own rule for roots (TUF 1.0, section 5.2). Denials in their order:
+/// a root is trusted already; the file's shape; the root's own threshold.
+pub fn init(alloc: Global, state: &State, bytes: &[u8]) -> Result<Outcome, Refusal>
+    ensures { Answers state.now.state (commands.init state.now.state bytes.now) result }
+{
+    stays_valid();
+    if state.parts().root.is_some() {
+        return Err(Refusal::Denied(Denial::RootExists));
+    }
+    let new = match new_root(alloc, bytes) {
+        Ok(new) => new,
+        Err(refusal) => return Err(refusal),
+    };
+    if !is_signed(&new.body.root, &new.body.keys, &new.source) {
+        return Err(Refusal::Denied(Denial::NewThreshold));
+    }
+    match first_root(alloc, new) {
+        Ok(effects) => Ok(Outcome::Changed(effects)),
+        Err(_) => Err(Refusal::OutOfMemory),
+    }
+}
+
+// A root alone.
+fn first_root(alloc: Global, root: File<Root>) -> Result<Effects, AllocError>
+    ensures { IfOk result (λ e. effects_view e ≡ record no_effects { roots = root_file root ∷ [] }) }
+{
+    let mut roots = Vec::new(alloc);
+    roots.push(root)?;
+    Ok(Effects {
+        roots,
+        emptied: false,
+        timestamp: None,
+        snapshot: None,
+        rows: Vec::new(alloc),
+        blobs: Vec::new(alloc),
+    })
+}
+
+/// Offers one document at a moment (TUF 1.0, sections 5.3 to 5.6).
+pub fn offer(
+    alloc: Global,
+    state: &State,
+    offer: &Offer,
+    bytes: &[u8],
+    now: Moment,
+) -> Result<Outcome, Refusal>
+    ensures { Answers state.now.state (on_state state.now.state (commands.offer state.now.state.trusted (offer_view offer.now) bytes.now now)) result }
+{
+    stays_valid();
+    let mut draft = Draft::new(alloc, state.parts());
+    match offer_one(alloc, &mut draft, offer, bytes, now) {
+        Ok(true) => Ok(Outcome::Changed(draft.into_effects())),
+        Ok(false) => Ok(Outcome::Same),
+        Err(refusal) => Err(refusal),
+    }
+}
+
+// Offers one document to a draft. The answer is whether it was taken.
+pub(crate) fn offer_one(
+    alloc: Global,
+    draft: &mut Draft<'_>,
+    offer: &Offer,
+    bytes: &[u8],
+    now: Moment,
+) -> Result<bool, Refusal>
+    ensures ends { Ends (commands.offer (draft_view draft.old) (offer_view offer.now) bytes.now now) (draft_view draft.old) (draft_view draft.new) result }
+    ensures rest { (draft.new.base.now ≡ draft.old.base.now) × (draft.new.effects.blobs ≡ draft.old.effects.blobs) }
+{
+    match offer {
+        Offer::Root => offer_root(alloc, draft, bytes),
+        Offer::Timestamp => offer_timestamp(alloc, draft, bytes, now),
+        Offer::Snapshot => offer_snapshot(alloc, draft, bytes, now),
+        Offer::Targets(role) => offer_targets(alloc, draft, role, bytes, now),
+    }
+}

@@ -1,0 +1,52 @@
+// Single checks.
+ghost use Rattle.std.specs.Prelude.{◌↔◌, ◌≡◌, ◌+◌, IsTrue, Some};
+ghost use Rattle.std.specs.Option.{option_map};
+ghost use Rattle.keys_roles.specs.Rules.{Meets};
+ghost use Rattle.keys_roles.specs.Views.{rule_view, table_view};
+ghost use Rattle.metadata.specs.Kept.{timestamp_file, snapshot_file};
+ghost use Rattle.machine.specs.State.{NamesSnapshot};
+
+use delegations::{has_hash, has_length};
+use keys_roles::{KeyTable, RoleRule, meets};
+use metadata::{File, Snapshot, Source, Timestamp};
+
+/// Whether enough of the rule's keys have signed the file.
+pub(crate) fn is_signed(rule: &RoleRule, keys: &KeyTable, source: &Source) -> bool
+    ensures { IsTrue result ↔ (Meets (rule_view rule.now) (table_view keys.now) source.now.signed source.now.entries) }
+{
+    meets(rule, keys, source.signed(), source.signatures())
+}
+
+/// Whether the timestamp names the snapshot.
+pub(crate) fn names_snapshot(timestamp: &File<Timestamp>, snapshot: &File<Snapshot>) -> bool
+    ensures { IsTrue result ↔ (NamesSnapshot (timestamp_file timestamp.now) (snapshot_file snapshot.now)) }
+{
+    let entry = &timestamp.body.snapshot;
+    entry.version == snapshot.body.version
+        && has_length(entry, &snapshot.source)
+        && has_hash(entry, &snapshot.source)
+}
+
+/// Whether the file has these bytes.
+pub(crate) fn has_bytes(held: Option<&File<Snapshot>>, bytes: &[u8]) -> bool
+    ensures { IsTrue result ↔ option_map (λ f. f.bytes) (option_map (λ f. snapshot_file f.now) held.entry) ≡ Some bytes.now }
+{
+    match held {
+        Some(file) => *file.source.bytes() == *bytes,
+        None => false,
+    }
+}
+
+/// Whether the bytes are the same.
+pub(crate) fn are_same(a: &[u8], b: &[u8]) -> bool
+    ensures { IsTrue result ↔ a.now ≡ b.now }
+{
+    *a == *b
+}
+
+/// Whether the new version is one more than the old.
+pub(crate) fn is_next(old: u32, new: u32) -> bool
+    ensures { IsTrue result ↔ new ≡ old + 1 }
+{
+    u64::from(new) == u64::from(old) + 1
+}

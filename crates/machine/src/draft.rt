@@ -1,0 +1,167 @@
+// What is trusted after the changes that a command has made so far.
+ghost use Rattle.std.specs.Prelude.{◌≡◌, ◌↔◌, ◌<◌, ◌+◌, ◌^◌, None, Some, MatchOption, IfOk, IsTrue, length, cond};
+ghost use Rattle.std.specs.Option.{option_map};
+ghost use Rattle.metadata.specs.Kept.{root_file, timestamp_file, snapshot_file, targets_file};
+ghost use Rattle.delegations.specs.Shelf.{row_at, with_row, place_before};
+ghost use Rattle.delegations.specs.Views.{rows_view};
+ghost use Rattle.machine.specs.State.{most_held};
+ghost use Rattle.machine.specs.Commands.{with_root, emptied};
+ghost use Rattle.machine.specs.Views.{draft_view, effects_view, parts_view};
+ghost use Rattle.machine.specs.Effects.{no_effects};
+
+use crate::effects::Effects;
+use crate::parts::Parts;
+use delegations::{Row, Rows};
+use metadata::{File, Root, Snapshot, Targets, Timestamp};
+use std::alloc::{AllocError, Global};
+
+// The most roots, rows or blobs that are held.
+const MOST_HELD: usize = 4_096;
+
+/// A state, and the changes made to it so far.
+#[derive(Drop)]
+pub(crate) struct Draft<'a> {
+    base: &'a Parts,
+    pub effects: Effects,
+}
+
+impl<'a> Draft<'a> {
+    /// The state as it is.
+    pub fn new(alloc: Global, base: &'a Parts) -> Draft<'a>
+        ensures view { draft_view result ≡ (parts_view base.now).trusted }
+        ensures base { (result.base.now ≡ base.now) × (effects_view result.effects ≡ no_effects) }
+    {
+        Draft {
+            base,
+            effects: Effects::new(alloc),
+        }
+    }
+
+    /// The changes.
+    pub fn into_effects(self) -> Effects
+        ensures { result ≡ self.entry.effects }
+    {
+        let Draft { base: _, effects } = self;
+        effects
+    }
+
+    /// The last root.
+    pub fn root(&self) -> Option<&File<Root>>
+        ensures { MatchOption result ((draft_view self.now).root ≡ None) (λ f. (draft_view self.now).root ≡ Some (root_file f.now)) }
+    {
+        match self.effects.roots.last() {
+            Some(file) => Some(file),
+            None => self.base.root.as_ref(),
+        }
+    }
+
+    /// The current timestamp.
+    pub fn timestamp(&self) -> Option<&File<Timestamp>>
+        ensures { option_map (λ f. timestamp_file f.now) result ≡ (draft_view self.now).timestamp }
+    {
+        if self.effects.timestamp.is_some() || self.effects.emptied {
+            self.effects.timestamp.as_ref()
+        } else {
+            self.base.timestamp.as_ref()
+        }
+    }
+
+    /// The current snapshot.
+    pub fn snapshot(&self) -> Option<&File<Snapshot>>
+        ensures { option_map (λ f. snapshot_file f.now) result ≡ (draft_view self.now).snapshot }
+    {
+        if self.effects.snapshot.is_some() || self.effects.emptied {
+            self.effects.snapshot.as_ref()
+        } else {
+            self.base.snapshot.as_ref()
+        }
+    }
+
+    /// The shelf.
+    pub fn rows(&self) -> Rows<'_>
+        ensures { rows_view result ≡ (draft_view self.now).shelf }
+    {
+        let held = if self.effects.emptied {
+            &self.base.shelf[..0]
+        } else {
+            &self.base.shelf[..]
+        };
+        Rows {
+            held,
+            added: &self.effects.rows,
+        }
+    }
+
+    /// The document of the role with this version.
+    pub fn row_at(&self, role: &str, version: u32) -> Option<&File<Targets>>
+        ensures { option_map (λ f. targets_file f.now) result ≡ row_at (draft_view self.now).shelf role.now version }
+    {
+        self.rows().row_at(role, version)
+    }
+
+    /// Whether one more row may be held.
+    pub fn has_room_for_row(&self) -> bool
+        ensures { IsTrue result ↔ length (draft_view self.now).shelf < most_held }
+    {
+        let rows = self.rows();
+        has_room(rows.held.len(), rows.added.len())
+    }
+
+    /// Whether one more root may be held.
+    pub fn has_room_for_root(&self) -> bool
+        ensures { IsTrue result ↔ length (draft_view self.now).roots < most_held }
+    {
+        let held = self.base.earlier.len() + self.effects.roots.len();
+        held + usize::from(self.base.root.is_some()) < MOST_HELD
+    }
+
+    /// Puts a root there, and empties timestamp, snapshot and shelf unless the roles are kept.
+    pub fn put_root(&mut self, file: File<Root>, keeps: bool) -> Result<(), AllocError>
+        ensures view { IfOk result (λ _. draft_view self.new
+            ≡ cond keeps (with_root (draft_view self.old) (root_file file)) (emptied (with_root (draft_view self.old) (root_file file)))) }
+        ensures rest { (self.new.base.now ≡ self.old.base.now) × (self.new.effects.blobs ≡ self.old.effects.blobs) }
+    {
+        self.effects.roots.push(file)?;
+        if !keeps {
+            self.effects.emptied = true;
+            self.effects.timestamp = None;
+            self.effects.snapshot = None;
+            self.effects.rows.clear();
+        }
+        Ok(())
+    }
+
+    /// Puts a timestamp there.
+    pub fn put_timestamp(&mut self, file: File<Timestamp>)
+        ensures view { draft_view self.new ≡ record (draft_view self.old) { timestamp = Some (timestamp_file file) } }
+        ensures rest { (self.new.base.now ≡ self.old.base.now) × (self.new.effects.blobs ≡ self.old.effects.blobs) }
+    {
+        self.effects.timestamp = Some(file);
+    }
+
+    /// Puts a snapshot there.
+    pub fn put_snapshot(&mut self, file: File<Snapshot>)
+        ensures view { draft_view self.new ≡ record (draft_view self.old) { snapshot = Some (snapshot_file file) } }
+        ensures rest { (self.new.base.now ≡ self.old.base.now) × (self.new.effects.blobs ≡ self.old.effects.blobs) }
+    {
+        self.effects.snapshot = Some(file);
+    }
+
+    /// Puts a row on the shelf.
+    pub fn put_row(&mut self, row: Row) -> Result<(), AllocError>
+        ensures view { IfOk result (λ _. draft_view self.new
+            ≡ record (draft_view self.old) { shelf = with_row place_before (draft_view self.old).shelf (row.role, row.version) (targets_file row.file) }) }
+        ensures rest { (self.new.base.now ≡ self.old.base.now) × (self.new.effects.blobs ≡ self.old.effects.blobs) }
+    {
+        self.effects.rows.push(row)?;
+        Ok(())
+    }
+}
+
+// Whether one more may be held beside so many.
+fn has_room(held: usize, added: usize) -> bool
+    requires { held + added < 2 ^ 64 }
+    ensures { IsTrue result ↔ held + added < most_held }
+{
+    held + added < MOST_HELD
+}

@@ -1,0 +1,44 @@
+//! What a command changes.
+ghost use Rattle.std.specs.Prelude.{◌≡◌};
+ghost use Rattle.machine.specs.Effects.{no_effects};
+ghost use Rattle.machine.specs.Views.{effects_view};
+
+use delegations::Row;
+use metadata::{File, Root, Snapshot, Timestamp};
+use path_patterns::Digest;
+use std::alloc::Global;
+
+/// A file of a target with its digest.
+#[derive(Drop)]
+pub struct Blob {
+    pub digest: Digest,
+    pub bytes: Vec<u8>,
+}
+
+/// What a command changes: new roots in order; whether a rotation empties timestamp, snapshot and shelf; the timestamp, the
+/// snapshot and the shelf rows that are put there after that; new blobs.
+#[derive(Drop)]
+pub struct Effects {
+    pub roots: Vec<File<Root>>,
+    pub emptied: bool,
+    pub timestamp: Option<File<Timestamp>>,
+    pub snapshot: Option<File<Snapshot>>,
+    pub rows: Vec<Row>,
+    pub blobs: Vec<Blob>,
+}
+
+impl Effects {
+    /// No change.
+    pub fn new(alloc: Global) -> Effects
+        ensures { effects_view result ≡ no_effects }
+    {
+        Effects {
+            roots: Vec::new(alloc),
+            emptied: false,
+            timestamp: None,
+            snapshot: None,
+            rows: Vec::new(alloc),
+            blobs: Vec::new(alloc),
+        }
+    }
+}

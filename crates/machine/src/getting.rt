@@ -1,0 +1,156 @@
+//! What a target is (TUF 1.0, section 5.7).
+ghost use Rattle.std.specs.Prelude.{◌≡◌, ◌↔◌, None, Err, IsTrue, length};
+ghost use Rattle.delegations.specs.Search.{search, shelf_of};
+ghost use Rattle.delegations.specs.Views as searches;
+ghost use Rattle.metadata.specs.Kept.{root_file, snapshot_file};
+ghost use Rattle.metadata.specs.Orders as orders;
+ghost use Rattle.metadata.specs.Views.{listing_view};
+ghost use Rattle.path_patterns.specs.Grammar.{IsTargetPath};
+ghost use Rattle.machine.specs.Answers.{Gives};
+ghost use Rattle.machine.specs.Commands as commands;
+ghost use Rattle.machine.specs.Views.{parts_view};
+
+use crate::blobs::blob_of;
+use crate::denial::Denial;
+use crate::effects::Blob;
+use crate::offers::live_snapshot;
+use crate::parts::Parts;
+use crate::refusal::Refusal;
+use crate::state::State;
+use delegations::{Found, Rows, SearchDenial, Shelf, search};
+use metadata::{File, Listing, Moment, Root, Snapshot};
+use path_patterns::TargetPath;
+use std::alloc::Global;
+
+/// The file of a target at a moment (TUF 1.0, section 5.7): the file that the first role in the order of the search lists.
+/// Root, timestamp and snapshot must be live, and the timestamp must name the snapshot. Denials in their order: no root is
+/// trusted; the root is not live; the timestamp, then the snapshot; what the search denies; the file is not held, or has
+/// another length than the listing says.
+pub fn get<'a>(
+    alloc: Global,
+    state: &'a State,
+    path: &TargetPath,
+    now: Moment,
+) -> Result<&'a [u8], Refusal>
+    ensures { Gives (commands.grants state.now.state path.now None now) (λ b. b.now) result }
+{
+    is_path(path);
+    let parts = state.parts();
+    let Some(root) = parts.root.as_ref() else {
+        return Err(Refusal::Denied(Denial::NoRoot));
+    };
+    let snapshot = match live_snapshot(
+        parts.timestamp.as_ref(),
+        parts.snapshot.as_ref(),
+        root,
+        now,
+    ) {
+        Ok(snapshot) => snapshot,
+        Err(refusal) => return Err(refusal),
+    };
+    let found = match find(alloc, parts, root, snapshot, path, now) {
+        Ok(found) => found,
+        Err(refusal) => return Err(refusal),
+    };
+    listed_blob(alloc, parts, path, found.listing)
+}
+
+// A law, which does nothing: a target's path is one.
+fn is_path(path: &TargetPath)
+    ensures { IsTargetPath path.now }
+{
+    path.as_str();
+}
+
+// What the search finds under a root and a snapshot.
+fn find<'a>(
+    alloc: Global,
+    parts: &'a Parts,
+    root: &'a File<Root>,
+    snapshot: &'a File<Snapshot>,
+    path: &TargetPath,
+    now: Moment,
+) -> Result<Found<'a>, Refusal>
+    ensures { Gives (search (shelf_of (root_file root.now) (snapshot_file snapshot.now) (parts_view parts.now).trusted.shelf) path.now now) searches.found_view result }
+{
+    let shelf = Shelf::new(&root.body, &snapshot.body, held_rows(parts));
+    match search(&shelf, path, now) {
+        Ok(found) => Ok(found),
+        Err(denial) => Err(search_refusal(alloc, denial)),
+    }
+}
+
+// The rows on the shelf.
+fn held_rows(parts: &Parts) -> Rows<'_>
+    ensures { searches.rows_view result ≡ (parts_view parts.now).trusted.shelf }
+{
+    Rows {
+        held: &parts.shelf,
+        added: &parts.shelf[..0],
+    }
+}
+
+// The search's denial as a refusal.
+fn search_refusal(alloc: Global, denial: SearchDenial<'_>) -> Refusal
+    ensures { Gives {A = Unit {0}} (orders.stop (orders.Denied (searches.denial_view denial.entry))) (λ u. u) (Err result) }
+{
+    match denial {
+        SearchDenial::RoleUnlisted => Refusal::Denied(Denial::RoleUnlisted),
+        SearchDenial::RoleMissing { role, version } => missing_role(alloc, role, version),
+        SearchDenial::RoleLength => Refusal::Denied(Denial::RoleLength),
+        SearchDenial::RoleHash => Refusal::Denied(Denial::RoleHash),
+        SearchDenial::RoleThreshold => Refusal::Denied(Denial::RoleThreshold),
+        SearchDenial::RoleExpired => Refusal::Denied(Denial::RoleExpired),
+        SearchDenial::TooManyRoles => Refusal::Denied(Denial::TooManyRoles),
+        SearchDenial::NotFound => Refusal::Denied(Denial::NotFound),
+    }
+}
+
+// The refusal where a role's document is missing.
+fn missing_role(alloc: Global, role: &str, version: u32) -> Refusal
+    ensures { Gives {A = Unit {0}} (orders.stop (orders.Denied (orders.RoleMissing role.now version))) (λ u. u) (Err result) }
+{
+    match String::from_str(alloc, role) {
+        Ok(role) => Refusal::Denied(Denial::RoleMissing { role, version }),
+        Err(_) => Refusal::OutOfMemory,
+    }
+}
+
+// The file of a listing.
+fn listed_blob<'a>(
+    alloc: Global,
+    parts: &'a Parts,
+    path: &TargetPath,
+    listing: &Listing,
+) -> Result<&'a [u8], Refusal>
+    ensures { Gives (commands.blob_of (parts_view parts.now) path.now (listing_view listing.now)) (λ b. b.now) result }
+{
+    let Some(blob) = blob_of(&parts.blobs, &listing.digest) else {
+        return Err(missing_blob(path, listing));
+    };
+    if !has_listed_length(blob, listing) {
+        return Err(Refusal::Denied(Denial::BlobLength));
+    }
+    Ok(&blob.bytes)
+}
+
+// Whether the file has the length that the listing says.
+fn has_listed_length(blob: &Blob, listing: &Listing) -> bool
+    ensures { IsTrue result ↔ length blob.now.bytes.items ≡ listing.now.length }
+{
+    blob.bytes.len() == listing.length as usize
+}
+
+// The refusal where the file of a listing is missing.
+fn missing_blob(path: &TargetPath, listing: &Listing) -> Refusal
+    ensures { Gives {A = Unit {0}} (orders.stop (orders.Denied (orders.BlobMissing path.now listing.now.digest.0 listing.now.length))) (λ u. u) (Err result) }
+{
+    match path.clone() {
+        Ok(path) => Refusal::Denied(Denial::BlobMissing {
+            path,
+            digest: listing.digest,
+            length: listing.length,
+        }),
+        Err(_) => Refusal::OutOfMemory,
+    }
+}

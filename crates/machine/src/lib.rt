@@ -1,0 +1,37 @@
+//! The trust machine: what a repository trusts, and what each command does to it (TUF 1.0, section 5).
+#![tactic(auto)]
+
+mod batches;
+mod blobs;
+mod calls;
+mod checks;
+mod compared;
+mod denial;
+mod draft;
+mod effects;
+mod files;
+mod getting;
+#[cfg(test)]
+mod kept_tests;
+mod laws;
+mod loading;
+mod names;
+mod offers;
+mod outcome;
+mod parts;
+mod refusal;
+mod shelving;
+mod state;
+mod taking;
+
+pub use batches::batch;
+pub use blobs::put_blob;
+pub use calls::{init, offer};
+pub use denial::Denial;
+pub use effects::{Blob, Effects};
+pub use getting::get;
+pub use laws::{nothing_is_valid, one_judgement, stays_coherent, stays_valid};
+pub use names::metadata_file;
+pub use outcome::{Batched, Offer, Outcome};
+pub use refusal::{BatchRefusal, Refusal};
+pub use state::State;

@@ -1,0 +1,327 @@
+// What the rows of a database have to be, to be those of a state.
+ghost use Rattle.std.specs.Prelude.{◌≡◌, ◌↔◌, map, None, Some, All, IfOk, IfSome, IfNone, IsTrue, option_map};
+ghost use Rattle.sha2.specs.Sha256.{sha256};
+ghost use Rattle.metadata.specs.File.{IsFileOf, root_form, targets_form, has_name};
+ghost use Rattle.metadata.specs.Kept.{root_file, timestamp_file, snapshot_file, targets_file};
+ghost use Rattle.delegations.specs.Delegation.{before};
+ghost use Rattle.delegations.specs.Shelf.{place_before};
+ghost use Rattle.delegations.specs.Views.{row_views};
+ghost use Rattle.machine.specs.State.{FollowsRoot, IsBlob, IsHeldUnder, IsRootChain, IsShelfRow, IsState, MeetsTop, top_names};
+ghost use Rattle.machine.specs.Effects.{last_or};
+ghost use Rattle.machine.specs.Kept.{AreBlobs, AreRead, RowsAreRead, FollowOn, IsBare, IsChain, IsShelf, laid, comes_first, rises};
+ghost use Rattle.machine.specs.Views.{blob_views, effects_view};
+
+use crate::checks::is_signed;
+use crate::effects::{Blob, Effects};
+use crate::state::State;
+use crate::taking::{is_before, is_place_before};
+use delegations::Row;
+use metadata::{File, Root, Snapshot, Timestamp, one_document, one_shape};
+use path_patterns::Digest;
+use sha2::{Digest as _, Sha256};
+use std::alloc::{AllocError, Global};
+
+const MOST_HELD: usize = 4096;
+
+const BLOB_LIMIT: usize = 1_048_576;
+
+// Whether a root meets its own rule.
+pub(crate) fn meets_itself(root: &File<Root>) -> bool
+    ensures { IsTrue result ↔ (MeetsTop (root_file root.now) (root_file root.now).body.root (root_file root.now)) }
+{
+    is_signed(&root.body.root, &root.body.keys, &root.source)
+}
+
+// Whether a root may follow another.
+pub(crate) fn follows_root(old: &File<Root>, new: &File<Root>) -> bool
+    ensures { IsTrue result ↔ (FollowsRoot (root_file old.now) (root_file new.now)) }
+{
+    u64::from(new.body.version) == u64::from(old.body.version) + 1
+        && is_signed(&old.body.root, &old.body.keys, &new.source)
+        && meets_itself(new)
+}
+
+// Whether the bytes have this digest.
+pub(crate) fn has_digest(bytes: &[u8], digest: &Digest) -> bool
+    ensures { IsTrue result ↔ (sha256 bytes.now ≡ digest.now.0) }
+{
+    let mut hasher = Sha256::new();
+    hasher.update(bytes);
+    hasher.finalize() == digest.0
+}
+
+// Whether a blob has its digest, and is short enough.
+fn is_blob(blob: &Blob) -> bool
+    ensures { IsTrue result ↔ (IsBlob (blob.now.digest.0, blob.now.bytes.items)) }
+{
+    blob.bytes.len() <= BLOB_LIMIT && has_digest(&blob.bytes, &blob.digest)
+}
+
+// Whether each blob is one.
+fn each_is_blob(blobs: &[Blob]) -> bool
+    ensures { IsTrue result ↔ (All IsBlob (blob_views blobs.now)) }
+{
+    let mut rest = blobs;
+    'blobs: while let Some((blob, later)) = rest.split_first() {
+        if !is_blob(blob) {
+            return false;
+        }
+        rest = later;
+    }
+    true
+}
+
+// Whether a blob's digest is before the first of these.
+fn is_before_blobs(blob: &Blob, later: &[Blob]) -> bool
+    ensures { result ≡ comes_first before blob.now.digest.0 (blob_views later.now) }
+{
+    match later.first() {
+        Some(next) => is_before(&blob.digest.0, &next.digest.0),
+        None => true,
+    }
+}
+
+// Whether the digests rise.
+fn blobs_rise(blobs: &[Blob]) -> bool
+    ensures { result ≡ rises before (blob_views blobs.now) }
+{
+    let mut rest = blobs;
+    'blobs: while let Some((blob, later)) = rest.split_first() {
+        if !is_before_blobs(blob, later) {
+            return false;
+        }
+        rest = later;
+    }
+    true
+}
+
+// Whether these may be the blobs of a state.
+pub(crate) fn are_blobs(blobs: &[Blob]) -> bool
+    ensures { IsTrue result ↔ (AreBlobs (blob_views blobs.now)) }
+{
+    if blobs.len() > MOST_HELD {
+        return false;
+    }
+    if !blobs_rise(blobs) {
+        return false;
+    }
+    each_is_blob(blobs)
+}
+
+// Whether a role of this name is one of a root's.
+fn is_top_name(role: &str) -> bool
+    ensures { result ≡ has_name top_names role.now }
+{
+    if "root" == role {
+        return true;
+    }
+    if "timestamp" == role {
+        return true;
+    }
+    "snapshot" == role
+}
+
+// Whether a document stands at its place of the shelf.
+fn is_row(row: &Row) -> bool
+    requires { IsFileOf targets_form (targets_file row.now.file) }
+    ensures { IsTrue result ↔ (IsShelfRow ((row.now.role, row.now.version), targets_file row.now.file)) }
+{
+    let role = row.role.as_str();
+    row.file.body.version == row.version && !is_top_name(role)
+}
+
+// Whether each document stands at its place of the shelf.
+fn each_is_row(rows: &[Row]) -> bool
+    requires { RowsAreRead (row_views rows.now) }
+    ensures { IsTrue result ↔ (All IsShelfRow (row_views rows.now)) }
+{
+    let mut rest = rows;
+    'rows: while let Some((row, later)) = rest.split_first() {
+        if !is_row(row) {
+            return false;
+        }
+        rest = later;
+    }
+    true
+}
+
+// Whether a row's place is before that of the first of these.
+fn is_before_rows(row: &Row, later: &[Row]) -> bool
+    ensures { result ≡ comes_first place_before (row.now.role, row.now.version) (row_views later.now) }
+{
+    match later.first() {
+        Some(next) => is_place_before(row.role.as_str(), row.version, next),
+        None => true,
+    }
+}
+
+// Whether the places rise.
+fn rows_rise(rows: &[Row]) -> bool
+    ensures { result ≡ rises place_before (row_views rows.now) }
+{
+    let mut rest = rows;
+    'rows: while let Some((row, later)) = rest.split_first() {
+        if !is_before_rows(row, later) {
+            return false;
+        }
+        rest = later;
+    }
+    true
+}
+
+// Whether these may be the shelf of a state.
+pub(crate) fn is_shelf(rows: &[Row]) -> bool
+    requires { RowsAreRead (row_views rows.now) }
+    ensures { IsTrue result ↔ (IsShelf (row_views rows.now)) }
+{
+    if rows.len() > MOST_HELD {
+        return false;
+    }
+    if !rows_rise(rows) {
+        return false;
+    }
+    each_is_row(rows)
+}
+
+// Whether each of these roots follows the one before it, the first of them this one.
+fn follow_on(first: &File<Root>, later: &[File<Root>]) -> bool
+    ensures { IsTrue result ↔ (FollowOn (root_file first.now) (map root_file later.now)) }
+{
+    let mut old = first;
+    let mut rest = later;
+    'roots: while let Some((new, more)) = rest.split_first() {
+        if !follows_root(old, new) {
+            return false;
+        }
+        old = new;
+        rest = more;
+    }
+    true
+}
+
+// Whether these are a chain of roots, each document after the other.
+fn are_chained(roots: &[File<Root>]) -> bool
+    ensures { IsTrue result ↔ (IsChain (map root_file roots.now)) }
+{
+    let Some((first, later)) = roots.split_first() else {
+        return true;
+    };
+    if !meets_itself(first) {
+        return false;
+    }
+    follow_on(first, later)
+}
+
+// Whether these may be the roots of a state.
+pub(crate) fn is_chain(roots: &[File<Root>]) -> bool
+    requires { All (IsFileOf root_form) (map root_file roots.now) }
+    ensures { IsTrue result ↔ IfSome (last_or None (map root_file roots.now)) (IsRootChain (map (λ f. f.bytes) (map root_file roots.now))) }
+{
+    one_document();
+    one_shape();
+    are_chained(roots)
+}
+
+// Whether the timestamp, where there is one, meets the root's rule.
+fn timestamp_meets(root: &File<Root>, file: &Option<File<Timestamp>>) -> bool
+    ensures { IsTrue result ↔ IfSome (option_map timestamp_file file.now) (MeetsTop (root_file root.now) (root_file root.now).body.timestamp) }
+{
+    match file {
+        Some(file) => is_signed(&root.body.timestamp, &root.body.keys, &file.source),
+        None => true,
+    }
+}
+
+// Whether the snapshot, where there is one, meets the root's rule.
+fn snapshot_meets(root: &File<Root>, file: &Option<File<Snapshot>>) -> bool
+    ensures { IsTrue result ↔ IfSome (option_map snapshot_file file.now) (MeetsTop (root_file root.now) (root_file root.now).body.snapshot) }
+{
+    match file {
+        Some(file) => is_signed(&root.body.snapshot, &root.body.keys, &file.source),
+        None => true,
+    }
+}
+
+// Whether the files meet the rules of the last root.
+fn is_held(files: &Effects, root: &File<Root>) -> bool
+    requires read { AreRead (effects_view files.now) }
+    requires last { last_or None (map root_file files.now.roots.items) ≡ Some (root_file root.now) }
+    ensures { IsTrue result ↔ (IsHeldUnder (laid (effects_view files.now)).trusted (root_file root.now)) }
+{
+    if !is_chain(&files.roots) {
+        return false;
+    }
+    if !timestamp_meets(root, &files.timestamp) {
+        return false;
+    }
+    snapshot_meets(root, &files.snapshot)
+}
+
+// Whether there is no file but roots.
+fn is_bare(files: &Effects) -> bool
+    ensures { IsTrue result ↔ (IsBare (effects_view files.now)) }
+{
+    if files.timestamp.is_some() || files.snapshot.is_some() {
+        return false;
+    }
+    files.rows.is_empty() && files.blobs.is_empty()
+}
+
+// The last root.
+fn last_root(files: &Effects) -> Option<&File<Root>>
+    ensures { option_map (λ f. root_file f.now) result ≡ last_or None (effects_view files.now).roots }
+{
+    match files.roots.last() {
+        Some(root) => Some(root),
+        None => None,
+    }
+}
+
+// Whether all are held under the last root, or there is none.
+fn are_under_root(files: &Effects) -> bool
+    requires { AreRead (effects_view files.now) }
+    ensures some { IsTrue result → IfSome (last_or None (effects_view files.now).roots) (IsHeldUnder (laid (effects_view files.now)).trusted) }
+    ensures none { IsTrue result → IfNone (last_or None (effects_view files.now).roots) (IsBare (effects_view files.now)) }
+    ensures otherwise { IfSome (last_or None (effects_view files.now).roots) (IsHeldUnder (laid (effects_view files.now)).trusted)
+        → IfNone (last_or None (effects_view files.now).roots) (IsBare (effects_view files.now)) → IsTrue result }
+{
+    match last_root(files) {
+        Some(root) => is_held(files, root),
+        None => is_bare(files),
+    }
+}
+
+// Whether these are all the files of a state.
+pub(crate) fn is_state(files: &Effects) -> bool
+    requires { AreRead (effects_view files.now) }
+    ensures { IsTrue result ↔ (IsState (laid (effects_view files.now))) }
+{
+    if files.roots.len() > MOST_HELD {
+        return false;
+    }
+    if !is_shelf(&files.rows) {
+        return false;
+    }
+    if !are_blobs(&files.blobs) {
+        return false;
+    }
+    are_under_root(files)
+}
+
+/// The state of which these are all the files, and `None` where no state has them.
+pub(crate) fn settle(alloc: Global, files: Effects) -> Result<Option<State>, AllocError>
+    requires { AreRead (effects_view files) }
+    ensures some { IfOk result (λ o. IfSome o (λ s. s.state ≡ laid (effects_view files))) }
+    ensures none { IfOk result (λ o. IfNone o (IsState (laid (effects_view files)) → ⊥)) }
+{
+    if !is_state(&files) {
+        return Ok(None);
+    }
+    let mut state = State::new(alloc);
+    match state.room(&files) {
+        Ok(()) => {}
+        Err(fault) => return Err(fault),
+    }
+    state.take(files);
+    Ok(Some(state))
+}

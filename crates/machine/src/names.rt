@@ -1,0 +1,138 @@
+//! The metadata files under their names.
+ghost use Rattle.std.specs.Prelude.{◌≡◌, ℕ, List, ◌++◌, false, map, bytes_eq, option_map, MatchOption};
+ghost use Rattle.delegations.specs.Views.{row_views};
+ghost use Rattle.keys_roles.specs.Plain.{look_up};
+ghost use Rattle.machine.specs.State.{IsState, dotted, metadata_of, root_files};
+ghost use Rattle.machine.specs.Kept.{earlier_files, shelf_files, timestamp_files, snapshot_files};
+ghost use Rattle.machine.specs.Views.{parts_view};
+
+use crate::parts::Parts;
+use crate::state::State;
+use delegations::Row;
+
+/// The bytes of the metadata file with this name: `timestamp.json`, `1.root.json`, `7.snapshot.json` or `2.targets.json`, with
+/// the number of the version and the name of the role. It takes no memory (TUF 1.0, section 3.1.2 and 6.2, consistent snapshots).
+pub fn metadata_file<'a>(state: &'a State, name: &str) -> Option<&'a [u8]>
+    ensures { option_map (λ b. b.now) result ≡ metadata_of state.now.state.trusted name.now }
+{
+    let parts = state.parts();
+    let name = name.as_bytes();
+    if let Some(bytes) = timestamp_named(parts, name) {
+        return Some(bytes);
+    }
+    if let Some(bytes) = root_named(parts, name) {
+        return Some(bytes);
+    }
+    if let Some(bytes) = snapshot_named(parts, name) {
+        return Some(bytes);
+    }
+    row_named(&parts.shelf, name)
+}
+
+// What follows these bytes in a name that begins with them.
+fn after<'a>(name: &'a [u8], front: &[u8]) -> Option<&'a [u8]>
+    ensures { MatchOption result ((more : List ℕ) → bytes_eq (front.now ++ more) name.now ≡ false)
+        (λ rest. (more : List ℕ) → bytes_eq (front.now ++ more) name.now ≡ bytes_eq more rest.now) }
+{
+    let mut left = front;
+    let mut rest = name;
+    'bytes: while let Some((x, more)) = left.split_first() {
+        let Some((y, later)) = rest.split_first() else {
+            return None;
+        };
+        if x != y {
+            return None;
+        }
+        left = more;
+        rest = later;
+    }
+    Some(rest)
+}
+
+// Whether a name is this number, a dot, these bytes and `.json`.
+pub(crate) fn is_dotted(name: &[u8], number: u64, middle: &[u8]) -> bool
+    ensures { result ≡ bytes_eq (dotted number middle.now) name.now }
+{
+    let mut buffer = itoa::Buffer::new();
+    let digits = buffer.format(number).as_bytes();
+    let Some(rest) = after(name, digits) else {
+        return false;
+    };
+    let Some(rest) = after(rest, b".".as_slice()) else {
+        return false;
+    };
+    let Some(rest) = after(rest, middle) else {
+        return false;
+    };
+    b".json".as_slice() == rest
+}
+
+// The timestamp's bytes, under its name.
+fn timestamp_named<'a>(parts: &'a Parts, name: &[u8]) -> Option<&'a [u8]>
+    ensures { option_map (λ b. b.now) result ≡ look_up (timestamp_files (parts_view parts.now).trusted.timestamp) name.now }
+{
+    match &parts.timestamp {
+        Some(file) if b"timestamp.json".as_slice() == name => Some(file.source.bytes()),
+        _ => None,
+    }
+}
+
+// The snapshot's bytes, under its name.
+fn snapshot_named<'a>(parts: &'a Parts, name: &[u8]) -> Option<&'a [u8]>
+    ensures { option_map (λ b. b.now) result ≡ look_up (snapshot_files (parts_view parts.now).trusted.snapshot) name.now }
+{
+    match &parts.snapshot {
+        Some(file) if is_dotted(name, u64::from(file.body.version), b"snapshot".as_slice()) => Some(
+            file.source.bytes(),
+        ),
+        _ => None,
+    }
+}
+
+// The bytes of the root with this name.
+fn root_named<'a>(parts: &'a Parts, name: &[u8]) -> Option<&'a [u8]>
+    requires { IsState (parts_view parts.now) }
+    ensures { option_map (λ b. b.now) result ≡ look_up (root_files (parts_view parts.now).trusted 0 (parts_view parts.now).trusted.roots) name.now }
+{
+    let Some(last) = &parts.root else {
+        return None;
+    };
+    let version = u64::from(last.body.version);
+    if let Some(bytes) = earlier_named(&parts.earlier, version, name) {
+        return Some(bytes);
+    }
+    if is_dotted(name, version, b"root".as_slice()) {
+        Some(last.source.bytes())
+    } else {
+        None
+    }
+}
+
+// The bytes of the earlier root with this name, where this is the version of the last root.
+fn earlier_named<'a>(earlier: &'a [Vec<u8>], version: u64, name: &[u8]) -> Option<&'a [u8]>
+    ensures { option_map (λ b. b.now) result ≡ look_up (earlier_files version (map (λ b. b.items) earlier.now)) name.now }
+{
+    let mut rest = earlier;
+    'roots: while let Some((bytes, later)) = rest.split_first() {
+        let number = version.saturating_sub(rest.len() as u64);
+        if is_dotted(name, number, b"root".as_slice()) {
+            return Some(bytes);
+        }
+        rest = later;
+    }
+    None
+}
+
+// The bytes of the document on the shelf with this name.
+fn row_named<'a>(rows: &'a [Row], name: &[u8]) -> Option<&'a [u8]>
+    ensures { option_map (λ b. b.now) result ≡ look_up (shelf_files (row_views rows.now)) name.now }
+{
+    let mut rest = rows;
+    'rows: while let Some((row, later)) = rest.split_first() {
+        if is_dotted(name, u64::from(row.version), row.role.as_str().as_bytes()) {
+            return Some(row.file.source.bytes());
+        }
+        rest = later;
+    }
+    None
+}

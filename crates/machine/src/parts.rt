@@ -1,0 +1,16 @@
+// What a state keeps.
+use crate::effects::Blob;
+use delegations::Row;
+use metadata::{File, Root, Snapshot, Timestamp};
+
+/// The bytes of the roots before the last, the last, the current timestamp and snapshot, the shelf in the order of roles and
+/// versions, the blobs in the order of their digests.
+#[derive(Drop)]
+pub(crate) struct Parts {
+    pub earlier: Vec<Vec<u8>>,
+    pub root: Option<File<Root>>,
+    pub timestamp: Option<File<Timestamp>>,
+    pub snapshot: Option<File<Snapshot>>,
+    pub shelf: Vec<Row>,
+    pub blobs: Vec<Blob>,
+}

@@ -1,0 +1,95 @@
+//! A state of the trust machine.
+ghost use Rattle.std.specs.Prelude.{◌≡◌, ◌≤◌, ◌<◌, IfOk, OnOk};
+ghost use Rattle.machine.specs.State.{IsState, nothing};
+ghost use Rattle.machine.specs.Effects.{applied};
+ghost use Rattle.machine.specs.Views.{parts_view, effects_view};
+ghost use Rattle.machine.specs.Kept.{places, room_of};
+
+use crate::effects::Effects;
+use crate::laws::nothing_is_valid;
+use crate::parts::Parts;
+use crate::taking::take_all;
+use std::alloc::{AllocError, Global};
+use std::marker::Model;
+
+/// What a repository trusts, and the blobs that it holds. A clause sees that, and how much more can be kept without memory.
+#[derive(Drop)]
+pub struct State {
+    parts: Parts,
+}
+
+impl Model for State {
+    ghost use Rattle.machine.specs.State.{IsState};
+    ghost use Rattle.machine.specs.Views.{parts_view};
+    ghost use Rattle.machine.specs.Kept.{Kept, kept};
+
+    ghost Value = { Kept };
+
+    ghost view = { λ s. kept s.parts };
+
+    ghost invariant = { λ s. IsState (parts_view s.parts) };
+}
+
+impl State {
+    /// A state in which nothing is trusted and no blob is held. It takes no memory.
+    pub fn new(alloc: Global) -> State
+        ensures { result.state ≡ nothing }
+    {
+        nothing_is_valid();
+        State {
+            parts: no_parts(alloc),
+        }
+    }
+
+    /// Makes room for these changes. If memory is refused, the state is as before.
+    pub fn room(&mut self, effects: &Effects) -> Result<(), AllocError>
+        ensures kept { self.new.state ≡ self.old.state }
+        ensures room { IfOk result (λ _. places (effects_view effects.now) ≤ self.new.room) }
+    {
+        reserve(&mut self.parts, effects)
+    }
+
+    /// Makes these changes, for which there is room. It takes no memory.
+    pub fn take(&mut self, effects: Effects)
+        requires valid { IsState (applied self.old.state (effects_view effects)) }
+        requires room { places (effects_view effects) ≤ self.old.room }
+        ensures { self.new.state ≡ applied self.old.state (effects_view effects) }
+    {
+        take_all(&mut self.parts, effects);
+    }
+
+    pub(crate) fn parts(&self) -> &Parts
+        ensures view { parts_view result.now ≡ self.now.state }
+        ensures valid { IsState self.now.state }
+    {
+        &self.parts
+    }
+}
+
+pub(crate) fn no_parts(alloc: Global) -> Parts
+    ensures { parts_view result ≡ nothing }
+{
+    Parts {
+        earlier: Vec::new(alloc),
+        root: None,
+        timestamp: None,
+        snapshot: None,
+        shelf: Vec::new(alloc),
+        blobs: Vec::new(alloc),
+    }
+}
+
+// Makes room for these changes.
+pub(crate) fn reserve(parts: &mut Parts, effects: &Effects) -> Result<(), AllocError>
+    ensures kept { parts_view parts.new ≡ parts_view parts.old }
+    ensures room { IfOk result (λ _. places (effects_view effects.now) ≤ room_of parts.new) }
+{
+    let roots = effects.roots.len();
+    let rows = effects.rows.len();
+    let blobs = effects.blobs.len();
+    let most = roots.max(rows).max(blobs);
+    parts.earlier.reserve(most)?;
+    parts.shelf.reserve(most)?;
+    parts.blobs.reserve(most)?;
+    Ok(())
+}

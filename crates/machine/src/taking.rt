@@ -1,0 +1,208 @@
+// Putting changes into what a state keeps. It takes no memory.
+ghost use Rattle.std.specs.Prelude.{◌≡◌, ◌≤◌, ◌<◌, ◌-◌, ◌+◌, ◌++◌, [], ◌∷◌, ℕ, List, Option, Some, cond, map, length, vec_len, vec_capacity};
+ghost use Rattle.std.specs.List.{insert, position_or_len, position};
+ghost use Rattle.metadata.specs.Kept.{targets_file};
+ghost use Rattle.delegations.specs.Delegation.{before};
+ghost use Rattle.delegations.specs.Shelf.{with_row, with_rows, place_before};
+ghost use Rattle.delegations.specs.Views.{row_views};
+ghost use Rattle.machine.specs.Effects.{applied, last_or, renewed, with_blobs};
+ghost use Rattle.machine.specs.Views.{parts_view, effects_view, blob_views, last_bytes};
+ghost use Rattle.machine.specs.Kept.{places, room_of};
+
+use crate::effects::{Blob, Effects};
+use crate::parts::Parts;
+use delegations::Row;
+use metadata::{File, Root};
+use path_patterns::{Digest, RoleName};
+
+// Puts one more at the end, where there is room.
+fn push_within<T: Drop>(held: &mut Vec<T>, new: T)
+    requires { 1 ≤ vec_capacity held.old - vec_len held.old }
+    ensures items { held.new.items ≡ held.old.items ++ new ∷ [] }
+    ensures room { vec_capacity held.old - vec_len held.old ≤ (vec_capacity held.new - vec_len held.new) + 1 }
+{
+    let _ = held.push(new);
+}
+
+// Puts one more at a place, where there is room.
+fn insert_within<T: Drop>(held: &mut Vec<T>, at: usize, new: T)
+    requires place { at ≤ vec_len held.old }
+    requires room { 1 ≤ vec_capacity held.old - vec_len held.old }
+    ensures items { held.new.items ≡ insert held.old.items at new }
+    ensures room { vec_capacity held.old - vec_len held.old ≤ (vec_capacity held.new - vec_len held.new) + 1 }
+{
+    let _ = held.insert(at, new);
+}
+
+// Puts one more root there. Of the last one before, its bytes stay.
+fn push_root(earlier: &mut Vec<Vec<u8>>, last: &mut Option<File<Root>>, root: File<Root>)
+    requires { 1 ≤ vec_capacity earlier.old - vec_len earlier.old }
+    ensures bytes { map (λ b. b.items) earlier.new.items ++ last_bytes last.new
+        ≡ (map (λ b. b.items) earlier.old.items ++ last_bytes last.old) ++ root.source.bytes ∷ [] }
+    ensures last { last.new ≡ Some root }
+    ensures room { vec_capacity earlier.old - vec_len earlier.old ≤ (vec_capacity earlier.new - vec_len earlier.new) + 1 }
+{
+    let Some(old) = last.replace(root) else {
+        return;
+    };
+    push_within(earlier, old.source.into_bytes());
+}
+
+// Puts roots there, one after the other.
+fn take_roots(earlier: &mut Vec<Vec<u8>>, last: &mut Option<File<Root>>, roots: Vec<File<Root>>)
+    requires { length roots.items ≤ vec_capacity earlier.old - vec_len earlier.old }
+    ensures bytes { map (λ b. b.items) earlier.new.items ++ last_bytes last.new
+        ≡ (map (λ b. b.items) earlier.old.items ++ last_bytes last.old) ++ map (λ r. r.source.bytes) roots.items }
+    ensures last { last.new ≡ last_or last.old roots.items }
+{
+    for root in roots {
+        push_root(earlier, last, root);
+    }
+}
+
+// What is new, or what was there unless it was emptied.
+fn renew<T: Drop>(held: &mut Option<T>, emptied: bool, new: Option<T>)
+    ensures { held.new ≡ renewed emptied held.old new }
+{
+    if emptied || new.is_some() {
+        *held = new;
+    }
+}
+
+// Takes all away, where it is emptied.
+fn empty_if<T: Drop>(emptied: bool, held: &mut Vec<T>)
+    ensures items { held.new.items ≡ cond emptied [] held.old.items }
+    ensures room { vec_capacity held.old - vec_len held.old ≤ vec_capacity held.new - vec_len held.new }
+{
+    if emptied {
+        held.clear();
+    }
+}
+
+// Whether the bytes are before others in the order of a dictionary.
+pub(crate) fn is_before(a: &[u8], b: &[u8]) -> bool
+    ensures { result ≡ before a.now b.now }
+{
+    let mut left = a;
+    let mut right = b;
+    'bytes: while let Some((y, later)) = right.split_first() {
+        let Some((x, rest)) = left.split_first() else {
+            return true;
+        };
+        if x != y {
+            return x < y;
+        }
+        left = rest;
+        right = later;
+    }
+    false
+}
+
+// Whether a place is before that of a row.
+pub(crate) fn is_place_before(role: &str, version: u32, row: &Row) -> bool
+    ensures { result ≡ place_before (role.now, version) (row.now.role, row.now.version) }
+{
+    let held = row.role.as_str();
+    is_before(role.as_bytes(), held.as_bytes()) || (role == held && version < row.version)
+}
+
+// The index of the first shelf row that stands behind a new one.
+fn later_row(shelf: &[Row], role: &str, version: u32) -> Option<usize>
+    ensures { result ≡ position (λ r. place_before (role.now, version) (r.role, r.version)) shelf.now }
+{
+    shelf
+        .iter()
+        .position(|row| is_place_before(role, version, row))
+}
+
+// How many rows stand before a new one.
+fn row_place(shelf: &[Row], role: &str, version: u32) -> usize
+    ensures within { result ≤ length shelf.now }
+    ensures place { result ≡ position_or_len (λ r. place_before (role.now, version) (r.role, r.version)) shelf.now }
+{
+    match later_row(shelf, role, version) {
+        Some(at) => at,
+        None => shelf.len(),
+    }
+}
+
+// The index of the first blob that stands behind a new one.
+fn later_blob(blobs: &[Blob], digest: &Digest) -> Option<usize>
+    ensures { result ≡ position (λ b. before digest.now.0 b.digest.0) blobs.now }
+{
+    blobs
+        .iter()
+        .position(|blob| is_before(&digest.0, &blob.digest.0))
+}
+
+// How many blobs stand before a new one.
+fn blob_place(blobs: &[Blob], digest: &Digest) -> usize
+    ensures within { result ≤ length blobs.now }
+    ensures place { result ≡ position_or_len (λ b. before digest.now.0 b.digest.0) blobs.now }
+{
+    match later_blob(blobs, digest) {
+        Some(at) => at,
+        None => blobs.len(),
+    }
+}
+
+// Puts one more row on the shelf.
+fn put_row(shelf: &mut Vec<Row>, row: Row)
+    requires { 1 ≤ vec_capacity shelf.old - vec_len shelf.old }
+    ensures rows { row_views shelf.new.items ≡ with_row place_before (row_views shelf.old.items) (row.role, row.version) (targets_file row.file) }
+    ensures room { vec_capacity shelf.old - vec_len shelf.old ≤ (vec_capacity shelf.new - vec_len shelf.new) + 1 }
+{
+    let at = row_place(shelf, row.role.as_str(), row.version);
+    insert_within(shelf, at, row);
+}
+
+// Puts rows on the shelf, one after the other.
+fn take_rows(shelf: &mut Vec<Row>, rows: Vec<Row>)
+    requires { length rows.items ≤ vec_capacity shelf.old - vec_len shelf.old }
+    ensures { row_views shelf.new.items ≡ with_rows (row_views shelf.old.items) (row_views rows.items) }
+{
+    for row in rows {
+        put_row(shelf, row);
+    }
+}
+
+// Puts one more blob there.
+fn put_blob(blobs: &mut Vec<Blob>, blob: Blob)
+    requires { 1 ≤ vec_capacity blobs.old - vec_len blobs.old }
+    ensures rows { blob_views blobs.new.items ≡ with_row before (blob_views blobs.old.items) blob.digest.0 blob.bytes.items }
+    ensures room { vec_capacity blobs.old - vec_len blobs.old ≤ (vec_capacity blobs.new - vec_len blobs.new) + 1 }
+{
+    let at = blob_place(blobs, &blob.digest);
+    insert_within(blobs, at, blob);
+}
+
+// Puts blobs there, one after the other.
+fn take_blobs(blobs: &mut Vec<Blob>, more: Vec<Blob>)
+    requires { length more.items ≤ vec_capacity blobs.old - vec_len blobs.old }
+    ensures { blob_views blobs.new.items ≡ with_blobs (blob_views blobs.old.items) (blob_views more.items) }
+{
+    for blob in more {
+        put_blob(blobs, blob);
+    }
+}
+
+/// Puts changes into what is kept, for which there is room.
+pub(crate) fn take_all(parts: &mut Parts, effects: Effects)
+    requires { places (effects_view effects) ≤ room_of parts.old }
+    ensures { parts_view parts.new ≡ applied (parts_view parts.old) (effects_view effects) }
+{
+    let Effects {
+        roots,
+        emptied,
+        timestamp,
+        snapshot,
+        rows,
+        blobs,
+    } = effects;
+    take_roots(&mut parts.earlier, &mut parts.root, roots);
+    renew(&mut parts.timestamp, emptied, timestamp);
+    renew(&mut parts.snapshot, emptied, snapshot);
+    empty_if(emptied, &mut parts.shelf);
+    take_rows(&mut parts.shelf, rows);
+    take_blobs(&mut parts.blobs, blobs);
+}
