@@ -1,14 +1,17 @@
 #!/usr/bin/env python3
-"""What RFC 8554 says of the LMS lines of the stored run, written apart from the crates.
+"""What the standards say of most lines of the stored run, written apart from the crates.
 
-    straight.py    reads `stdin` and `stdout` beside it, and compares each line `lms`, `key` and `sign` of the one with
-                   the line of the other: the verdict and the hashes by section 5.4.2, the id as SHA-256 of the key's
-                   canonical object, the key and the signature by sections 4 and 5 and appendix A
+    straight.py    reads `stdin` and `stdout` beside it, and compares each line of the one but `json` and `document` with
+                   the line of the other. LMS (RFC 8554): the verdict and the hashes by section 5.4.2, the id as SHA-256
+                   of the key's canonical object, the key and the signature by sections 4 and 5 and appendix A. Dates:
+                   Python's calendar. Names: TUF 1.0, section 6.2
 
 It prints how many lines agree, and each that does not.
 """
+import datetime
 import hashlib
 import pathlib
+import re
 import sys
 
 # w: the number of the type, p, ls
@@ -116,6 +119,26 @@ def signed(w, height, identifier, secret, q, message):
     return f"{(types + identifier + tree[1]).hex()} {b''.join(signature).hex()}"
 
 
+def seconds(text):
+    """RFC 3339 in the one form of TUF 1.0, section 4.2.1, of the years 1970 to 9998."""
+    parts = re.fullmatch(rb"(\d{4})-(\d\d)-(\d\d)T(\d\d):(\d\d):(\d\d)Z", text)
+    if parts is None or not 1970 <= int(parts[1]) <= 9998:
+        return "ill"
+    try:
+        moment = datetime.datetime(*map(int, parts.groups()))
+    except ValueError:
+        return "ill"
+    return str((moment - datetime.datetime(1970, 1, 1)) // datetime.timedelta(seconds=1))
+
+
+def asked(text):
+    """The path and the digest that a name of a consistent snapshot asks for."""
+    folder, slash, last = text.rpartition(b"/")
+    parts = re.fullmatch(rb"([0-9a-f]{64})\.(.+)", last, re.DOTALL)
+    path, digits = (folder + slash + parts[2], parts[1].decode()) if parts else (text, "-")
+    return f"{path.hex() or '-'} {digits}"
+
+
 def bytes_of(word):
     return b"" if word == "-" else bytes.fromhex(word)
 
@@ -129,6 +152,10 @@ def expected(line):
     if kind == "sign":
         w, height, identifier, secret, q, message = words
         return signed(int(w), int(height), bytes_of(identifier), bytes_of(secret), int(q), bytes_of(message))
+    if kind == "calendar":
+        return seconds(*map(bytes_of, words))
+    if kind == "asked":
+        return asked(*map(bytes_of, words))
     return None
 
 

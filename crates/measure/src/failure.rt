@@ -3,15 +3,20 @@ ghost use Rattle.measure.specs.Failure.{status_of};
 
 use canonical_json::{ReadFault, WriteFault};
 use lms::SignFault;
+use metadata::ShapeFault;
 use std::alloc::AllocError;
 use std::{fmt, io};
 
-const USAGE: &str = "usage: measure canon FILE N | measure lms N   (N from 1 to 4294967295)
+const USAGE: &str =
+    "usage: measure canon FILE N | measure lms N | measure documents N   (N from 1 to 4294967295)
   canon FILE N   reads and writes the canonical JSON of FILE, each N times, and prints the bytes per second of
                  each: `read B` and `write B`
   lms N          signs once and verifies N times with each LM-OTS type at height 5, and prints the signings,
                  verifications and hashes per second: `w8 sign S verify V hashes H`; then the hashes of 55 bytes
-                 per second of SHA-256 alone, `sha2 H`, and the hashes of each type in hundredths of that";
+                 per second of SHA-256 alone, `sha2 H`, and the hashes of each type in hundredths of that
+  documents N    reads a snapshot of 128 roles and 256,000 bytes and targets metadata of 1,000 listings, each N times,
+                 and prints the bytes of each and how many are read per second: `snapshot B read R` and
+                 `targets B read R`";
 
 /// Why nothing was measured.
 #[derive(Debug, Clone, Copy, PartialEq, Eq)]
@@ -22,19 +27,21 @@ pub enum Failure {
     NotRead,
     /// What was signed does not verify.
     NotVerified,
+    /// What was built is no document.
+    NoDocument,
     Memory,
     File,
     Clock,
 }
 
 impl Failure {
-    /// The exit status: 1 for a file that is no canonical text or a signature that does not verify, 2 for the words,
-    /// and 3 for what is outside of these.
+    /// The exit status: 1 for a file that is no canonical text, a signature that does not verify or a text that is no
+    /// document, 2 for the words, and 3 for what is outside of these.
     pub fn status(self) -> u8
         ensures { result ≡ status_of self }
     {
         match self {
-            Failure::NotRead | Failure::NotVerified => 1,
+            Failure::NotRead | Failure::NotVerified | Failure::NoDocument => 1,
             Failure::Usage => 2,
             Failure::Memory | Failure::File | Failure::Clock => 3,
         }
@@ -47,6 +54,7 @@ impl fmt::Display for Failure {
             Failure::Usage => USAGE,
             Failure::NotRead => "not canonical JSON",
             Failure::NotVerified => "not verified",
+            Failure::NoDocument => "no document",
             Failure::Memory => "fault memory",
             Failure::File => "fault file",
             Failure::Clock => "fault clock",
@@ -94,6 +102,19 @@ impl From<SignFault> for Failure {
         match fault {
             SignFault::OutOfMemory => Failure::Memory,
             SignFault::LeafRange => Failure::NotVerified,
+        }
+    }
+}
+
+impl From<ShapeFault> for Failure {
+    fn from(fault: ShapeFault) -> Self {
+        match fault {
+            ShapeFault::OutOfMemory => Failure::Memory,
+            ShapeFault::TooLong
+            | ShapeFault::NotCanonical
+            | ShapeFault::WrongShape
+            | ShapeFault::WrongType
+            | ShapeFault::BadKeyId => Failure::NoDocument,
         }
     }
 }

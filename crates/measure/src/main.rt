@@ -2,6 +2,7 @@
 #![tactic(auto)]
 
 mod canon;
+mod documents;
 mod failure;
 mod lms_rates;
 mod rate;
@@ -29,5 +30,6 @@ fn run(rt: &(impl Env + Files + Clock + Print + AllocGlobal)) -> Result<(), Fail
     match Task::parse(&words)? {
         Task::Canon { file, rounds } => canon::measure(rt, file, rounds),
         Task::Lms { rounds } => lms_rates::measure(rt, rounds),
+        Task::Documents { rounds } => documents::measure(rt, rounds),
     }
 }

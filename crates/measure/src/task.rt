@@ -7,6 +7,8 @@ pub enum Task<'a> {
     Canon { file: &'a str, rounds: u32 },
     /// `lms N`: messages are signed once and verified so many times.
     Lms { rounds: u32 },
+    /// `documents N`: a snapshot and targets metadata are read, each so many times.
+    Documents { rounds: u32 },
 }
 
 impl<'a> Task<'a> {
@@ -18,6 +20,9 @@ impl<'a> Task<'a> {
                 rounds: rounds_of(rounds)?,
             }),
             [_, kind, rounds] if kind.as_str() == "lms" => Ok(Task::Lms {
+                rounds: rounds_of(rounds)?,
+            }),
+            [_, kind, rounds] if kind.as_str() == "documents" => Ok(Task::Documents {
                 rounds: rounds_of(rounds)?,
             }),
             _ => Err(Failure::Usage),

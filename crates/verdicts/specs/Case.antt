@@ -1,9 +1,11 @@
 -- How a line writes a case down.
-use Rattle.std.specs.Prelude.{◌≡◌, ◌==◌, ◌<◌, ◌^◌, ℕ, List, [], ◌∷◌, codes, decimal, length}
+use Rattle.std.specs.Prelude.{◌≡◌, ◌==◌, ◌<◌, ◌^◌, ℕ, List, [], ◌∷◌, codes, decimal, length, string_bytes}
 use Rattle.std.specs.List.{slice_split}
+use Rattle.std.specs.Str.{IsUtf8}
 use Rattle.hex.specs.Hex.{IsBytes}
+use Rattle.metadata.specs.Shape.{kind_name}
 use Rattle.verdicts.specs.declared.case.Case.{Case}
-use Rattle.verdicts.specs.declared.case.Case.TheVariants.{Json, Lms, Key, Sign}
+use Rattle.verdicts.specs.declared.case.Case.TheVariants.{Json, Lms, Key, Sign, Calendar, Document, Asked}
 use Rattle.verdicts.specs.declared.case.CaseFault.{CaseFault}
 use Rattle.verdicts.specs.declared.case.CaseFault.TheVariants.{NotUnderstood, OutOfMemory}
 use Rattle.verdicts.specs.Words.{hex_word, ots_word, height_word}
@@ -16,6 +18,10 @@ words_of line = slice_split (λ b. b == 32) line
 abbrev pub IsBytesOf : ℕ → List ℕ → Type 0
 IsBytesOf n bytes = IsBytes bytes × (length bytes ≡ n)
 
+-- bytes that are UTF-8
+abbrev pub IsText : List ℕ → Type 0
+IsText bytes = IsBytes bytes × IsUtf8 bytes
+
 -- the words write the case down: its kind, and then a word for each of its parts
 abbrev pub IsCase : List (List ℕ) → Case → Type 0
 IsCase words (Json part) = (words ≡ codes "json" ∷ hex_word part.items ∷ []) × IsBytes part.items
@@ -27,6 +33,9 @@ IsCase words (Sign seed params leaf message) =
     (words ≡ codes "sign" ∷ ots_word params.ots ∷ height_word params.height ∷ hex_word seed.identifier
     ∷ hex_word seed.secret ∷ decimal leaf ∷ hex_word message.items ∷ [])
     × IsBytesOf 16 seed.identifier × IsBytesOf 32 seed.secret × (leaf < 2 ^ 32) × IsBytes message.items
+IsCase words (Calendar text) = (words ≡ codes "calendar" ∷ hex_word (string_bytes text) ∷ []) × IsText (string_bytes text)
+IsCase words (Document kind bytes) = (words ≡ codes "document" ∷ kind_name kind ∷ hex_word bytes.items ∷ []) × IsBytes bytes.items
+IsCase words (Asked text) = (words ≡ codes "asked" ∷ hex_word (string_bytes text) ∷ []) × IsText (string_bytes text)
 
 -- why words are no case
 abbrev pub IsCaseFault : List (List ℕ) → CaseFault → Type 0

@@ -1,5 +1,5 @@
 -- What a case comes to, and how that is printed.
-use Rattle.std.specs.Prelude.{◌≡◌, ◌<◌, ◌≤◌, ℕ, List, ◌++◌, codes, decimal, string_bytes}
+use Rattle.std.specs.Prelude.{◌≡◌, ◌<◌, ◌≤◌, ℕ, List, ◌++◌, codes, decimal, string_bytes, Option}
 use Rattle.hex.specs.Hex.{encode_lower}
 use Rattle.canonical_json.specs.Json.{Json}
 use Rattle.canonical_json.specs.Spelling.{IsCanonical}
@@ -14,11 +14,18 @@ use Rattle.lms.specs.Parts.{IsKeyOf, IsSignatureOf}
 use Rattle.lms.specs.Verifies.{Verifies, hash_count}
 use Rattle.keys_roles.specs.Keys.{id_of}
 use Rattle.keys_roles.specs.Plain as plain
+use Rattle.metadata.specs.Dates.{IsDateTime}
+use Rattle.metadata.specs.Documents as documents
+use Rattle.metadata.specs.File.{fault_number}
+use Rattle.metadata.specs.Shape.{IsDocument, IsShapeFault}
+use Rattle.metadata.specs.declared.documents.Kind.{Kind}
+use Rattle.path_patterns.specs.Names.{Asks}
 use Rattle.verdicts.specs.declared.case.Case.{Case}
 use Rattle.verdicts.specs.declared.case.Case.TheVariants as cases
 use Rattle.verdicts.specs.declared.verdict.Verdict.{Verdict}
-use Rattle.verdicts.specs.declared.verdict.Verdict.TheVariants.{Canonical, NotCanonical, TooDeep, IntegerRange, Valid, Invalid, KeyId, Signed, LeafRange}
+use Rattle.verdicts.specs.declared.verdict.Verdict.TheVariants.{Canonical, NotCanonical, TooDeep, IntegerRange, Valid, Invalid, KeyId, Signed, LeafRange, Moment, NoMoment, Document, NoDocument, AsksFor}
 use Rattle.verdicts.specs.Case.{IsCase, words_of}
+use Rattle.verdicts.specs.Words.{hex_word, digest_word}
 
 -- whether the bytes are the canonical text of a value, and else which fault they have
 abbrev pub IsReading : List ℕ → Verdict → Type 0
@@ -56,12 +63,33 @@ IsSigning seed params leaf message (Signed public signature) =
 IsSigning seed params leaf message LeafRange = leaf_count params ≤ leaf
 IsSigning seed params leaf message verdict = ⊥
 
+-- the moment that the text is as a date and time, or that it is none
+abbrev pub IsDating : List ℕ → Verdict → Type 0
+IsDating text (Moment seconds) = IsDateTime text seconds
+IsDating text NoMoment = (seconds : ℕ) → IsDateTime text seconds → ⊥
+IsDating text verdict = ⊥
+
+-- whether the bytes are a document of the kind, and else which check fails first
+abbrev pub IsShaping : Kind → List ℕ → Verdict → Type 0
+IsShaping kind bytes Document = (d : documents.Document) × IsDocument kind bytes d
+IsShaping kind bytes (NoDocument fault) = IsShapeFault kind bytes fault
+IsShaping kind bytes verdict = ⊥
+
+-- the path that the text asks for, and the digest
+abbrev pub IsAsking : List ℕ → Verdict → Type 0
+IsAsking text (AsksFor path digest) =
+    (p : List ℕ) × (d : Option (List ℕ)) × Asks text p d × (string_bytes path ≡ hex_word p) × (string_bytes digest ≡ digest_word d)
+IsAsking text verdict = ⊥
+
 -- the verdict on a case
 abbrev pub IsVerdict : Case → Verdict → Type 0
 IsVerdict (cases.Json part) verdict = IsReading part.items verdict
 IsVerdict (cases.Lms public signature message) verdict = IsVerifying public.items signature.items message.items verdict
 IsVerdict (cases.Key public) verdict = IsIdentifying public verdict
 IsVerdict (cases.Sign seed params leaf message) verdict = IsSigning seed params leaf message.items verdict
+IsVerdict (cases.Calendar text) verdict = IsDating (string_bytes text) verdict
+IsVerdict (cases.Document kind bytes) verdict = IsShaping kind bytes.items verdict
+IsVerdict (cases.Asked text) verdict = IsAsking (string_bytes text) verdict
 
 -- the line writes a case down, and this is the verdict on it
 abbrev pub IsAnswer : List ℕ → Verdict → Type 0
@@ -78,3 +106,8 @@ text_of (Invalid n) = codes "invalid " ++ decimal n
 text_of (KeyId digits) = string_bytes digits
 text_of (Signed public signature) = string_bytes public ++ (codes " " ++ string_bytes signature)
 text_of LeafRange = codes "leaf_range"
+text_of (Moment seconds) = decimal seconds
+text_of NoMoment = codes "ill"
+text_of Document = codes "ok"
+text_of (NoDocument fault) = decimal (fault_number fault)
+text_of (AsksFor path digest) = string_bytes path ++ (codes " " ++ string_bytes digest)

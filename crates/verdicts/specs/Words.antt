@@ -1,5 +1,5 @@
 -- How a word of a line writes its part of a case down.
-use Rattle.std.specs.Prelude.{ℕ, List, [], ◌∷◌, codes}
+use Rattle.std.specs.Prelude.{ℕ, List, [], ◌∷◌, codes, Option, Some, None}
 use Rattle.hex.specs.Hex.{encode_lower}
 use Rattle.hex.specs.declared.error.FromHexError.{FromHexError}
 use Rattle.hex.specs.declared.error.FromHexError.TheVariants as hex_errors
@@ -14,6 +14,11 @@ use Rattle.verdicts.specs.declared.case.CaseFault.TheVariants.{NotUnderstood, Ou
 abbrev pub hex_word : List ℕ → List ℕ
 hex_word [] = codes "-"
 hex_word (b ∷ bs) = encode_lower (b ∷ bs)
+
+-- a digest is written in hex, and none as a dash
+abbrev pub digest_word : Option (List ℕ) → List ℕ
+digest_word None = codes "-"
+digest_word (Some digest) = encode_lower digest
 
 -- an LM-OTS type is written by its width, and a tree by its height
 abbrev pub ots_word : OtsType → List ℕ

@@ -1,9 +1,10 @@
 ghost use Rattle.std.specs.Prelude.{◌≡◌, ◌∷◌, IfOk, IfErr, codes, map};
 ghost use Rattle.verdicts.specs.Case.{words_of, IsCase, IsCaseFault};
 
-use crate::words::{array_of, bytes_of, height_of, leaf_of, ots_of};
+use crate::words::{array_of, bytes_of, height_of, kind_of, leaf_of, ots_of, text_of};
 use hex::FromHexError;
 use lms::{Params, Seed};
+use metadata::Kind;
 use std::alloc::{AllocError, Global};
 
 /// One line, taken apart.
@@ -26,6 +27,15 @@ pub enum Case {
         leaf: u32,
         message: Vec<u8>,
     },
+    /// `calendar HEX`: which moment is this text as a date and time?
+    Calendar(String),
+    /// `document KIND HEX`: is this a document of the kind?
+    Document {
+        kind: Kind,
+        bytes: Vec<u8>,
+    },
+    /// `asked HEX`: which path does this text ask for, and which digest?
+    Asked(String),
 }
 
 /// Why a line is not taken apart.
@@ -78,6 +88,12 @@ impl Case {
             key_case(alloc, parts)
         } else if *kind == b"sign".as_slice() {
             sign_case(alloc, parts)
+        } else if *kind == b"calendar".as_slice() {
+            calendar_case(alloc, parts)
+        } else if *kind == b"document".as_slice() {
+            document_case(alloc, parts)
+        } else if *kind == b"asked".as_slice() {
+            asked_case(alloc, parts)
         } else {
             Err(CaseFault::NotUnderstood)
         }
@@ -150,4 +166,40 @@ fn sign_case(alloc: Global, parts: &[&[u8]]) -> Result<Case, CaseFault>
         leaf: leaf_of(alloc, leaf)?,
         message: bytes_of(alloc, message)?,
     })
+}
+
+// The same for `calendar`.
+fn calendar_case(alloc: Global, parts: &[&[u8]]) -> Result<Case, CaseFault>
+    ensures case { IfOk result (IsCase (codes "calendar" ∷ map (λ w. w.now) parts.now)) }
+    ensures fault { IfErr result (IsCaseFault (codes "calendar" ∷ map (λ w. w.now) parts.now)) }
+{
+    let [text] = parts else {
+        return Err(CaseFault::NotUnderstood);
+    };
+    Ok(Case::Calendar(text_of(alloc, text)?))
+}
+
+// The same for `document`.
+fn document_case(alloc: Global, parts: &[&[u8]]) -> Result<Case, CaseFault>
+    ensures case { IfOk result (IsCase (codes "document" ∷ map (λ w. w.now) parts.now)) }
+    ensures fault { IfErr result (IsCaseFault (codes "document" ∷ map (λ w. w.now) parts.now)) }
+{
+    let [kind, bytes] = parts else {
+        return Err(CaseFault::NotUnderstood);
+    };
+    Ok(Case::Document {
+        kind: kind_of(kind)?,
+        bytes: bytes_of(alloc, bytes)?,
+    })
+}
+
+// The same for `asked`.
+fn asked_case(alloc: Global, parts: &[&[u8]]) -> Result<Case, CaseFault>
+    ensures case { IfOk result (IsCase (codes "asked" ∷ map (λ w. w.now) parts.now)) }
+    ensures fault { IfErr result (IsCaseFault (codes "asked" ∷ map (λ w. w.now) parts.now)) }
+{
+    let [text] = parts else {
+        return Err(CaseFault::NotUnderstood);
+    };
+    Ok(Case::Asked(text_of(alloc, text)?))
 }

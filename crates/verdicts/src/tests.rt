@@ -63,6 +63,16 @@ fn stops_at_the_first_line_that_is_no_case(rt: HostRuntime) {
         ("key -\n", 1, ""),
         ("key 00\n", 1, ""),
         ("sign 1 5 - - 0 -\n", 1, ""),
+        ("calendar\n", 1, ""),
+        ("calendar ff\n", 1, ""),
+        ("calendar 30 30\n", 1, ""),
+        ("document 7b7d\n", 1, ""),
+        ("document link 7b7d\n", 1, ""),
+        ("document Root 7b7d\n", 1, ""),
+        ("document root 7b7\n", 1, ""),
+        ("asked\n", 1, ""),
+        ("asked c3\n", 1, ""),
+        ("asked 61 61\n", 1, ""),
         ("json 30\n\njson 31\n", 2, "canonical\n"),
         ("json 30\njson -\njson x", 3, "canonical\nnot_canonical\n"),
     ] {
@@ -90,6 +100,30 @@ fn prints_what_lms_answers(rt: HostRuntime) {
         (
             "sign 8 10 00000000000000000000000000000000 ffffffffffffffffffffffffffffffffffffffffffffffffffffffffffffffff 1024 -\n",
             "leaf_range\n",
+        ),
+    ] {
+        let (output, result) = answered(rt.alloc(), text.as_bytes());
+        assert!(rt; result == Ok(()), "{text}");
+        assert!(rt; output.as_slice() == printed.as_bytes(), "{text}");
+    }
+}
+
+#[test]
+fn prints_what_is_said_of_dates_documents_and_names(rt: HostRuntime) {
+    for (text, printed) in [
+        (
+            "calendar 313937302d30312d30315430303a30313a30355a\n",
+            "65\n",
+        ),
+        ("calendar 31393730\ncalendar c3a9\n", "ill\nill\n"),
+        (
+            "document root -\ndocument targets 7b7d\ndocument snapshot 7b20\n",
+            "2\n3\n2\n",
+        ),
+        ("asked -\nasked 612f62\n", "- -\n612f62 -\n"),
+        (
+            "asked 612f303132333435363738396162636465663031323334353637383961626364656630313233343536373839616263646566303132333435363738396162636465662e62\n",
+            "612f62 0123456789abcdef0123456789abcdef0123456789abcdef0123456789abcdef\n",
         ),
     ] {
         let (output, result) = answered(rt.alloc(), text.as_bytes());

@@ -1,11 +1,15 @@
-ghost use Rattle.std.specs.Prelude.{IfOk, IfErr};
+ghost use Rattle.std.specs.Prelude.{◌≡◌, IfOk, IfErr, MatchOption, string_bytes};
+ghost use Rattle.metadata.specs.File.{fault_number};
 ghost use Rattle.verdicts.specs.Case.{words_of, IsCaseFault};
-ghost use Rattle.verdicts.specs.Verdict.{IsReading, IsVerifying, IsIdentifying, IsSigning, IsVerdict, IsAnswer};
+ghost use Rattle.verdicts.specs.Verdict.{IsReading, IsVerifying, IsIdentifying, IsSigning, IsDating, IsShaping, IsAsking, IsVerdict, IsAnswer};
+ghost use Rattle.verdicts.specs.Words.{hex_word};
 
 use crate::case::{Case, CaseFault};
 use canonical_json::ReadFault;
 use keys_roles::{Key, key_id};
 use lms::{Params, Seed, SignFault, Steps, public_of, sign, verify_counted};
+use metadata::{Kind, ShapeFault, read_date_time, read_document};
+use path_patterns::read_asked;
 use std::alloc::{AllocError, Global};
 use std::fmt;
 
@@ -26,6 +30,15 @@ pub enum Verdict {
     Signed { public: String, signature: String },
     /// The tree has no such leaf.
     LeafRange,
+    /// A date and time, in seconds since 1970-01-01T00:00:00Z.
+    Moment(u64),
+    /// The text is no date and time.
+    NoMoment,
+    Document,
+    /// The first check of the document that fails.
+    NoDocument(ShapeFault),
+    /// The path in hex digits, and the digest in hex digits. Where there is nothing to write, it is a dash.
+    AsksFor { path: String, digest: String },
 }
 
 impl fmt::Display for Verdict {
@@ -45,7 +58,26 @@ impl fmt::Display for Verdict {
             Verdict::KeyId(digits) => f.write_str(digits),
             Verdict::Signed { public, signature } => write!(f, "{public} {signature}"),
             Verdict::LeafRange => f.write_str("leaf_range"),
+            Verdict::Moment(seconds) => write!(f, "{seconds}"),
+            Verdict::NoMoment => f.write_str("ill"),
+            Verdict::Document => f.write_str("ok"),
+            Verdict::NoDocument(fault) => write!(f, "{}", number_of(*fault)),
+            Verdict::AsksFor { path, digest } => write!(f, "{path} {digest}"),
         }
+    }
+}
+
+// The number of a check.
+fn number_of(fault: ShapeFault) -> u8
+    ensures { result ≡ fault_number fault }
+{
+    match fault {
+        ShapeFault::TooLong => 1,
+        ShapeFault::NotCanonical => 2,
+        ShapeFault::WrongShape => 3,
+        ShapeFault::WrongType => 4,
+        ShapeFault::BadKeyId => 5,
+        ShapeFault::OutOfMemory => 0,
     }
 }
 
@@ -76,6 +108,9 @@ pub fn judge(alloc: Global, case: &Case) -> Result<Verdict, AllocError>
             leaf,
             message,
         } => signing(alloc, seed, *params, *leaf, message),
+        Case::Calendar(text) => Ok(dating(text)),
+        Case::Document { kind, bytes } => shaping(alloc, *kind, bytes),
+        Case::Asked(text) => asking(alloc, text),
     }
 }
 
@@ -136,4 +171,50 @@ fn signing(
         public: hex::encode(alloc, &public_of(seed, params))?,
         signature: hex::encode(alloc, &signature)?,
     })
+}
+
+// The moment that the text is as a date and time.
+fn dating(text: &str) -> Verdict
+    ensures { IsDating text.now result }
+{
+    match read_date_time(text) {
+        Some(moment) => Verdict::Moment(moment.seconds()),
+        None => Verdict::NoMoment,
+    }
+}
+
+// Whether the bytes are a document of the kind, or which check fails first.
+fn shaping(alloc: Global, kind: Kind, bytes: &[u8]) -> Result<Verdict, AllocError>
+    ensures { IfOk result (IsShaping kind bytes.now) }
+{
+    match read_document(alloc, kind, bytes) {
+        Ok(_) => Ok(Verdict::Document),
+        Err(ShapeFault::OutOfMemory) => Err(AllocError),
+        Err(fault) => Ok(Verdict::NoDocument(fault)),
+    }
+}
+
+// The path that the text asks for, and the digest.
+fn asking(alloc: Global, text: &str) -> Result<Verdict, AllocError>
+    ensures { IfOk result (IsAsking text.now) }
+{
+    let (path, digest) = read_asked(alloc, text)?;
+    let digest = match digest {
+        Some(digest) => digest.text(alloc)?,
+        None => String::from_str(alloc, "-")?,
+    };
+    Ok(Verdict::AsksFor {
+        path: word_of(alloc, path.as_bytes())?,
+        digest,
+    })
+}
+
+// The word that writes the bytes down: lower-case hex, or a dash where there are none.
+fn word_of(alloc: Global, bytes: &[u8]) -> Result<String, AllocError>
+    ensures { IfOk result (λ s. string_bytes s ≡ hex_word bytes.now) }
+{
+    match bytes {
+        [] => String::from_str(alloc, "-"),
+        _ => hex::encode(alloc, bytes),
+    }
 }

@@ -1,13 +1,17 @@
 // What a single word of a line writes down.
 
-ghost use Rattle.std.specs.Prelude.{◌≡◌, ◌⊎◌, ◌↔◌, ◌<◌, ◌^◌, ℕ, List, IsTrue, IfOk, IfErr, decimal, length};
+ghost use Rattle.std.specs.Prelude.{◌≡◌, ◌⊎◌, ◌↔◌, ◌<◌, ◌^◌, ℕ, List, IsTrue, IfOk, IfErr, decimal, length, string_bytes};
 ghost use Rattle.hex.specs.Hex.{IsBytes, encode_lower};
 ghost use Rattle.lms.specs.declared.OtsType.{OtsType};
 ghost use Rattle.lms.specs.declared.SigningHeight.{SigningHeight};
+ghost use Rattle.metadata.specs.Shape.{kind_name};
+ghost use Rattle.metadata.specs.declared.documents.Kind.{Kind};
+ghost use Rattle.verdicts.specs.Case.{IsText};
 ghost use Rattle.verdicts.specs.Words.{hex_word, ots_word, height_word};
 
 use crate::case::CaseFault;
 use lms::{OtsType, SigningHeight};
+use metadata::Kind;
 use std::alloc::{AllocError, Global};
 
 /// The bytes that a word writes down: lower-case hex, or a dash where there are none.
@@ -45,6 +49,37 @@ pub fn array_of<const N: usize>(alloc: Global, word: &[u8]) -> Result<[u8; N], C
     match bytes.as_array::<N>() {
         Some(array) => Ok(*array),
         None => Err(CaseFault::NotUnderstood),
+    }
+}
+
+/// The same of bytes that are UTF-8.
+pub fn text_of(alloc: Global, word: &[u8]) -> Result<String, CaseFault>
+    ensures text { IfOk result (λ s. (word.now ≡ hex_word (string_bytes s)) × IsText (string_bytes s)) }
+    ensures fault { IfErr result (λ e. (e ≡ CaseFault.OutOfMemory)
+        ⊎ ((bytes : List ℕ) → IsText bytes → word.now ≡ hex_word bytes → ⊥)) }
+{
+    let bytes = bytes_of(alloc, word)?;
+    match String::from_utf8(bytes) {
+        Ok(text) => Ok(text),
+        Err(_) => Err(CaseFault::NotUnderstood),
+    }
+}
+
+/// The kind of documents whose name the word is.
+pub fn kind_of(word: &[u8]) -> Result<Kind, CaseFault>
+    ensures kind { IfOk result (λ kind. word.now ≡ kind_name kind) }
+    ensures fault { IfErr result (λ e. (e ≡ CaseFault.NotUnderstood) × ((kind : Kind) → word.now ≡ kind_name kind → ⊥)) }
+{
+    if word == b"root".as_slice() {
+        Ok(Kind::Root)
+    } else if word == b"timestamp".as_slice() {
+        Ok(Kind::Timestamp)
+    } else if word == b"snapshot".as_slice() {
+        Ok(Kind::Snapshot)
+    } else if word == b"targets".as_slice() {
+        Ok(Kind::Targets)
+    } else {
+        Err(CaseFault::NotUnderstood)
     }
 }
 
