@@ -16,4 +16,5 @@ pub mod Placing
 pub mod Rising
 pub mod ShapedOnce
 pub mod Storing
+pub mod Taken
 pub mod Valid

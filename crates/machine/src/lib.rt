@@ -23,6 +23,8 @@ mod refusal;
 mod shelving;
 mod state;
 mod taking;
+#[cfg(test)]
+mod tests;
 
 pub use batches::batch;
 pub use blobs::put_blob;
