@@ -98,7 +98,7 @@ module _ (law : Shapes) where
       ok_same : (f g : File Root) → ◌≡◌ {A = Judged (File Root)} (Ok f) (Ok g) → f ≡ g
       ok_same f g e = cc
 
-  back : {bs : List Bytes} {root : File Root} → IsRootChain bs root → (fs : List (File Root)) → bytes_of fs ≡ bs → All (IsFileOf root_form) fs
+  pub back : {bs : List Bytes} {root : File Root} → IsRootChain bs root → (fs : List (File Root)) → bytes_of fs ≡ bs → All (IsFileOf root_form) fs
       → IsChain fs × (last_or None fs ≡ Some root)
   back (first {b = b} {root = root} doc is meets) [] e read = absurd (let k : ◌≡◌ {A = List Bytes} [] (b ∷ []) = e in cc)
   back (first {b = b} {root = root} doc is meets) (f ∷ []) e read =

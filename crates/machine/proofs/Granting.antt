@@ -9,7 +9,7 @@ use Rattle.metadata.specs.Orders.{Order, ◌>>=◌, ◌>>◌, pass, decide, hold
 use Rattle.path_patterns.specs.Grammar.{IsTargetPath}
 use Rattle.delegations.specs.Search.{Found, search, shelf_of}
 use Rattle.machine.proofs.Judging.{needed, denied_behind, denied_in}
-use Rattle.machine.specs.Commands.{grants, live_snapshot, blob_of}
+use Rattle.machine.specs.Commands.{grants, live_snapshot, asked_blob_of}
 use Rattle.machine.specs.State.{State}
 use Rattle.machine.specs.Answers.{Gives, gives, denies, forgoes}
 use Rattle.machine.specs.Views.{denial_view}
@@ -35,27 +35,20 @@ gives_behind a p (gives g) = gives (pass p g)
 gives_behind a p (denies g) = denies (pass p g)
 gives_behind a p forgoes = forgoes
 
--- a file for which no digest is asked
-pub gives_any : {X : Type 0} {m : Order Bytes} {view : X → Bytes} (n : ℕ) (P : Bytes → Type 0) {r : Result X Refusal} → Gives m view r
-    → Gives (m >>= λ blob. check n (IfSome None P) >> give blob) view r
-gives_any n P (gives g) = gives (pass g (pass (holds tt) given))
-gives_any n P (denies g) = denies (decide g)
-gives_any n P forgoes = forgoes
-
 -- what is borrowed from an option, seen through f
 pub seen : {A X : Type 0} (f : A → X) (r : Option (Bor A)) (o : Option A) → option_copied r ≡ o → option_map (λ (b : Bor A). f b.now) r ≡ option_map f o
 seen f (Some b) o e = ap (option_map f) e
 seen f None o e = ap (option_map f) e
 
 -- the lines up to the search, and what follows
-pub denied_by_search : {X Y : Type 0} {view : X → Found} {wide : Y → Bytes} (S : State) (path : Bytes) (now : ℕ) (root : File Root) (snap : File Snapshot) {r : Refusal}
+pub denied_by_search : {X Y : Type 0} {view : X → Found} {wide : Y → Bytes} (S : State) (path : Bytes) (asked : Option Bytes) (now : ℕ) (root : File Root) (snap : File Snapshot) {r : Refusal}
     → IsTargetPath path → S.trusted.root ≡ Some root → live_snapshot S.trusted.timestamp S.trusted.snapshot root now (Ok snap)
-    → Gives (search (shelf_of root snap S.trusted.shelf) path now) view (Err r) → Gives (grants S path None now) wide (Err r)
-denied_by_search S path now root snap is there live h =
+    → Gives (search (shelf_of root snap S.trusted.shelf) path now) view (Err r) → Gives (grants S path asked now) wide (Err r)
+denied_by_search S path asked now root snap is there live h =
     denied_behind tt (holds is) (denied_behind root (needed _ _ root there) (denied_behind snap live (denied_in h)))
 
-pub found_by_search : {X : Type 0} {view : X → Bytes} (S : State) (path : Bytes) (now : ℕ) (root : File Root) (snap : File Snapshot) (found : Found) {r : Result X Refusal}
+pub found_by_search : {X : Type 0} {view : X → Bytes} (S : State) (path : Bytes) (asked : Option Bytes) (now : ℕ) (root : File Root) (snap : File Snapshot) (found : Found) {r : Result X Refusal}
     → IsTargetPath path → S.trusted.root ≡ Some root → live_snapshot S.trusted.timestamp S.trusted.snapshot root now (Ok snap)
-    → search (shelf_of root snap S.trusted.shelf) path now (Ok found) → Gives (blob_of S path found.listing) view r → Gives (grants S path None now) view r
-found_by_search S path now root snap found is there live h g =
-    gives_behind tt (holds is) (gives_behind root (needed _ _ root there) (gives_behind snap live (gives_behind found h (gives_any _ (λ digest. found.listing.digest ≡ digest) g))))
+    → search (shelf_of root snap S.trusted.shelf) path now (Ok found) → Gives (asked_blob_of S path found.listing asked) view r → Gives (grants S path asked now) view r
+found_by_search S path asked now root snap found is there live h g =
+    gives_behind tt (holds is) (gives_behind root (needed _ _ root there) (gives_behind snap live (gives_behind found h g)))

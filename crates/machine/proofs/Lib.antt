@@ -15,6 +15,8 @@ pub mod OrderLaws
 pub mod Placing
 pub mod Rising
 pub mod ShapedOnce
+pub mod Standing
 pub mod Storing
 pub mod Taken
 pub mod Valid
+pub mod Zips

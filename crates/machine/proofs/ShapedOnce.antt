@@ -44,7 +44,7 @@ line {A} {B} {m} {f} one each = then-definite m f one each
 
 module _ (law : Shapes) where
   -- a file is one document of its form at most
-  file-once : {A : Type 0} (form : Form A) → Tells form → (d e : File A) → IsFileOf form d → IsFileOf form e → d.bytes ≡ e.bytes → d ≡ e
+  pub file-once : {A : Type 0} (form : Form A) → Tells form → (d e : File A) → IsFileOf form d → IsFileOf form e → d.bytes ≡ e.bytes → d ≡ e
   file-once {A} form tells d e h k p =
       let same : document_of form d ≡ document_of form e =
       law.document form.kind d.bytes (document_of form d) (document_of form e) h (subst (λ (b : Bytes). IsDocument form.kind b (document_of form e)) (sym p) k) in

@@ -219,6 +219,13 @@ blob_of S path l = do
   check no.blob_length (length blob ≡ l.len)
   give blob
 
+-- the blob of a listing, where the digest that is asked for, if one is, is that of the listing
+abbrev pub asked_blob_of : State → Bytes → Listing → Option Bytes → Order Bytes
+asked_blob_of S path listing asked = do
+  blob ← blob_of S path listing
+  check no.digest_mismatch (IfSome asked (λ digest. listing.digest ≡ digest))
+  give blob
+
 -- a target's bytes, or the first denial
 abbrev pub grants : State → Bytes → Option Bytes → ℕ → Order Bytes
 grants S path asked now = do
@@ -226,6 +233,4 @@ grants S path asked now = do
   root ← need no.no_root S.trusted.root
   snap ← live_snapshot S.trusted.timestamp S.trusted.snapshot root now
   found ← search (shelf_of root snap S.trusted.shelf) path now
-  blob ← blob_of S path found.listing
-  check no.digest_mismatch (IfSome asked (λ digest. found.listing.digest ≡ digest))
-  give blob
+  asked_blob_of S path found.listing asked

@@ -1,5 +1,6 @@
 pub mod Answers
 pub mod Commands
+pub mod Contents
 pub mod Effects
 pub mod Kept
 pub mod State

@@ -134,30 +134,3 @@ metadata_files T =
 
 abbrev pub metadata_of : Trusted → Bytes → Option Bytes
 metadata_of T name = look_up (metadata_files T) name
-
--- the rows of the five tables; a blob's digest stands there in 64 hex digits
-pub record Tables : Type 0 where
-  pub root : List (ℕ × Bytes)
-  pub current : List (Name × ℕ × Bytes)
-  pub shelf : List (Place × Bytes)
-  pub blob : List (Bytes × Bytes)
-  pub schema : List ℕ
-
-abbrev pub root_rows : Trusted → ℕ → List Bytes → List (ℕ × Bytes)
-root_rows T k [] = []
-root_rows T k (b ∷ bs) = (root_version T k, b) ∷ root_rows T (suc k) bs
-
-abbrev pub current_rows : {A : Type 0} → Name → Option (File A) → (A → ℕ) → List (Name × ℕ × Bytes)
-current_rows slot None version = []
-current_rows slot (Some file) version = (slot, version file.body, file.bytes) ∷ []
-
-abbrev pub tables_of : State → Tables
-tables_of S = record {
-  root = root_rows S.trusted 0 S.trusted.roots;
-  current =
-      current_rows (codes "snapshot") S.trusted.snapshot (λ s. s.version)
-      ++ current_rows (codes "timestamp") S.trusted.timestamp (λ t. t.version);
-  shelf = map (λ row. (row.0, row.1.bytes)) S.trusted.shelf;
-  blob = map (λ row. (encode_lower row.0, row.1)) S.blobs;
-  schema = 1 ∷ [];
-}

@@ -99,8 +99,8 @@ fn one_blob(alloc: Global, digest: &Digest, bytes: &[u8]) -> Result<Effects, All
     Ok(effects)
 }
 
-// Whether the bytes are few enough for a blob.
-fn is_short(bytes: &[u8]) -> bool
+/// Whether the bytes are few enough for a blob.
+pub(crate) fn is_short(bytes: &[u8]) -> bool
     ensures { IsTrue result ↔ length bytes.now ≤ blob_limit }
 {
     bytes.len() <= MOST_BYTES
@@ -120,8 +120,8 @@ fn has_room(blobs: &[Blob]) -> bool
     blobs.len() < MOST_HELD
 }
 
-// Whether the bytes have this digest.
-fn is_digest_of(digest: &Digest, bytes: &[u8]) -> bool
+/// Whether the bytes have this digest.
+pub(crate) fn is_digest_of(digest: &Digest, bytes: &[u8]) -> bool
     ensures { IsTrue result ↔ sha256 bytes.now ≡ digest.now.0 }
 {
     let own = digest_of(bytes);

@@ -1,5 +1,5 @@
 //! What a target is (TUF 1.0, section 5.7).
-ghost use Rattle.std.specs.Prelude.{◌≡◌, ◌↔◌, None, Err, IsTrue, length};
+ghost use Rattle.std.specs.Prelude.{◌≡◌, ◌↔◌, None, Err, IfSome, IsTrue, length, option_map};
 ghost use Rattle.delegations.specs.Search.{search, shelf_of};
 ghost use Rattle.delegations.specs.Views as searches;
 ghost use Rattle.metadata.specs.Kept.{root_file, snapshot_file};
@@ -11,6 +11,7 @@ ghost use Rattle.machine.specs.Commands as commands;
 ghost use Rattle.machine.specs.Views.{parts_view};
 
 use crate::blobs::blob_of;
+use crate::checks::are_same;
 use crate::denial::Denial;
 use crate::effects::Blob;
 use crate::offers::live_snapshot;
@@ -19,7 +20,7 @@ use crate::refusal::Refusal;
 use crate::state::State;
 use delegations::{Found, Rows, SearchDenial, Shelf, search};
 use metadata::{File, Listing, Moment, Root, Snapshot};
-use path_patterns::TargetPath;
+use path_patterns::{Digest, TargetPath};
 use std::alloc::Global;
 
 /// The file of a target at a moment (TUF 1.0, section 5.7): the file that the first role in the order of the search lists.
@@ -33,6 +34,38 @@ pub fn get<'a>(
     now: Moment,
 ) -> Result<&'a [u8], Refusal>
     ensures { Gives (commands.grants state.now.state path.now None now) (λ b. b.now) result }
+{
+    granted(alloc, state, path, None, now)
+}
+
+/// The file of a target that a text names, at a moment, as `get` finds it; and where a digest is asked for, only the file of a
+/// listing with this digest (TUF 1.0, section 6.2, consistent snapshots). Denials in their order: the text is no path of a
+/// target; those of `get`; the listing has another digest than the one that is asked for.
+pub fn target<'a>(
+    alloc: Global,
+    state: &'a State,
+    path: &str,
+    asked: Option<Digest>,
+    now: Moment,
+) -> Result<&'a [u8], Refusal>
+    ensures { Gives (commands.grants state.now.state path.now (option_map (λ d. d.0) asked) now) (λ b. b.now) result }
+{
+    match TargetPath::read(alloc, path) {
+        Ok(Some(path)) => granted(alloc, state, &path, asked, now),
+        Ok(None) => Err(Refusal::Denied(Denial::BadPath)),
+        Err(_) => Err(Refusal::OutOfMemory),
+    }
+}
+
+// The file of a target, with the digest that is asked for, if one is.
+fn granted<'a>(
+    alloc: Global,
+    state: &'a State,
+    path: &TargetPath,
+    asked: Option<Digest>,
+    now: Moment,
+) -> Result<&'a [u8], Refusal>
+    ensures { Gives (commands.grants state.now.state path.now (option_map (λ d. d.0) asked) now) (λ b. b.now) result }
 {
     is_path(path);
     let parts = state.parts();
@@ -52,7 +85,7 @@ pub fn get<'a>(
         Ok(found) => found,
         Err(refusal) => return Err(refusal),
     };
-    listed_blob(alloc, parts, path, found.listing)
+    asked_blob(alloc, parts, path, found.listing, asked)
 }
 
 // A law, which does nothing: a target's path is one.
@@ -113,6 +146,36 @@ fn missing_role(alloc: Global, role: &str, version: u32) -> Refusal
     match String::from_str(alloc, role) {
         Ok(role) => Refusal::Denied(Denial::RoleMissing { role, version }),
         Err(_) => Refusal::OutOfMemory,
+    }
+}
+
+// The file of a listing, where this has the digest that is asked for.
+fn asked_blob<'a>(
+    alloc: Global,
+    parts: &'a Parts,
+    path: &TargetPath,
+    listing: &Listing,
+    asked: Option<Digest>,
+) -> Result<&'a [u8], Refusal>
+    ensures { Gives (commands.asked_blob_of (parts_view parts.now) path.now (listing_view listing.now) (option_map (λ d. d.0) asked)) (λ b. b.now) result }
+{
+    let blob = match listed_blob(alloc, parts, path, listing) {
+        Ok(blob) => blob,
+        Err(refusal) => return Err(refusal),
+    };
+    if !is_asked(listing, asked) {
+        return Err(Refusal::Denied(Denial::DigestMismatch));
+    }
+    Ok(blob)
+}
+
+// Whether the listing has the digest that is asked for, if one is.
+fn is_asked(listing: &Listing, asked: Option<Digest>) -> bool
+    ensures { IsTrue result ↔ IfSome (option_map (λ d. d.0) asked) (λ digest. listing.now.digest.0 ≡ digest) }
+{
+    match asked {
+        Some(digest) => are_same(&listing.digest.0, &digest.0),
+        None => true,
     }
 }
 

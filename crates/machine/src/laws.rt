@@ -1,9 +1,11 @@
 //! Laws of the trust machine, in functions that do nothing.
-ghost use Rattle.std.specs.Prelude.{◌≡◌, ℕ, List, Option, Result, Ok, IsSome};
+ghost use Rattle.std.specs.Prelude.{◌≡◌, ◌++◌, ℕ, List, Option, Result, Ok, IsSome, length, map};
 ghost use Rattle.metadata.specs.File.{Bytes};
 ghost use Rattle.metadata.specs.Orders.{Denial, Judged};
 ghost use Rattle.machine.specs.State.{Trusted, State, IsTrusted, IsState, nothing};
 ghost use Rattle.machine.specs.Commands.{Offer, Batched, init, offer, batch, put_blob, grants};
+ghost use Rattle.machine.specs.Contents.{contents_of, root_rows};
+ghost use Rattle.machine.specs.Effects.{Effects, applied};
 ghost use Rattle.machine.specs.Steps.{Command, Reply, Outcome, Steps, Runs, StaysCoherent};
 
 use metadata::{one_document, one_shape, snapshot_names};
@@ -45,3 +47,12 @@ pub fn one_judgement()
 pub fn stays_coherent()
     ensures { StaysCoherent }
 {}
+
+/// A law, which does nothing: new roots leave the rows of those before as they are, and stand behind them.
+pub fn rows_stay()
+    ensures { (S : State) (E : Effects) → IsState S → IsState (applied S E)
+        → (contents_of (applied S E)).roots ≡ (contents_of S).roots ++ root_rows (applied S E).trusted (length S.trusted.roots) (map (λ r. r.bytes) E.roots) }
+{
+    one_document();
+    one_shape();
+}

@@ -6,6 +6,7 @@ mod blobs;
 mod calls;
 mod checks;
 mod compared;
+mod contents;
 mod denial;
 mod draft;
 mod effects;
@@ -25,15 +26,18 @@ mod state;
 mod taking;
 #[cfg(test)]
 mod tests;
+mod updating;
 
 pub use batches::batch;
 pub use blobs::put_blob;
 pub use calls::{init, offer};
+pub use contents::Contents;
 pub use denial::Denial;
 pub use effects::{Blob, Effects};
-pub use getting::get;
-pub use laws::{nothing_is_valid, one_judgement, stays_coherent, stays_valid};
+pub use getting::{get, target};
+pub use laws::{nothing_is_valid, one_judgement, rows_stay, stays_coherent, stays_valid};
 pub use names::metadata_file;
 pub use outcome::{Batched, Offer, Outcome};
 pub use refusal::{BatchRefusal, Refusal};
 pub use state::State;
+pub use updating::{root_version, snapshot_due};

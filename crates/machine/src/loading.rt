@@ -1,6 +1,5 @@
 // What the rows of a database have to be, to be those of a state.
 ghost use Rattle.std.specs.Prelude.{◌≡◌, ◌↔◌, map, None, Some, All, IfOk, IfSome, IfNone, IsTrue, option_map};
-ghost use Rattle.sha2.specs.Sha256.{sha256};
 ghost use Rattle.metadata.specs.File.{IsFileOf, root_form, targets_form, has_name};
 ghost use Rattle.metadata.specs.Kept.{root_file, timestamp_file, snapshot_file, targets_file};
 ghost use Rattle.delegations.specs.Delegation.{before};
@@ -11,19 +10,16 @@ ghost use Rattle.machine.specs.Effects.{last_or};
 ghost use Rattle.machine.specs.Kept.{AreBlobs, AreRead, RowsAreRead, FollowOn, IsBare, IsChain, IsShelf, laid, comes_first, rises};
 ghost use Rattle.machine.specs.Views.{blob_views, effects_view};
 
+use crate::blobs::{is_digest_of, is_short};
 use crate::checks::is_signed;
 use crate::effects::{Blob, Effects};
 use crate::state::State;
 use crate::taking::{is_before, is_place_before};
 use delegations::Row;
 use metadata::{File, Root, Snapshot, Timestamp, one_document, one_shape};
-use path_patterns::Digest;
-use sha2::{Digest as _, Sha256};
 use std::alloc::{AllocError, Global};
 
 const MOST_HELD: usize = 4096;
-
-const BLOB_LIMIT: usize = 1_048_576;
 
 // Whether a root meets its own rule.
 pub(crate) fn meets_itself(root: &File<Root>) -> bool
@@ -41,20 +37,11 @@ pub(crate) fn follows_root(old: &File<Root>, new: &File<Root>) -> bool
         && meets_itself(new)
 }
 
-// Whether the bytes have this digest.
-pub(crate) fn has_digest(bytes: &[u8], digest: &Digest) -> bool
-    ensures { IsTrue result ↔ (sha256 bytes.now ≡ digest.now.0) }
-{
-    let mut hasher = Sha256::new();
-    hasher.update(bytes);
-    hasher.finalize() == digest.0
-}
-
 // Whether a blob has its digest, and is short enough.
 fn is_blob(blob: &Blob) -> bool
     ensures { IsTrue result ↔ (IsBlob (blob.now.digest.0, blob.now.bytes.items)) }
 {
-    blob.bytes.len() <= BLOB_LIMIT && has_digest(&blob.bytes, &blob.digest)
+    is_short(&blob.bytes) && is_digest_of(&blob.digest, &blob.bytes)
 }
 
 // Whether each blob is one.
@@ -311,7 +298,7 @@ pub(crate) fn is_state(files: &Effects) -> bool
 /// The state of which these are all the files, and `None` where no state has them.
 pub(crate) fn settle(alloc: Global, files: Effects) -> Result<Option<State>, AllocError>
     requires { AreRead (effects_view files) }
-    ensures some { IfOk result (λ o. IfSome o (λ s. s.state ≡ laid (effects_view files))) }
+    ensures some { IfOk result (λ o. IfSome o (λ s. (s.state ≡ laid (effects_view files)) × IsState (laid (effects_view files)))) }
     ensures none { IfOk result (λ o. IfNone o (IsState (laid (effects_view files)) → ⊥)) }
 {
     if !is_state(&files) {

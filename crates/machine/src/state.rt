@@ -58,6 +58,13 @@ impl State {
         take_all(&mut self.parts, effects);
     }
 
+    /// A law, which does nothing: what a state holds is valid.
+    pub fn is_valid(&self)
+        ensures { IsState self.now.state }
+    {
+        self.parts();
+    }
+
     pub(crate) fn parts(&self) -> &Parts
         ensures view { parts_view result.now ≡ self.now.state }
         ensures valid { IsState self.now.state }

@@ -1,6 +1,7 @@
 mod batches;
 mod blobs;
 mod files;
+mod full;
 mod neighbours;
 mod numbers;
 mod refused;

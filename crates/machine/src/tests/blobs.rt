@@ -50,5 +50,7 @@ fn longest_blob(rt: HostRuntime) -> Result<(), Fail> {
     bytes.push(7)?;
     assert_eq!(rt; put(rt.alloc(), &mut state, &ABC, &bytes), 38);
     assert_eq!(rt; put_bytes(rt.alloc(), &mut state, &bytes), 38);
+    let mut nothing = State::new(rt.alloc());
+    assert_eq!(rt; put_bytes(rt.alloc(), &mut nothing, &bytes), 6);
     Ok(())
 }

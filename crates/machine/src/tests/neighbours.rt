@@ -218,7 +218,7 @@ fn order_of_snapshots(rt: HostRuntime) -> Result<(), Fail> {
     run(&rt, &mut State::new(rt.alloc()), &SNAPSHOTS)
 }
 
-const EXPIRED_TIMESTAMP: [Row; 4] = [
+const EXPIRED_TIMESTAMP: [Row; 5] = [
     (Step::Init(ROOT), &[(1, 0), (2, 0)], NOW, DONE),
     (
         Step::Timestamp(TimestampText {
@@ -235,6 +235,7 @@ const EXPIRED_TIMESTAMP: [Row; 4] = [
     ),
     (Step::Snapshot(SNAPSHOT), &[(4, 0)], NEXT_DAY, 15),
     (Step::Targets("targets", TARGETS), &[(5, 0)], NEXT_DAY, 15),
+    (Step::Get("a/b.tgz"), &[], NEXT_DAY, 15),
 ];
 
 #[test]
@@ -378,4 +379,98 @@ const HELD: [Row; 10] = [
 #[test]
 fn orders_with_what_is_held(rt: HostRuntime) -> Result<(), Fail> {
     run(&rt, &mut State::new(rt.alloc()), &HELD)
+}
+
+// The key for targets is another, so that the document on the shelf does not meet the rule.
+const NEW_TARGETS_KEY: RootText = RootText {
+    version: 2,
+    targets: Rule {
+        seeds: &[9],
+        threshold: 1,
+    },
+    ..ROOT
+};
+
+const VISITS: [Row; 14] = [
+    (Step::Init(ROOT), &[(1, 0), (2, 0)], NOW, DONE),
+    (Step::Timestamp(TIMESTAMP), &[(3, 0)], NOW, DONE),
+    (Step::Snapshot(SNAPSHOT), &[(4, 0)], NOW, DONE),
+    (
+        Step::Targets(
+            "targets",
+            TargetsText {
+                expires: NEXT_DAY_TEXT,
+                ..TARGETS
+            },
+        ),
+        &[(5, 0)],
+        NOW,
+        DONE,
+    ),
+    (
+        Step::Timestamp(TimestampText {
+            version: 2,
+            snapshot: V2,
+            ..TIMESTAMP
+        }),
+        &[(3, 1)],
+        NOW,
+        DONE,
+    ),
+    (
+        Step::Snapshot(SnapshotText {
+            version: 2,
+            ..LISTED
+        }),
+        &[(4, 1)],
+        NOW,
+        DONE,
+    ),
+    (Step::Get("a/b.tgz"), &[], NOW, 27),
+    (
+        Step::Timestamp(TimestampText {
+            version: 3,
+            snapshot: V3,
+            ..TIMESTAMP
+        }),
+        &[(3, 2)],
+        NOW,
+        DONE,
+    ),
+    (
+        Step::Snapshot(SnapshotText {
+            version: 3,
+            ..LISTED_HASH
+        }),
+        &[(4, 2)],
+        NOW,
+        DONE,
+    ),
+    (Step::Root(NEW_TARGETS_KEY), &[(1, 1), (2, 1)], NOW, DONE),
+    (Step::Get("a/b.tgz"), &[], NOW, 28),
+    (
+        Step::Timestamp(TimestampText {
+            version: 4,
+            snapshot: Entry { version: 4, ..V1 },
+            ..TIMESTAMP
+        }),
+        &[(3, 3)],
+        NOW,
+        DONE,
+    ),
+    (
+        Step::Snapshot(SnapshotText {
+            version: 4,
+            ..SNAPSHOT
+        }),
+        &[(4, 3)],
+        NOW,
+        DONE,
+    ),
+    (Step::Get("a/b.tgz"), &[], NEXT_DAY, 30),
+];
+
+#[test]
+fn order_of_a_visit(rt: HostRuntime) -> Result<(), Fail> {
+    run(&rt, &mut State::new(rt.alloc()), &VISITS)
 }

@@ -15,4 +15,4 @@ pub returns-clause-some : goal.returns-clause-some
 returns-clause-some c =
     let E = effects_view c.args.files in
     let s = c.is_state.ensures.0 c.if-not-is_state.false in
-    c.take.ensures ∙ (ap (λ (S : State). applied S E) (c.in-Ok.ensures.kept ∙ c.new-state.ensures) ∙ applied_to_nothing E s)
+    (c.take.ensures ∙ (ap (λ (S : State). applied S E) (c.in-Ok.ensures.kept ∙ c.new-state.ensures) ∙ applied_to_nothing E s), s)

@@ -1,4 +1,4 @@
-use Rattle.std.proofs.Common.{ℕ, List, None, Err, Bor, sym, ap, subst}
+use Rattle.std.proofs.Common.{ℕ, List, Err, Bor, sym, ap, subst}
 use Rattle.std.specs.Prelude.{option_map}
 use Rattle.metadata.specs.Kept.{root_file, timestamp_file, snapshot_file}
 use Rattle.metadata.specs.Orders.{pass, decide, holds}
@@ -10,7 +10,7 @@ use Rattle.machine.specs.Views.{parts_view}
 use Rattle.machine.proofs.Judging.{needed, lacking, given_by, denied_in, denied_behind}
 use Rattle.machine.proofs.OnShelf.{live_as}
 use Rattle.machine.proofs.Granting.{denied_by_search, found_by_search, seen}
-use Rattle.machine.proofs.getting.get.Goals as goal
+use Rattle.machine.proofs.getting.granted.Goals as goal
 
 pub returns-in_default : goal.returns-in_default
 returns-in_default c = rw (← c.parts-parts.ensures.view) (denies (pass (holds c.is_path.ensures) (decide (lacking _ _ (ap (option_map root_file) (sym c.in_default.ensures.value))))))
@@ -23,16 +23,16 @@ returns-in-Err c =
 
 pub returns-in-Err-find : goal.returns-in-Err-find
 returns-in-Err-find c =
-    subst (λ (S : State). Gives (grants S c.args.path.now None c.args.now) (λ (b : Bor (List ℕ)). b.now) (Err c.in-Err-find.refusal)) c.parts-parts.ensures.view
-    (denied_by_search (parts_view c.parts-parts.result.now) c.args.path.now c.args.now (root_file c.in-Some.root.now) (snapshot_file c.in-Ok.snapshot.now)
+    subst (λ (S : State). Gives (grants S c.args.path.now (option_map (λ d. d.0) c.args.asked) c.args.now) (λ (b : Bor (List ℕ)). b.now) (Err c.in-Err-find.refusal)) c.parts-parts.ensures.view
+    (denied_by_search (parts_view c.parts-parts.result.now) c.args.path.now (option_map (λ d. d.0) c.args.asked) c.args.now (root_file c.in-Some.root.now) (snapshot_file c.in-Ok.snapshot.now)
     c.is_path.ensures (ap (option_map root_file) (sym c.in-Some.ensures.value))
     (given_by (live_as (root_file c.in-Some.root.now) (seen timestamp_file _ _ c.as_ref-2.ensures.value) (seen snapshot_file _ _ c.as_ref-3.ensures.value) c.in-Ok.ensures))
     c.in-Err-find.ensures)
 
 pub returns : goal.returns
 returns c =
-    subst (λ (S : State). Gives (grants S c.args.path.now None c.args.now) (λ (b : Bor (List ℕ)). b.now) c.listed_blob.result) c.parts-parts.ensures.view
-    (found_by_search (parts_view c.parts-parts.result.now) c.args.path.now c.args.now (root_file c.in-Some.root.now) (snapshot_file c.in-Ok.snapshot.now)
+    subst (λ (S : State). Gives (grants S c.args.path.now (option_map (λ d. d.0) c.args.asked) c.args.now) (λ (b : Bor (List ℕ)). b.now) c.asked_blob.result) c.parts-parts.ensures.view
+    (found_by_search (parts_view c.parts-parts.result.now) c.args.path.now (option_map (λ d. d.0) c.args.asked) c.args.now (root_file c.in-Some.root.now) (snapshot_file c.in-Ok.snapshot.now)
     (found_view c.in-Ok-find.found) c.is_path.ensures (ap (option_map root_file) (sym c.in-Some.ensures.value))
     (given_by (live_as (root_file c.in-Some.root.now) (seen timestamp_file _ _ c.as_ref-2.ensures.value) (seen snapshot_file _ _ c.as_ref-3.ensures.value) c.in-Ok.ensures))
-    (given_by c.in-Ok-find.ensures) c.listed_blob.ensures)
+    (given_by c.in-Ok-find.ensures) c.asked_blob.ensures)

@@ -1,0 +1,12 @@
+use Rattle.std.proofs.Common.{map, length}
+use Rattle.metadata.specs.File.{root_form}
+use Rattle.metadata.specs.Kept.{root_file}
+use Rattle.machine.specs.Contents.{IsStored}
+use Rattle.machine.proofs.Zips.{Reading}
+use Rattle.machine.proofs.contents.read_roots.Given as goal
+
+abbrev pub invariant-rows : goal.invariant-rows
+invariant-rows l = Reading (IsStored root_form (λ r. r.version)) (map (λ r. (r.0, r.1.items)) l.fn.rows) (map (λ r. (r.0, r.1.items)) l.rest) (map root_file l.files.items)
+
+abbrev pub decreases-rows : goal.decreases-rows
+decreases-rows l = length l.rest

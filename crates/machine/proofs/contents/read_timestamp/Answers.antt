@@ -1,0 +1,8 @@
+use Rattle.metadata.specs.File.{timestamp_form}
+use Rattle.machine.specs.Contents.{IsStored}
+use Rattle.machine.proofs.Standing.{nothing_together}
+use Rattle.machine.proofs.contents.read_timestamp.Goals as goal
+
+pub returns-in-Ok-None-clause-none : goal.returns-in-Ok-None-clause-none
+returns-in-Ok-None-clause-none c o =
+    rw (c.in-Some.is) (nothing_together (IsStored timestamp_form (λ b. b.version)) _ (rw (c.deref.ensures.value, c.in-Ok-None.field-0-is) at c.in-Ok-None.ensures.none) o)

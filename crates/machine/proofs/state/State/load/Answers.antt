@@ -1,0 +1,32 @@
+use Rattle.std.proofs.Common.{◌≡◌, ap, ◌∙◌, subst}
+use Rattle.machine.specs.State.{IsState}
+use Rattle.machine.specs.Contents.{AreStored, contents_of}
+use Rattle.machine.specs.Views.{contents_view, effects_view}
+use Rattle.machine.proofs.ShapedOnce.{Shapes}
+use Rattle.machine.proofs.Standing.{laid_once, loaded_is, no_state, ok_none, ok_some, stored_read}
+use Rattle.machine.proofs.state.State.load.Goals as goal
+
+pub returns-in-Ok-None-clause-none : goal.returns-in-Ok-None-clause-none
+returns-in-Ok-None-clause-none c =
+    let law : Shapes = record { document = c.one_document.ensures; none = c.one_shape.ensures.none; one = c.one_shape.ensures.one } in
+    no_state law (contents_view c.args.contents) (λ E h s. (rw (c.in-Ok-None.field-0-is) at c.in-Ok-None.ensures.none) E h)
+
+pub settle-requires : goal.settle-requires
+settle-requires c =
+    stored_read (contents_view c.args.contents) (effects_view c.in-Ok-Some.files) (rw (c.in-Ok-Some.field-0-is) at c.in-Ok-Some.ensures.some)
+
+pub returns-clause-some : goal.returns-clause-some
+returns-clause-some c =
+    let law : Shapes = record { document = c.one_document.ensures; none = c.one_shape.ensures.none; one = c.one_shape.ensures.one } in
+    let stored : AreStored (contents_view c.args.contents) (effects_view c.in-Ok-Some.files) = rw (c.in-Ok-Some.field-0-is) at c.in-Ok-Some.ensures.some in
+    ok_some _ (λ s. contents_of s.state ≡ contents_view c.args.contents)
+    (λ s h. ap contents_of h.0 ∙ loaded_is law (contents_view c.args.contents) (effects_view c.in-Ok-Some.files) stored h.1) c.settle.result c.settle.ensures.some
+
+pub returns-clause-none : goal.returns-clause-none
+returns-clause-none c =
+    let law : Shapes = record { document = c.one_document.ensures; none = c.one_shape.ensures.none; one = c.one_shape.ensures.one } in
+    let stored : AreStored (contents_view c.args.contents) (effects_view c.in-Ok-Some.files) = rw (c.in-Ok-Some.field-0-is) at c.in-Ok-Some.ensures.some in
+    ok_none _ _
+    (λ none. no_state law (contents_view c.args.contents)
+    (λ E h s. none (subst IsState (laid_once law (contents_view c.args.contents) E (effects_view c.in-Ok-Some.files) h stored) s)))
+    c.settle.result c.settle.ensures.none

@@ -1,0 +1,301 @@
+//! The rows of a repository's tables, and the state of which they are all.
+ghost use Rattle.std.specs.Prelude.{◌≡◌, ◌↔◌, map, option_map, string_bytes, IfOk, IfSome, IfNone, IsTrue};
+ghost use Rattle.std.specs.List.{AllZip};
+ghost use Rattle.metadata.specs.Documents as plain;
+ghost use Rattle.metadata.specs.File as files;
+ghost use Rattle.metadata.specs.File.{root_form, timestamp_form, snapshot_form};
+ghost use Rattle.metadata.specs.Kept.{root_file, timestamp_file, snapshot_file, targets_file};
+ghost use Rattle.delegations.specs.Views.{row_views};
+ghost use Rattle.machine.specs.State as trust;
+ghost use Rattle.machine.specs.Contents.{AreStored, IsShelved, IsStored, Together, contents_of};
+ghost use Rattle.machine.specs.Effects as changes;
+ghost use Rattle.machine.specs.Views.{blob_views, contents_view, effects_view};
+
+use crate::effects::{Blob, Effects};
+use crate::loading::settle;
+use crate::state::State;
+use delegations::Row;
+use metadata::{
+    File, Root, ShapeFault, Snapshot, Timestamp, one_document, one_shape, read_root_file,
+    read_snapshot_file, read_targets_file, read_timestamp_file,
+};
+use path_patterns::{Digest, RoleName};
+use std::alloc::{AllocError, Global};
+
+/// The rows of a repository's tables, each list in the order of its keys: version and bytes of the roots, of the timestamp and
+/// of the snapshot; role, version and bytes of the targets documents; digest and bytes of the blobs.
+#[derive(Drop)]
+pub struct Contents {
+    pub roots: Vec<(u32, Vec<u8>)>,
+    pub timestamp: Option<(u32, Vec<u8>)>,
+    pub snapshot: Option<(u32, Vec<u8>)>,
+    pub shelf: Vec<(String, u32, Vec<u8>)>,
+    pub blobs: Vec<([u8; 32], Vec<u8>)>,
+}
+
+impl State {
+    /// The state of which these are all the rows, and `None` where no state has them.
+    pub fn load(alloc: Global, contents: Contents) -> Result<Option<State>, AllocError>
+        ensures some { IfOk result (λ o. IfSome o (λ s. contents_of s.state ≡ contents_view contents)) }
+        ensures none { IfOk result (λ o. IfNone o ((S : trust.State) → trust.IsState S → contents_of S ≡ contents_view contents → ⊥)) }
+    {
+        one_document();
+        one_shape();
+        let files = match read_files(alloc, contents) {
+            Ok(Some(files)) => files,
+            Ok(None) => return Ok(None),
+            Err(fault) => return Err(fault),
+        };
+        settle(alloc, files)
+    }
+}
+
+// The files of all rows, if each is one.
+fn read_files(alloc: Global, contents: Contents) -> Result<Option<Effects>, AllocError>
+    ensures some { IfOk result (λ o. IfSome o (λ e. AreStored (contents_view contents) (effects_view e))) }
+    ensures none { IfOk result (λ o. IfNone o ((E : changes.Effects) → AreStored (contents_view contents) E → ⊥)) }
+{
+    let Contents {
+        roots,
+        timestamp,
+        snapshot,
+        shelf,
+        blobs,
+    } = contents;
+    let roots = match read_roots(alloc, &roots) {
+        Ok(Some(roots)) => roots,
+        Ok(None) => return Ok(None),
+        Err(fault) => return Err(fault),
+    };
+    let timestamp = match read_timestamp(alloc, &timestamp) {
+        Ok(Some(timestamp)) => timestamp,
+        Ok(None) => return Ok(None),
+        Err(fault) => return Err(fault),
+    };
+    let snapshot = match read_snapshot(alloc, &snapshot) {
+        Ok(Some(snapshot)) => snapshot,
+        Ok(None) => return Ok(None),
+        Err(fault) => return Err(fault),
+    };
+    let rows = match read_rows(alloc, &shelf) {
+        Ok(Some(rows)) => rows,
+        Ok(None) => return Ok(None),
+        Err(fault) => return Err(fault),
+    };
+    let blobs = match all_blobs(alloc, blobs) {
+        Ok(blobs) => blobs,
+        Err(fault) => return Err(fault),
+    };
+    Ok(Some(Effects {
+        roots,
+        emptied: false,
+        timestamp,
+        snapshot,
+        rows,
+        blobs,
+    }))
+}
+
+// Whether the fault is want of memory.
+fn is_want(fault: ShapeFault) -> bool
+    ensures { IsTrue result ↔ (fault ≡ ShapeFault.OutOfMemory) }
+{
+    matches!(fault, ShapeFault::OutOfMemory)
+}
+
+// The root of a row, if it is one of this version.
+fn stored_root(alloc: Global, version: u32, bytes: &[u8]) -> Result<Option<File<Root>>, AllocError>
+    ensures some { IfOk result (λ o. IfSome o (λ f. IsStored root_form (λ b. b.version) (version, bytes.now) (root_file f))) }
+    ensures none { IfOk result (λ o. IfNone o ((f : files.File plain.Root) → IsStored root_form (λ b. b.version) (version, bytes.now) f → ⊥)) }
+{
+    one_document();
+    one_shape();
+    match read_root_file(alloc, bytes) {
+        Ok(file) => {
+            if file.body.version != version {
+                return Ok(None);
+            }
+            Ok(Some(file))
+        }
+        Err(fault) => {
+            if is_want(fault) {
+                return Err(AllocError);
+            }
+            Ok(None)
+        }
+    }
+}
+
+// The timestamp of a row, if it is one of this version.
+fn stored_timestamp(
+    alloc: Global,
+    version: u32,
+    bytes: &[u8],
+) -> Result<Option<File<Timestamp>>, AllocError>
+    ensures some { IfOk result (λ o. IfSome o (λ f. IsStored timestamp_form (λ b. b.version) (version, bytes.now) (timestamp_file f))) }
+    ensures none { IfOk result (λ o. IfNone o ((f : files.File plain.Timestamp) → IsStored timestamp_form (λ b. b.version) (version, bytes.now) f → ⊥)) }
+{
+    one_document();
+    one_shape();
+    match read_timestamp_file(alloc, bytes) {
+        Ok(file) => {
+            if file.body.version != version {
+                return Ok(None);
+            }
+            Ok(Some(file))
+        }
+        Err(fault) => {
+            if is_want(fault) {
+                return Err(AllocError);
+            }
+            Ok(None)
+        }
+    }
+}
+
+// The snapshot of a row, if it is one of this version.
+fn stored_snapshot(
+    alloc: Global,
+    version: u32,
+    bytes: &[u8],
+) -> Result<Option<File<Snapshot>>, AllocError>
+    ensures some { IfOk result (λ o. IfSome o (λ f. IsStored snapshot_form (λ b. b.version) (version, bytes.now) (snapshot_file f))) }
+    ensures none { IfOk result (λ o. IfNone o ((f : files.File plain.Snapshot) → IsStored snapshot_form (λ b. b.version) (version, bytes.now) f → ⊥)) }
+{
+    one_document();
+    one_shape();
+    match read_snapshot_file(alloc, bytes) {
+        Ok(file) => {
+            if file.body.version != version {
+                return Ok(None);
+            }
+            Ok(Some(file))
+        }
+        Err(fault) => {
+            if is_want(fault) {
+                return Err(AllocError);
+            }
+            Ok(None)
+        }
+    }
+}
+
+// The timestamp of the row that is there, if it is one of its version.
+fn read_timestamp(
+    alloc: Global,
+    row: &Option<(u32, Vec<u8>)>,
+) -> Result<Option<Option<File<Timestamp>>>, AllocError>
+    ensures some { IfOk result (λ o. IfSome o (λ f. Together (IsStored timestamp_form (λ b. b.version)) (option_map (λ r. (r.0, r.1.items)) row.now) (option_map timestamp_file f))) }
+    ensures none { IfOk result (λ o. IfNone o ((f : _) → Together (IsStored timestamp_form (λ b. b.version)) (option_map (λ r. (r.0, r.1.items)) row.now) f → ⊥)) }
+{
+    let Some((version, bytes)) = row else {
+        return Ok(Some(None));
+    };
+    match stored_timestamp(alloc, *version, bytes) {
+        Ok(Some(file)) => Ok(Some(Some(file))),
+        Ok(None) => Ok(None),
+        Err(fault) => Err(fault),
+    }
+}
+
+// The snapshot of the row that is there, if it is one of its version.
+fn read_snapshot(
+    alloc: Global,
+    row: &Option<(u32, Vec<u8>)>,
+) -> Result<Option<Option<File<Snapshot>>>, AllocError>
+    ensures some { IfOk result (λ o. IfSome o (λ f. Together (IsStored snapshot_form (λ b. b.version)) (option_map (λ r. (r.0, r.1.items)) row.now) (option_map snapshot_file f))) }
+    ensures none { IfOk result (λ o. IfNone o ((f : _) → Together (IsStored snapshot_form (λ b. b.version)) (option_map (λ r. (r.0, r.1.items)) row.now) f → ⊥)) }
+{
+    let Some((version, bytes)) = row else {
+        return Ok(Some(None));
+    };
+    match stored_snapshot(alloc, *version, bytes) {
+        Ok(Some(file)) => Ok(Some(Some(file))),
+        Ok(None) => Ok(None),
+        Err(fault) => Err(fault),
+    }
+}
+
+// The roots of all rows, if each is one of its version.
+fn read_roots(alloc: Global, rows: &[(u32, Vec<u8>)]) -> Result<Option<Vec<File<Root>>>, AllocError>
+    ensures some { IfOk result (λ o. IfSome o (λ fs. AllZip (IsStored root_form (λ r. r.version)) (map (λ r. (r.0, r.1.items)) rows.now) (map root_file fs.items))) }
+    ensures none { IfOk result (λ o. IfNone o ((fs : _) → AllZip (IsStored root_form (λ r. r.version)) (map (λ r. (r.0, r.1.items)) rows.now) fs → ⊥)) }
+{
+    let mut files = Vec::new(alloc);
+    let mut rest = rows;
+    'rows: while let Some((row, later)) = rest.split_first() {
+        let file = match stored_root(alloc, row.0, &row.1) {
+            Ok(Some(file)) => file,
+            Ok(None) => return Ok(None),
+            Err(fault) => return Err(fault),
+        };
+        files.push(file)?;
+        rest = later;
+    }
+    Ok(Some(files))
+}
+
+// The targets document of a row, at its place.
+fn stored_row(
+    alloc: Global,
+    role: &str,
+    version: u32,
+    bytes: &[u8],
+) -> Result<Option<Row>, AllocError>
+    ensures some { IfOk result (λ o. IfSome o (λ r. IsShelved ((role.now, version), bytes.now) ((r.role, r.version), targets_file r.file))) }
+    ensures none { IfOk result (λ o. IfNone o ((held : _) → IsShelved ((role.now, version), bytes.now) held → ⊥)) }
+{
+    one_document();
+    one_shape();
+    let role = match RoleName::read(alloc, role) {
+        Ok(Some(role)) => role,
+        Ok(None) => return Ok(None),
+        Err(fault) => return Err(fault),
+    };
+    match read_targets_file(alloc, bytes) {
+        Ok(file) => Ok(Some(Row {
+            role,
+            version,
+            file,
+        })),
+        Err(fault) => {
+            if is_want(fault) {
+                return Err(AllocError);
+            }
+            Ok(None)
+        }
+    }
+}
+
+// The targets documents of all rows, if each is one.
+fn read_rows(alloc: Global, rows: &[(String, u32, Vec<u8>)]) -> Result<Option<Vec<Row>>, AllocError>
+    ensures some { IfOk result (λ o. IfSome o (λ held. AllZip IsShelved (map (λ r. ((string_bytes r.0, r.1), r.2.items)) rows.now) (row_views held.items))) }
+    ensures none { IfOk result (λ o. IfNone o ((held : _) → AllZip IsShelved (map (λ r. ((string_bytes r.0, r.1), r.2.items)) rows.now) held → ⊥)) }
+{
+    let mut held = Vec::new(alloc);
+    let mut rest = rows;
+    'rows: while let Some((row, later)) = rest.split_first() {
+        let new = match stored_row(alloc, &row.0, row.1, &row.2) {
+            Ok(Some(new)) => new,
+            Ok(None) => return Ok(None),
+            Err(fault) => return Err(fault),
+        };
+        held.push(new)?;
+        rest = later;
+    }
+    Ok(Some(held))
+}
+
+// The blobs of all rows. Their bytes are not copied.
+fn all_blobs(alloc: Global, rows: Vec<([u8; 32], Vec<u8>)>) -> Result<Vec<Blob>, AllocError>
+    ensures { IfOk result (λ blobs. blob_views blobs.items ≡ map (λ b. (b.0, b.1.items)) rows.items) }
+{
+    let mut blobs = Vec::with_capacity(alloc, rows.len())?;
+    'rows: for (digest, bytes) in rows {
+        blobs.push(Blob {
+            digest: Digest::new(digest),
+            bytes,
+        })?;
+    }
+    Ok(blobs)
+}

@@ -1,0 +1,43 @@
+//! What a client's update goes by (TUF 1.0, sections 5.3 and 5.5).
+ghost use Rattle.std.specs.Prelude.{◌≡◌, ◌↔◌, option_map, IsSomeAnd, IsTrue};
+ghost use Rattle.metadata.specs.Kept.{snapshot_file, timestamp_file};
+ghost use Rattle.machine.specs.State.{IsSnapshotDue, NamesSnapshot};
+ghost use Rattle.machine.specs.Views.{parts_view};
+
+use crate::checks::names_snapshot;
+use crate::parts::Parts;
+use crate::state::State;
+use metadata::{File, Snapshot, Timestamp};
+
+/// The version of the trusted root, and `None` where no root is trusted. It takes no memory.
+pub fn root_version(state: &State) -> Option<u32>
+    ensures { result ≡ option_map (λ root. root.body.version) state.now.state.trusted.root }
+{
+    let root = state.parts().root.as_ref()?;
+    Some(root.body.version)
+}
+
+/// The version of the snapshot that the held timestamp names, and `None` where no timestamp is held or it names the held
+/// snapshot. It takes no memory.
+pub fn snapshot_due(state: &State) -> Option<u32>
+    ensures { IsSnapshotDue state.now.state.trusted result }
+{
+    let parts = state.parts();
+    let Some(timestamp) = parts.timestamp.as_ref() else {
+        return None;
+    };
+    if names_held(timestamp, parts) {
+        return None;
+    }
+    Some(timestamp.body.snapshot.version)
+}
+
+// Whether the timestamp names the held snapshot.
+fn names_held(timestamp: &File<Timestamp>, parts: &Parts) -> bool
+    ensures { IsTrue result ↔ IsSomeAnd (parts_view parts.now).trusted.snapshot (NamesSnapshot (timestamp_file timestamp.now)) }
+{
+    match parts.snapshot.as_ref() {
+        Some(snapshot) => names_snapshot(timestamp, snapshot),
+        None => false,
+    }
+}
