@@ -3,12 +3,13 @@ ghost use Rattle.measure.specs.Failure.{status_of};
 
 use canonical_json::{ReadFault, WriteFault};
 use lms::SignFault;
+use machine::{BatchRefusal, Refusal};
 use metadata::ShapeFault;
 use std::alloc::AllocError;
 use std::{fmt, io};
 
 const USAGE: &str =
-    "usage: measure canon FILE N | measure lms N | measure documents N   (N from 1 to 4294967295)
+    "usage: measure canon FILE N | measure lms N | measure documents N | measure get N   (N from 1 to 4294967295)
   canon FILE N   reads and writes the canonical JSON of FILE, each N times, and prints the bytes per second of
                  each: `read B` and `write B`
   lms N          signs once and verifies N times with each LM-OTS type at height 5, and prints the signings,
@@ -16,7 +17,13 @@ const USAGE: &str =
                  per second of SHA-256 alone, `sha2 H`, and the hashes of each type in hundredths of that
   documents N    reads a snapshot of 128 roles and 256,000 bytes and targets metadata of 1,000 listings, each N times,
                  and prints the bytes of each and how many are read per second: `snapshot B read R` and
-                 `targets B read R`";
+                 `targets B read R`
+  get N          serves one target N times from a state in memory of 1 listing and 1 blob, and from one of 1,000 and 4,096,
+                 each signed once with W4, then with W8, and prints per second: the targets served, the searches, the
+                 signature checks of a search, the searches without that check, the findings of the held file, the last
+                 two together (so a target without its signature check), and the share of the check in the time of a
+                 target in hundredths:
+                 `w4 listings L blobs B get G search S check C lookups U held H without W share P`";
 
 /// Why nothing was measured.
 #[derive(Debug, Clone, Copy, PartialEq, Eq)]
@@ -29,19 +36,21 @@ pub enum Failure {
     NotVerified,
     /// What was built is no document.
     NoDocument,
+    /// A target is not served.
+    NotServed,
     Memory,
     File,
     Clock,
 }
 
 impl Failure {
-    /// The exit status: 1 for a file that is no canonical text, a signature that does not verify or a text that is no
-    /// document, 2 for the words, and 3 for what is outside of these.
+    /// The exit status: 1 for a file that is no canonical text, a signature that does not verify, a text that is no
+    /// document or a target that is not served, 2 for the words, and 3 for what is outside of these.
     pub fn status(self) -> u8
         ensures { result ≡ status_of self }
     {
         match self {
-            Failure::NotRead | Failure::NotVerified | Failure::NoDocument => 1,
+            Failure::NotRead | Failure::NotVerified | Failure::NoDocument | Failure::NotServed => 1,
             Failure::Usage => 2,
             Failure::Memory | Failure::File | Failure::Clock => 3,
         }
@@ -55,6 +64,7 @@ impl fmt::Display for Failure {
             Failure::NotRead => "not canonical JSON",
             Failure::NotVerified => "not verified",
             Failure::NoDocument => "no document",
+            Failure::NotServed => "not served",
             Failure::Memory => "fault memory",
             Failure::File => "fault file",
             Failure::Clock => "fault clock",
@@ -115,6 +125,24 @@ impl From<ShapeFault> for Failure {
             | ShapeFault::WrongShape
             | ShapeFault::WrongType
             | ShapeFault::BadKeyId => Failure::NoDocument,
+        }
+    }
+}
+
+impl From<Refusal> for Failure {
+    fn from(refusal: Refusal) -> Self {
+        match refusal {
+            Refusal::Denied(_) => Failure::NotServed,
+            Refusal::OutOfMemory => Failure::Memory,
+        }
+    }
+}
+
+impl From<BatchRefusal> for Failure {
+    fn from(refusal: BatchRefusal) -> Self {
+        match refusal {
+            BatchRefusal::Denied(_, _) => Failure::NotServed,
+            BatchRefusal::OutOfMemory => Failure::Memory,
         }
     }
 }

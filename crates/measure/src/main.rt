@@ -4,8 +4,10 @@
 mod canon;
 mod documents;
 mod failure;
+mod get_rates;
 mod lms_rates;
 mod rate;
+mod repository;
 mod task;
 
 use failure::Failure;
@@ -31,5 +33,6 @@ fn run(rt: &(impl Env + Files + Clock + Print + AllocGlobal)) -> Result<(), Fail
         Task::Canon { file, rounds } => canon::measure(rt, file, rounds),
         Task::Lms { rounds } => lms_rates::measure(rt, rounds),
         Task::Documents { rounds } => documents::measure(rt, rounds),
+        Task::Get { rounds } => get_rates::measure(rt, rounds),
     }
 }

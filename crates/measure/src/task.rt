@@ -9,6 +9,8 @@ pub enum Task<'a> {
     Lms { rounds: u32 },
     /// `documents N`: a snapshot and targets metadata are read, each so many times.
     Documents { rounds: u32 },
+    /// `get N`: a target is served from states in memory, so many times from each.
+    Get { rounds: u32 },
 }
 
 impl<'a> Task<'a> {
@@ -23,6 +25,9 @@ impl<'a> Task<'a> {
                 rounds: rounds_of(rounds)?,
             }),
             [_, kind, rounds] if kind.as_str() == "documents" => Ok(Task::Documents {
+                rounds: rounds_of(rounds)?,
+            }),
+            [_, kind, rounds] if kind.as_str() == "get" => Ok(Task::Get {
                 rounds: rounds_of(rounds)?,
             }),
             _ => Err(Failure::Usage),
