@@ -1,0 +1,307 @@
+-- What the items of the answers say of the trees.
+use Rattle.std.proofs.Common.{◌≡◌, ◌≢◌, ◌⊎◌, inl, inr, ◌<◌, ◌*◌, ◌^◌, ◌+◌, ◌/◌, ◌%◌, ℕ, ℤ, zero, suc, pos, List, [], ◌∷◌, ◌++◌, map, length, Option, Some, None, true, false, IsTrue, refl, sym, ap, subst, subst₂, ◌∙◌, arith, codes, true≢false, slice_index}
+use Rattle.std.specs.List.{AllByRecursion}
+use Rattle.std.specs.List.Sorted.{IsStrictlySortedBy}
+use Rattle.std.specs.Ordering.{nat_cmp, is_lt, int_cmp, ordering_then, ordering_reverse}
+use Rattle.std.proofs.lemmas.Bool.{lt-ltb}
+use Rattle.std.specs.Cmp.Lexicographic.{slice_cmp}
+use Rattle.std.specs.declared.cmp.Ordering.{Ordering}
+use Rattle.std.specs.declared.cmp.Ordering.TheVariants.{Less, Equal, Greater}
+use Rattle.hex.specs.Hex.{encode_lower, decode_of}
+use Rattle.hex.proofs.HexLemmas.{decode_of-encode_lower}
+use Rattle.sqlite_value.proofs.OrderLemmas.{value_cmp-Int, value_cmp-Text}
+use Rattle.sqlite.specs.declared.types.Value.{Value}
+use Rattle.sqlite.specs.declared.types.Value.TheVariants.{Int, Text, Blob}
+use Rattle.sqlite.specs.Order.{Row, column, value_cmp}
+use Rattle.sqlite_trees.specs.Tree.{Trees}
+use Rattle.sqlite_rules.specs.Lists.{Has}
+use Rattle.sqlite_rules.proofs.ListLemmas.{all_has, all_from}
+use Rattle.tables.specs.declared.loading.Answers.{Answers}
+use Rattle.tables.specs.Schema.{the_schema}
+use Rattle.tables.specs.Rows.{AreRows, root_cells, current_cells, shelf_cells, blob_cells, version_cells}
+use Rattle.tables.specs.Making.{AreNumbered}
+use Rattle.tables.specs.Tables.{Tables, HoldsTables, AreBare, StandsFor, IsFit, IsDigest, AreKeyed, AreRising, no_rows, root_row, slot_row, current_rows, shelf_row, blob_row, version_row, row_cmp}
+use Rattle.tables.specs.Loading.{AreLoaded, AreRead, AreOrdered, AreSpoiled, AreAnswers, AreItems, AreSorted, AreDamaged, root, current, shelf, blob, IsRootRow, FitsRoot, IsSlotRow, FitsSlot, IsShelfRow, FitsShelf, IsBlobRow, FitsBlob, IsOne, rises, current_items, IsUnbegun}
+use Rattle.std.specs.Cmp.{IsTotalOrder, ranks}
+use Rattle.std.proofs.lemmas.Cmp.{tied_itself, int_cmp_total, nat_cmp_total, nat_list_cmp_total, by_ranked}
+use Rattle.tables.proofs.Slots.{has_timestamp, has_snapshot}
+use Rattle.tables.proofs.Gathering.{read_all, no_items}
+use Rattle.tables.proofs.NumberLemmas.{once, integers}
+use Rattle.tables.proofs.RowLemmas.{has_map}
+use Rattle.tables.proofs.Orders.{bytes_at, digits_less, row_cmp_total}
+
+-- ---- a row is that of one item
+
+root_are : (s : Row) (x : ℕ × List ℕ) → IsRootRow (root_cells s) x → root_cells s ≡ root_row x
+root_are s x is = ap (λ v. v ∷ column s 2 ∷ []) is.0 ∙ ap (λ v. Int (pos x.0) ∷ v ∷ []) is.1
+
+slot_are : (s : Row) (x : List ℕ × (ℕ × List ℕ)) → IsSlotRow (current_cells s) x → current_cells s ≡ slot_row x.0 x.1
+slot_are s x is = ap (λ v. v ∷ column s 2 ∷ column s 3 ∷ []) is.0 ∙ ap (λ v. Text x.0 ∷ v ∷ column s 3 ∷ []) is.1 ∙ ap (λ v. Text x.0 ∷ Int (pos x.1.0) ∷ v ∷ []) is.2
+
+shelf_are : (s : Row) (x : (List ℕ × ℕ) × List ℕ) → IsShelfRow (shelf_cells s) x → shelf_cells s ≡ shelf_row x
+shelf_are s x is = ap (λ v. v ∷ column s 2 ∷ column s 3 ∷ []) is.0 ∙ ap (λ v. Text x.0.0 ∷ v ∷ column s 3 ∷ []) is.1 ∙ ap (λ v. Text x.0.0 ∷ Int (pos x.0.1) ∷ v ∷ []) is.2
+
+blob_are : (s : Row) (x : List ℕ × List ℕ) → IsBlobRow (blob_cells s) x → blob_cells s ≡ blob_row x
+blob_are s x is = ap (λ v. v ∷ column s 2 ∷ []) is.0 ∙ ap (λ v. Text (encode_lower x.0) ∷ v ∷ []) is.1
+
+int_one : (m n : ℕ) (v : Value) → v ≡ Int (pos m) → v ≡ Int (pos n) → m ≡ n
+int_one m n v a b = let e : Int (pos m) ≡ Int (pos n) = sym a ∙ b in let f : pos m ≡ pos n = cc in cc
+
+text_one : (s t : List ℕ) (v : Value) → v ≡ Text s → v ≡ Text t → s ≡ t
+text_one s t v a b = let e : Text s ≡ Text t = sym a ∙ b in cc
+
+bytes_one : (s t : List ℕ) (v : Value) → v ≡ Blob s → v ≡ Blob t → s ≡ t
+bytes_one s t v a b = let e : Blob s ≡ Blob t = sym a ∙ b in cc
+
+pub root_one : (r : Row) (x y : ℕ × List ℕ) → FitsRoot x → FitsRoot y → IsRootRow r x → IsRootRow r y → x ≡ y
+root_one r x y fx fy a b = let n = int_one x.0 y.0 _ a.0 b.0 in let v = bytes_one x.1 y.1 _ a.1 b.1 in λ i. (n i, v i)
+
+pub slot_one : (r : Row) (x y : List ℕ × (ℕ × List ℕ)) → FitsSlot x → FitsSlot y → IsSlotRow r x → IsSlotRow r y → x ≡ y
+slot_one r x y fx fy a b = let s = text_one x.0 y.0 _ a.0 b.0 in let n = int_one x.1.0 y.1.0 _ a.1 b.1 in let v = bytes_one x.1.1 y.1.1 _ a.2 b.2 in λ i. (s i, (n i, v i))
+
+pub shelf_one : (r : Row) (x y : (List ℕ × ℕ) × List ℕ) → FitsShelf x → FitsShelf y → IsShelfRow r x → IsShelfRow r y → x ≡ y
+shelf_one r x y fx fy a b = let s = text_one x.0.0 y.0.0 _ a.0 b.0 in let n = int_one x.0.1 y.0.1 _ a.1 b.1 in let v = bytes_one x.1 y.1 _ a.2 b.2 in λ i. ((s i, n i), v i)
+
+ok_one : (d e : List ℕ) → decode_of (encode_lower d) ≡ Rattle.std.proofs.Common.Ok d → decode_of (encode_lower e) ≡ Rattle.std.proofs.Common.Ok e → encode_lower d ≡ encode_lower e → d ≡ e
+ok_one d e a b same = let f = sym a ∙ ap decode_of same ∙ b in cc
+
+pub digest_one : (d e : List ℕ) → IsDigest d → IsDigest e → encode_lower d ≡ encode_lower e → d ≡ e
+digest_one d e is_d is_e same = ok_one d e (decode_of-encode_lower d (bytes_at d is_d.1)) (decode_of-encode_lower e (bytes_at e is_e.1)) same
+
+pub blob_one : (r : Row) (x y : List ℕ × List ℕ) → FitsBlob x → FitsBlob y → IsBlobRow r x → IsBlobRow r y → x ≡ y
+blob_one r x y fx fy a b = let d = digest_one x.0 y.0 fx fy (text_one _ _ _ a.0 b.0) in let v = bytes_one x.1 y.1 _ a.1 b.1 in λ i. (d i, v i)
+
+-- ---- the order of the rows is that of the items
+
+after_less : (o p : Ordering) → o ≡ Less → is_lt (ordering_then o p) ≡ true
+after_less Less p e = refl
+after_less Equal p e = absurd (let f = e in cc)
+after_less Greater p e = absurd (let f = e in cc)
+
+int_below : (m n : ℕ) → m < n → int_cmp (pos m) (pos n) ≡ Less
+int_below m n below = rw (lt-ltb m n below) refl
+
+int_same : (m n : ℕ) → m ≡ n → int_cmp (pos m) (pos n) ≡ Equal
+int_same m n same = ap (λ (k : ℕ). int_cmp (pos k) (pos n)) same ∙ tied_itself int_cmp_total (pos n)
+
+int_above : (m n : ℕ) → n < m → int_cmp (pos m) (pos n) ≡ Greater
+int_above m n above = int_cmp_total.antisymm (pos m) (pos n) ∙ ap ordering_reverse (int_below n m above)
+
+int_nat : (m n : ℕ) → int_cmp (pos m) (pos n) ≡ nat_cmp m n
+int_nat m n = by_ranked (m < n) (m ≡ n) (n < m) {G = int_cmp (pos m) (pos n) ≡ nat_cmp m n} (nat_cmp m n) (ranks m n) (λ is below. int_below m n below ∙ sym is) (λ is same. int_same m n same ∙ sym is) (λ is above. int_above m n above ∙ sym is)
+
+int_less : (a b : Value) (m n : ℕ) → a ≡ Int (pos m) → b ≡ Int (pos n) → value_cmp a b ≡ nat_cmp m n
+int_less a b m n x y = subst₂ (λ v w. value_cmp v w ≡ nat_cmp m n) (sym x) (sym y) (value_cmp-Int (pos m) (pos n) ∙ int_nat m n)
+
+text_less : (a b : Value) (s t : List ℕ) → a ≡ Text s → b ≡ Text t → value_cmp a b ≡ slice_cmp nat_cmp s t
+text_less a b s t x y = subst₂ (λ v w. value_cmp v w ≡ slice_cmp nat_cmp s t) (sym x) (sym y) (value_cmp-Text s t)
+
+root_ordered : (stored rows : List Row) → AreLoaded root_cells (rises ∷ []) stored rows → AreOrdered nat_cmp IsRootRow FitsRoot rows
+root_ordered stored rows l before r s rest x y e rx sy fx fy less = true≢false (sym (after_less _ _ (int_less (column s 0) (column r 0) y.0 x.0 sy.0 rx.0 ∙ less)) ∙ l.sorted before r s rest e)
+
+pair_less : (o p q : Ordering) → ordering_then o p ≡ Less → is_lt (ordering_then o (ordering_then p q)) ≡ true
+pair_less Less p q e = refl
+pair_less Equal p q e = after_less p q e
+pair_less Greater p q e = absurd (let f = e in cc)
+
+shelf_ordered : (stored rows : List Row) → AreLoaded shelf_cells (rises ∷ rises ∷ []) stored rows → AreOrdered row_cmp IsShelfRow FitsShelf rows
+shelf_ordered stored rows l before r s rest x y e rx sy fx fy less =
+    let one = text_less (column s 0) (column r 0) y.0.0 x.0.0 sy.0 rx.0 in
+    let two = int_less (column s 1) (column r 1) y.0.1 x.0.1 sy.1 rx.1 in
+    let all : ordering_then (value_cmp (column s 0) (column r 0)) (value_cmp (column s 1) (column r 1)) ≡ Less = subst₂ (λ o p. ordering_then o p ≡ Less) (sym one) (sym two) less in
+    true≢false (sym (pair_less (value_cmp (column s 0) (column r 0)) (value_cmp (column s 1) (column r 1)) Equal all) ∙ l.sorted before r s rest e)
+
+blob_ordered : (stored rows : List Row) → AreLoaded blob_cells (rises ∷ []) stored rows → AreOrdered (slice_cmp nat_cmp) IsBlobRow FitsBlob rows
+blob_ordered stored rows l before r s rest x y e rx sy fx fy less =
+    true≢false (sym (after_less _ _ (text_less (column s 0) (column r 0) _ _ sy.0 rx.0 ∙ digits_less y.0 x.0 fy.1 fx.1 less)) ∙ l.sorted before r s rest e)
+
+pub all_sorted : (trees : Trees) (a : Answers) → AreAnswers trees a → AreSorted a
+all_sorted trees a is = record { root = root_ordered _ _ is.root; shelf = shelf_ordered _ _ is.shelf; blob = blob_ordered _ _ is.blob }
+
+-- ---- the items are what is held
+
+pub items_rows : (a b : Option (ℕ × List ℕ)) → map (λ (x : List ℕ × (ℕ × List ℕ)). slot_row x.0 x.1) (current_items a b) ≡ current_rows a b
+items_rows None None = refl
+items_rows None (Some y) = refl
+items_rows (Some x) None = refl
+items_rows (Some x) (Some y) = refl
+
+one_cells : (s : Row) → IsOne (version_cells s) → version_cells s ≡ version_row
+one_cells s is = ap (λ v. v ∷ []) is
+
+version_rows : (stored rows : List Row) → AreLoaded version_cells [] stored rows → ((r : Row) → Has rows r → IsOne r) → rows ≢ [] → Rattle.sqlite_trees.specs.Tree.IsTable stored
+    → AllByRecursion (λ r. IsTrue (Rattle.sqlite_trees.specs.View.is_int (Rattle.sqlite_trees.specs.Tree.rowid r))) stored → AreRows version_cells stored (version_row ∷ [])
+version_rows stored rows l ones some up ints = record {
+  keyed = once stored up;
+  numbered = integers stored ints;
+  sound = λ s h. inl (one_cells s (ones (version_cells s) (l.each s h)));
+  complete = λ c h. go rows some l.from ones c h;
+}
+  where
+    go : (rs : List Row) → rs ≢ [] → ((x : Row) → Has rs x → (r : Row) × Has stored r × (x ≡ version_cells r)) → ((r : Row) → Has rs r → IsOne r) → (c : Row) → Has (version_row ∷ []) c → (x : Row) × Has stored x × (version_cells x ≡ c)
+    go [] some from ones c h = absurd (some refl)
+    go (r ∷ rs) some from ones c (inl is) =
+        let s = from r (inl refl) in
+        (s.0, s.1, one_cells s.0 (subst IsOne s.2 (ones r (inl refl))) ∙ sym is)
+    go (r ∷ rs) some from ones c (inr none) = absurd none
+
+pub holds_items : (trees : Trees) (a : Answers) (t : Tables) → AreNumbered the_schema trees → AreAnswers trees a → AreItems a t → ((r : Row) → Has a.versions.items r → IsOne r) → a.versions.items ≢ [] → HoldsTables trees t
+holds_items trees a t n is items ones some = record {
+  root = read_all IsRootRow FitsRoot root_row root_cells _ _ _ is.root root_are t.roots items.root.read n.0.0 n.0.1;
+  current = subst (AreRows current_cells (trees 1)) (items_rows t.timestamp t.snapshot) (read_all IsSlotRow FitsSlot (λ x. slot_row x.0 x.1) current_cells _ _ _ is.current slot_are _ items.current n.1.0.0 n.1.0.1);
+  shelf = read_all IsShelfRow FitsShelf shelf_row shelf_cells _ _ _ is.shelf shelf_are t.shelf items.shelf.read n.1.1.0.0 n.1.1.0.1;
+  blob = read_all IsBlobRow FitsBlob blob_row blob_cells _ _ _ is.blob blob_are t.blobs items.blob.read n.1.1.1.0.0 n.1.1.1.0.1;
+  version = version_rows _ _ is.version ones some n.1.1.1.1.0.0 n.1.1.1.1.0.1;
+}
+
+no_member : {X : Type 0} (xs : List X) → ((x : X) → Has xs x → ⊥) → xs ≡ []
+no_member [] none = refl
+no_member (x ∷ xs) none = absurd (none x (inl refl))
+
+-- a table of which no item was read is empty
+none_stored : {K V : Type 0} {shown : Row → Row} {Reads : Row → K × V → Type 0} {Fits : K × V → Type 0} (keys : _) (stored rows : List Row) (items : List (K × V)) → AreLoaded shown keys stored rows → AreRead Reads Fits rows items → items ≡ [] → stored ≡ []
+none_stored {shown = shown} keys stored rows items l read none = no_member stored (λ s h. let it = read.each (shown s) (l.each s h) in subst (λ xs. Has xs it.0) none it.1)
+
+none_answered : {shown : Row → Row} (keys : _) (stored rows : List Row) → AreLoaded shown keys stored rows → rows ≡ [] → stored ≡ []
+none_answered {shown} keys stored rows l none = no_member stored (λ s h. subst (λ xs. Has xs (shown s)) none (l.each s h))
+
+none_read : {K V : Type 0} {shown : Row → Row} {Reads : Row → K × V → Type 0} {Fits : K × V → Type 0} (keys : _) (stored rows : List Row) (items : List (K × V)) → AreLoaded shown keys stored rows → AreRead Reads Fits rows items → stored ≡ [] → items ≡ []
+none_read keys stored rows items l read none = no_member items (λ x h. let r = read.from x h in let s = l.from r.0 r.1 in subst (λ xs. Has xs s.0) none s.1)
+
+pub bare_items : (trees : Trees) (a : Answers) (t : Tables) → AreAnswers trees a → AreItems a t → a.versions.items ≡ [] → t ≡ no_rows → AreBare trees
+bare_items trees a t is items none bare =
+    let root = none_stored _ _ _ _ is.root items.root.read (ap (λ (u : Tables). u.roots) bare) in
+    let current = none_stored _ _ _ _ is.current items.current (ap (λ (u : Tables). current_items u.timestamp u.snapshot) bare) in
+    let shelf = none_stored _ _ _ _ is.shelf items.shelf.read (ap (λ (u : Tables). u.shelf) bare) in
+    let blob = none_stored _ _ _ _ is.blob items.blob.read (ap (λ (u : Tables). u.blobs) bare) in
+    (root, (current, (shelf, (blob, (none_answered _ _ _ is.version none, tt)))))
+
+-- ---- what is damaged stands for nothing
+
+pub apart_slots : codes "timestamp" ≡ codes "snapshot" → ⊥
+apart_slots e = let f = e in cc
+
+current_keyed : (a b : Option (ℕ × List ℕ)) → AreKeyed (current_items a b)
+current_keyed None None x y in_x in_y same = absurd in_x
+current_keyed (Some v) None x y (inl p) (inl q) same = p ∙ sym q
+current_keyed (Some v) None x y (inr none) in_y same = absurd none
+current_keyed (Some v) None x y (inl p) (inr none) same = absurd none
+current_keyed None (Some w) x y (inl p) (inl q) same = p ∙ sym q
+current_keyed None (Some w) x y (inr none) in_y same = absurd none
+current_keyed None (Some w) x y (inl p) (inr none) same = absurd none
+current_keyed (Some v) (Some w) x y (inl p) (inl q) same = p ∙ sym q
+current_keyed (Some v) (Some w) x y (inr (inl p)) (inr (inl q)) same = p ∙ sym q
+current_keyed (Some v) (Some w) x y (inl p) (inr (inl q)) same = absurd (apart_slots (ap (λ (z : List ℕ × (ℕ × List ℕ)). z.0) (sym p) ∙ same ∙ ap (λ (z : List ℕ × (ℕ × List ℕ)). z.0) q))
+current_keyed (Some v) (Some w) x y (inr (inl p)) (inl q) same = absurd (apart_slots (sym (ap (λ (z : List ℕ × (ℕ × List ℕ)). z.0) (sym p) ∙ same ∙ ap (λ (z : List ℕ × (ℕ × List ℕ)). z.0) q)))
+current_keyed (Some v) (Some w) x y (inr (inr none)) in_y same = absurd none
+current_keyed (Some v) (Some w) x y (inl p) (inr (inr none)) same = absurd none
+current_keyed (Some v) (Some w) x y (inr (inl p)) (inr (inr none)) same = absurd none
+
+pub current_fits : (a b : Option (ℕ × List ℕ)) → ((r : _) → a ≡ Some r → r.0 < 2 ^ 32) → ((r : _) → b ≡ Some r → r.0 < 2 ^ 32) → (x : List ℕ × (ℕ × List ℕ)) → Has (current_items a b) x → FitsSlot x
+current_fits None None fa fb x h = absurd h
+current_fits (Some v) None fa fb x (inl is) = subst FitsSlot (sym is) (inl refl, fa v refl)
+current_fits (Some v) None fa fb x (inr none) = absurd none
+current_fits None (Some w) fa fb x (inl is) = subst FitsSlot (sym is) (inr refl, fb w refl)
+current_fits None (Some w) fa fb x (inr none) = absurd none
+current_fits (Some v) (Some w) fa fb x (inl is) = subst FitsSlot (sym is) (inl refl, fa v refl)
+current_fits (Some v) (Some w) fa fb x (inr (inl is)) = subst FitsSlot (sym is) (inr refl, fb w refl)
+current_fits (Some v) (Some w) fa fb x (inr (inr none)) = absurd none
+
+spoiled_has : {K V : Type 0} (Reads : Row → K × V → Type 0) (Fits : K × V → Type 0) (rows : List Row) → AreSpoiled Reads Fits rows → (r : Row) × Has rows r
+spoiled_has Reads Fits rows (inl bad) = (bad.0, bad.1)
+spoiled_has Reads Fits rows (inr bad) = (bad.0, bad.4)
+
+not_bare : {K V : Type 0} {shown : Row → Row} (keys : _) (Reads : Row → K × V → Type 0) (Fits : K × V → Type 0) (stored rows : List Row) → AreLoaded shown keys stored rows → AreSpoiled Reads Fits rows → stored ≡ [] → ⊥
+not_bare keys Reads Fits stored rows l bad none =
+    let r = spoiled_has Reads Fits rows bad in
+    let s = l.from r.0 r.1 in
+    subst (λ xs. Has xs s.0) none s.1
+
+pub damaged_items : (trees : Trees) (a : Answers) → AreAnswers trees a → AreDamaged a → (t : Tables) → IsFit t → StandsFor trees t → ⊥
+damaged_items trees a is (root bad) t fit (inl holds) = no_items IsRootRow FitsRoot root_row root_cells _ _ _ is.root (λ x. (refl, refl)) root_one bad t.roots (λ x h. all_has FitsRoot t.roots x fit.roots h) fit.one_root holds.root
+damaged_items trees a is (root bad) t fit (inr bare) = not_bare _ IsRootRow FitsRoot _ _ is.root bad bare.0.0
+damaged_items trees a is (current bad) t fit (inl holds) =
+    no_items IsSlotRow FitsSlot (λ x. slot_row x.0 x.1) current_cells _ _ _ is.current (λ x. (refl, refl, refl)) slot_one bad (current_items t.timestamp t.snapshot) (current_fits t.timestamp t.snapshot fit.timestamp fit.snapshot) (current_keyed t.timestamp t.snapshot)
+    (subst (AreRows current_cells (trees 1)) (sym (items_rows t.timestamp t.snapshot)) holds.current)
+damaged_items trees a is (current bad) t fit (inr bare) = not_bare _ IsSlotRow FitsSlot _ _ is.current bad bare.0.1.0
+damaged_items trees a is (shelf bad) t fit (inl holds) = no_items IsShelfRow FitsShelf shelf_row shelf_cells _ _ _ is.shelf (λ x. (refl, refl, refl)) shelf_one bad t.shelf (λ x h. all_has FitsShelf t.shelf x fit.shelf h) fit.one_row holds.shelf
+damaged_items trees a is (shelf bad) t fit (inr bare) = not_bare _ IsShelfRow FitsShelf _ _ is.shelf bad bare.0.1.1.0
+damaged_items trees a is (blob bad) t fit (inl holds) = no_items IsBlobRow FitsBlob blob_row blob_cells _ _ _ is.blob (λ x. (refl, refl)) blob_one bad t.blobs (λ x h. all_has FitsBlob t.blobs x fit.blobs h) fit.one_blob holds.blob
+damaged_items trees a is (blob bad) t fit (inr bare) = not_bare _ IsBlobRow FitsBlob _ _ is.blob bad bare.0.1.1.1.0
+
+pub damaged_version : (trees : Trees) (a : Answers) → AreAnswers trees a → (r : Row) → Has a.versions.items r → (IsOne r → ⊥) → (t : Tables) → StandsFor trees t → ⊥
+damaged_version trees a is r h bad t (inl holds) =
+    let s = is.version.from r h in
+    bad (subst IsOne (sym s.2) (only (holds.version.sound s.0 s.1)))
+  where
+    only : {c : Row} → Has (version_row ∷ []) c → IsOne c
+    only (inl e) = subst IsOne (sym e) refl
+    only (inr none) = absurd none
+damaged_version trees a is r h bad t (inr bare) = let s = is.version.from r h in subst (λ xs. Has xs s.0) bare.0.1.1.1.1.0 s.1
+
+no_slots : (a b : Option (ℕ × List ℕ)) → current_items a b ≡ [] → (a ≡ None) × (b ≡ None)
+no_slots None None e = (refl, refl)
+no_slots (Some v) b e = absurd (let f = e in cc)
+no_slots None (Some w) e = absurd (let f = e in cc)
+
+pub unbegun : (trees : Trees) (a : Answers) (t : Tables) → AreAnswers trees a → AreItems a t → a.versions.items ≡ [] → IsUnbegun trees t
+unbegun trees a t is items none = record { bare = bare_items trees a t is items none; other = other }
+  where
+    other : t ≢ no_rows → (u : Tables) → StandsFor trees u → ⊥
+    other not u (inl holds) =
+        let s = holds.version.complete version_row (inl refl) in
+        subst (λ xs. Has xs (version_cells s.0)) none (is.version.each s.0 s.1)
+    other not u (inr bare) =
+        let roots = none_read _ _ _ _ is.root items.root.read bare.0.0 in
+        let slots = no_slots t.timestamp t.snapshot (none_read _ _ _ _ is.current items.current bare.0.1.0) in
+        let rows = none_read _ _ _ _ is.shelf items.shelf.read bare.0.1.1.0 in
+        let blobs = none_read _ _ _ _ is.blob items.blob.read bare.0.1.1.1.0 in
+        not (λ i. record { roots = roots i; timestamp = slots.0 i; snapshot = slots.1 i; shelf = rows i; blobs = blobs i })
+
+-- ---- what was read fits
+
+module _ {K V : Type 0} (cmp : K → K → Ordering) (order : IsTotalOrder cmp) where
+  rising_keyed : (xs : List (K × V)) → IsStrictlySortedBy cmp (map (λ x. x.0) xs) → AreKeyed xs
+  unfolding IsStrictlySortedBy
+  rising_keyed [] up x y in_x in_y same = absurd in_x
+  rising_keyed (z ∷ xs) up x y (inl a) (inl b) same = a ∙ sym b
+  rising_keyed (z ∷ xs) up x y (inl a) (inr b) same = absurd (less_itself y.0 (subst (λ k. cmp k y.0 ≡ Less) (ap (λ (w : K × V). w.0) (sym a) ∙ same) (all_has (λ k. cmp z.0 k ≡ Less) (map (λ x. x.0) xs) y.0 up.0 (has_map (λ x. x.0) xs y b))))
+    where
+      less_itself : (k : K) → cmp k k ≡ Less → ⊥
+      less_itself k less = let e = sym less ∙ tied_itself order k in cc
+  rising_keyed (z ∷ xs) up x y (inr a) (inl b) same = absurd (less_itself x.0 (subst (λ k. cmp k x.0 ≡ Less) (ap (λ (w : K × V). w.0) (sym b) ∙ sym same) (all_has (λ k. cmp z.0 k ≡ Less) (map (λ x. x.0) xs) x.0 up.0 (has_map (λ x. x.0) xs x a))))
+    where
+      less_itself : (k : K) → cmp k k ≡ Less → ⊥
+      less_itself k less = let e = sym less ∙ tied_itself order k in cc
+  rising_keyed (z ∷ xs) up x y (inr a) (inr b) same = rising_keyed xs up.1 x y a b same
+
+pub items_fit : (a : Answers) (t : Tables) → AreItems a t → IsFit t
+items_fit a t items = record {
+  roots = all_from FitsRoot t.roots items.root.read.fit;
+  one_root = rising_keyed nat_cmp nat_cmp_total t.roots items.root.rising;
+  timestamp = λ r is. (items.current.fit (codes "timestamp", r) (has_timestamp t.timestamp t.snapshot r is)).1;
+  snapshot = λ r is. (items.current.fit (codes "snapshot", r) (has_snapshot t.timestamp t.snapshot r is)).1;
+  shelf = all_from FitsShelf t.shelf items.shelf.read.fit;
+  one_row = rising_keyed row_cmp row_cmp_total t.shelf items.shelf.rising;
+  blobs = all_from FitsBlob t.blobs items.blob.read.fit;
+  one_blob = rising_keyed (slice_cmp nat_cmp) nat_list_cmp_total t.blobs items.blob.rising;
+}
+
+pub items_rise : (a : Answers) (t : Tables) → AreItems a t → AreRising t
+items_rise a t items = record { roots = items.root.rising; shelf = items.shelf.rising; blobs = items.blob.rising }
+
+pub none_fit : (t : Tables) → t ≡ no_rows → IsFit t
+none_fit t is = subst IsFit (sym is) (record {
+  roots = tt;
+  one_root = λ x y none. absurd none;
+  timestamp = λ r e. absurd (let f = e in cc);
+  snapshot = λ r e. absurd (let f = e in cc);
+  shelf = tt;
+  one_row = λ x y none. absurd none;
+  blobs = tt;
+  one_blob = λ x y none. absurd none;
+})
+
+pub none_rise : (t : Tables) → t ≡ no_rows → AreRising t
+unfolding IsStrictlySortedBy
+none_rise t is = subst AreRising (sym is) (record { roots = tt; shelf = tt; blobs = tt })

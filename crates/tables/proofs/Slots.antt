@@ -1,0 +1,88 @@
+-- Items that are read from rows in any order, and the two slots of `current`.
+use Rattle.std.proofs.Common.{◌≡◌, ◌≢◌, ◌⊎◌, inl, inr, ℕ, List, [], ◌∷◌, ◌++◌, Option, Some, None, refl, sym, ap, subst, codes}
+use Rattle.sqlite.specs.Order.{Row}
+use Rattle.sqlite_rules.specs.Lists.{Has}
+use Rattle.sqlite_rules.proofs.ListLemmas.{has_left, has_right, has_either}
+use Rattle.tables.specs.Loading.{AreRead, AreSpoiled, IsSlotRow, FitsSlot, slot_items, current_items}
+
+module _ {K V : Type 0} (Reads : Row → K × V → Type 0) (Fits : K × V → Type 0) where
+  pub read_none : AreRead Reads Fits [] []
+  read_none = record { from = λ x none. absurd none; each = λ r none. absurd none; fit = λ x none. absurd none }
+
+  pub read_more : (rows : List Row) (items news : List (K × V)) (r : Row) (x : K × V) → AreRead Reads Fits rows items → Reads r x → Fits x
+      → ((z : K × V) → Has news z → Has items z ⊎ (z ≡ x)) → ((z : K × V) → Has items z → Has news z) → Has news x → AreRead Reads Fits (rows ++ r ∷ []) news
+  read_more rows items news r x all reads fits old kept new = record {
+    from = λ z h. elim (old z h) [
+      | inl was ↦ let it = all.from z was in (it.0, has_left rows _ it.0 it.1, it.2)
+      | inr is ↦ (r, has_right rows _ r (inl refl), subst (Reads r) (sym is) reads)
+    ];
+    each = λ s h. elim (has_either rows (r ∷ []) s h) [
+      | inl was ↦ let it = all.each s was in (it.0, kept it.0 it.1, it.2)
+      | inr (inl is) ↦ (x, new, subst (λ q. Reads q x) (sym is) reads)
+      | inr (inr none) ↦ absurd none
+    ];
+    fit = λ z h. elim (old z h) [ inl was ↦ all.fit z was | inr is ↦ subst Fits (sym is) fits ];
+  }
+
+  pub spoiled_slot : (rows done rest : List Row) (items : List (K × V)) (r : Row) (k : K) (v y : V) → rows ≡ (done ++ r ∷ []) ++ rest → AreRead Reads Fits done items → Has items (k, y)
+      → Reads r (k, v) → Fits (k, v) → v ≢ y → AreSpoiled Reads Fits rows
+  spoiled_slot rows done rest items r k v y split all has reads fits other =
+      let s = all.from (k, y) has in
+      inr (
+        r,
+        s.0,
+        (k, v),
+        (k, y),
+        subst (λ rs. Has rs r) (sym split) (has_left _ rest r (has_right done _ r (inl refl))),
+        subst (λ rs. Has rs s.0) (sym split) (has_left _ rest s.0 (has_left done _ s.0 s.1)),
+        reads,
+        s.2,
+        fits,
+        all.fit (k, y) has,
+        refl,
+        λ e. other (ap (λ (w : K × V). w.1) e),
+      )
+
+abbrev Slots : Type 0
+Slots = Option (ℕ × List ℕ)
+
+abbrev timestamp_slot : List ℕ
+timestamp_slot = codes "timestamp"
+
+abbrev snapshot_slot : List ℕ
+snapshot_slot = codes "snapshot"
+
+abbrev AreSlots : List Row → Slots → Slots → Type 0
+AreSlots rows a b = AreRead IsSlotRow FitsSlot rows (current_items a b)
+
+pub filled_timestamp : (rows : List Row) (r : Row) (a new b : Slots) (v : ℕ × List ℕ) → AreSlots rows a b → IsSlotRow r (timestamp_slot, v) → FitsSlot (timestamp_slot, v) → new ≡ Some v → (a ≡ None) ⊎ (a ≡ Some v)
+    → AreSlots (rows ++ r ∷ []) new b
+filled_timestamp rows r a new b v all reads fits is was = subst (λ (n : Slots). AreSlots (rows ++ r ∷ []) n b) (sym is) (go was)
+  where
+    go : (a ≡ None) ⊎ (a ≡ Some v) → AreSlots (rows ++ r ∷ []) (Some v) b
+    go (inl empty) = read_more IsSlotRow FitsSlot rows (slot_items snapshot_slot b) (current_items (Some v) b) r (timestamp_slot, v) (subst (λ (n : Slots). AreSlots rows n b) empty all) reads fits
+        (λ z h. elim h [ inl here ↦ inr here | inr later ↦ inl later ]) (λ z h. inr h) (inl refl)
+    go (inr held) = read_more IsSlotRow FitsSlot rows (current_items (Some v) b) (current_items (Some v) b) r (timestamp_slot, v) (subst (λ (n : Slots). AreSlots rows n b) held all) reads fits
+        (λ z h. inl h) (λ z h. h) (inl refl)
+
+pub filled_snapshot : (rows : List Row) (r : Row) (a b new : Slots) (v : ℕ × List ℕ) → AreSlots rows a b → IsSlotRow r (snapshot_slot, v) → FitsSlot (snapshot_slot, v) → new ≡ Some v → (b ≡ None) ⊎ (b ≡ Some v)
+    → AreSlots (rows ++ r ∷ []) a new
+filled_snapshot rows r a b new v all reads fits is was = subst (λ (n : Slots). AreSlots (rows ++ r ∷ []) a n) (sym is) (go was)
+  where
+    front : List (List ℕ × (ℕ × List ℕ))
+    front = slot_items timestamp_slot a
+
+    go : (b ≡ None) ⊎ (b ≡ Some v) → AreSlots (rows ++ r ∷ []) a (Some v)
+    go (inl empty) = read_more IsSlotRow FitsSlot rows (front ++ []) (front ++ (snapshot_slot, v) ∷ []) r (snapshot_slot, v) (subst (λ (n : Slots). AreSlots rows a n) empty all) reads fits
+        (λ z h. elim (has_either front _ z h) [ inl early ↦ inl (has_left front [] z early) | inr (inl here) ↦ inr here | inr (inr none) ↦ absurd none ])
+        (λ z h. elim (has_either front [] z h) [ inl early ↦ has_left front _ z early | inr none ↦ absurd none ])
+        (has_right front _ _ (inl refl))
+    go (inr held) = read_more IsSlotRow FitsSlot rows (current_items a (Some v)) (current_items a (Some v)) r (snapshot_slot, v) (subst (λ (n : Slots). AreSlots rows a n) held all) reads fits
+        (λ z h. inl h) (λ z h. h) (has_right front _ _ (inl refl))
+
+-- each slot has at most one item
+pub has_timestamp : (a b : Slots) (y : ℕ × List ℕ) → a ≡ Some y → Has (current_items a b) (timestamp_slot, y)
+has_timestamp a b y is = subst (λ (n : Slots). Has (current_items n b) (timestamp_slot, y)) (sym is) (inl refl)
+
+pub has_snapshot : (a b : Slots) (y : ℕ × List ℕ) → b ≡ Some y → Has (current_items a b) (snapshot_slot, y)
+has_snapshot a b y is = subst (λ (n : Slots). Has (current_items a n) (snapshot_slot, y)) (sym is) (has_right (slot_items timestamp_slot a) _ _ (inl refl))

@@ -1,0 +1,28 @@
+use Rattle.std.proofs.Common.{[]}
+use Rattle.sqlite.specs.Held.{state}
+use Rattle.tables.proofs.Queries.{commits_nothing}
+use Rattle.tables.proofs.Texts.{select_version}
+use Rattle.tables.proofs.Selects.{select_version_quiet}
+use Rattle.tables.proofs.Openings.{failed_was_open, look_failed, looked, row_means_open}
+use Rattle.tables.proofs.opening.check_open.Goals as goal
+
+pub returns-clause-open : goal.returns-clause-open
+returns-clause-open g c clean = row_means_open _ _ (state g.S.Store c.args.conn.now) (state g.S.Store c.query_row.new.self) _ (c.in-Ok.ensures.row clean)
+
+pub returns-clause-kept : goal.returns-clause-kept
+returns-clause-kept g c clean stays t is = looked (state g.S.Store c.args.conn.now) (state g.S.Store c.query_row.new.self) _ t (c.in-Ok.ensures.row clean) is
+
+pub returns-clause-survives : goal.returns-clause-survives
+returns-clause-survives g c = commits_nothing select_version [] (state g.S.Store c.args.conn.now) (state g.S.Store c.query_row.new.self) select_version_quiet c.query_row.ensures.survives
+
+pub returns-in-Err-clause-kept : goal.returns-in-Err-clause-kept
+returns-in-Err-clause-kept g c clean stays t is = look_failed (state g.S.Store c.args.conn.now) (state g.S.Store c.query_row.new.self) _ t stays (c.in-Err.ensures.row clean) is
+
+pub returns-in-Err-clause-survives : goal.returns-in-Err-clause-survives
+returns-in-Err-clause-survives g c = commits_nothing select_version [] (state g.S.Store c.args.conn.now) (state g.S.Store c.query_row.new.self) select_version_quiet c.query_row.ensures.survives
+
+pub returns-clause-was_open : goal.returns-clause-was_open
+returns-clause-was_open g c clean stays = (row_means_open _ _ (state g.S.Store c.args.conn.now) (state g.S.Store c.query_row.new.self) _ (c.in-Ok.ensures.row clean)).0
+
+pub returns-in-Err-clause-was_open : goal.returns-in-Err-clause-was_open
+returns-in-Err-clause-was_open g c clean stays = failed_was_open _ _ (state g.S.Store c.args.conn.now) (state g.S.Store c.query_row.new.self) _ stays (c.in-Err.ensures.row clean)

@@ -1,0 +1,32 @@
+use Rattle.std.proofs.Common.{◌≡◌, ◌∙◌, Err, IsTrue, ap, subst, sym, arith}
+use Rattle.sqlite_trees.specs.Tree.{Trees}
+use Rattle.sqlite.specs.Effect.{Database}
+use Rattle.sqlite.specs.Held.{state}
+use Rattle.sqlite.specs.State.{HasCleanDisk, IsUnchanged}
+use Rattle.sqlite.proofs.StateLemmas.{survives_then}
+use Rattle.tables.specs.Schema.{the_schema}
+use Rattle.tables.specs.Tables.{AreBare, HoldsTables, no_rows}
+use Rattle.tables.proofs.Gathering.{same_error}
+use Rattle.tables.proofs.opening.load.Goals as goal
+
+pub returns-in-Err-clause-damaged : goal.returns-in-Err-clause-damaged
+returns-in-Err-clause-damaged g c clean schema is = c.in-Err.ensures.damaged clean schema (ap Err (same_error is))
+
+pub returns-clause-damaged : goal.returns-clause-damaged
+returns-clause-damaged g c clean schema is t fit stands =
+    let early : HasCleanDisk (state g.S.Store c.gather.new.conn) = omega (arith, clean, c.begin_bare.ensures.crash.clean) in
+    (c.in-Ok.ensures.unbegun early schema c.if-is_begun.false).other (c.begin_bare.ensures.damaged is) t stands
+
+pub returns-clause-crash : goal.returns-clause-crash
+returns-clause-crash g c =
+    let old = state g.S.Store c.args.conn.now in
+    let mid = state g.S.Store c.gather.new.conn in
+    let end = state g.S.Store c.begin_bare.new.conn in
+    let P = λ (trees : Trees). IsTrue old.is_open → old.now.schema ≡ the_schema → AreBare old.now.trees → HoldsTables trees no_rows in
+    let Q = λ (trees : Trees). IsTrue mid.is_open → mid.now.schema ≡ the_schema → AreBare mid.now.trees → HoldsTables trees no_rows in
+    survives_then old mid end (λ _. ⊥) Q P (λ _ db none. absurd none)
+    (λ clean db h is_open schema bare.
+    let early : HasCleanDisk mid = omega (arith, clean, c.begin_bare.ensures.crash.clean) in
+    let same : IsUnchanged old mid = c.in-Ok.ensures.unchanged early schema in
+    h same.0.is_open (ap (λ (d : Database). d.schema) same.0.now_is ∙ schema) (subst (λ (d : Database). AreBare d.trees) (sym same.0.now_is) bare))
+    c.gather.ensures.survives c.begin_bare.ensures.crash

@@ -1,0 +1,53 @@
+use Rattle.std.proofs.Common.{◌≡◌, ◌+◌, ◌++◌, [], ◌∷◌, take, slice_index_or, sym, ap, subst, ◌∙◌, arith, rules, OnOk}
+use Rattle.std.proofs.lemmas.List.{take_more, take_all}
+use Rattle.sqlite_trees.specs.Tree.{Trees}
+use Rattle.sqlite.specs.State.{HasCleanDisk, Survives}
+use Rattle.sqlite.specs.Held.{state}
+use Rattle.sqlite.proofs.StateLemmas.{survives_then}
+use Rattle.tables.specs.declared.contents.Change.{Change}
+use Rattle.tables.specs.declared.contents.Change.TheVariants.{PutRoot}
+use Rattle.tables.specs.Tables.{Tables, IsStore, HoldsTables, after_all}
+use Rattle.tables.specs.Writing.{IsInside, cells_of}
+use Rattle.tables.proofs.Changes.{OnOk_then, after_all_more, committed, keeps_then, to_tables}
+use Rattle.tables.proofs.writing.write_changes.Goals as goal
+
+pub writes-preserved : goal.writes-preserved
+writes-preserved g c =
+    let old = state g.S.Store c.args.conn.now in
+    let was = state g.S.Store c.writes.tx.conn.now in
+    let now = state g.S.Store c.write.new.tx.conn.now in
+    let at = c.writes.change-index in
+    let so = c.writes.invariant in
+    let none : Change = PutRoot 0 (record { ref_ptr = (0, 0); now = [] }) in
+    let item = slice_index_or c.args.changes.now at none in
+    let more : take (at + 1) c.args.changes.now ≡ take at c.args.changes.now ++ item ∷ [] = take_more c.args.changes.now at none (omega arith) in
+    let early : HasCleanDisk now → HasCleanDisk was = λ clean. omega (arith, c.write.ensures.survives.clean) in (
+      c.write.ensures.same_reference ∙ so.0,
+      survives_then old was now (λ _. ⊥) (λ _. ⊥) (λ _. ⊥) (λ _ db none. none) (λ _ db none. none) so.1 c.write.ensures.survives,
+      λ clean. keeps_then old was now (so.2 (early clean)) (c.write.ensures.kept clean),
+      λ clean t is. subst (λ u. IsInside now (cells_of u)) (sym (ap (λ es. after_all es t) more ∙ after_all_more (take at c.args.changes.now) item t)) (c.in_ok-write.ensures.wrote clean _ (so.3 (early clean) t is)),
+    )
+
+pub returns-clause-wrote : goal.returns-clause-wrote
+returns-clause-wrote g c clean t is =
+    let tx = state g.S.Store c.writes.tx.conn.now in
+    let end = c.commit.new.self.0 in
+    let same : end ≡ c.conn-2-1.given.0 = search rules in
+    let whole : take c.writes.change-index c.args.changes.now ≡ c.args.changes.now = take_all c.writes.change-index c.args.changes.now (omega arith) in
+    let late : HasCleanDisk (state g.S.Store end) = subst (λ h. HasCleanDisk (state g.S.Store h)) (sym same) clean in
+    let inside = subst (λ es. IsInside tx (cells_of (after_all es t))) whole (c.writes.invariant.3 (omega (arith, late, c.commit.ensures.survives.clean)) t is) in
+    subst (λ h. OnOk c.commit.result (IsStore (state g.S.Store h) (after_all c.args.changes.now t))) same
+    (OnOk_then c.commit.result (c.commit.ensures.ok late) (λ done. committed tx (state g.S.Store end) (after_all c.args.changes.now t) inside done.1))
+
+pub returns-clause-crash : goal.returns-clause-crash
+returns-clause-crash g c =
+    let old = state g.S.Store c.args.conn.now in
+    let tx = state g.S.Store c.writes.tx.conn.now in
+    let end = c.commit.new.self.0 in
+    let P = λ (trees : Trees). (t : Tables) → IsStore old t → HoldsTables trees (after_all c.args.changes.now t) in
+    let whole : take c.writes.change-index c.args.changes.now ≡ c.args.changes.now = take_all c.writes.change-index c.args.changes.now (omega arith) in
+    let all = survives_then old tx (state g.S.Store end) (λ _. ⊥) (λ db. db ≡ tx.now.trees) P (λ _ db none. absurd none)
+    (λ clean db is t store. subst (λ es. HoldsTables db (after_all es t)) whole (subst (λ (d : Trees). HoldsTables d (after_all (take c.writes.change-index c.args.changes.now) t)) (sym is) (to_tables (c.writes.invariant.3 (omega (arith, c.commit.ensures.survives.clean)) t store).holds)))
+    c.writes.invariant.1 c.commit.ensures.survives in
+    let same : end ≡ c.conn-2-1.given.0 = search rules in
+    subst (λ h. Survives old (state g.S.Store h) P) same all

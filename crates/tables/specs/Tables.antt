@@ -1,0 +1,171 @@
+-- What the tables hold, and what a change makes of it.
+use Rattle.std.specs.Prelude.{◌≡◌, ◌⊎◌, ◌<◌, ◌^◌, ℕ, pos, List, [], ◌∷◌, ◌++◌, map, option_map, Option, Some, None, IsTrue, IsUtf8, codes, length, Vec}
+use Rattle.std.specs.declared.alloc.Global.{Global}
+use Rattle.std.specs.List.{AllByRecursion}
+use Rattle.std.specs.Ordering.{nat_cmp, on, then_cmp}
+use Rattle.std.specs.declared.cmp.Ordering.{Ordering}
+use Rattle.std.specs.Cmp.Lexicographic.{slice_cmp}
+use Rattle.std.specs.List.Sorted.{IsStrictlySortedBy}
+use Rattle.std.specs.String.{string_bytes}
+use Rattle.hex.specs.Hex.{encode_lower}
+use Rattle.sqlite_rules.specs.Lists.{Has}
+use Rattle.sqlite.specs.declared.types.Value.TheVariants.{Int, Text, Blob}
+use Rattle.sqlite.specs.Order.{Row}
+use Rattle.sqlite_trees.specs.Tree.{Trees}
+use Rattle.sqlite.specs.Table.{Table}
+use Rattle.sqlite.specs.State.{State}
+use Rattle.tables.specs.declared.contents.Tables.{Tables as Kept}
+use Rattle.tables.specs.declared.contents.Change.{Change}
+use Rattle.tables.specs.declared.contents.Change.TheVariants.{PutRoot, Emptied, PutTimestamp, PutSnapshot, PutRow, PutBlob}
+use Rattle.tables.specs.Schema.{the_schema}
+use Rattle.tables.specs.Rows.{AreRows, root_cells, current_cells, shelf_cells, blob_cells, version_cells}
+
+-- A key of a row, and its bytes. A version is a number, a role the bytes of its text, a digest its 32 bytes.
+pub record Tables : Type 0 where
+  pub roots : List (ℕ × List ℕ)
+  pub timestamp : Option (ℕ × List ℕ)
+  pub snapshot : Option (ℕ × List ℕ)
+  pub shelf : List ((List ℕ × ℕ) × List ℕ)
+  pub blobs : List (List ℕ × List ℕ)
+
+abbrev pub no_rows : Tables
+no_rows = record { roots = []; timestamp = None; snapshot = None; shelf = []; blobs = [] }
+
+-- ---- the cells of the rows
+
+abbrev pub root_row : ℕ × List ℕ → Row
+root_row r = Int (pos r.0) ∷ Blob r.1 ∷ []
+
+abbrev pub slot_row : List ℕ → ℕ × List ℕ → Row
+slot_row slot r = Text slot ∷ Int (pos r.0) ∷ Blob r.1 ∷ []
+
+abbrev pub slot_rows : List ℕ → Option (ℕ × List ℕ) → List Row
+slot_rows slot None = []
+slot_rows slot (Some r) = slot_row slot r ∷ []
+
+abbrev pub current_rows : Option (ℕ × List ℕ) → Option (ℕ × List ℕ) → List Row
+current_rows timestamp snapshot = slot_rows (codes "timestamp") timestamp ++ slot_rows (codes "snapshot") snapshot
+
+abbrev pub shelf_row : (List ℕ × ℕ) × List ℕ → Row
+shelf_row r = Text r.0.0 ∷ Int (pos r.0.1) ∷ Blob r.1 ∷ []
+
+abbrev pub blob_row : List ℕ × List ℕ → Row
+blob_row r = Text (encode_lower r.0) ∷ Blob r.1 ∷ []
+
+-- the one row of `schema`
+abbrev pub version_row : Row
+version_row = Int (pos 1) ∷ []
+
+-- ---- what is held
+
+-- the trees of the five tables hold these rows, as sets, and schema 1
+pub record HoldsTables (trees : Trees) (t : Tables) : Type 0 where
+  pub root : AreRows root_cells (trees 0) (map root_row t.roots)
+  pub current : AreRows current_cells (trees 1) (current_rows t.timestamp t.snapshot)
+  pub shelf : AreRows shelf_cells (trees 3) (map shelf_row t.shelf)
+  pub blob : AreRows blob_cells (trees 5) (map blob_row t.blobs)
+  pub version : AreRows version_cells (trees 7) (version_row ∷ [])
+
+-- between two transactions: the connection is open, its tables are the five, and hold these rows
+pub record IsStore (s : State) (t : Tables) : Type 0 where
+  pub is_open : IsTrue s.is_open
+  pub schema : s.now.schema ≡ the_schema
+  pub settled : s.now ≡ s.committed
+  pub holds : HoldsTables s.now.trees t
+
+-- no row in any of the five tables
+abbrev pub AreBare : Trees → Type 0
+AreBare trees = AllByRecursion (λ (t : Table). trees t.tree ≡ []) the_schema.tables
+
+-- What the trees of the five tables stand for. Five empty tables are no rows yet.
+abbrev pub StandsFor : Trees → Tables → Type 0
+StandsFor trees t = HoldsTables trees t ⊎ (AreBare trees × (t ≡ no_rows))
+
+-- the same rows, in any order
+pub record AreSame (t u : Tables) : Type 0 where
+  pub roots : (x : _) → (Has t.roots x → Has u.roots x) × (Has u.roots x → Has t.roots x)
+  pub timestamp : t.timestamp ≡ u.timestamp
+  pub snapshot : t.snapshot ≡ u.snapshot
+  pub shelf : (x : _) → (Has t.shelf x → Has u.shelf x) × (Has u.shelf x → Has t.shelf x)
+  pub blobs : (x : _) → (Has t.blobs x → Has u.blobs x) × (Has u.blobs x → Has t.blobs x)
+
+-- ---- what fits the columns
+
+abbrev pub IsVersion : ℕ → Type 0
+IsVersion n = n < 2 ^ 32
+
+-- a digest of 32 bytes
+abbrev pub IsDigest : List ℕ → Type 0
+IsDigest d = (length d ≡ 32) × AllByRecursion (λ b. b < 256) d
+
+-- at most one row for each key
+abbrev pub AreKeyed : {K V : Type 0} → List (K × V) → Type 0
+AreKeyed {K} {V} rows = (x y : K × V) → Has rows x → Has rows y → x.0 ≡ y.0 → x ≡ y
+
+pub record IsFit (t : Tables) : Type 0 where
+  pub roots : AllByRecursion (λ r. IsVersion r.0) t.roots
+  pub one_root : AreKeyed t.roots
+  pub timestamp : (r : _) → t.timestamp ≡ Some r → IsVersion r.0
+  pub snapshot : (r : _) → t.snapshot ≡ Some r → IsVersion r.0
+  pub shelf : AllByRecursion (λ r. IsUtf8 r.0.0 × IsVersion r.0.1) t.shelf
+  pub one_row : AreKeyed t.shelf
+  pub blobs : AllByRecursion (λ r. IsDigest r.0) t.blobs
+  pub one_blob : AreKeyed t.blobs
+
+-- by role, and then by version
+abbrev pub row_cmp : List ℕ × ℕ → List ℕ × ℕ → Ordering
+row_cmp = then_cmp (on (λ k. k.0) (slice_cmp nat_cmp)) (on (λ k. k.1) nat_cmp)
+
+-- each key is below those after it
+pub record AreRising (t : Tables) : Type 0 where
+  pub roots : IsStrictlySortedBy nat_cmp (map (λ r. r.0) t.roots)
+  pub shelf : IsStrictlySortedBy row_cmp (map (λ r. r.0) t.shelf)
+  pub blobs : IsStrictlySortedBy (slice_cmp nat_cmp) (map (λ r. r.0) t.blobs)
+
+-- ---- the code's tables and changes
+
+abbrev pub value_view : ℕ × Vec ℕ Global → ℕ × List ℕ
+value_view r = (r.0, r.1.items)
+
+abbrev pub slot_view : Option (ℕ × Vec ℕ Global) → Option (ℕ × List ℕ)
+slot_view o = option_map value_view o
+
+abbrev pub tables_view : Kept → Tables
+tables_view t = record {
+  roots = map (λ r. (r.0, r.1.items)) t.roots.items;
+  timestamp = slot_view t.timestamp;
+  snapshot = slot_view t.snapshot;
+  shelf = map (λ r. ((string_bytes r.0, r.1), r.2.items)) t.shelf.items;
+  blobs = map (λ r. (r.0, r.1.items)) t.blobs.items;
+}
+
+-- a put stands behind the rows that are there
+abbrev pub with_root : ℕ × List ℕ → Tables → Tables
+with_root r t = record t { roots = t.roots ++ r ∷ [] }
+
+abbrev pub with_timestamp : ℕ × List ℕ → Tables → Tables
+with_timestamp r t = record t { timestamp = Some r }
+
+abbrev pub with_snapshot : ℕ × List ℕ → Tables → Tables
+with_snapshot r t = record t { snapshot = Some r }
+
+abbrev pub with_row : (List ℕ × ℕ) × List ℕ → Tables → Tables
+with_row r t = record t { shelf = t.shelf ++ r ∷ [] }
+
+abbrev pub with_blob : List ℕ × List ℕ → Tables → Tables
+with_blob r t = record t { blobs = t.blobs ++ r ∷ [] }
+
+abbrev pub emptied : Tables → Tables
+emptied t = record t { timestamp = None; snapshot = None; shelf = [] }
+
+abbrev pub after : Change → Tables → Tables
+after (PutRoot version bytes) t = with_root (version, bytes.now) t
+after Emptied t = emptied t
+after (PutTimestamp version bytes) t = with_timestamp (version, bytes.now) t
+after (PutSnapshot version bytes) t = with_snapshot (version, bytes.now) t
+after (PutRow role version bytes) t = with_row ((role.now, version), bytes.now) t
+after (PutBlob digest bytes) t = with_blob (digest.now, bytes.now) t
+
+abbrev pub after_all : List Change → Tables → Tables
+after_all [] t = t
+after_all (c ∷ cs) t = after_all cs (after c t)

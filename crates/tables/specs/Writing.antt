@@ -1,0 +1,52 @@
+-- What the tables hold inside a transaction, cell by cell.
+use Rattle.std.specs.Prelude.{◌≡◌, ℕ, List, [], ◌∷◌, map, filter, not, Bool, IsTrue}
+use Rattle.sqlite.specs.declared.types.Value.TheVariants.{Text}
+use Rattle.sqlite.specs.Order.{Row, column}
+use Rattle.sqlite_sql.specs.Ops.{binary, is_true}
+use Rattle.sqlite_sql.specs.declared.ops.BinaryOp.TheVariants.{Compare}
+use Rattle.sqlite_sql.specs.declared.ops.CompareOp.TheVariants.{Eq}
+use Rattle.sqlite_value.specs.declared.keys.Collation.TheVariants.{Binary}
+use Rattle.sqlite_trees.specs.Tree.{Trees}
+use Rattle.sqlite.specs.State.{State}
+use Rattle.tables.specs.Schema.{the_schema}
+use Rattle.tables.specs.Rows.{AreRows, root_cells, current_cells, shelf_cells, blob_cells, version_cells}
+use Rattle.tables.specs.Tables.{Tables, root_row, current_rows, shelf_row, blob_row, version_row}
+
+-- the cells of four tables; the fifth has its one row
+pub record Cells : Type 0 where
+  pub root : List Row
+  pub current : List Row
+  pub shelf : List Row
+  pub blob : List Row
+
+abbrev pub no_cells : Cells
+no_cells = record { root = []; current = []; shelf = []; blob = [] }
+
+abbrev pub cells_of : Tables → Cells
+cells_of t = record {
+  root = map root_row t.roots;
+  current = current_rows t.timestamp t.snapshot;
+  shelf = map shelf_row t.shelf;
+  blob = map blob_row t.blobs;
+}
+
+pub record HoldsCells (trees : Trees) (c : Cells) : Type 0 where
+  pub root : AreRows root_cells (trees 0) c.root
+  pub current : AreRows current_cells (trees 1) c.current
+  pub shelf : AreRows shelf_cells (trees 3) c.shelf
+  pub blob : AreRows blob_cells (trees 5) c.blob
+  pub version : AreRows version_cells (trees 7) (version_row ∷ [])
+
+-- inside the transaction that changes them
+pub record IsInside (s : State) (c : Cells) : Type 0 where
+  pub is_open : IsTrue s.is_open
+  pub inside : IsTrue s.in_transaction
+  pub schema : s.now.schema ≡ the_schema
+  pub holds : HoldsCells s.now.trees c
+
+-- the first cell is this text, as SQL tests it
+abbrev pub has_text : List ℕ → Row → Bool
+has_text text c = is_true (binary (Compare Eq Binary) (column c 0) (Text text))
+
+abbrev pub without_text : List ℕ → List Row → List Row
+without_text text cells = filter (λ c. not (has_text text c)) cells

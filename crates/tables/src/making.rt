@@ -1,0 +1,111 @@
+// The making of the tables, and the connection that the tables' rowids are known of.
+ghost use Rattle.std.specs.Prelude.{◌≡◌, ◌≢◌, Err, true, false, [], ◌∷◌, IsTrue, IfOk, OnOk, OnErr};
+ghost use Rattle.sqlite.specs.State.{HasCleanDisk, KeepsCommit, Survives, Opens, IsLive};
+ghost use Rattle.sqlite.specs.Held.{state, IsNew};
+ghost use Rattle.tables.specs.Schema.{the_schema, no_schema};
+ghost use Rattle.tables.specs.Tables.{IsStore, HoldsTables, no_rows};
+ghost use Rattle.tables.specs.Writing.{IsInside, no_cells};
+ghost use Rattle.tables.specs.Making.{IsMade, Makes, AreNumbered, AreEmpty};
+
+use crate::contents::Fault;
+use crate::faults::fault_of;
+use sqlite::{Alter, Connection, Error, Transaction};
+use sqlite_trees::error::StoreError;
+use sqlite_trees::store::Store;
+use std::alloc::Global;
+
+fn make<S: Alter>(tx: &mut Transaction<'_, S>, sql: &str) -> Result<(), Error>
+    ensures same_reference { tx.new.conn.ghost_name ≡ tx.old.conn.ghost_name }
+    ensures wrote { HasCleanDisk (state S.Store tx.new.conn.now) → (before after : _) → Makes before sql.now after → IsMade before (state S.Store tx.old.conn.now) → OnOk result (IsMade after (state S.Store tx.new.conn.now)) }
+    ensures kept { HasCleanDisk (state S.Store tx.new.conn.now) → KeepsCommit (state S.Store tx.old.conn.now) (state S.Store tx.new.conn.now) }
+    ensures survives { Survives (state S.Store tx.old.conn.now) (state S.Store tx.new.conn.now) (λ _. ⊥) }
+{
+    tx.execute(sql, &[])?;
+    Ok(())
+}
+
+fn make_tables<S: Alter>(tx: &mut Transaction<'_, S>) -> Result<(), Error>
+    ensures same_reference { tx.new.conn.ghost_name ≡ tx.old.conn.ghost_name }
+    ensures wrote { HasCleanDisk (state S.Store tx.new.conn.now) → IsMade no_schema (state S.Store tx.old.conn.now) → OnOk result (IsMade the_schema (state S.Store tx.new.conn.now)) }
+    ensures kept { HasCleanDisk (state S.Store tx.new.conn.now) → KeepsCommit (state S.Store tx.old.conn.now) (state S.Store tx.new.conn.now) }
+    ensures survives { Survives (state S.Store tx.old.conn.now) (state S.Store tx.new.conn.now) (λ _. ⊥) }
+{
+    make(
+        tx,
+        "CREATE TABLE root (version INTEGER NOT NULL PRIMARY KEY, bytes BLOB NOT NULL)",
+    )?;
+    make(
+        tx,
+        "CREATE TABLE current (slot TEXT NOT NULL PRIMARY KEY, version INTEGER NOT NULL, bytes BLOB NOT NULL)",
+    )?;
+    make(
+        tx,
+        "CREATE TABLE shelf (role TEXT NOT NULL, version INTEGER NOT NULL, bytes BLOB NOT NULL, PRIMARY KEY (role, version))",
+    )?;
+    make(
+        tx,
+        "CREATE TABLE blob (digest TEXT NOT NULL PRIMARY KEY, bytes BLOB NOT NULL)",
+    )?;
+    make(
+        tx,
+        "CREATE TABLE schema (version INTEGER NOT NULL PRIMARY KEY)",
+    )
+}
+
+fn put_version<S: Alter>(tx: &mut Transaction<'_, S>) -> Result<(), Error>
+    ensures same_reference { tx.new.conn.ghost_name ≡ tx.old.conn.ghost_name }
+    ensures wrote { HasCleanDisk (state S.Store tx.new.conn.now) → IsMade the_schema (state S.Store tx.old.conn.now) → OnOk result (IsInside (state S.Store tx.new.conn.now) no_cells) }
+    ensures kept { HasCleanDisk (state S.Store tx.new.conn.now) → KeepsCommit (state S.Store tx.old.conn.now) (state S.Store tx.new.conn.now) }
+    ensures survives { Survives (state S.Store tx.old.conn.now) (state S.Store tx.new.conn.now) (λ _. ⊥) }
+{
+    tx.execute("INSERT INTO schema (version) VALUES (1)", &[])?;
+    Ok(())
+}
+
+// Makes the five tables and the row of `schema` in one transaction.
+pub(crate) fn make_all<S: Alter>(conn: &mut Connection<S>) -> Result<(), Error>
+    requires { conn.old.in_transaction ≡ false }
+    ensures autocommit { conn.new.in_transaction ≡ false }
+    ensures wrote { HasCleanDisk (state S.Store conn.new) → (state S.Store conn.old).now.schema ≡ no_schema → OnOk result (IsStore (state S.Store conn.new) no_rows) }
+    ensures was_open { HasCleanDisk (state S.Store conn.new) → IsTrue (state S.Store conn.new).is_open → IsTrue (state S.Store conn.old).is_open }
+    ensures crash { Survives (state S.Store conn.old) (state S.Store conn.new) (λ trees. IsTrue (state S.Store conn.old).is_open → (state S.Store conn.old).now.schema ≡ no_schema → HoldsTables trees no_rows) }
+{
+    let mut tx = conn.transaction();
+    make_tables(&mut tx)?;
+    put_version(&mut tx)?;
+    tx.commit()
+}
+
+// Puts the row of `schema` into tables that are all empty, in one transaction.
+pub(crate) fn begin<S: Alter>(conn: &mut Connection<S>) -> Result<(), Error>
+    requires { conn.old.in_transaction ≡ false }
+    ensures autocommit { conn.new.in_transaction ≡ false }
+    ensures wrote { HasCleanDisk (state S.Store conn.new) → (state S.Store conn.old).now.schema ≡ the_schema → AreEmpty the_schema (state S.Store conn.old).now.trees → OnOk result (IsStore (state S.Store conn.new) no_rows) }
+    ensures was_open { HasCleanDisk (state S.Store conn.new) → IsTrue (state S.Store conn.new).is_open → IsTrue (state S.Store conn.old).is_open }
+    ensures crash { Survives (state S.Store conn.old) (state S.Store conn.new) (λ trees. IsTrue (state S.Store conn.old).is_open → (state S.Store conn.old).now.schema ≡ the_schema → AreEmpty the_schema (state S.Store conn.old).now.trees → HoldsTables trees no_rows) }
+{
+    let mut tx = conn.transaction();
+    put_version(&mut tx)?;
+    tx.commit()
+}
+
+/// The connection over the same store, of which the laws of the store say that the rowids of each table come once: call it
+/// once, before `prepare`. What was not committed is undone, and the connection's clock and step limit are lost.
+pub fn renew<S: Alter + Drop>(alloc: Global, conn: Connection<S>) -> Result<Connection<S>, Fault>
+    ensures opened { IfOk result (λ c. HasCleanDisk (state S.Store c) → Opens (state S.Store c) × IsLive (state S.Store c)) }
+    ensures numbered { IfOk result (λ c. HasCleanDisk (state S.Store c) → AreNumbered (state S.Store c).now.schema (state S.Store c).now.trees) }
+    ensures same { IfOk result (λ c. HasCleanDisk (state S.Store c) → (state S.Store c).now.trees ≡ (state S.Store conn).committed.trees) }
+    ensures fresh { IfOk result IsNew }
+    ensures fault { result ≢ Err Fault.Damaged }
+{
+    let mut store = conn.into_store();
+    match store.commit() {
+        Ok(()) => {}
+        Err(StoreError::OutOfMemory) => return Err(Fault::OutOfMemory),
+        Err(_) => return Err(Fault::Database),
+    }
+    match Connection::over(alloc, store) {
+        Ok(conn) => Ok(conn),
+        Err((error, _)) => Err(fault_of(error)),
+    }
+}

@@ -1,0 +1,249 @@
+use crate::{Change, Fault, Tables, check_open, prepare, renew, write_all};
+use sqlite::{Alter, Connection, MemStore};
+use std::alloc::Global;
+use std::test::Fail;
+
+fn read<S: Alter>(alloc: Global, conn: &mut Connection<S>) -> Result<Tables, Fault> {
+    if !conn.is_autocommit() {
+        return Err(Fault::Database);
+    }
+    prepare(alloc, conn)
+}
+
+fn put<S: Alter>(conn: &mut Connection<S>, changes: &[Change<'_>]) -> Result<(), Fault> {
+    if !conn.is_autocommit() {
+        return Err(Fault::Database);
+    }
+    write_all(conn, changes)
+}
+
+// Not in the order of the keys.
+fn put_some<S: Alter>(conn: &mut Connection<S>) -> Result<(), Fault> {
+    put(
+        conn,
+        &[
+            Change::PutRoot(2, b"root 2"),
+            Change::PutRoot(1, b"root 1"),
+            Change::PutTimestamp(7, b"timestamp 7"),
+            Change::PutSnapshot(5, b"snapshot 5"),
+            Change::PutRow("targets", 3, b"targets 3"),
+            Change::PutRow("a", 4_294_967_295, b"a"),
+            Change::PutRow("targets", 2, b""),
+            Change::PutBlob(&[255; 32], b"high"),
+            Change::PutBlob(&[16; 32], b"low"),
+            Change::PutTimestamp(8, b"timestamp 8"),
+        ],
+    )
+}
+
+fn is_at(slot: &Option<(u32, Vec<u8>)>, version: u32, bytes: &[u8]) -> bool {
+    match slot {
+        Some(held) => held.0 == version && held.1.as_slice() == bytes,
+        None => false,
+    }
+}
+
+fn are_roots(tables: &Tables) -> bool {
+    match tables.roots.as_slice() {
+        [one, two] => {
+            one.0 == 1
+                && one.1.as_slice() == b"root 1".as_slice()
+                && two.0 == 2
+                && two.1.as_slice() == b"root 2".as_slice()
+        }
+        _ => false,
+    }
+}
+
+fn are_rows(tables: &Tables) -> bool {
+    match tables.shelf.as_slice() {
+        [a, two, three] => {
+            a.0.as_str() == "a"
+                && a.1 == 4_294_967_295
+                && a.2.as_slice() == b"a".as_slice()
+                && two.0.as_str() == "targets"
+                && two.1 == 2
+                && two.2.is_empty()
+                && three.1 == 3
+                && three.2.as_slice() == b"targets 3".as_slice()
+        }
+        _ => false,
+    }
+}
+
+fn are_blobs(tables: &Tables) -> bool {
+    match tables.blobs.as_slice() {
+        [low, high] => {
+            low.0 == [16; 32]
+                && low.1.as_slice() == b"low".as_slice()
+                && high.0 == [255; 32]
+                && high.1.as_slice() == b"high".as_slice()
+        }
+        _ => false,
+    }
+}
+
+fn is_some(tables: &Tables) -> bool {
+    are_roots(tables)
+        && is_at(&tables.timestamp, 8, b"timestamp 8")
+        && is_at(&tables.snapshot, 5, b"snapshot 5")
+        && are_rows(tables)
+        && are_blobs(tables)
+}
+
+fn is_empty(tables: &Tables) -> bool {
+    tables.roots.is_empty()
+        && tables.timestamp.is_none()
+        && tables.snapshot.is_none()
+        && tables.shelf.is_empty()
+        && tables.blobs.is_empty()
+}
+
+// A database in memory with the five tables and the rows.
+fn made(alloc: Global) -> Result<Connection<MemStore>, Fault> {
+    let mut conn = renew(alloc, Connection::open_in_memory(alloc)?)?;
+    read(alloc, &mut conn)?;
+    put_some(&mut conn)?;
+    Ok(conn)
+}
+
+#[test]
+fn reads_what_was_put(rt: HostRuntime) -> Result<(), Fail> {
+    let alloc = rt.alloc();
+    let mut conn = renew(alloc, Connection::open_in_memory(alloc)?)?;
+    assert!(rt; is_empty(&read(alloc, &mut conn)?));
+    assert!(rt; is_empty(&read(alloc, &mut conn)?));
+    put_some(&mut conn)?;
+    assert!(rt; is_some(&read(alloc, &mut conn)?));
+    let mut conn = renew(alloc, conn)?;
+    assert!(rt; is_some(&read(alloc, &mut conn)?));
+    check_open(&mut conn)?;
+    put(&mut conn, &[Change::Emptied])?;
+    let tables = read(alloc, &mut conn)?;
+    assert!(rt; are_roots(&tables) && are_blobs(&tables));
+    assert!(rt; tables.shelf.is_empty() && tables.timestamp.is_none() && tables.snapshot.is_none());
+    Ok(())
+}
+
+#[test]
+fn a_refused_change_takes_the_others_back(rt: HostRuntime) -> Result<(), Fail> {
+    let alloc = rt.alloc();
+    let mut conn = made(alloc)?;
+    let twice = put(
+        &mut conn,
+        &[
+            Change::PutRoot(3, b"root 3"),
+            Change::Emptied,
+            Change::PutRoot(1, b"root 1"),
+        ],
+    );
+    assert!(rt; twice == Err(Fault::Database));
+    assert!(rt; is_some(&read(alloc, &mut conn)?));
+    Ok(())
+}
+
+// What a statement makes of the rows for the next opening.
+fn after(alloc: Global, text: &str) -> Result<Result<Tables, Fault>, Fail> {
+    let mut conn = made(alloc)?;
+    conn.execute_batch(text)?;
+    let mut conn = renew(alloc, conn)?;
+    Ok(read(alloc, &mut conn))
+}
+
+const DAMAGED: [&str; 18] = [
+    "INSERT INTO root (version, bytes) VALUES (-1, x'00')",
+    "INSERT INTO root (version, bytes) VALUES (4294967296, x'00')",
+    "INSERT INTO root (version, bytes) VALUES (3, 'text')",
+    "UPDATE root SET bytes = 5 WHERE version = 1",
+    "INSERT INTO current (slot, version, bytes) VALUES ('root', 1, x'00')",
+    "UPDATE current SET slot = x'00' WHERE slot = 'snapshot'",
+    "UPDATE current SET version = 'new' WHERE slot = 'snapshot'",
+    "UPDATE current SET version = -1 WHERE slot = 'snapshot'",
+    "UPDATE current SET bytes = 'text' WHERE slot = 'timestamp'",
+    "INSERT INTO shelf (role, version, bytes) VALUES (x'00', 1, x'00')",
+    "INSERT INTO shelf (role, version, bytes) VALUES ('b', 1.5, x'00')",
+    "INSERT INTO shelf (role, version, bytes) VALUES ('b', 4294967296, x'00')",
+    "INSERT INTO shelf (role, version, bytes) VALUES ('b', 1, 1)",
+    "INSERT INTO blob (digest, bytes) VALUES ('00', x'00')",
+    "INSERT INTO blob (digest, bytes) VALUES ('ABCDEF0123456789ABCDEF0123456789ABCDEF0123456789ABCDEF0123456789', x'00')",
+    "UPDATE blob SET bytes = 'text'",
+    "INSERT INTO schema (version) VALUES (2)",
+    "DELETE FROM schema",
+];
+
+#[test]
+fn each_damage_is_told(rt: HostRuntime) -> Result<(), Fail> {
+    for text in DAMAGED {
+        assert!(rt;
+            matches!(after(rt.alloc(), text)?, Err(Fault::Damaged)),
+            "{text}"
+        );
+    }
+    Ok(())
+}
+
+const FOREIGN: [&str; 3] = [
+    "CREATE TABLE other (a)",
+    "DROP TABLE schema",
+    "CREATE INDEX by_bytes ON blob (bytes)",
+];
+
+#[test]
+fn other_tables_are_refused(rt: HostRuntime) -> Result<(), Fail> {
+    for text in FOREIGN {
+        assert!(rt;
+            matches!(after(rt.alloc(), text)?, Err(Fault::Database)),
+            "{text}"
+        );
+    }
+    Ok(())
+}
+
+#[test]
+fn tables_without_rows_are_begun(rt: HostRuntime) -> Result<(), Fail> {
+    let found = after(
+        rt.alloc(),
+        "DELETE FROM root; DELETE FROM current; DELETE FROM shelf; DELETE FROM blob; DELETE FROM schema",
+    )?;
+    match found {
+        Ok(tables) => assert!(rt; is_empty(&tables)),
+        Err(_) => assert!(rt; false),
+    }
+    Ok(())
+}
+
+// ---- want of memory
+
+#[test]
+fn goes_on_after_a_refused_allocation(rt: HostRuntime) -> Result<(), Fail> {
+    let alloc = rt.alloc();
+    let Ok(conn) = Connection::open_in_memory(alloc) else {
+        return Ok(());
+    };
+    let Ok(mut conn) = renew(alloc, conn) else {
+        return Ok(());
+    };
+    match read(alloc, &mut conn) {
+        Ok(tables) => assert!(rt; is_empty(&tables)),
+        Err(fault) => {
+            assert_eq!(rt; fault, Fault::OutOfMemory);
+            assert!(rt; is_empty(&read(alloc, &mut conn)?));
+        }
+    }
+    match put_some(&mut conn) {
+        Ok(()) => {}
+        Err(fault) => {
+            assert_eq!(rt; fault, Fault::OutOfMemory);
+            assert!(rt; is_empty(&read(alloc, &mut conn)?));
+            put_some(&mut conn)?;
+        }
+    }
+    match read(alloc, &mut conn) {
+        Ok(tables) => assert!(rt; is_some(&tables)),
+        Err(fault) => {
+            assert_eq!(rt; fault, Fault::OutOfMemory);
+            assert!(rt; is_some(&read(alloc, &mut conn)?));
+        }
+    }
+    Ok(())
+}
