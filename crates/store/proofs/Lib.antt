@@ -1,0 +1,5 @@
+pub mod Appending
+pub mod SameRows
+pub mod Holding
+pub mod Applying
+pub mod Fitting

@@ -1,0 +1,30 @@
+use Rattle.std.proofs.Common.{Err, inl, inr, sym, subst, ap, arith}
+use Rattle.sqlite.specs.Effect.{IsDatabase}
+use Rattle.sqlite.specs.Held.{state}
+use Rattle.sqlite.specs.State.{HasCleanDisk}
+use Rattle.machine.specs.State.{State}
+use Rattle.tables.specs.Making.{AreNumbered}
+use Rattle.store.specs.Kept.{Stands, rows_of}
+use Rattle.store.proofs.store.Store.open_over.Goals as goal
+
+pub returns-in-Ok-read_state-clause-opened : goal.returns-in-Ok-read_state-clause-opened
+returns-in-Ok-read_state-clause-opened g c clean =
+    let db = (state g.S.Store c.in-Ok.conn).now in
+    let late : HasCleanDisk (state g.S.Store c.read_state.new.conn) = subst (λ k. HasCleanDisk (state g.S.Store k)) c.over.ensures.conn clean in
+    let early : HasCleanDisk (state g.S.Store c.in-Ok.conn) = omega (arith, late, c.read_state.ensures.crash.clean) in
+    let opened = c.in-Ok.ensures.opened early in
+    let sound : IsDatabase db = (opened.1 opened.0.is_open).0 in
+    let stands : Stands db (rows_of c.in-Ok-read_state.held.state) =
+    elim c.in-Ok-read_state.ensures.schema [
+      | inl none ↦ inl (none, (c.in-Ok-read_state.ensures.made late none).0)
+      | inr ours ↦ inr (ours, (c.in-Ok-read_state.ensures.loaded late opened.0 ours (subst (λ s. AreNumbered s db.trees) ours (c.in-Ok.ensures.numbered early))).0)
+    ] in
+    (db, c.in-Ok.ensures.same early, sound, subst (λ (S : State). Stands db (rows_of S)) (sym c.over.ensures.state) stands)
+
+pub returns-in-Err-read_state-clause-damaged : goal.returns-in-Err-read_state-clause-damaged
+returns-in-Err-read_state-clause-damaged g c is clean =
+    let db = (state g.S.Store c.in-Ok.conn).now in
+    let early : HasCleanDisk (state g.S.Store c.in-Ok.conn) = omega (arith, clean, c.read_state.ensures.crash.clean) in
+    let opened = c.in-Ok.ensures.opened early in
+    let sound : IsDatabase db = (opened.1 opened.0.is_open).0 in
+    (db, c.in-Ok.ensures.same early, sound, c.in-Err-read_state.ensures.damaged clean opened.0 (c.in-Ok.ensures.numbered early) (ap Err is))

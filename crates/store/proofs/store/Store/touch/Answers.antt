@@ -1,0 +1,10 @@
+use Rattle.std.proofs.Common.{arith}
+use Rattle.store.specs.Kept.{rows_of}
+use Rattle.store.proofs.store.Store.touch.Goals as goal
+
+pub invariant_of-self : goal.invariant_of-self
+invariant_of-self g c = (
+  c.check_open.ensures.mode c.self.invariant.0,
+  (λ clean stays. c.check_open.ensures.kept clean stays (rows_of c.self.inside.held.state)
+      (c.self.invariant.1 (omega (arith, clean, c.check_open.ensures.survives.clean)) (c.check_open.ensures.was_open clean stays))),
+)

@@ -1,0 +1,78 @@
+-- What a store keeps: a state, whose rows the tables hold.
+use Rattle.std.specs.Prelude.{◌≡◌, ◌⊎◌, ℕ, ◌-◌, Bool, List, [], ◌∷◌, ◌++◌, cond, length, Option, Some, None, option_map, unwrap_or, refl}
+use Rattle.std.specs.Coded.{Coded, code_by, coded×}
+use Rattle.sqlite.specs.Held.{Held as Connection, held_code}
+use Rattle.metadata.specs.File.{Bytes, File}
+use Rattle.metadata.specs.Documents.{Root}
+use Rattle.machine.specs.State.{State, IsState}
+use Rattle.machine.specs.Kept.{Kept}
+use Rattle.machine.specs.Contents.{Contents, contents_of, numbered, shelf_rows}
+use Rattle.delegations.specs.Shelf.{Place}
+use Rattle.machine.specs.Effects.{Effects, last_or}
+use Rattle.sqlite.specs.Effect.{Database, IsDatabase}
+use Rattle.sqlite_trees.specs.Tree.{Trees}
+use Rattle.tables.specs.Schema.{no_schema, the_schema}
+use Rattle.tables.specs.Tables.{StandsFor, Tables, emptied, no_rows}
+
+-- what a caller sees of a store: its connection, and its state
+pub record Shown (S : Type 0) : Type 0 where
+  pub conn : Connection S
+  pub state : State
+
+abbrev pub shown_code : {S : Type 0} → Coded S → Coded Kept → Coded (Shown S)
+shown_code {S} store kept =
+    code_by (Connection S × Kept) (coded× (held_code store) kept) (λ s. (s.conn, record { state = s.state; room = 0 }))
+    (λ p. record { conn = p.0; state = p.1.state }) (λ _. refl)
+
+-- the rows of a state
+abbrev pub as_tables : Contents → Tables
+as_tables c = record { roots = c.roots; timestamp = c.timestamp; snapshot = c.snapshot; shelf = c.shelf; blobs = c.blobs }
+
+abbrev pub rows_of : State → Tables
+rows_of S = as_tables (contents_of S)
+
+-- What a database stands for: no table at all, or the five tables with these rows. No table, or no row in any, is the empty state.
+abbrev pub Stands : Database → Tables → Type 0
+Stands db t = ((db.schema ≡ no_schema) × (t ≡ no_rows)) ⊎ ((db.schema ≡ the_schema) × StandsFor db.trees t)
+
+-- the same of its trees, whose schema is read from them
+abbrev pub TreesStand : Trees → Tables → Type 0
+TreesStand trees t = (db : Database) × (db.trees ≡ trees) × IsDatabase db × Stands db t
+
+-- a database of these trees stands for the rows of no state
+abbrev pub HoldsNoState : Trees → Type 0
+HoldsNoState trees = (db : Database) × (db.trees ≡ trees) × IsDatabase db × ((S : State) → IsState S → Stands db (rows_of S) → ⊥)
+
+-- the rows of new roots: the last has its own version, and they rise by one
+abbrev pub new_roots : ℕ → List (File Root) → List (ℕ × Bytes)
+new_roots last [] = []
+new_roots last (root ∷ roots) = (last - length roots, root.bytes) ∷ new_roots last roots
+
+abbrev pub last_version : List (File Root) → ℕ
+last_version roots = unwrap_or (option_map (λ root. root.body.version) (last_or None roots)) 0
+
+-- what changes make of rows: new ones stand behind those that are there
+abbrev pub more_roots : List (ℕ × Bytes) → Tables → Tables
+more_roots new t = record t { roots = t.roots ++ new }
+
+abbrev pub emptied_if : Bool → Tables → Tables
+emptied_if gone t = cond gone (emptied t) t
+
+abbrev pub new_timestamp : Option (ℕ × Bytes) → Tables → Tables
+new_timestamp None t = t
+new_timestamp (Some new) t = record t { timestamp = Some new }
+
+abbrev pub new_snapshot : Option (ℕ × Bytes) → Tables → Tables
+new_snapshot None t = t
+new_snapshot (Some new) t = record t { snapshot = Some new }
+
+abbrev pub more_rows : List (Place × Bytes) → Tables → Tables
+more_rows new t = record t { shelf = t.shelf ++ new }
+
+abbrev pub more_blobs : List (Bytes × Bytes) → Tables → Tables
+more_blobs new t = record t { blobs = t.blobs ++ new }
+
+abbrev pub changed : Effects → Tables → Tables
+changed E t =
+    more_blobs E.blobs (more_rows (shelf_rows E.rows) (new_snapshot (option_map (numbered (λ b. b.version)) E.snapshot)
+    (new_timestamp (option_map (numbered (λ b. b.version)) E.timestamp) (emptied_if E.emptied (more_roots (new_roots (last_version E.roots) E.roots) t)))))

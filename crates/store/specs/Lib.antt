@@ -1,0 +1,3 @@
+pub mod Applies
+pub mod Kept
+pub mod Views

@@ -1,0 +1,170 @@
+//! What a command changes, as changes of the rows.
+ghost use Rattle.std.specs.Prelude.{◌≡◌, ◌≢◌, ◌≤◌, false, map, length, option_map, Err, IfOk, IsTrue, OnErr, OnOk};
+ghost use Rattle.sqlite.specs.Held.{state};
+ghost use Rattle.sqlite.specs.State.{HasCleanDisk, Survives};
+ghost use Rattle.metadata.specs.Kept.{root_file, snapshot_file, timestamp_file};
+ghost use Rattle.delegations.specs.Views.{row_views};
+ghost use Rattle.machine.specs.Contents.{numbered, shelf_rows};
+ghost use Rattle.machine.specs.Views.{blob_views, effects_view};
+ghost use Rattle.machine.specs.State.{IsState};
+ghost use Rattle.machine.specs.Effects.{applied};
+ghost use Rattle.tables.specs.Tables.{HoldsTables, IsStore, Tables, after_all};
+ghost use Rattle.tables.specs.declared.contents.Fault.TheVariants as tables;
+ghost use Rattle.store.specs.Kept.{changed, emptied_if, last_version, more_blobs, more_roots, more_rows, new_roots, new_snapshot, new_timestamp, rows_of};
+
+use crate::command::Fault;
+use delegations::Row;
+use machine::{Blob, Effects, State, rows_stay};
+use metadata::{File, Root, Snapshot, Timestamp};
+use sqlite::{Alter, Connection};
+use std::alloc::{AllocError, Global};
+use tables::{Change, write_all};
+
+/// The changes of the rows, in the order in which they are made.
+pub(crate) fn changes_of(alloc: Global, effects: &Effects) -> Result<Vec<Change<'_>>, AllocError>
+    requires { length effects.now.roots.items ≤ 4096 }
+    ensures { IfOk result (λ changes. (t : Tables) → after_all changes.items t ≡ changed (effects_view effects.now) t) }
+{
+    let mut changes = Vec::new(alloc);
+    put_roots(&mut changes, &effects.roots)?;
+    empty_if(&mut changes, effects.emptied)?;
+    put_timestamp(&mut changes, &effects.timestamp)?;
+    put_snapshot(&mut changes, &effects.snapshot)?;
+    put_rows(&mut changes, &effects.rows)?;
+    put_blobs(&mut changes, &effects.blobs)?;
+    Ok(changes)
+}
+
+// The roots: the last has its own version, and they rise by one.
+fn put_roots<'a>(changes: &mut Vec<Change<'a>>, roots: &'a [File<Root>]) -> Result<(), AllocError>
+    requires { length roots.now ≤ 4096 }
+    ensures { IfOk result (λ _. (t : Tables) → after_all changes.new.items t
+        ≡ more_roots (new_roots (last_version (map root_file roots.now)) (map root_file roots.now)) (after_all changes.old.items t)) }
+{
+    let Some(last) = roots.last() else {
+        return Ok(());
+    };
+    put_roots_to(changes, last.body.version, roots)
+}
+
+// The roots, the last with this version.
+fn put_roots_to<'a>(
+    changes: &mut Vec<Change<'a>>,
+    last: u32,
+    roots: &'a [File<Root>],
+) -> Result<(), AllocError>
+    requires { length roots.now ≤ 4096 }
+    ensures { IfOk result (λ _. (t : Tables) → after_all changes.new.items t ≡ more_roots (new_roots last (map root_file roots.now)) (after_all changes.old.items t)) }
+{
+    let mut rest = roots;
+    'roots: while let Some((root, later)) = rest.split_first() {
+        let version = last.saturating_sub(later.len() as u32);
+        changes.push(Change::PutRoot(version, root.source.bytes()))?;
+        rest = later;
+    }
+    Ok(())
+}
+
+// That timestamp, snapshot and shelf are emptied, if they are.
+fn empty_if<'a>(changes: &mut Vec<Change<'a>>, emptied: bool) -> Result<(), AllocError>
+    ensures { IfOk result (λ _. (t : Tables) → after_all changes.new.items t ≡ emptied_if emptied (after_all changes.old.items t)) }
+{
+    if emptied {
+        changes.push(Change::Emptied)?;
+    }
+    Ok(())
+}
+
+// The timestamp, if there is a new one.
+fn put_timestamp<'a>(
+    changes: &mut Vec<Change<'a>>,
+    file: &'a Option<File<Timestamp>>,
+) -> Result<(), AllocError>
+    ensures { IfOk result (λ _. (t : Tables) → after_all changes.new.items t
+        ≡ new_timestamp (option_map (numbered (λ b. b.version)) (option_map timestamp_file file.now)) (after_all changes.old.items t)) }
+{
+    let Some(file) = file else {
+        return Ok(());
+    };
+    changes.push(Change::PutTimestamp(file.body.version, file.source.bytes()))?;
+    Ok(())
+}
+
+// The snapshot, if there is a new one.
+fn put_snapshot<'a>(
+    changes: &mut Vec<Change<'a>>,
+    file: &'a Option<File<Snapshot>>,
+) -> Result<(), AllocError>
+    ensures { IfOk result (λ _. (t : Tables) → after_all changes.new.items t
+        ≡ new_snapshot (option_map (numbered (λ b. b.version)) (option_map snapshot_file file.now)) (after_all changes.old.items t)) }
+{
+    let Some(file) = file else {
+        return Ok(());
+    };
+    changes.push(Change::PutSnapshot(file.body.version, file.source.bytes()))?;
+    Ok(())
+}
+
+// The targets documents.
+fn put_rows<'a>(changes: &mut Vec<Change<'a>>, rows: &'a [Row]) -> Result<(), AllocError>
+    ensures { IfOk result (λ _. (t : Tables) → after_all changes.new.items t ≡ more_rows (shelf_rows (row_views rows.now)) (after_all changes.old.items t)) }
+{
+    let mut rest = rows;
+    'rows: while let Some((row, later)) = rest.split_first() {
+        changes.push(Change::PutRow(row.role.as_str(), row.version, row.file.source.bytes()))?;
+        rest = later;
+    }
+    Ok(())
+}
+
+// The target files.
+fn put_blobs<'a>(changes: &mut Vec<Change<'a>>, blobs: &'a [Blob]) -> Result<(), AllocError>
+    ensures { IfOk result (λ _. (t : Tables) → after_all changes.new.items t ≡ more_blobs (blob_views blobs.now) (after_all changes.old.items t)) }
+{
+    let mut rest = blobs;
+    'blobs: while let Some((blob, later)) = rest.split_first() {
+        changes.push(Change::PutBlob(&blob.digest.0, &blob.bytes))?;
+        rest = later;
+    }
+    Ok(())
+}
+
+/// Writes what becomes of a state's rows by these changes, in one transaction.
+pub(crate) fn write<S: Alter>(
+    alloc: Global,
+    conn: &mut Connection<S>,
+    held: &State,
+    effects: &Effects,
+) -> Result<(), Fault>
+    requires autocommit { conn.old.in_transaction ≡ false }
+    requires valid { IsState (applied held.now.state (effects_view effects.now)) }
+    ensures autocommit { conn.new.in_transaction ≡ false }
+    ensures wrote { HasCleanDisk (state S.Store conn.new) → IsStore (state S.Store conn.old) (rows_of held.now.state) → OnOk result (IsStore (state S.Store conn.new) (rows_of (applied held.now.state (effects_view effects.now)))) }
+    ensures kept { HasCleanDisk (state S.Store conn.new) → IsTrue (state S.Store conn.new).is_open → IsStore (state S.Store conn.old) (rows_of held.now.state) → OnErr result (IsStore (state S.Store conn.new) (rows_of held.now.state)) }
+    ensures was_open { HasCleanDisk (state S.Store conn.new) → IsTrue (state S.Store conn.new).is_open → IsTrue (state S.Store conn.old).is_open }
+    ensures crash { Survives (state S.Store conn.old) (state S.Store conn.new)
+        (λ trees. IsStore (state S.Store conn.old) (rows_of held.now.state) → HoldsTables trees (rows_of (applied held.now.state (effects_view effects.now)))) }
+    ensures fault { result ≢ Err Fault.Damaged }
+{
+    held.is_valid();
+    rows_stay();
+    let changes = match changes_of(alloc, effects) {
+        Ok(changes) => changes,
+        Err(_) => return Err(Fault::OutOfMemory),
+    };
+    match write_all(conn, &changes) {
+        Ok(()) => Ok(()),
+        Err(fault) => Err(fault_of(fault)),
+    }
+}
+
+// A fault of the tables as one of the store.
+pub(crate) fn fault_of(fault: tables::Fault) -> Fault
+    ensures { result ≡ Fault.Damaged → fault ≡ tables.Damaged }
+{
+    match fault {
+        tables::Fault::Damaged => Fault::Damaged,
+        tables::Fault::Database => Fault::Database,
+        tables::Fault::OutOfMemory => Fault::OutOfMemory,
+    }
+}

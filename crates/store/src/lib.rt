@@ -1,0 +1,14 @@
+//! The state of a release repository in the tables of a database.
+#![tactic(auto)]
+
+mod changes;
+mod command;
+mod opening;
+mod store;
+
+pub use command::{Command, Fault, Reply};
+pub use opening::Unopened;
+pub use store::Store;
+
+#[cfg(test)]
+mod tests;

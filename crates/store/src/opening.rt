@@ -1,0 +1,115 @@
+//! Opening a store: the rows that stand in the tables become a state.
+ghost use Rattle.std.specs.Prelude.{◌≡◌, ◌⊎◌, false, Err, IfErr, IfOk, IsSomeAnd, IsTrue};
+ghost use Rattle.sqlite.specs.Held.{state};
+ghost use Rattle.sqlite.specs.State.{HasCleanDisk, Opens, Survives};
+ghost use Rattle.tables.specs.Making.{AreNumbered, StandsEmpty};
+ghost use Rattle.tables.specs.Schema.{no_schema, the_schema};
+ghost use Rattle.tables.specs.Tables.{HoldsTables, IsStore, StandsFor, no_rows, tables_view};
+ghost use Rattle.machine.specs.Views.{contents_view};
+ghost use Rattle.store.specs.Kept.{HoldsNoState, Stands, TreesStand, as_tables, rows_of};
+ghost use Rattle.machine.specs.State as trust;
+ghost use Rattle.machine.specs.State.{IsState};
+
+use crate::changes::fault_of;
+use crate::command::Fault;
+use crate::store::Store;
+use machine::{Contents, State};
+use metadata::{one_document, one_shape};
+use sqlite::{Alter, Connection};
+use std::alloc::Global;
+use tables::{Tables, one_contents, prepare, renew};
+
+/// Why no store was opened, and the connection, where there still is one.
+#[derive(Drop)]
+pub struct Unopened<S: Alter> {
+    pub fault: Fault,
+    pub conn: Option<Connection<S>>,
+}
+
+impl<S: Alter + Drop> Store<S> {
+    /// Opens a store over a connection: its tables are made where there are none, in one transaction, or the state is read from
+    /// them. What was not committed over the connection is undone, and its clock and step limit are lost.
+    ///
+    /// - `Damaged`: the rows are those of no state.
+    /// - `Database`: a call of the database answered a fault, or its tables are neither none nor just the five of a store.
+    /// - `OutOfMemory`: memory was refused.
+    pub fn open(alloc: Global, conn: Connection<S>) -> Result<Store<S>, Fault>
+        ensures opened { IfOk result (λ s. HasCleanDisk (state S.Store s.conn) → TreesStand (state S.Store conn).committed.trees (rows_of s.state)) }
+        ensures rows { IfOk result (λ s. HasCleanDisk (state S.Store s.conn) → IsStore (state S.Store s.conn) (rows_of s.state)) }
+    {
+        match Store::open_over(alloc, conn) {
+            Ok(store) => Ok(store),
+            Err(unopened) => Err(unopened.fault),
+        }
+    }
+
+    /// The same as `open`. Where the rows are those of no state, the connection is given back.
+    pub fn open_over(alloc: Global, conn: Connection<S>) -> Result<Store<S>, Unopened<S>>
+        ensures opened { IfOk result (λ s. HasCleanDisk (state S.Store s.conn) → TreesStand (state S.Store conn).committed.trees (rows_of s.state)) }
+        ensures rows { IfOk result (λ s. HasCleanDisk (state S.Store s.conn) → IsStore (state S.Store s.conn) (rows_of s.state)) }
+        ensures damaged { IfErr result (λ u. u.fault ≡ Fault.Damaged → IsSomeAnd u.conn (λ c. HasCleanDisk (state S.Store c) → HoldsNoState (state S.Store conn).committed.trees)) }
+    {
+        let mut conn = match renew(alloc, conn) {
+            Ok(conn) => conn,
+            Err(fault) => {
+                return Err(Unopened {
+                    fault: fault_of(fault),
+                    conn: None,
+                });
+            }
+        };
+        match read_state(alloc, &mut conn) {
+            Ok(held) => Ok(Store::over(alloc, conn, held)),
+            Err(fault) => Err(Unopened {
+                fault,
+                conn: Some(conn),
+            }),
+        }
+    }
+}
+
+// The state that stands in the tables, which are made where there are none.
+fn read_state<S: Alter>(alloc: Global, conn: &mut Connection<S>) -> Result<State, Fault>
+    requires { conn.old.in_transaction ≡ false }
+    ensures autocommit { conn.new.in_transaction ≡ false }
+    ensures schema { IfOk result (λ _. (conn.old.schema ≡ no_schema) ⊎ (conn.old.schema ≡ the_schema)) }
+    ensures made { HasCleanDisk (state S.Store conn.new) → conn.old.schema ≡ no_schema → IfOk result (λ s. (rows_of s.state ≡ no_rows) × IsStore (state S.Store conn.new) (rows_of s.state)) }
+    ensures loaded { HasCleanDisk (state S.Store conn.new) → Opens (state S.Store conn.old) → conn.old.schema ≡ the_schema → AreNumbered the_schema (state S.Store conn.old).now.trees
+        → IfOk result (λ s. StandsFor (state S.Store conn.old).now.trees (rows_of s.state) × IsStore (state S.Store conn.new) (rows_of s.state)) }
+    ensures damaged { HasCleanDisk (state S.Store conn.new) → Opens (state S.Store conn.old) → AreNumbered (state S.Store conn.old).now.schema (state S.Store conn.old).now.trees
+        → result ≡ Err Fault.Damaged → (U : trust.State) → IsState U → Stands (state S.Store conn.old).now (rows_of U) → ⊥ }
+    ensures crash { Survives (state S.Store conn.old) (state S.Store conn.new) (λ trees. IsTrue (state S.Store conn.old).is_open → StandsEmpty (state S.Store conn.old) → HoldsTables trees no_rows) }
+{
+    one_document();
+    one_shape();
+    one_contents();
+    let tables = match prepare(alloc, conn) {
+        Ok(tables) => tables,
+        Err(fault) => return Err(fault_of(fault)),
+    };
+    match State::load(alloc, contents_of(tables)) {
+        Ok(Some(held)) => Ok(held),
+        Ok(None) => Err(Fault::Damaged),
+        Err(_) => Err(Fault::OutOfMemory),
+    }
+}
+
+// The rows, as the machine takes them.
+fn contents_of(tables: Tables) -> Contents
+    ensures { as_tables (contents_view result) ≡ tables_view tables }
+{
+    let Tables {
+        roots,
+        timestamp,
+        snapshot,
+        shelf,
+        blobs,
+    } = tables;
+    Contents {
+        roots,
+        timestamp,
+        snapshot,
+        shelf,
+        blobs,
+    }
+}
