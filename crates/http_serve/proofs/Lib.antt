@@ -1,8 +1,5 @@
-pub mod Asking
-pub mod DenialText
-pub mod Frames
-pub mod HeadLemmas
-pub mod HeadText
-pub mod LengthLemmas
-pub mod RouteLemmas
-pub mod TakenLemmas
+pub mod Asked
+pub mod Lines
+pub mod Standings
+pub mod Responding
+pub mod Telling

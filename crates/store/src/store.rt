@@ -92,6 +92,14 @@ impl<S: Alter> Store<S> {
         snapshot_due(self.state())
     }
 
+    /// A law, which does nothing: while the connection is open, and unless a wrong answer of the disk was taken as true, the tables
+    /// hold the rows of the state.
+    pub fn holds_rows(&self)
+        ensures { HasCleanDisk (state S.Store self.now.conn) → IsTrue (state S.Store self.now.conn).is_open → IsStore (state S.Store self.now.conn) (rows_of self.now.state) }
+    {
+        self.rests();
+    }
+
     /// The connection of a store that is done.
     pub fn into_connection(self) -> Connection<S>
         ensures { result ≡ self.conn }

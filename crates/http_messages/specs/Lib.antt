@@ -1,0 +1,14 @@
+pub mod Body
+pub mod Bodies
+pub mod DenialValue
+pub mod Faults
+pub mod Framing
+pub mod Head
+pub mod Known
+pub mod Length
+pub mod Sound
+pub mod Taken
+pub mod Received
+pub mod Request
+pub mod RouteOf
+pub mod Text

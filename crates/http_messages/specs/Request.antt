@@ -1,0 +1,120 @@
+-- What an input asks for: the parts of one command, or the first fault in the order in which they are judged.
+use Rattle.std.specs.Prelude.{◌≡◌, ◌⊎◌, ℕ, ◌<◌, ◌≤◌, List, length, take, map, Option, Some, None, Bool, cond, ◌&&◌, bytes_eq, nat_le, ⊤}
+use Rattle.std.specs.List.{list_all}
+use Rattle.httparse.specs.Grammar.{RequestHead}
+use Rattle.httparse.specs.Spans.{name_and_value}
+use Rattle.hex.specs.Hex.{encode_lower}
+use Rattle.path_patterns.specs.Names.{IsDigest}
+use Rattle.http_messages.specs.declared.fields.Declared.{Declared}
+use Rattle.http_messages.specs.declared.fields.Declared.TheVariants.{Ill, Absent, Given}
+use Rattle.http_messages.specs.declared.faults.Fault.{Fault}
+use Rattle.http_messages.specs.declared.faults.Fault.TheVariants.{Head, Length, Size, Body, Digest, Route as NoRoute, Method as BadMethod, Batch as BadBatch}
+use Rattle.http_messages.specs.declared.reply.Method.{Method}
+use Rattle.http_messages.specs.declared.reply.Method.TheVariants.{Get, Put, Post}
+use Rattle.http_messages.specs.declared.routes.Route.{Route}
+use Rattle.http_messages.specs.declared.routes.Route.TheVariants.{Batch, Blob, Metadata, Target}
+use Rattle.http_messages.specs.Framing.{Document, IsBatch}
+use Rattle.http_messages.specs.Head.{Heads, HasNoHead}
+use Rattle.http_messages.specs.Length.{declared}
+use Rattle.http_messages.specs.RouteOf.{Routed, route_of}
+use Rattle.http_messages.specs.Text.{method_text}
+
+-- what is asked: nothing that could be done, or one command
+pub data Request : Type 0 where
+  -- a fault
+  fault : Fault → Request
+  -- a batch of documents
+  batch : List Document → Request
+  -- a blob's digest, and its bytes
+  put_blob : List ℕ → List ℕ → Request
+  -- the name of a metadata file
+  metadata : List ℕ → Request
+  -- the path of a target, perhaps with a digest in it
+  target : List ℕ → Request
+
+-- what the head alone says: a fault, or a route, what follows the route's prefix, and the length of the body
+pub data Wanted : Type 0 where
+  refused : Fault → Wanted
+  wanted : Route → List ℕ → ℕ → Wanted
+
+-- a byte that may stand in a target: 0x21 to 0x7e
+abbrev pub is_visible : ℕ → Bool
+is_visible b = nat_le 33 b && nat_le b 126
+
+-- the one method of a route
+abbrev pub method_of : Route → Method
+method_of Batch = Post
+method_of Blob = Put
+method_of Metadata = Get
+method_of Target = Get
+
+-- the most bytes of a body
+abbrev pub limit_of : Route → ℕ
+limit_of Batch = 4194304
+limit_of Blob = 1048576
+limit_of Metadata = 0
+limit_of Target = 0
+
+-- the length of the body: a GET that declares none has none, and a PUT or POST has to declare one
+abbrev pub length_for : Method → Declared → Option ℕ
+length_for method Ill = None
+length_for Get Absent = Some 0
+length_for Put Absent = None
+length_for Post Absent = None
+length_for method (Given n) = Some n
+
+abbrev pub of_length : Route → List ℕ → Option ℕ → Wanted
+of_length route name None = refused Length
+of_length route name (Some n) = cond (nat_le n (limit_of route)) (wanted route name n) (refused Size)
+
+abbrev pub of_route : List ℕ → Declared → Option Routed → Wanted
+of_route method fields None = refused NoRoute
+of_route method fields (Some routed) =
+    cond (bytes_eq method (method_text (method_of routed.0))) (of_length routed.0 routed.1 (length_for (method_of routed.0) fields))
+    (refused (BadMethod (method_of routed.0)))
+
+-- what a head says, its faults judged in order: the target's bytes, the route, the method, the length, the size
+unfoldable pub of_head : RequestHead → Wanted
+of_head h =
+    cond (list_all is_visible h.target) (of_route h.method (declared (map name_and_value h.fields)) (route_of h.target)) (refused Head)
+
+-- the head alone refuses nothing
+abbrev pub IsWanted : Wanted → Type 0
+IsWanted (refused why) = ⊥
+IsWanted (wanted route name len) = ⊤
+
+-- the input has a head that refuses nothing
+pub record HasWanted (input : List ℕ) : Type 0 where
+  pub head : RequestHead
+  pub rest : List ℕ
+  pub heads : Heads input head rest
+  pub wants : IsWanted (of_head head)
+
+-- what the body of a batch asks
+pub data OfBatch (body : List ℕ) : Request → Type 0 where
+  framed : (documents : List Document) → IsBatch body documents → OfBatch body (batch documents)
+  ill_framed : ((documents : List Document) → IsBatch body documents → ⊥) → OfBatch body (fault BadBatch)
+
+-- what the body of an upload asks, under a name: the name is the digest's 64 hex digits of lower case
+pub data OfBlob (name body : List ℕ) : Request → Type 0 where
+  named : (digest : List ℕ) → IsDigest digest → name ≡ encode_lower digest → OfBlob name body (put_blob digest body)
+  no_digest : ((digest : List ℕ) → IsDigest digest → name ≡ encode_lower digest → ⊥) → OfBlob name body (fault Digest)
+
+-- what a whole body asks of a route, under what follows the route's prefix
+abbrev pub OfBody : Route → List ℕ → List ℕ → Request → Type 0
+OfBody Batch name body request = OfBatch body request
+OfBody Blob name body request = OfBlob name body request
+OfBody Metadata name body request = request ≡ metadata name
+OfBody Target name body request = request ≡ target name
+
+-- what the head and what follows it ask: the body is the first bytes after the head, as many as it has, or the input ends before
+abbrev pub OfRest : Wanted → List ℕ → Request → Type 0
+OfRest (refused why) rest request = request ≡ fault why
+OfRest (wanted route name len) rest request =
+    ((length rest < len) × (request ≡ fault Body)) ⊎ ((len ≤ length rest) × OfBody route name (take len rest) request)
+
+-- The input asks this: what its head and the bytes after it say, or it has no head within the limits. What follows the body is
+-- not looked at.
+pub data Asks (input : List ℕ) : Request → Type 0 where
+  by_head : (h : RequestHead) (rest : List ℕ) (request : Request) → Heads input h rest → OfRest (of_head h) rest request → Asks input request
+  by_none : HasNoHead input → Asks input (fault Head)

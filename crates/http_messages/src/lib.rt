@@ -1,0 +1,26 @@
+//! One HTTP request of a release repository (RFC 9112): reading it whole, and writing its response.
+#![tactic(auto)]
+
+mod bodies;
+mod body;
+mod faults;
+mod fields;
+mod framing;
+mod head;
+mod line;
+mod reply;
+mod request;
+mod routes;
+#[cfg(test)]
+mod tests;
+
+pub use bodies::{accepted_body, denial_body, denial_status, stored_body};
+pub use body::read_body;
+pub use faults::{Fault, write_fault};
+pub use fields::{Declared, declared_length};
+pub use framing::{MOST_DOCUMENTS, one_batch, read_batch};
+pub use head::{FIELD_LIMIT, HEAD_LIMIT, read_head};
+pub use line::{Cut, Receive, ReceiveFault, Transmit, send_all, send_both};
+pub use reply::{Kind, Method, ShortText, Status, head_of, write_response};
+pub use request::{Asked, BATCH_LIMIT, BLOB_LIMIT, Received, one_request, read_request};
+pub use routes::{Route, Routes};

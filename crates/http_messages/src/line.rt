@@ -1,0 +1,132 @@
+// Readers and writers of which it can be said that they do not fail.
+ghost use Rattle.std.specs.Prelude.{◌≡◌, ◌≤◌, ◌<◌, ◌+◌, ◌++◌, ℕ, List, Bool, true, false, length, take, drop, IsOk, IfOk, OnOk, OnErr};
+ghost use Rattle.std.specs.Io.{ReadsAtMost, WritesAtMost};
+ghost use Rattle.std.specs.Io.KnownBytes.{Appends, ReadConsumes, WriteAppends};
+ghost use Rattle.http_messages.specs.Sound.{StaysSound, TakesSome};
+ghost use Rattle.http_messages.specs.Taken.{TookSome};
+
+use std::io;
+use std::io::{Read, Write};
+use std::net::TcpStream;
+use thiserror::Error;
+
+/// A call of the writer answered an error, or took no byte of a rest that is not empty.
+#[derive(Clone, Copy, Debug, PartialEq, Eq, Error)]
+#[error("the writer took no more")]
+pub struct Cut;
+
+/// Why a request was not read.
+#[derive(Clone, Copy, Debug, PartialEq, Eq, Error)]
+pub enum ReceiveFault {
+    /// A call of the reader answered an error.
+    #[error("the reader failed")]
+    Read,
+    /// Memory was refused. It says nothing of the request.
+    #[error("out of memory")]
+    OutOfMemory,
+}
+
+/// A reader of which it can be said that it does not fail.
+pub trait Receive: Read {
+    /// No call fails from here on. False claims nothing.
+    ghost sound: { Self → Bool };
+
+    /// One call of `read`: so many bytes were put into the front of the buffer, and 0 for a buffer that is not empty says
+    /// that the reader is at its end. An error takes nothing from the reader, and a sound reader answers none.
+    fn receive(&mut self, buf: &mut [u8]) -> io::Result<usize>
+        ensures bound { ReadsAtMost result buf.new }
+        ensures bytes { ReadConsumes (Self.remaining self.old) (Self.remaining self.new) result buf.new }
+        ensures sound { StaysSound (sound self.old) result (sound self.new) };
+}
+
+/// A writer of which it can be said that it does not fail.
+pub trait Transmit: Write {
+    /// No call fails from here on, and each takes something of what is not empty. False claims nothing.
+    ghost sound: { Self → Bool };
+
+    /// One call of `write`: so many bytes of the buffer's front were taken. An error takes nothing, and a sound writer
+    /// answers none.
+    fn transmit(&mut self, buf: &[u8]) -> io::Result<usize>
+        ensures bound { WritesAtMost result buf.now }
+        ensures bytes { WriteAppends (Self.contents self.old) (Self.contents self.new) result buf.now }
+        ensures sound { TakesSome (sound self.old) buf.now result (sound self.new) };
+}
+
+impl Receive for &[u8] {
+    ghost sound = { λ _. true };
+
+    fn receive(&mut self, buf: &mut [u8]) -> io::Result<usize> {
+        self.read(buf)
+    }
+}
+
+impl Receive for TcpStream {
+    ghost sound = { λ _. false };
+
+    fn receive(&mut self, buf: &mut [u8]) -> io::Result<usize> {
+        self.read(buf)
+    }
+}
+
+impl Receive for &TcpStream {
+    ghost sound = { λ _. false };
+
+    fn receive(&mut self, buf: &mut [u8]) -> io::Result<usize> {
+        self.read(buf)
+    }
+}
+
+impl Transmit for Vec<u8> {
+    ghost sound = { λ _. false };
+
+    fn transmit(&mut self, buf: &[u8]) -> io::Result<usize> {
+        self.write(buf)
+    }
+}
+
+impl Transmit for TcpStream {
+    ghost sound = { λ _. false };
+
+    fn transmit(&mut self, buf: &[u8]) -> io::Result<usize> {
+        self.write(buf)
+    }
+}
+
+impl Transmit for &TcpStream {
+    ghost sound = { λ _. false };
+
+    fn transmit(&mut self, buf: &[u8]) -> io::Result<usize> {
+        self.write(buf)
+    }
+}
+/// Writes all of the bytes, in as many calls as the writer wants. On an error the writer took a beginning of them.
+pub fn send_all<W: Transmit>(writer: &mut W, bytes: &[u8]) -> Result<(), Cut>
+    ensures ok { OnOk result (Appends (W.contents writer.old) (W.contents writer.new) bytes.now) }
+    ensures err { OnErr result (TookSome (W.contents writer.old) (W.contents writer.new) bytes.now) }
+    ensures sound { StaysSound (W.sound writer.old) result (W.sound writer.new) }
+{
+    let mut rest = bytes;
+    while !rest.is_empty() {
+        match writer.transmit(rest) {
+            Ok(0) | Err(_) => return Err(Cut),
+            Ok(n) => rest = &rest[n..],
+        }
+    }
+    Ok(())
+}
+
+/// Writes one text and then another. On an error the writer took a beginning of the two.
+pub fn send_both<W: Transmit>(writer: &mut W, front: &[u8], back: &[u8]) -> Result<(), Cut>
+    ensures ok { OnOk result (Appends (W.contents writer.old) (W.contents writer.new) (front.now ++ back.now)) }
+    ensures err { OnErr result (TookSome (W.contents writer.old) (W.contents writer.new) (front.now ++ back.now)) }
+    ensures sound { StaysSound (W.sound writer.old) result (W.sound writer.new) }
+{
+    match send_all(writer, front) {
+        Ok(()) => {}
+        Err(cut) => return Err(cut),
+    }
+    match send_all(writer, back) {
+        Ok(()) => Ok(()),
+        Err(cut) => Err(cut),
+    }
+}

@@ -1,0 +1,311 @@
+// One request, read whole.
+
+ghost use Rattle.std.specs.Prelude.{◌≡◌, ◌≤◌, ◌++◌, ℕ, List, length, drop, map, All, IfOk, OnErr, bytes_eq};
+ghost use Rattle.std.specs.List.{list_all};
+ghost use Rattle.std.specs.Io.KnownBytes.{Consumes};
+ghost use Rattle.httparse.specs.Grammar.{RequestHead, ReadsRequest};
+ghost use Rattle.httparse.specs.Spans.{IsRequestWithin, IsRequestAt, header_bytes, IsHeaderWithin};
+ghost use Rattle.http_messages.specs.Head.{left, IsInput};
+ghost use Rattle.http_messages.specs.Length.{declared as declared_by};
+ghost use Rattle.http_messages.specs.RouteOf.{route_of};
+ghost use Rattle.http_messages.specs.Sound.{ReadsSoundly, OnNoMemory};
+ghost use Rattle.http_messages.specs.Text.{method_text};
+ghost use Rattle.http_messages.specs.Received.{wanted_by, Means, IsOfBatch, request_of};
+ghost use Rattle.http_messages.specs.Request.{Request, Asks, IsWanted, HasWanted, OfRest, OfBody, OfBlob, OfBatch, wanted, of_head, of_route as of_route_lem, of_length as of_length_lem, length_for as length_for_lem, method_of, limit_of, is_visible};
+
+use crate::body::read_body;
+use crate::faults::Fault;
+use crate::fields::{Declared, declared_length};
+use crate::framing::read_batch;
+use crate::head::{FIELD_LIMIT, HEAD_LIMIT, read_head};
+use crate::line::{Receive, ReceiveFault};
+use crate::reply::Method;
+use crate::routes::{Route, Routes};
+use httparse::spans::{EMPTY_HEADER_SPAN, HeaderSpan, RequestSpans};
+use path_patterns::{Digest, one_digest};
+use std::alloc::{AllocError, Global};
+
+/// The most bytes of a batch's body.
+pub const BATCH_LIMIT: u64 = 4_194_304;
+
+/// The most bytes of a blob.
+pub const BLOB_LIMIT: u64 = 1_048_576;
+
+/// A request as it was received, with its texts and its body.
+#[derive(Drop)]
+pub enum Received {
+    /// It is no command.
+    Fault(Fault),
+    /// The body of a batch, whose documents are not looked at yet.
+    Batch(Vec<u8>),
+    /// A blob's digest, and its bytes.
+    PutBlob(Digest, Vec<u8>),
+    /// The name of a metadata file.
+    Metadata(String),
+    /// The path of a target, perhaps with a digest in it.
+    Target(String),
+}
+
+/// What a request asks for, lent from what was received.
+#[derive(Drop)]
+pub enum Asked<'a> {
+    /// It is no command.
+    Fault(Fault),
+    /// A batch of 1 to 160 documents, each with its name.
+    Batch(Vec<(&'a str, &'a [u8])>),
+    /// A blob's digest, and its bytes, at most 1,048,576.
+    PutBlob(Digest, &'a [u8]),
+    /// The name of a metadata file.
+    Metadata(&'a str),
+    /// The path of a target, perhaps with a digest in it.
+    Target(&'a str),
+}
+
+// What a head says: it is no command, or a route, what follows the route's prefix, and the length of the body.
+enum Said<'a> {
+    Refused(Fault),
+    Wanted(Route, &'a str, usize),
+}
+
+impl Route {
+    /// The one method of the route.
+    pub fn method(self) -> Method
+        ensures { result ≡ method_of self }
+    {
+        match self {
+            Route::Batch => Method::Post,
+            Route::Blob => Method::Put,
+            Route::Metadata => Method::Get,
+            Route::Target => Method::Get,
+        }
+    }
+
+    /// The most bytes of a body of the route.
+    pub fn limit(self) -> u64
+        ensures { result ≡ limit_of self }
+    {
+        match self {
+            Route::Batch => BATCH_LIMIT,
+            Route::Blob => BLOB_LIMIT,
+            Route::Metadata => 0,
+            Route::Target => 0,
+        }
+    }
+}
+
+// Whether each byte is one of 0x21 to 0x7e.
+fn are_visible(text: &[u8]) -> bool
+    ensures { result ≡ list_all is_visible text.now }
+{
+    text.iter().all(|b| 33 <= *b && *b <= 126)
+}
+
+// The length of the body that a method has, as its fields declare it.
+fn length_for(method: Method, fields: Declared) -> Option<u64>
+    ensures { result ≡ length_for_lem method fields }
+{
+    match fields {
+        Declared::Ill => None,
+        Declared::Given(n) => Some(n),
+        Declared::Absent => match method {
+            Method::Get => Some(0),
+            Method::Put => None,
+            Method::Post => None,
+        },
+    }
+}
+
+// What a head with this route says.
+fn of_length<'a>(route: Route, name: &'a str, len: Option<u64>) -> Said<'a>
+    ensures { wanted_by result ≡ of_length_lem route name.now len }
+{
+    match len {
+        None => Said::Refused(Fault::Length),
+        Some(n) => {
+            if n > route.limit() {
+                return Said::Refused(Fault::Size);
+            }
+            Said::Wanted(route, name, n as usize)
+        }
+    }
+}
+
+// Whether a method is this one.
+fn is_method(method: &[u8], wanted: Method) -> bool
+    ensures { result ≡ bytes_eq method.now (method_text wanted) }
+{
+    method == wanted.text()
+}
+
+// What a head with this method, these fields and this target says.
+fn of_route<'a>(routes: &Routes, method: &[u8], fields: Declared, target: &'a str) -> Said<'a>
+    ensures { wanted_by result ≡ of_route_lem method.now fields (route_of target.now) }
+{
+    match routes.find(target) {
+        None => Said::Refused(Fault::Route),
+        Some((route, name)) => {
+            if is_method(method, route.method()) {
+                of_length(route, name, length_for(route.method(), fields))
+            } else {
+                Said::Refused(Fault::Method(route.method()))
+            }
+        }
+    }
+}
+
+// What a head says.
+fn of_spans<'a>(
+    routes: &Routes,
+    got: &'a [u8],
+    headers: &[HeaderSpan],
+    spans: RequestSpans,
+) -> Said<'a>
+    requires { IsRequestWithin got.now headers.now spans }
+    ensures { (h : RequestHead) → IsRequestAt got.now headers.now spans h → wanted_by result ≡ of_head h }
+{
+    let target = spans.path.of(got);
+    if !are_visible(target) {
+        return Said::Refused(Fault::Head);
+    }
+    let fields = declared_length(got, &headers[..spans.headers]);
+    match str::from_utf8(target) {
+        Ok(text) => of_route(routes, spans.method.of(got), fields, text),
+        Err(_) => Said::Refused(Fault::Head),
+    }
+}
+
+// What a whole body asks of a route, under what follows the route's prefix.
+fn of_body(alloc: Global, route: Route, name: &str, body: Vec<u8>) -> Result<Received, AllocError>
+    ensures { IfOk result (λ r. (request : Request) → Means r request → OfBody route name.now body.items request) }
+{
+    match route {
+        Route::Batch => Ok(Received::Batch(body)),
+        Route::Blob => Ok(of_blob(name, body)),
+        Route::Metadata => {
+            let text = String::from_str(alloc, name)?;
+            Ok(Received::Metadata(text))
+        }
+        Route::Target => {
+            let text = String::from_str(alloc, name)?;
+            Ok(Received::Target(text))
+        }
+    }
+}
+
+// What the body of an upload asks, under a name.
+fn of_blob(name: &str, body: Vec<u8>) -> Received
+    ensures { (request : Request) → Means result request → OfBlob name.now body.items request }
+{
+    one_digest();
+    match Digest::read(name) {
+        Some(digest) => Received::PutBlob(digest, body),
+        None => Received::Fault(Fault::Digest),
+    }
+}
+
+// Reads the body of a command, of which `front` came with the head.
+fn read_command<R: Receive>(
+    alloc: Global,
+    reader: &mut R,
+    route: Route,
+    name: &str,
+    len: usize,
+    front: &[u8],
+) -> Result<Received, ReceiveFault>
+    ensures asked { IfOk result (λ r. (gave : List ℕ) × Consumes (R.remaining reader.old) (R.remaining reader.new) gave
+        × ((request : Request) → Means r request → OfRest (wanted route name.now len) (front.now ++ gave ++ left (R.remaining reader.new)) request)) }
+    ensures sound { ReadsSoundly (R.sound reader.old) result (R.sound reader.new) }
+{
+    let body = match read_body(alloc, reader, front, len) {
+        Ok(Some(body)) => body,
+        Ok(None) => return Ok(Received::Fault(Fault::Body)),
+        Err(fault) => return Err(fault),
+    };
+    match of_body(alloc, route, name, body) {
+        Ok(received) => Ok(received),
+        Err(_) => Err(ReceiveFault::OutOfMemory),
+    }
+}
+
+// Reads what a head says, of which `front` came with the head.
+fn read_said<R: Receive>(
+    alloc: Global,
+    reader: &mut R,
+    said: Said<'_>,
+    front: &[u8],
+) -> Result<Received, ReceiveFault>
+    ensures asked { IfOk result (λ r. (gave : List ℕ) × Consumes (R.remaining reader.old) (R.remaining reader.new) gave
+        × ((request : Request) → Means r request → OfRest (wanted_by said.entry) (front.now ++ gave ++ left (R.remaining reader.new)) request)) }
+    ensures batch { IfOk result (λ r. IsOfBatch r → IsWanted (wanted_by said.entry)) }
+    ensures sound { ReadsSoundly (R.sound reader.old) result (R.sound reader.new) }
+    ensures memory { OnNoMemory result (IsWanted (wanted_by said.entry)) }
+{
+    match said {
+        Said::Refused(fault) => Ok(Received::Fault(fault)),
+        Said::Wanted(route, name, len) => read_command(alloc, reader, route, name, len, front),
+    }
+}
+
+/// Reads one request: the head within its limits, and then so many bytes as its fields declare, of which none past the body
+/// and none of a body that is refused for its length. The faults are judged in their order, but for the documents of a
+/// batch, which `Received::asked` looks at. Memory is wanted only for a request whose head refuses nothing.
+pub fn read_request<R: Receive>(
+    alloc: Global,
+    routes: &Routes,
+    reader: &mut R,
+) -> Result<Received, ReceiveFault>
+    ensures asked { IfOk result (λ r. (gave : List ℕ) × Consumes (R.remaining reader.old) (R.remaining reader.new) gave
+        × ((request : Request) → Means r request → Asks (gave ++ left (R.remaining reader.new)) request)
+        × (IsOfBatch r → HasWanted (gave ++ left (R.remaining reader.new)))) }
+    ensures sound { ReadsSoundly (R.sound reader.old) result (R.sound reader.new) }
+    ensures memory { OnNoMemory result ((input : List ℕ) × IsInput (R.remaining reader.old) input × HasWanted input) }
+{
+    let mut buf = [0; HEAD_LIMIT];
+    let mut headers = [EMPTY_HEADER_SPAN; FIELD_LIMIT];
+    let Ok((filled, found)) = read_head(reader, &mut buf, &mut headers) else {
+        return Err(ReceiveFault::Read);
+    };
+    let Some(spans) = found else {
+        return Ok(Received::Fault(Fault::Head));
+    };
+    let got = &buf[..filled];
+    let said = of_spans(routes, got, &headers, spans);
+    match read_said(alloc, reader, said, &got[spans.len..]) {
+        Ok(received) => Ok(received),
+        Err(fault) => Err(fault),
+    }
+}
+
+impl Received {
+    /// What was received asks for. The error is want of memory, for the list of a batch's documents.
+    pub fn asked(&self, alloc: Global) -> Result<Asked<'_>, AllocError>
+        ensures asked { IfOk result (λ a. Means self.now (request_of a)) }
+        ensures memory { OnErr result (IsOfBatch self.now) }
+    {
+        match self {
+            Received::Fault(fault) => Ok(Asked::Fault(*fault)),
+            Received::Batch(body) => asked_batch(alloc, body),
+            Received::PutBlob(digest, bytes) => Ok(Asked::PutBlob(*digest, bytes)),
+            Received::Metadata(name) => Ok(Asked::Metadata(name.as_str())),
+            Received::Target(path) => Ok(Asked::Target(path.as_str())),
+        }
+    }
+}
+
+// What the body of a batch asks for.
+fn asked_batch(alloc: Global, body: &[u8]) -> Result<Asked<'_>, AllocError>
+    ensures { IfOk result (λ a. OfBatch body.now (request_of a)) }
+{
+    match read_batch(alloc, body) {
+        Ok(Some(documents)) => Ok(Asked::Batch(documents)),
+        Ok(None) => Ok(Asked::Fault(Fault::Batch)),
+        Err(e) => Err(e),
+    }
+}
+
+/// A law, which does nothing: an input asks for one thing.
+pub fn one_request()
+    ensures { (input : List ℕ) (a b : Request) → Asks input a → Asks input b → a ≡ b }
+{
+    one_digest();
+}

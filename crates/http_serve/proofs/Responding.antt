@@ -1,0 +1,84 @@
+-- The answer to a request.
+use Rattle.std.proofs.Common.{◌≡◌, ◌+◌, ◌<◌, ℕ, List, [], ◌∷◌, ◌++◌, get_or, length, map, take, Bor, Option, Result, Ok, Err, Bool, true, refl, sym, ap, subst, ◌∙◌}
+use Rattle.std.specs.List.{AllByRecursion}
+use Rattle.std.proofs.lemmas.List.{map-append, take_more}
+use Rattle.std.specs.Io.KnownBytes.{Appends}
+use Rattle.sqlite.specs.State as database
+use Rattle.machine.specs.State.{State}
+use Rattle.machine.specs.Steps.{Command, Batch}
+use Rattle.path_patterns.specs.Grammar.{IsName}
+use Rattle.http_messages.specs.Framing.{Document, CanStand}
+use Rattle.http_messages.specs.Head.{IsInput}
+use Rattle.http_messages.specs.Request.{Request, fault, batch, Asks, HasWanted}
+use Rattle.http_messages.specs.Faults.{fault_response}
+use Rattle.http_messages.specs.Sound.{OnNoMemory, ReadsSoundly, StaysSound}
+use Rattle.http_messages.specs.declared.line.ReceiveFault.{ReceiveFault}
+use Rattle.http_messages.specs.declared.line.ReceiveFault.TheVariants.{Read, OutOfMemory}
+use Rattle.http_messages.specs.declared.request.Received.{Received}
+use Rattle.machine.specs.Views.{documents_view, offer_view}
+use Rattle.machine.specs.declared.outcome.Offer.{Offer}
+use Rattle.http_messages.specs.declared.faults.Fault.{Fault}
+use Rattle.http_messages.specs.declared.faults.Fault.TheVariants.{Memory}
+use Rattle.http_messages.specs.declared.line.Cut.{Cut}
+use Rattle.http_serve.specs.Response.{IsCommand, offers, offer_of}
+use Rattle.http_serve.specs.Standing.{Standing, Keeps}
+use Rattle.http_serve.specs.Serving.{Answered, at_fault, by_command, unread, Ended, Line, Wrote}
+use Rattle.http_serve.specs.Views.{AreNamed, HasEnded, offers_of, Performed, Responded}
+use Rattle.http_serve.specs.declared.serve.ServeFault.{ServeFault}
+use Rattle.http_serve.specs.declared.serve.ServeFault.TheVariants.{Write}
+use Rattle.http_serve.proofs.Asked.{IsSomething, asks-named, has-wanted}
+
+-- a fault is written
+pub faulty : (A : Standing) (why : Fault) (now : ℕ) (old new : Option (List ℕ)) (r : Result (Unit {0}) Cut) → Wrote old new (fault_response why) r → Responded A (fault why) now A old new r
+faulty A why now old new r w = (fault_response why, λ input asks. at_fault why asks, w)
+
+-- a request is made as a command
+pub served : (A B : Standing) (request : Request) (c : Command) (now : ℕ) (old new : Option (List ℕ)) (r : Result (Unit {0}) Cut)
+    → IsCommand request c → Performed A c now B old new r → Responded A request now B old new r
+served A B request c now old new r is (text, made, w) = (text, λ input asks. by_command request c text B asks is made, w)
+
+-- there is no memory to find out which command it is
+pub wanting : (A B : Standing) (request : Request) (now : ℕ) (old new : Option (List ℕ)) (r : Result (Unit {0}) Cut)
+    → IsSomething request → Keeps A B → Wrote old new (fault_response Memory) r → Responded A request now B old new r
+wanting A B request now old new r some keeps w = (fault_response Memory, λ input asks. unread B (has-wanted input request some asks) keeps, w)
+
+-- a batch has names of roles alone, so no other is answered
+pub unnamed : (A B : Standing) (documents : List (Bor (List ℕ) × Bor (List ℕ))) (now : ℕ) (text : List ℕ) (old new : Option (List ℕ)) (r : Result (Unit {0}) Cut)
+    → (AreNamed documents → ⊥) → Wrote old new text r → Responded A (batch (map {B = Document} (λ d. (d.0.now, d.1.now)) documents)) now B old new r
+unnamed A B documents now text old new r not w = (text, λ input asks. absurd (not (names documents (asks-named input _ asks))), w)
+  where
+    names : (documents : List (Bor (List ℕ) × Bor (List ℕ))) → AllByRecursion CanStand (map {B = Document} (λ d. (d.0.now, d.1.now)) documents) → AreNamed documents
+    names [] h = tt
+    names (d ∷ rest) h = (h.0.name, names rest h.1)
+
+-- the documents of a batch are its offers
+pub offered : (documents : List (Bor (List ℕ) × Bor (List ℕ))) → IsCommand (batch (map {B = Document} (λ d. (d.0.now, d.1.now)) documents)) (Batch (offers_of documents))
+offered documents = subst (λ os. IsCommand (batch (map {B = Document} (λ d. (d.0.now, d.1.now)) documents)) (Batch os)) (twice documents) (offers (map {B = Document} (λ d. (d.0.now, d.1.now)) documents))
+  where
+    twice : (documents : List (Bor (List ℕ) × Bor (List ℕ))) → map (λ (d : Document). (offer_of d.0, d.1)) (map {B = Document} (λ d. (d.0.now, d.1.now)) documents) ≡ offers_of documents
+    twice [] = refl
+    twice (d ∷ rest) = ap (λ l. (offer_of d.0.now, d.1.now) ∷ l) (twice rest)
+
+-- one more document is one more offer
+pub offered-next : (items : List (Offer × Bor (List ℕ))) (offer : Offer) (all : List (Bor (List ℕ) × Bor (List ℕ))) (i : ℕ) (d : Bor (List ℕ) × Bor (List ℕ))
+    → i < length all → offer_view offer ≡ offer_of (get_or all i d).0.now → documents_view items ≡ offers_of (take i all)
+    → documents_view (items ++ (offer, (get_or all i d).1) ∷ []) ≡ offers_of (take (i + 1) all)
+offered-next items offer all i d lt view so_far =
+    map-append (λ (x : Offer × Bor (List ℕ)). (offer_view x.0, x.1.now)) items ((offer, (get_or all i d).1) ∷ [])
+    ∙ ap (λ l. l ++ (offer_view offer, (get_or all i d).1.now) ∷ []) so_far
+    ∙ ap (λ o. offers_of (take i all) ++ (o, (get_or all i d).1.now) ∷ []) view
+    ∙ sym (map-append (λ (x : Bor (List ℕ) × Bor (List ℕ)). (offer_of x.0.now, x.1.now)) (take i all) (get_or all i d ∷ []))
+    ∙ ap offers_of (sym (take_more all i d lt))
+
+-- what is said of a reader that failed, and of memory that was refused
+pub of-read : (why : ReceiveFault) (before after : Bool) → why ≡ Read → ReadsSoundly {T = Received} before (Err why) after → before ≡ true → ⊥
+of-read why before after e h = subst (λ w. ReadsSoundly {T = Received} before (Err w) after) e h
+
+pub of-no-memory : (why : ReceiveFault) (P : Type 0) → why ≡ OutOfMemory → OnNoMemory {T = Received} (Err why) P → P
+of-no-memory why P e h = subst (λ w. OnNoMemory {T = Received} (Err w) P) e h
+
+-- how a connection ends that was read
+pub ends : (line : Line) (held : Option (List ℕ)) (A B : Standing) (input text : List ℕ) (after : Bool) (written : Result (Unit {0}) Cut) (r : Result (Unit {0}) ServeFault)
+    → IsInput line.given input → Answered A input line.now text B → Wrote line.held held text written → StaysSound line.writes written after → HasEnded written r → Ended line held A r B
+ends line held A B input text after (Ok u) r is answered w sound e = subst (λ x. Ended line held A x B) (sym e) (input, is, text, answered, w)
+ends line held A B input text after (Err f) r is answered w sound e = subst (λ x. Ended line held A x B) (sym e) (sound, (input, is, text, answered, w))

@@ -1,0 +1,38 @@
+use Rattle.std.proofs.Common.{inl, ◌∙◌}
+use Rattle.machine.specs.Views.{denial_view}
+use Rattle.http_messages.specs.declared.reply.Kind.TheVariants.{Json}
+use Rattle.http_serve.specs.Response.{done, stored, absent}
+use Rattle.http_serve.proofs.Standings.{wrote}
+use Rattle.http_serve.proofs.Telling.{denied-told, says-done, says-stored, says-file}
+use Rattle.http_serve.proofs.replies.write_reply.Goals as goal
+
+pub returns-in-Batch-clause-told : goal.returns-in-Batch-clause-told
+returns-in-Batch-clause-told g c =
+    rw c.in-Batch.is (
+      _,
+      inl (says-done c.args.kind c.in-Batch.accepted c.in-Batch.same c.deref.result.now _ (c.deref.ensures.0 ∙ c.accepted_body-body.ensures) (done _ _)),
+      wrote _ _ _ _ c.write_response.ensures.ok c.write_response.ensures.err,
+    )
+
+pub returns-in-Stored-clause-told : goal.returns-in-Stored-clause-told
+returns-in-Stored-clause-told g c =
+    rw c.in-Stored.is (
+      _,
+      inl (says-stored c.args.kind c.in-Stored.new c.stored_body.result.now _ c.stored_body.ensures (stored _)),
+      wrote _ _ _ _ c.write_response-in-Stored.ensures.ok c.write_response-in-Stored.ensures.err,
+    )
+
+pub returns-in-Bytes-clause-told : goal.returns-in-Bytes-clause-told
+returns-in-Bytes-clause-told g c =
+    rw c.in-Bytes.is (
+      _,
+      inl (says-file c.args.kind c.deref-in-Bytes.result.now c.in-Bytes.bytes.items c.deref-in-Bytes.ensures.value),
+      wrote _ _ _ _ c.write_response-in-Bytes.ensures.ok c.write_response-in-Bytes.ensures.err,
+    )
+
+pub returns-in-Absent-clause-told : goal.returns-in-Absent-clause-told
+returns-in-Absent-clause-told g c = rw c.in-Absent.is (_, inl absent, wrote _ _ _ _ c.write_fault.ensures.ok c.write_fault.ensures.err)
+
+pub returns-in-Denied-clause-told : goal.returns-in-Denied-clause-told
+returns-in-Denied-clause-told g c =
+    rw c.in-Denied.is (denied-told Json c.args.kind (denial_view c.in-Denied.denial) c.in-Denied.index _ _ _ c.write_denial.ensures.told)

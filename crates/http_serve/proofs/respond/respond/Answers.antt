@@ -1,0 +1,31 @@
+use Rattle.std.proofs.Common.{List, map, subst, ℕ}
+use Rattle.sqlite.specs.Held.{state}
+use Rattle.http_messages.specs.Framing.{Document}
+use Rattle.http_messages.specs.Request.{batch, metadata, put_blob, target}
+use Rattle.http_serve.specs.Response.{names, puts}
+use Rattle.http_serve.specs.Standing.{seen}
+use Rattle.http_serve.specs.Views.{Responded}
+use Rattle.http_serve.proofs.Responding.{faulty, served}
+use Rattle.http_serve.proofs.Standings.{wrote}
+use Rattle.http_serve.proofs.respond.respond.Goals as goal
+
+pub returns-in-Fault-clause-responded : goal.returns-in-Fault-clause-responded
+returns-in-Fault-clause-responded g c =
+    rw c.in-Fault.is (faulty _ c.in-Fault.fault c.args.now _ _ c.write_fault.result (wrote _ _ _ _ c.write_fault.ensures.ok c.write_fault.ensures.err))
+
+pub returns-in-Batch-clause-responded : goal.returns-in-Batch-clause-responded
+returns-in-Batch-clause-responded g c =
+    rw c.in-Batch.is (subst (λ ds. Responded (seen c.args.store.now.state (state g.S.Store c.args.store.now.conn)) (batch (map {B = Document} (λ d. (d.0.now, d.1.now)) ds)) c.args.now
+    (seen c.respond_batch.new.store.state (state g.S.Store c.respond_batch.new.store.conn)) (g.W.Write.contents c.args.writer.now) (g.W.Write.contents c.respond_batch.new.writer) c.respond_batch.result)
+    c.deref.ensures.value c.respond_batch.ensures.responded)
+
+pub returns-in-PutBlob-clause-responded : goal.returns-in-PutBlob-clause-responded
+returns-in-PutBlob-clause-responded g c =
+    rw c.in-PutBlob.is (served _ _ (put_blob c.in-PutBlob.digest.0 c.in-PutBlob.bytes.now) _ c.args.now _ _ c.perform.result (puts _ _) c.perform.ensures.performed)
+
+pub returns-in-Metadata-clause-responded : goal.returns-in-Metadata-clause-responded
+returns-in-Metadata-clause-responded g c =
+    rw c.in-Metadata.is (served _ _ (metadata c.in-Metadata.name.now) _ c.args.now _ _ c.perform-in-Metadata.result (names _) c.perform-in-Metadata.ensures.performed)
+
+pub returns-in-Target-clause-responded : goal.returns-in-Target-clause-responded
+returns-in-Target-clause-responded g c = rw c.in-Target.is c.respond_target.ensures.responded

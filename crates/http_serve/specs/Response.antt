@@ -1,0 +1,64 @@
+-- The response of a release repository: from a state, a request and a moment to the bytes that are written and the state that is left.
+use Rattle.std.specs.Prelude.{◌≡◌, ℕ, List, Option, Some, None, map, cond, codes, bytes_eq}
+use Rattle.metadata.specs.Orders as orders
+use Rattle.path_patterns.specs.Names.{Asks as AsksPath}
+use Rattle.machine.specs.State.{State}
+use Rattle.machine.specs.Commands.{Offer, RootOffer, TimestampOffer, SnapshotOffer, TargetsOffer}
+use Rattle.machine.specs.Steps.{Command, Batch, PutBlob, Metadata, Target, Init, OfferOne, Reply, BatchDone, Stored, FileBytes, Absent, Refused, Steps}
+use Rattle.http_messages.specs.Request.{Request, fault, batch, put_blob, metadata, target, Asks}
+use Rattle.http_messages.specs.Text.{response}
+use Rattle.http_messages.specs.Bodies.{accepted_text, stored_text, denial_text, denial_status}
+use Rattle.http_messages.specs.Faults.{fault_response}
+use Rattle.http_messages.specs.declared.faults.Fault.{Fault}
+use Rattle.http_messages.specs.declared.faults.Fault.TheVariants.{Name}
+use Rattle.http_messages.specs.declared.reply.Kind.{Kind}
+use Rattle.http_messages.specs.declared.reply.Kind.TheVariants.{Json, Octets}
+use Rattle.http_messages.specs.declared.reply.Status.TheVariants.{Ok}
+
+-- what is offered under a name: root, timestamp and snapshot are those offers, and every other name is a role's targets
+abbrev pub offer_of : List ℕ → Offer
+offer_of name =
+    cond (bytes_eq name (codes "root")) RootOffer
+    (cond (bytes_eq name (codes "timestamp")) TimestampOffer
+    (cond (bytes_eq name (codes "snapshot")) SnapshotOffer (TargetsOffer name)))
+
+-- the command that a request is
+pub data IsCommand : Request → Command → Type 0 where
+  offers : (documents : List (List ℕ × List ℕ)) → IsCommand (batch documents) (Batch (map (λ d. (offer_of d.0, d.1)) documents))
+  puts : (digest bytes : List ℕ) → IsCommand (put_blob digest bytes) (PutBlob digest bytes)
+  names : (name : List ℕ) → IsCommand (metadata name) (Metadata name)
+  asks : (text path : List ℕ) (digest : Option (List ℕ)) → AsksPath text path digest → IsCommand (target text) (Target path digest)
+
+-- the type of the files that a command is answered with
+abbrev pub kind_of : Command → Kind
+kind_of (Init b) = Json
+kind_of (Batch os) = Json
+kind_of (OfferOne o b) = Json
+kind_of (PutBlob digest b) = Json
+kind_of (Metadata name) = Json
+kind_of (Target path asked) = Octets
+
+-- the whole response to a denial
+abbrev pub denial_response : orders.Denial → Option ℕ → List ℕ
+denial_response d index = response (denial_status (orders.number d)) Json None (denial_text (orders.number d) index (orders.name d))
+
+-- the bytes that say a reply, whose files are of this type
+pub data Says (kind : Kind) : Reply → List ℕ → Type 0 where
+  done : (accepted same : ℕ) → Says kind (BatchDone accepted same) (response Ok Json None (accepted_text accepted same))
+  stored : (new : _) → Says kind (Stored new) (response Ok Json None (stored_text new))
+  file : (bytes : List ℕ) → Says kind (FileBytes bytes) (response Ok kind None bytes)
+  absent : Says kind Absent (fault_response Name)
+  denied : (d : orders.Denial) (index : Option ℕ) → Says kind (Refused d index) (denial_response d index)
+
+-- A request is answered at a moment: a fault by its own text and with no change, and a command by what the trust machine replies, with
+-- the state that its step leaves.
+pub data Answers (S : State) (now : ℕ) : Request → List ℕ → State → Type 0 where
+  at_fault : (why : Fault) → Answers S now (fault why) (fault_response why) S
+  by_step : (request : Request) (command : Command) (reply : Reply) (text : List ℕ) (T : State)
+      → IsCommand request command → Steps S command now (T, reply) → Says (kind_of command) reply text → Answers S now request text T
+
+-- the response to an input, and the state that is left
+pub record Responds (S : State) (input : List ℕ) (now : ℕ) (text : List ℕ) (T : State) : Type 0 where
+  pub request : Request
+  pub asks : Asks input request
+  pub answers : Answers S now request text T

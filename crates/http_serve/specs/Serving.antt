@@ -1,0 +1,69 @@
+-- What serving does: one connection, and a list of them in order.
+use Rattle.std.specs.Prelude.{◌≡◌, ◌⊎◌, ℕ, ◌+◌, List, [], ◌∷◌, ◌++◌, Option, Some, None, Result, Ok, Err, Bool, true}
+use Rattle.std.specs.Io.KnownBytes.{Appends, Keeps as KeepsBytes}
+use Rattle.machine.specs.Steps.{Command, Reply, Steps}
+use Rattle.http_messages.specs.Head.{IsInput}
+use Rattle.http_messages.specs.Request.{Request, Asks, HasWanted, fault}
+use Rattle.http_messages.specs.Faults.{fault_response}
+use Rattle.http_messages.specs.Taken.{TookSome}
+use Rattle.http_messages.specs.declared.faults.Fault.{Fault}
+use Rattle.http_messages.specs.declared.faults.Fault.TheVariants.{Memory, Database}
+use Rattle.http_serve.specs.Response.{IsCommand, Says, kind_of}
+use Rattle.http_serve.specs.Standing.{Standing, Keeps, Holds}
+use Rattle.http_serve.specs.declared.serve.ServeFault.{ServeFault}
+use Rattle.http_serve.specs.declared.serve.ServeFault.TheVariants.{Read, Write}
+use Rattle.http_messages.specs.declared.line.Cut.{Cut}
+
+-- A command was made or not: the reply of the machine's step, whose rows the tables hold, or the refusal where there was no memory or
+-- where the database answered a fault, and nothing is changed.
+pub data Made (A : Standing) (command : Command) (now : ℕ) : List ℕ → Standing → Type 0 where
+  by_step : (reply : Reply) (text : List ℕ) (B : Standing) → Steps A.state command now (B.state, reply) → Says (kind_of command) reply text → Holds A B
+      → Made A command now text B
+  no_memory : (B : Standing) → Keeps A B → Made A command now (fault_response Memory) B
+  no_database : (B : Standing) → Keeps A B → Made A command now (fault_response Database) B
+
+-- What an input is answered, and where the store stands then: a fault, what its command is answered, or the refusal where there was no
+-- memory to find out which command it is. A fault of a head wants no memory.
+pub data Answered (A : Standing) (input : List ℕ) (now : ℕ) : List ℕ → Standing → Type 0 where
+  at_fault : (why : Fault) → Asks input (fault why) → Answered A input now (fault_response why) A
+  by_command : (request : Request) (command : Command) (text : List ℕ) (B : Standing) → Asks input request → IsCommand request command
+      → Made A command now text B → Answered A input now text B
+  unread : (B : Standing) → HasWanted input → Keeps A B → Answered A input now (fault_response Memory) B
+
+-- a connection as it was found: what its reader is known to have left, what its writer is known to hold, its moment, and whether no
+-- call of its reader and of its writer fails
+pub record Line : Type 0 where
+  pub given : Option (List ℕ)
+  pub held : Option (List ℕ)
+  pub now : ℕ
+  pub reads : Bool
+  pub writes : Bool
+
+-- What became of a connection, whose writer holds `held` now: it took the whole answer, or a call of the reader failed and nothing was
+-- done, or a call of the writer failed, which took a beginning of the answer, and what was done stands.
+abbrev pub Ended : Line → Option (List ℕ) → Standing → Result (Unit {0}) ServeFault → Standing → Type 0
+Ended line held A (Ok u) B =
+    (input : List ℕ) × IsInput line.given input × (text : List ℕ) × Answered A input line.now text B × Appends line.held held text
+Ended line held A (Err Read) B = (line.reads ≡ true → ⊥) × (B ≡ A) × KeepsBytes line.held held
+Ended line held A (Err Write) B =
+    (line.writes ≡ true → ⊥)
+    × ((input : List ℕ) × IsInput line.given input × (text : List ℕ) × Answered A input line.now text B × TookSome line.held held text)
+
+-- a text was written whole, or a beginning of it
+abbrev pub Wrote : Option (List ℕ) → Option (List ℕ) → List ℕ → Result (Unit {0}) Cut → Type 0
+Wrote old new text (Ok u) = Appends old new text
+Wrote old new text (Err e) = TookSome old new text
+
+-- one for each connection that ended well
+abbrev pub one_if_ok : Result (Unit {0}) ServeFault → ℕ
+one_if_ok (Ok u) = 1
+one_if_ok (Err e) = 0
+
+-- connections were served in order: there is a standing between each two, and so many ended well
+abbrev pub Serves : List Line → List (Option (List ℕ)) → Standing → Standing → ℕ → Type 0
+Serves [] [] A B count = (B ≡ A) × (count ≡ 0)
+Serves (line ∷ lines) (held ∷ helds) A B count =
+    (result : Result (Unit {0}) ServeFault) × (mid : Standing) × (others : ℕ)
+    × Ended line held A result mid × Serves lines helds mid B others × (count ≡ one_if_ok result + others)
+Serves [] (held ∷ helds) A B count = ⊥
+Serves (line ∷ lines) [] A B count = ⊥

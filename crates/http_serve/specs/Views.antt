@@ -1,0 +1,80 @@
+-- What the code's values stand for, and what its parts are asked.
+use Rattle.std.specs.Prelude.{◌≡◌, ◌⊎◌, ℕ, List, Option, Result, Ok, Err, map, ⊤}
+use Rattle.std.specs.Borrow.{Bor}
+use Rattle.std.specs.List.{AllByRecursion}
+use Rattle.path_patterns.specs.Grammar.{IsName}
+use Rattle.machine.specs.Steps.{Command, Init, OfferOne, Batch, PutBlob, Metadata, Target, Reply, Begun, Offered, BatchDone, Stored, FileBytes, Absent, Refused}
+use Rattle.machine.specs.Commands.{Offer}
+use Rattle.http_messages.specs.Faults.{fault_response}
+use Rattle.http_messages.specs.Request.{Request, Asks}
+use Rattle.store.specs.declared.command.Fault.{Fault as StoreFault}
+use Rattle.store.specs.declared.command.Fault.TheVariants as store
+use Rattle.http_messages.specs.declared.faults.Fault.{Fault}
+use Rattle.http_messages.specs.declared.faults.Fault.TheVariants.{Memory, Database}
+use Rattle.http_messages.specs.declared.reply.Kind.{Kind}
+use Rattle.http_messages.specs.declared.line.Cut.{Cut}
+use Rattle.http_serve.specs.Response.{Says, offer_of}
+use Rattle.http_serve.specs.Serving.{Answered, Made, Wrote}
+use Rattle.http_serve.specs.Standing.{Standing}
+use Rattle.http_serve.specs.declared.serve.ServeFault.{ServeFault}
+use Rattle.http_serve.specs.declared.serve.ServeFault.TheVariants.{Write}
+
+-- documents of a request, each with its name, as offers
+abbrev pub offers_of : List (Bor (List ℕ) × Bor (List ℕ)) → List (Offer × List ℕ)
+offers_of documents = map (λ d. (offer_of d.0.now, d.1.now)) documents
+
+-- each name is one of a role
+abbrev pub AreNamed : List (Bor (List ℕ) × Bor (List ℕ)) → Type 0
+AreNamed documents = AllByRecursion (λ d. IsName d.0.now) documents
+
+-- a command that a request can be
+abbrev pub IsServed : Command → Type 0
+IsServed (Init b) = ⊥
+IsServed (OfferOne o b) = ⊥
+IsServed (Batch os) = ⊤
+IsServed (PutBlob digest b) = ⊤
+IsServed (Metadata name) = ⊤
+IsServed (Target path asked) = ⊤
+
+-- a reply to one
+abbrev pub IsSaid : Reply → Type 0
+IsSaid Begun = ⊥
+IsSaid (Offered same) = ⊥
+IsSaid (BatchDone accepted same) = ⊤
+IsSaid (Stored new) = ⊤
+IsSaid (FileBytes bytes) = ⊤
+IsSaid Absent = ⊤
+IsSaid (Refused d index) = ⊤
+
+-- a denial, whose body takes memory
+abbrev pub IsDenial : Reply → Type 0
+IsDenial Begun = ⊥
+IsDenial (Offered same) = ⊥
+IsDenial (BatchDone accepted same) = ⊥
+IsDenial (Stored new) = ⊥
+IsDenial (FileBytes bytes) = ⊥
+IsDenial Absent = ⊥
+IsDenial (Refused d index) = ⊤
+
+-- how it is said that a command was not made
+abbrev pub IsUnmade : StoreFault → Fault → Type 0
+IsUnmade store.OutOfMemory said = said ≡ Memory
+IsUnmade store.Database said = said ≡ Database
+IsUnmade store.Damaged said = ⊥
+
+-- a reply was written, or, of a denial, that there was no memory for it
+abbrev pub Told : Kind → Reply → Option (List ℕ) → Option (List ℕ) → Result (Unit {0}) Cut → Type 0
+Told kind reply old new r = (text : List ℕ) × (Says kind reply text ⊎ (IsDenial reply × (text ≡ fault_response Memory))) × Wrote old new text r
+
+-- a command was made, and the answer written
+abbrev pub Performed : Standing → Command → ℕ → Standing → Option (List ℕ) → Option (List ℕ) → Result (Unit {0}) Cut → Type 0
+Performed A command now B old new r = (text : List ℕ) × Made A command now text B × Wrote old new text r
+
+-- a request was answered: each input that asks it is
+abbrev pub Responded : Standing → Request → ℕ → Standing → Option (List ℕ) → Option (List ℕ) → Result (Unit {0}) Cut → Type 0
+Responded A request now B old new r = (text : List ℕ) × ((input : List ℕ) → Asks input request → Answered A input now text B) × Wrote old new text r
+
+-- how a connection ends by how its answer was written
+abbrev pub HasEnded : Result (Unit {0}) Cut → Result (Unit {0}) ServeFault → Type 0
+HasEnded (Ok u) r = r ≡ Ok tt
+HasEnded (Err e) r = r ≡ Err Write

@@ -1,0 +1,91 @@
+// Connections, served one after another.
+
+ghost use Rattle.std.specs.Prelude.{◌≡◌, map};
+ghost use Rattle.sqlite.specs.Held.{state};
+ghost use Rattle.http_serve.specs.Serving.{Ended, Serves};
+ghost use Rattle.http_serve.specs.Standing.{seen};
+ghost use Rattle.http_serve.specs.Views.{HasEnded};
+
+use crate::respond::respond;
+use http_messages::{
+    Cut, Fault, Receive, ReceiveFault, Routes, Transmit, read_request, write_fault,
+};
+use metadata::Moment;
+use sqlite::Alter;
+use std::alloc::Global;
+use store::Store;
+use thiserror::Error;
+
+/// Why a connection was not served to its end.
+#[derive(Clone, Copy, Debug, PartialEq, Eq, Error)]
+pub enum ServeFault {
+    /// A call of the reader answered an error. No command was made.
+    #[error("the reader failed")]
+    Read,
+    /// A call of the writer answered an error, or took no byte of a rest that is not empty. The command stands, and the reply may
+    /// be cut.
+    #[error("the writer took no more")]
+    Write,
+}
+
+/// Serves one connection: reads one request, makes at most one command at a moment, and writes one response.
+///
+/// A fault of the request is answered by its own status and changes nothing. A denial is answered 403, or 404 where something
+/// is missing, and changes nothing. Where memory is refused, or the database answers a fault, the answer is 503 and nothing is
+/// changed. The replies of commands that write, and those of 503, take no memory.
+pub fn serve_one<R: Receive, W: Transmit, S: Alter>(
+    alloc: Global,
+    routes: &Routes,
+    reader: &mut R,
+    writer: &mut W,
+    store: &mut Store<S>,
+    now: Moment,
+) -> Result<(), ServeFault>
+    ensures { Ended (record { given = R.remaining reader.old; held = W.contents writer.old; now = now; reads = R.sound reader.old; writes = W.sound writer.old })
+        (W.contents writer.new) (seen store.old.state (state S.Store store.old.conn)) result
+        (seen store.new.state (state S.Store store.new.conn)) }
+{
+    store.holds_rows();
+    let received = match read_request(alloc, routes, reader) {
+        Ok(received) => received,
+        Err(ReceiveFault::Read) => return Err(ServeFault::Read),
+        Err(ReceiveFault::OutOfMemory) => return ended(write_fault(writer, Fault::Memory)),
+    };
+    let asked = match received.asked(alloc) {
+        Ok(asked) => asked,
+        Err(_) => return ended(write_fault(writer, Fault::Memory)),
+    };
+    ended(respond(alloc, writer, store, asked, now))
+}
+
+// How a connection ends by how its answer was written.
+fn ended(written: Result<(), Cut>) -> Result<(), ServeFault>
+    ensures { HasEnded written result }
+{
+    match written {
+        Ok(()) => Ok(()),
+        Err(_) => Err(ServeFault::Write),
+    }
+}
+
+/// Serves connections in their order, each as `serve_one` does and at its own moment, whatever fault an earlier one met, and
+/// answers how many ended without a fault.
+pub fn serve_list<R: Receive, W: Transmit, S: Alter>(
+    alloc: Global,
+    routes: &Routes,
+    connections: &mut [(R, W, Moment)],
+    store: &mut Store<S>,
+) -> usize
+    ensures { Serves (map (λ c. record { given = R.remaining c.0; held = W.contents c.1; now = c.2; reads = R.sound c.0; writes = W.sound c.1 }) connections.old)
+        (map (λ c. W.contents c.1) connections.new) (seen store.old.state (state S.Store store.old.conn))
+        (seen store.new.state (state S.Store store.new.conn)) result }
+{
+    let mut count = 0;
+    for (reader, writer, now) in connections.iter_mut() {
+        let ended = serve_one(alloc, routes, reader, writer, store, *now);
+        if ended.is_ok() {
+            count += 1;
+        }
+    }
+    count
+}
