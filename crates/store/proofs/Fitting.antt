@@ -33,9 +33,7 @@ use Rattle.machine.proofs.ShapedOnce.{Shapes}
 use Rattle.machine.proofs.Standing.{FilesOf, files_of, stored_read, stored_rows}
 use Rattle.tables.proofs.Orders.{row_cmp_total}
 use Rattle.sqlite.specs.Order.{Row}
-use Rattle.sqlite.specs.Schema.{Schema}
 use Rattle.sqlite_trees.specs.Tree.{Trees}
-use Rattle.tables.specs.Schema.{no_schema, the_schema}
 use Rattle.tables.specs.Tables.{AreKeyed, AreRising, AreSame, HoldsTables, IsDigest, StandsFor, Tables, version_row, IsFit, IsVersion, row_cmp}
 use Rattle.store.specs.Kept.{as_tables, rows_of}
 
@@ -282,9 +280,6 @@ rows_as_contents t = record { roots = t.roots; timestamp = t.timestamp; snapshot
 
 pub contents_from : (C D : Contents) → as_tables C ≡ as_tables D → C ≡ D
 contents_from C D e = ap rows_as_contents e
-
-pub not_blank : no_schema ≡ the_schema → ⊥
-not_blank e = let k = ap (λ (s : Schema). s.tables) e in absurd (cc)
 
 not_bare : (trees : Trees) (t : Tables) → HoldsTables trees t → trees 7 ≡ [] → ⊥
 not_bare trees t h none =

@@ -1,5 +1,5 @@
 -- What a store keeps: a state, whose rows the tables hold.
-use Rattle.std.specs.Prelude.{◌≡◌, ◌⊎◌, ℕ, ◌-◌, Bool, List, [], ◌∷◌, ◌++◌, cond, length, Option, Some, None, option_map, unwrap_or, refl}
+use Rattle.std.specs.Prelude.{◌≡◌, ℕ, ◌-◌, Bool, List, [], ◌∷◌, ◌++◌, cond, length, Option, Some, None, option_map, unwrap_or, refl}
 use Rattle.std.specs.Coded.{Coded, code_by, coded×}
 use Rattle.sqlite.specs.Held.{Held as Connection, held_code}
 use Rattle.metadata.specs.File.{Bytes, File}
@@ -11,8 +11,7 @@ use Rattle.delegations.specs.Shelf.{Place}
 use Rattle.machine.specs.Effects.{Effects, last_or}
 use Rattle.sqlite.specs.Effect.{Database, IsDatabase}
 use Rattle.sqlite_trees.specs.Tree.{Trees}
-use Rattle.tables.specs.Schema.{no_schema, the_schema}
-use Rattle.tables.specs.Tables.{StandsFor, Tables, emptied, no_rows}
+use Rattle.tables.specs.Tables.{Stands, Tables, emptied}
 
 -- what a caller sees of a store: its connection, and its state
 pub record Shown (S : Type 0) : Type 0 where
@@ -31,11 +30,7 @@ as_tables c = record { roots = c.roots; timestamp = c.timestamp; snapshot = c.sn
 abbrev pub rows_of : State → Tables
 rows_of S = as_tables (contents_of S)
 
--- What a database stands for: no table at all, or the five tables with these rows. No table, or no row in any, is the empty state.
-abbrev pub Stands : Database → Tables → Type 0
-Stands db t = ((db.schema ≡ no_schema) × (t ≡ no_rows)) ⊎ ((db.schema ≡ the_schema) × StandsFor db.trees t)
-
--- the same of its trees, whose schema is read from them
+-- What the trees of a database stand for, whose schema is read from them. No table, or no row in any, is the empty state.
 abbrev pub TreesStand : Trees → Tables → Type 0
 TreesStand trees t = (db : Database) × (db.trees ≡ trees) × IsDatabase db × Stands db t
 

@@ -1,12 +1,12 @@
 //! Opening a store: the rows that stand in the tables become a state.
-ghost use Rattle.std.specs.Prelude.{◌≡◌, ◌⊎◌, false, Err, IfErr, IfOk, IsSomeAnd, IsTrue};
+ghost use Rattle.std.specs.Prelude.{◌≡◌, ◌<◌, ℕ, false, Err, IfErr, IfOk, IsSomeAnd, IsTrue};
 ghost use Rattle.sqlite.specs.Held.{state};
 ghost use Rattle.sqlite.specs.State.{HasCleanDisk, Opens, Survives};
 ghost use Rattle.tables.specs.Making.{AreNumbered, StandsEmpty};
-ghost use Rattle.tables.specs.Schema.{no_schema, the_schema};
-ghost use Rattle.tables.specs.Tables.{HoldsTables, IsStore, StandsFor, no_rows, tables_view};
+ghost use Rattle.tables.specs.Schema.{IsBeginning, beginning};
+ghost use Rattle.tables.specs.Tables.{HoldsTables, IsStore, Stands, no_rows, tables_view};
 ghost use Rattle.machine.specs.Views.{contents_view};
-ghost use Rattle.store.specs.Kept.{HoldsNoState, Stands, TreesStand, as_tables, rows_of};
+ghost use Rattle.store.specs.Kept.{HoldsNoState, TreesStand, as_tables, rows_of};
 ghost use Rattle.machine.specs.State as trust;
 ghost use Rattle.machine.specs.State.{IsState};
 
@@ -27,11 +27,13 @@ pub struct Unopened<S: Alter> {
 }
 
 impl<S: Alter + Drop> Store<S> {
-    /// Opens a store over a connection: its tables are made where there are none, in one transaction, or the state is read from
-    /// them. What was not committed over the connection is undone, and its clock and step limit are lost.
+    /// Opens a store over a connection: the state is read from its tables, where one that is absent counts as empty. Where all
+    /// are empty, those that are absent are made, in one transaction. What was not committed over the connection is undone, and
+    /// its clock and step limit are lost.
     ///
     /// - `Damaged`: the rows are those of no state.
-    /// - `Database`: a call of the database answered a fault, or its tables are neither none nor just the five of a store.
+    /// - `Database`: a call of the database answered a fault, or its tables are other than the first of the five of a store, or
+    ///   all, in the order in which they are made.
     /// - `OutOfMemory`: memory was refused.
     pub fn open(alloc: Global, conn: Connection<S>) -> Result<Store<S>, Fault>
         ensures opened { IfOk result (λ s. HasCleanDisk (state S.Store s.conn) → TreesStand (state S.Store conn).committed.trees (rows_of s.state)) }
@@ -68,17 +70,18 @@ impl<S: Alter + Drop> Store<S> {
     }
 }
 
-// The state that stands in the tables, which are made where there are none.
+// The state that stands in the tables. Where they have no row, those that are absent are made.
 fn read_state<S: Alter>(alloc: Global, conn: &mut Connection<S>) -> Result<State, Fault>
     requires { conn.old.in_transaction ≡ false }
     ensures autocommit { conn.new.in_transaction ≡ false }
-    ensures schema { IfOk result (λ _. (conn.old.schema ≡ no_schema) ⊎ (conn.old.schema ≡ the_schema)) }
-    ensures made { HasCleanDisk (state S.Store conn.new) → conn.old.schema ≡ no_schema → IfOk result (λ s. (rows_of s.state ≡ no_rows) × IsStore (state S.Store conn.new) (rows_of s.state)) }
-    ensures loaded { HasCleanDisk (state S.Store conn.new) → Opens (state S.Store conn.old) → conn.old.schema ≡ the_schema → AreNumbered the_schema (state S.Store conn.old).now.trees
-        → IfOk result (λ s. StandsFor (state S.Store conn.old).now.trees (rows_of s.state) × IsStore (state S.Store conn.new) (rows_of s.state)) }
+    ensures schema { IfOk result (λ _. IsBeginning conn.old.schema) }
+    ensures made { HasCleanDisk (state S.Store conn.new) → (count : ℕ) → count < 5 → conn.old.schema ≡ beginning count
+        → IfOk result (λ s. (rows_of s.state ≡ no_rows) × StandsEmpty (state S.Store conn.old) × IsStore (state S.Store conn.new) (rows_of s.state)) }
+    ensures loaded { HasCleanDisk (state S.Store conn.new) → Opens (state S.Store conn.old) → AreNumbered conn.old.schema (state S.Store conn.old).now.trees
+        → IfOk result (λ s. Stands (state S.Store conn.old).now (rows_of s.state) × IsStore (state S.Store conn.new) (rows_of s.state)) }
     ensures damaged { HasCleanDisk (state S.Store conn.new) → Opens (state S.Store conn.old) → AreNumbered (state S.Store conn.old).now.schema (state S.Store conn.old).now.trees
         → result ≡ Err Fault.Damaged → (U : trust.State) → IsState U → Stands (state S.Store conn.old).now (rows_of U) → ⊥ }
-    ensures crash { Survives (state S.Store conn.old) (state S.Store conn.new) (λ trees. IsTrue (state S.Store conn.old).is_open → StandsEmpty (state S.Store conn.old) → HoldsTables trees no_rows) }
+    ensures crash { Survives (state S.Store conn.old) (state S.Store conn.new) (λ trees. IsTrue (state S.Store conn.old).is_open → StandsEmpty (state S.Store conn.old) × HoldsTables trees no_rows) }
 {
     one_document();
     one_shape();

@@ -6,6 +6,7 @@ pub mod NumberLemmas
 pub mod Statements
 pub mod Changes
 pub mod MakingLemmas
+pub mod Beginnings
 pub mod Gathering
 pub mod Views
 pub mod Orders

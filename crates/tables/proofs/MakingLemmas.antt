@@ -1,5 +1,5 @@
 -- What the making of the tables leaves.
-use Rattle.std.proofs.Common.{◌≡◌, inl, inr, ℕ, ℤ, pos, arith, List, [], ◌∷◌, ◌++◌, codes, false, Ok, Err, Result, refl, sym, ap, subst, ◌∙◌}
+use Rattle.std.proofs.Common.{◌≡◌, ◌+◌, OnOk, inl, inr, ℕ, ℤ, pos, arith, List, [], ◌∷◌, ◌++◌, codes, false, Ok, Err, Result, refl, sym, ap, subst, ◌∙◌}
 use Rattle.std.specs.List.{AllByRecursion}
 use Rattle.sqlite_tied.specs.Compute.{everything}
 use Rattle.sqlite.specs.Schema.{Schema}
@@ -14,10 +14,12 @@ use Rattle.sqlite.specs.Command.TheVariants.{CreateTable, Insert}
 use Rattle.sqlite.specs.Listing.{understood}
 use Rattle.sqlite.specs.Does.{lacks_sequence, Tally}
 use Rattle.sqlite.specs.Effect.{Database}
+use Rattle.sqlite.specs.declared.error.Error.{Error}
 use Rattle.sqlite.specs.State.{State, ExecutesInside}
 use Rattle.sqlite.proofs.Callers.{IsPlain, command_of, statement_of, runs_as}
-use Rattle.tables.specs.Schema.{root_table, current_table, shelf_table, blob_table, version_table, the_schema, no_schema}
-use Rattle.tables.specs.Making.{AreEmpty, IsMade, MakesBy, Makes}
+use Rattle.tables.specs.Schema.{root_table, current_table, shelf_table, blob_table, version_table, the_schema, beginning}
+use Rattle.tables.specs.Tables.{AreBare}
+use Rattle.tables.specs.Making.{IsMade, MakesBy, Makes}
 use Rattle.sqlite.specs.Term.{Term, lit}
 use Rattle.sqlite.specs.Source.TheVariants.{Values}
 use Rattle.sqlite.specs.declared.types.Value.TheVariants.{Null, Int}
@@ -30,6 +32,9 @@ use Rattle.sqlite_rules.specs.Lists.{Has}
 use Rattle.tables.specs.Rows.{AreRows, root_cells, current_cells, shelf_cells, blob_cells, version_cells}
 use Rattle.tables.specs.Writing.{IsInside, no_cells}
 use Rattle.tables.proofs.Insert.{went, same_value, inserts}
+
+abbrev HoldsRows : Trees → Schema → Trees → Type 0
+HoldsRows rows schema trees = AllByRecursion (λ (t : Table). trees t.tree ≡ rows t.tree) schema.tables
 
 record Parts (before : Schema) (sql : List ℕ) (after : Schema) (r : Result Compiled CompileError) : Type 0 where
   pub command : command_of r ≡ CreateTable
@@ -51,8 +56,9 @@ all_more : {X : Type 0} (P : X → Type 0) (xs : List X) (x : X) → AllByRecurs
 all_more P [] x all here = (here, tt)
 all_more P (y ∷ xs) x all here = (all.0, all_more P xs x all.1 here)
 
-pub makes : (before after : Schema) (sql : List ℕ) (old new : State) (count : ℕ) → Makes before sql after → IsMade before old → ExecutesInside 0 sql [] old new (Ok count) → IsMade after new
-makes before after sql old new count m is h =
+pub makes : (before after : Schema) (sql : List ℕ) (rows : Trees) (old new : State) (count : ℕ) → Makes before sql after → rows (next_tree before) ≡ [] → IsMade rows before old
+    → ExecutesInside 0 sql [] old new (Ok count) → IsMade rows after new
+makes before after sql rows old new count m lacks is h =
     let it = parts before sql after (understood before sql) m in
     let w = runs_as sql [] old new before is.schema_is CreateTable it.command it.plain count h.0 in
     let all = went w.changed in
@@ -65,44 +71,32 @@ makes before after sql old new count m is h =
     let now : new.now ≡ first.0 = ap (λ (p : Tally × Database). p.1) (same_value all.2) ∙ same_value (rw plain at first.2) in
     let none : first.0.trees (next_tree before) ≡ [] = subst (λ s. first.0.trees (next_tree s) ≡ []) is.schema_is made.empty in
     let kept : KeepsRows before.tables old.now.trees first.0.trees = subst (λ (s : Schema). KeepsRows s.tables old.now.trees first.0.trees) is.schema_is made.others in
-    let olds : AllByRecursion (λ (t : Table). first.0.trees t.tree ≡ []) before.tables = all_then (λ (t : Table). first.0.trees t.tree ≡ old.now.trees t.tree) (λ (t : Table). old.now.trees t.tree ≡ []) (λ (t : Table). first.0.trees t.tree ≡ []) before.tables kept is.empty (λ t k e. k ∙ e) in
-    let empty : AreEmpty (created before it.made) first.0.trees = all_more (λ (t : Table). first.0.trees t.tree ≡ []) before.tables (record it.made { tree = next_tree before }) olds none in
+    let olds : AllByRecursion (λ (t : Table). first.0.trees t.tree ≡ rows t.tree) before.tables = all_then (λ (t : Table). first.0.trees t.tree ≡ old.now.trees t.tree) (λ (t : Table). old.now.trees t.tree ≡ rows t.tree) (λ (t : Table). first.0.trees t.tree ≡ rows t.tree) before.tables kept is.holds (λ t k e. k ∙ e) in
+    let holds : HoldsRows rows (created before it.made) first.0.trees = all_more (λ (t : Table). first.0.trees t.tree ≡ rows t.tree) before.tables (record it.made { tree = next_tree before }) olds (none ∙ sym lacks) in
     record {
       is_open = h.1.is_open;
       inside = h.1.mode;
       schema_is = ap (λ (d : Database). d.schema) now ∙ schema;
-      empty = subst (λ (d : Database). AreEmpty after d.trees) (sym now) (subst (λ s. AreEmpty s first.0.trees) it.is empty);
+      holds = subst (λ (d : Database). HoldsRows rows after d.trees) (sym now) (subst (λ s. HoldsRows rows s first.0.trees) it.is holds);
     }
 
-abbrev pub with_root : Schema
-with_root = created no_schema (root_table 0)
-
-abbrev pub with_current : Schema
-with_current = created with_root (current_table 0)
-
-abbrev pub with_shelf : Schema
-with_shelf = created with_current (shelf_table 0)
-
-abbrev pub with_blob : Schema
-with_blob = created with_shelf (blob_table 0)
-
-pub makes_root : Makes no_schema (codes "CREATE TABLE root (version INTEGER NOT NULL PRIMARY KEY, bytes BLOB NOT NULL)") with_root
+pub makes_root : Makes (beginning 0) (codes "CREATE TABLE root (version INTEGER NOT NULL PRIMARY KEY, bytes BLOB NOT NULL)") (beginning 1)
 unfolding understood everything
 makes_root = (refl, refl, refl, root_table 0, refl, refl, refl)
 
-pub makes_current : Makes with_root (codes "CREATE TABLE current (slot TEXT NOT NULL PRIMARY KEY, version INTEGER NOT NULL, bytes BLOB NOT NULL)") with_current
+pub makes_current : Makes (beginning 1) (codes "CREATE TABLE current (slot TEXT NOT NULL PRIMARY KEY, version INTEGER NOT NULL, bytes BLOB NOT NULL)") (beginning 2)
 unfolding understood everything
 makes_current = (refl, refl, refl, current_table 0, refl, refl, refl)
 
-pub makes_shelf : Makes with_current (codes "CREATE TABLE shelf (role TEXT NOT NULL, version INTEGER NOT NULL, bytes BLOB NOT NULL, PRIMARY KEY (role, version))") with_shelf
+pub makes_shelf : Makes (beginning 2) (codes "CREATE TABLE shelf (role TEXT NOT NULL, version INTEGER NOT NULL, bytes BLOB NOT NULL, PRIMARY KEY (role, version))") (beginning 3)
 unfolding understood everything
 makes_shelf = (refl, refl, refl, shelf_table 0, refl, refl, refl)
 
-pub makes_blob : Makes with_shelf (codes "CREATE TABLE blob (digest TEXT NOT NULL PRIMARY KEY, bytes BLOB NOT NULL)") with_blob
+pub makes_blob : Makes (beginning 3) (codes "CREATE TABLE blob (digest TEXT NOT NULL PRIMARY KEY, bytes BLOB NOT NULL)") (beginning 4)
 unfolding understood everything
 makes_blob = (refl, refl, refl, blob_table 0, refl, refl, refl)
 
-pub makes_version : Makes with_blob (codes "CREATE TABLE schema (version INTEGER NOT NULL PRIMARY KEY)") the_schema
+pub makes_version : Makes (beginning 4) (codes "CREATE TABLE schema (version INTEGER NOT NULL PRIMARY KEY)") (beginning 5)
 unfolding understood everything
 makes_version = (refl, refl, refl, version_table 0, refl, refl, refl)
 
@@ -148,24 +142,31 @@ stays {shown} {cells = cells} same are = subst (λ r. AreRows shown r cells) (sy
 empty_still : (shown : Row → Row) {rows next : List Row} → next ≡ rows → rows ≡ [] → AreRows shown next []
 empty_still shown same none = stays (same ∙ none) (no_rows shown)
 
-pub begins : (old new : State) (count : ℕ) → IsMade the_schema old → ExecutesInside 0 insert_version [] old new (Ok count) → IsInside new no_cells
-begins old new count is h =
+pub begins : (rows : Trees) (old new : State) (count : ℕ) → AreBare rows → IsMade rows the_schema old → ExecutesInside 0 insert_version [] old new (Ok count) → IsInside new no_cells
+begins rows old new count bare is h =
     let db = old.now.trees in
+    let empty : AreBare db = all_then (λ (t : Table). db t.tree ≡ rows t.tree) (λ (t : Table). rows t.tree ≡ []) (λ (t : Table). db t.tree ≡ []) the_schema.tables is.holds bare (λ t k e. k ∙ e) in
     let w = runs_as insert_version [] old new the_schema is.schema_is (Insert 4 (Values version_values 2)) version_is version_plain count h.0 in
     let a = inserts the_schema 4 _ _ _ _ _ 7 refl (λ _ _. refl) old new [] version_values 2 count _ is.schema_is w in
     let edit = edit_of db (version_table 7) [] Chosen 0 ((Int (pos 1) ∷ Null ∷ []) ∷ []) in
     let row : Row = Int (pos 1) ∷ Null ∷ [] in
     let news : edit.news ≡ row ∷ [] = version_row db in
-    let rows : new.now.trees 7 ≡ row ∷ [] = a.0.rows ∙ ap (put_all (db 7)) news ∙ ap (λ all. put_all all (row ∷ [])) is.empty.1.1.1.1.0 in
+    let stored : new.now.trees 7 ≡ row ∷ [] = a.0.rows ∙ ap (put_all (db 7)) news ∙ ap (λ all. put_all all (row ∷ [])) empty.1.1.1.1.0 in
     record {
       is_open = h.1.is_open;
       inside = h.1.mode;
       schema = a.1;
       holds = record {
-        root = empty_still root_cells (a.0.tables.0 (λ e. absurd (omega (arith, e)))) is.empty.0;
-        current = empty_still current_cells (a.0.tables.1.0 (λ e. absurd (omega (arith, e)))) is.empty.1.0;
-        shelf = empty_still shelf_cells (a.0.tables.1.1.0 (λ e. absurd (omega (arith, e)))) is.empty.1.1.0;
-        blob = empty_still blob_cells (a.0.tables.1.1.1.0 (λ e. absurd (omega (arith, e)))) is.empty.1.1.1.0;
-        version = subst (λ r. AreRows version_cells r ((Int (pos 1) ∷ []) ∷ [])) (sym rows) (one_row version_cells row (pos 1) _ refl refl);
+        root = empty_still root_cells (a.0.tables.0 (λ e. absurd (omega (arith, e)))) empty.0;
+        current = empty_still current_cells (a.0.tables.1.0 (λ e. absurd (omega (arith, e)))) empty.1.0;
+        shelf = empty_still shelf_cells (a.0.tables.1.1.0 (λ e. absurd (omega (arith, e)))) empty.1.1.0;
+        blob = empty_still blob_cells (a.0.tables.1.1.1.0 (λ e. absurd (omega (arith, e)))) empty.1.1.1.0;
+        version = subst (λ r. AreRows version_cells r ((Int (pos 1) ∷ []) ∷ [])) (sym stored) (one_row version_cells row (pos 1) _ refl refl);
       };
     }
+
+-- what the making of one table leaves, where its place is known
+pub made_at : (rows : Trees) (old new : State) (r : Result (Unit {0}) Error) (at n : ℕ) → at ≡ n
+    → (rows (next_tree (beginning n)) ≡ [] → IsMade rows (beginning n) old → OnOk r (IsMade rows (beginning (n + 1)) new))
+    → rows (next_tree (beginning at)) ≡ [] → IsMade rows (beginning at) old → OnOk r (IsMade rows (beginning (at + 1)) new)
+made_at rows old new r at n same f = subst (λ k. rows (next_tree (beginning k)) ≡ [] → IsMade rows (beginning k) old → OnOk r (IsMade rows (beginning (k + 1)) new)) (sym same) f

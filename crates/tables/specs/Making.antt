@@ -1,31 +1,34 @@
 -- The making of the tables.
-use Rattle.std.specs.Prelude.{◌≡◌, ◌⊎◌, false, ℕ, List, [], Ok, Err, None, Result, IsTrue}
+use Rattle.std.specs.Prelude.{◌≡◌, ◌<◌, ◌≤◌, false, ℕ, pos, negsuc, List, [], Ok, Err, None, Result, IsTrue}
 use Rattle.std.specs.List.{AllByRecursion}
 use Rattle.sqlite.specs.Schema.{Schema}
 use Rattle.sqlite.specs.Table.{Table}
 use Rattle.sqlite_trees.specs.Tree.{Trees, IsTable, rowid}
 use Rattle.sqlite_trees.specs.View.{is_int}
-use Rattle.sqlite_catalog.specs.Change.{created}
+use Rattle.sqlite_catalog.specs.Change.{created, next_tree}
 use Rattle.sqlite_resolve.specs.Compile.{table_defined_by}
 use Rattle.sqlite_resolve.specs.declared.compiled.Compiled.{Compiled}
 use Rattle.sqlite_resolve.specs.declared.error.CompileError.{CompileError}
-use Rattle.sqlite.specs.Command.TheVariants.{CreateTable}
-use Rattle.sqlite.specs.Listing.{understood}
+use Rattle.sqlite.specs.Command.TheVariants.{CreateTable, Select}
+use Rattle.sqlite.specs.Listing.{understood, reads_listing}
+use Rattle.sqlite.specs.Term.{Term, lit}
+use Rattle.sqlite.specs.declared.types.Value.TheVariants.{Int}
+use Rattle.sqlite_sql.specs.Query.{Query, inner, end}
 use Rattle.sqlite.specs.Does.{lacks_sequence}
 use Rattle.sqlite.specs.State.{State, text_of}
-use Rattle.tables.specs.Schema.{no_schema, the_schema}
-use Rattle.tables.specs.Tables.{AreBare}
+use Rattle.tables.specs.Schema.{the_schema, beginning, IsBeginning}
+use Rattle.tables.specs.Tables.{AreBare, counted}
 
--- no table of the schema has a row
-abbrev pub AreEmpty : Schema → Trees → Type 0
-AreEmpty schema trees = AllByRecursion (λ (t : Table). trees t.tree ≡ []) schema.tables
-
--- inside the transaction that makes the tables
-pub record IsMade (schema : Schema) (s : State) : Type 0 where
+-- inside the transaction that makes the tables, where those that are there hold these rows
+pub record IsMade (rows : Trees) (schema : Schema) (s : State) : Type 0 where
   pub is_open : IsTrue s.is_open
   pub inside : IsTrue s.in_transaction
   pub schema_is : s.now.schema ≡ schema
-  pub empty : AreEmpty schema s.now.trees
+  pub holds : AllByRecursion (λ (t : Table). s.now.trees t.tree ≡ rows t.tree) schema.tables
+
+-- none of the five tables behind the first ones has a row
+abbrev pub LacksRest : ℕ → Trees → Type 0
+LacksRest count rows = (n : ℕ) → count ≤ n → n < 5 → rows (next_tree (beginning n)) ≡ []
 
 abbrev pub MakesBy : Schema → List ℕ → Schema → Result Compiled CompileError → Type 0
 MakesBy before sql after (Ok c) =
@@ -36,10 +39,32 @@ MakesBy before sql after (Err e) = ⊥
 abbrev pub Makes : Schema → List ℕ → Schema → Type 0
 Makes before sql after = MakesBy before sql after (understood before sql)
 
--- what stands for no rows yet: no table, or our five without a row
+-- what stands for no rows yet: no table of the five, some or all, without a row
 abbrev pub StandsEmpty : State → Type 0
-StandsEmpty s = (s.now.schema ≡ no_schema) ⊎ ((s.now.schema ≡ the_schema) × AreBare s.now.trees)
+StandsEmpty s = IsBeginning s.now.schema × AreBare (counted s.now.schema s.now.trees)
 
 -- in each table the rowids are integers, and rise
 abbrev pub AreNumbered : Schema → Trees → Type 0
 AreNumbered schema trees = AllByRecursion (λ (t : Table). IsTable (trees t.tree) × AllByRecursion (λ r. IsTrue (is_int (rowid r))) (trees t.tree)) schema.tables
+
+-- a query of all rows of the tree, that shows these terms of each
+abbrev pub every_row : ℕ → List Term → Query
+every_row tree terms = record {
+  from = inner tree end;
+  filter = [];
+  group = None;
+  project = terms;
+  distinct = false;
+  collations = [];
+  order = [];
+  limit = lit (Int (negsuc 0));
+  offset = lit (Int (pos 0));
+}
+
+abbrev pub AsksBy : ℕ → Result Compiled CompileError → Type 0
+AsksBy tree (Ok c) = (terms : List Term) × (names : List (List ℕ)) × (c.command ≡ Select (record { lets = []; body = every_row tree terms }) names) × (c.returning ≡ None) × (c.formats ≡ [])
+AsksBy tree (Err e) = ⊥
+
+-- the text asks for all rows of the tree of one of the five tables
+abbrev pub Asks : List ℕ → ℕ → Type 0
+Asks sql tree = AsksBy tree (understood the_schema sql) × (reads_listing the_schema sql ≡ false)

@@ -1,6 +1,6 @@
 -- The definitions of the five tables, as SQL reads them.
 use Rattle.sqlite.specs.Collation.TheVariants.{Binary}
-use Rattle.std.specs.Prelude.{true, false, [], ◌∷◌, None, Option, Some, codes, map, List, ℕ}
+use Rattle.std.specs.Prelude.{◌≡◌, ◌-◌, true, false, [], ◌∷◌, None, Option, Some, codes, map, take, List, ℕ}
 use Rattle.sqlite.specs.declared.types.Value.TheVariants.{Null}
 use Rattle.sqlite.specs.Table.{Table}
 use Rattle.sqlite_schema.specs.declared.schema.Column.{Column}
@@ -48,12 +48,17 @@ version_table = table (codes "schema") (required (codes "version") Integer ∷ [
 abbrev pub unique_index : List ℕ → ℕ → ℕ → List ℕ → Index
 unique_index name tree on columns = record { name = name; tree = tree; table = on; columns = columns; order = plain; is_unique = true }
 
-abbrev pub no_schema : Schema
-no_schema = record { tables = []; indexes = []; views = [] }
-
 abbrev pub the_schema : Schema
 the_schema = record {
   tables = root_table 0 ∷ current_table 1 ∷ shelf_table 3 ∷ blob_table 5 ∷ version_table 7 ∷ [];
   indexes = unique_index (codes "sqlite_autoindex_current_1") 2 1 (1 ∷ []) ∷ unique_index (codes "sqlite_autoindex_shelf_1") 4 3 (1 ∷ 2 ∷ []) ∷ unique_index (codes "sqlite_autoindex_blob_1") 6 5 (1 ∷ []) ∷ [];
   views = [];
 }
+
+-- The first tables of the five, with their indexes: `current`, `shelf` and `blob`, the second to the fourth, have one each.
+abbrev pub beginning : ℕ → Schema
+beginning count = record { tables = take count the_schema.tables; indexes = take (count - 1) the_schema.indexes; views = [] }
+
+-- The tables are the first of the five in the order in which they are made: none, some or all, and nothing else.
+abbrev pub IsBeginning : Schema → Type 0
+IsBeginning schema = (count : ℕ) × (schema ≡ beginning count)

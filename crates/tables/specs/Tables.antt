@@ -1,5 +1,5 @@
 -- What the tables hold, and what a change makes of it.
-use Rattle.std.specs.Prelude.{◌≡◌, ◌⊎◌, ◌<◌, ◌^◌, ℕ, pos, List, [], ◌∷◌, ◌++◌, map, option_map, Option, Some, None, IsTrue, IsUtf8, codes, length, Vec}
+use Rattle.std.specs.Prelude.{◌≡◌, ◌⊎◌, ◌<◌, ◌^◌, ◌==◌, ◌||◌, Bool, false, ℕ, pos, List, [], ◌∷◌, ◌++◌, if◌then◌else◌, map, option_map, Option, Some, None, IsTrue, IsUtf8, codes, length, Vec}
 use Rattle.std.specs.declared.alloc.Global.{Global}
 use Rattle.std.specs.List.{AllByRecursion}
 use Rattle.std.specs.Ordering.{nat_cmp, on, then_cmp}
@@ -13,11 +13,13 @@ use Rattle.sqlite.specs.declared.types.Value.TheVariants.{Int, Text, Blob}
 use Rattle.sqlite.specs.Order.{Row}
 use Rattle.sqlite_trees.specs.Tree.{Trees}
 use Rattle.sqlite.specs.Table.{Table}
+use Rattle.sqlite.specs.Schema.{Schema}
+use Rattle.sqlite.specs.Effect.{Database}
 use Rattle.sqlite.specs.State.{State}
 use Rattle.tables.specs.declared.contents.Tables.{Tables as Kept}
 use Rattle.tables.specs.declared.contents.Change.{Change}
 use Rattle.tables.specs.declared.contents.Change.TheVariants.{PutRoot, Emptied, PutTimestamp, PutSnapshot, PutRow, PutBlob}
-use Rattle.tables.specs.Schema.{the_schema}
+use Rattle.tables.specs.Schema.{the_schema, IsBeginning}
 use Rattle.tables.specs.Rows.{AreRows, root_cells, current_cells, shelf_cells, blob_cells, version_cells}
 
 -- A key of a row, and its bytes. A version is a number, a role the bytes of its text, a digest its 32 bytes.
@@ -80,6 +82,19 @@ AreBare trees = AllByRecursion (λ (t : Table). trees t.tree ≡ []) the_schema.
 -- What the trees of the five tables stand for. Five empty tables are no rows yet.
 abbrev pub StandsFor : Trees → Tables → Type 0
 StandsFor trees t = HoldsTables trees t ⊎ (AreBare trees × (t ≡ no_rows))
+
+-- one of the tables has this tree
+abbrev pub is_there : List Table → ℕ → Bool
+is_there [] tree = false
+is_there (t ∷ ts) tree = (t.tree == tree) || is_there ts tree
+
+-- the rows by tree, where a table that is absent counts as empty
+abbrev pub counted : Schema → Trees → Trees
+counted schema trees tree = if is_there schema.tables tree then trees tree else []
+
+-- What a database stands for: its tables are the first of the five, or all, and hold the rows, and the absent ones count as empty.
+abbrev pub Stands : Database → Tables → Type 0
+Stands db t = IsBeginning db.schema × StandsFor (counted db.schema db.trees) t
 
 -- the same rows, in any order
 pub record AreSame (t u : Tables) : Type 0 where

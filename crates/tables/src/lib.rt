@@ -1,6 +1,7 @@
 //! The five tables of a release repository, over the crate `sqlite`.
 #![tactic(auto)]
 
+mod completing;
 mod contents;
 mod faults;
 mod laws;

@@ -1,11 +1,13 @@
 // The making of the tables, and the connection that the tables' rowids are known of.
-ghost use Rattle.std.specs.Prelude.{◌≡◌, ◌≢◌, Err, true, false, [], ◌∷◌, IsTrue, IfOk, OnOk, OnErr};
+ghost use Rattle.std.specs.Prelude.{◌≡◌, ◌≢◌, ◌<◌, ◌≤◌, ◌+◌, Err, true, false, [], ◌∷◌, IsTrue, IfOk, OnOk, OnErr};
 ghost use Rattle.sqlite.specs.State.{HasCleanDisk, KeepsCommit, Survives, Opens, IsLive};
 ghost use Rattle.sqlite.specs.Held.{state, IsNew};
-ghost use Rattle.tables.specs.Schema.{the_schema, no_schema};
-ghost use Rattle.tables.specs.Tables.{IsStore, HoldsTables, no_rows};
+ghost use Rattle.sqlite_trees.specs.Tree.{Trees};
+ghost use Rattle.sqlite_catalog.specs.Change.{next_tree};
+ghost use Rattle.tables.specs.Schema.{the_schema, beginning};
+ghost use Rattle.tables.specs.Tables.{IsStore, HoldsTables, AreBare, no_rows};
 ghost use Rattle.tables.specs.Writing.{IsInside, no_cells};
-ghost use Rattle.tables.specs.Making.{IsMade, Makes, AreNumbered, AreEmpty};
+ghost use Rattle.tables.specs.Making.{IsMade, Makes, LacksRest, AreNumbered};
 
 use crate::contents::Fault;
 use crate::faults::fault_of;
@@ -16,7 +18,7 @@ use std::alloc::Global;
 
 fn make<S: Alter>(tx: &mut Transaction<'_, S>, sql: &str) -> Result<(), Error>
     ensures same_reference { tx.new.conn.ghost_name ≡ tx.old.conn.ghost_name }
-    ensures wrote { HasCleanDisk (state S.Store tx.new.conn.now) → (before after : _) → Makes before sql.now after → IsMade before (state S.Store tx.old.conn.now) → OnOk result (IsMade after (state S.Store tx.new.conn.now)) }
+    ensures wrote { HasCleanDisk (state S.Store tx.new.conn.now) → (before after : _) → Makes before sql.now after → (rows : Trees) → rows (next_tree before) ≡ [] → IsMade rows before (state S.Store tx.old.conn.now) → OnOk result (IsMade rows after (state S.Store tx.new.conn.now)) }
     ensures kept { HasCleanDisk (state S.Store tx.new.conn.now) → KeepsCommit (state S.Store tx.old.conn.now) (state S.Store tx.new.conn.now) }
     ensures survives { Survives (state S.Store tx.old.conn.now) (state S.Store tx.new.conn.now) (λ _. ⊥) }
 {
@@ -24,37 +26,56 @@ fn make<S: Alter>(tx: &mut Transaction<'_, S>, sql: &str) -> Result<(), Error>
     Ok(())
 }
 
-fn make_tables<S: Alter>(tx: &mut Transaction<'_, S>) -> Result<(), Error>
+// Makes the table of this place.
+fn make_at<S: Alter>(tx: &mut Transaction<'_, S>, at: usize) -> Result<(), Error>
+    requires { at < 5 }
     ensures same_reference { tx.new.conn.ghost_name ≡ tx.old.conn.ghost_name }
-    ensures wrote { HasCleanDisk (state S.Store tx.new.conn.now) → IsMade no_schema (state S.Store tx.old.conn.now) → OnOk result (IsMade the_schema (state S.Store tx.new.conn.now)) }
+    ensures wrote { HasCleanDisk (state S.Store tx.new.conn.now) → (rows : Trees) → rows (next_tree (beginning at)) ≡ [] → IsMade rows (beginning at) (state S.Store tx.old.conn.now) → OnOk result (IsMade rows (beginning (at + 1)) (state S.Store tx.new.conn.now)) }
     ensures kept { HasCleanDisk (state S.Store tx.new.conn.now) → KeepsCommit (state S.Store tx.old.conn.now) (state S.Store tx.new.conn.now) }
     ensures survives { Survives (state S.Store tx.old.conn.now) (state S.Store tx.new.conn.now) (λ _. ⊥) }
 {
-    make(
-        tx,
-        "CREATE TABLE root (version INTEGER NOT NULL PRIMARY KEY, bytes BLOB NOT NULL)",
-    )?;
-    make(
-        tx,
-        "CREATE TABLE current (slot TEXT NOT NULL PRIMARY KEY, version INTEGER NOT NULL, bytes BLOB NOT NULL)",
-    )?;
-    make(
-        tx,
-        "CREATE TABLE shelf (role TEXT NOT NULL, version INTEGER NOT NULL, bytes BLOB NOT NULL, PRIMARY KEY (role, version))",
-    )?;
-    make(
-        tx,
-        "CREATE TABLE blob (digest TEXT NOT NULL PRIMARY KEY, bytes BLOB NOT NULL)",
-    )?;
-    make(
-        tx,
-        "CREATE TABLE schema (version INTEGER NOT NULL PRIMARY KEY)",
-    )
+    match at {
+        0 => make(
+            tx,
+            "CREATE TABLE root (version INTEGER NOT NULL PRIMARY KEY, bytes BLOB NOT NULL)",
+        ),
+        1 => make(
+            tx,
+            "CREATE TABLE current (slot TEXT NOT NULL PRIMARY KEY, version INTEGER NOT NULL, bytes BLOB NOT NULL)",
+        ),
+        2 => make(
+            tx,
+            "CREATE TABLE shelf (role TEXT NOT NULL, version INTEGER NOT NULL, bytes BLOB NOT NULL, PRIMARY KEY (role, version))",
+        ),
+        3 => make(
+            tx,
+            "CREATE TABLE blob (digest TEXT NOT NULL PRIMARY KEY, bytes BLOB NOT NULL)",
+        ),
+        _ => make(
+            tx,
+            "CREATE TABLE schema (version INTEGER NOT NULL PRIMARY KEY)",
+        ),
+    }
 }
 
-fn put_version<S: Alter>(tx: &mut Transaction<'_, S>) -> Result<(), Error>
+// Makes the tables from this place on.
+pub(crate) fn make_rest<S: Alter>(tx: &mut Transaction<'_, S>, count: usize) -> Result<(), Error>
+    requires { count ≤ 5 }
     ensures same_reference { tx.new.conn.ghost_name ≡ tx.old.conn.ghost_name }
-    ensures wrote { HasCleanDisk (state S.Store tx.new.conn.now) → IsMade the_schema (state S.Store tx.old.conn.now) → OnOk result (IsInside (state S.Store tx.new.conn.now) no_cells) }
+    ensures wrote { HasCleanDisk (state S.Store tx.new.conn.now) → (rows : Trees) → LacksRest count rows → IsMade rows (beginning count) (state S.Store tx.old.conn.now) → OnOk result (IsMade rows the_schema (state S.Store tx.new.conn.now)) }
+    ensures kept { HasCleanDisk (state S.Store tx.new.conn.now) → KeepsCommit (state S.Store tx.old.conn.now) (state S.Store tx.new.conn.now) }
+    ensures survives { Survives (state S.Store tx.old.conn.now) (state S.Store tx.new.conn.now) (λ _. ⊥) }
+{
+    'tables: for at in count..5 {
+        make_at(tx, at)?;
+    }
+    Ok(())
+}
+
+// Puts the row of `schema` into tables that are all empty.
+pub(crate) fn put_version<S: Alter>(tx: &mut Transaction<'_, S>) -> Result<(), Error>
+    ensures same_reference { tx.new.conn.ghost_name ≡ tx.old.conn.ghost_name }
+    ensures wrote { HasCleanDisk (state S.Store tx.new.conn.now) → (rows : Trees) → AreBare rows → IsMade rows the_schema (state S.Store tx.old.conn.now) → OnOk result (IsInside (state S.Store tx.new.conn.now) no_cells) }
     ensures kept { HasCleanDisk (state S.Store tx.new.conn.now) → KeepsCommit (state S.Store tx.old.conn.now) (state S.Store tx.new.conn.now) }
     ensures survives { Survives (state S.Store tx.old.conn.now) (state S.Store tx.new.conn.now) (λ _. ⊥) }
 {
@@ -62,27 +83,13 @@ fn put_version<S: Alter>(tx: &mut Transaction<'_, S>) -> Result<(), Error>
     Ok(())
 }
 
-// Makes the five tables and the row of `schema` in one transaction.
-pub(crate) fn make_all<S: Alter>(conn: &mut Connection<S>) -> Result<(), Error>
-    requires { conn.old.in_transaction ≡ false }
-    ensures autocommit { conn.new.in_transaction ≡ false }
-    ensures wrote { HasCleanDisk (state S.Store conn.new) → (state S.Store conn.old).now.schema ≡ no_schema → OnOk result (IsStore (state S.Store conn.new) no_rows) }
-    ensures was_open { HasCleanDisk (state S.Store conn.new) → IsTrue (state S.Store conn.new).is_open → IsTrue (state S.Store conn.old).is_open }
-    ensures crash { Survives (state S.Store conn.old) (state S.Store conn.new) (λ trees. IsTrue (state S.Store conn.old).is_open → (state S.Store conn.old).now.schema ≡ no_schema → HoldsTables trees no_rows) }
-{
-    let mut tx = conn.transaction();
-    make_tables(&mut tx)?;
-    put_version(&mut tx)?;
-    tx.commit()
-}
-
 // Puts the row of `schema` into tables that are all empty, in one transaction.
 pub(crate) fn begin<S: Alter>(conn: &mut Connection<S>) -> Result<(), Error>
     requires { conn.old.in_transaction ≡ false }
     ensures autocommit { conn.new.in_transaction ≡ false }
-    ensures wrote { HasCleanDisk (state S.Store conn.new) → (state S.Store conn.old).now.schema ≡ the_schema → AreEmpty the_schema (state S.Store conn.old).now.trees → OnOk result (IsStore (state S.Store conn.new) no_rows) }
+    ensures wrote { HasCleanDisk (state S.Store conn.new) → (state S.Store conn.old).now.schema ≡ the_schema → AreBare (state S.Store conn.old).now.trees → OnOk result (IsStore (state S.Store conn.new) no_rows) }
     ensures was_open { HasCleanDisk (state S.Store conn.new) → IsTrue (state S.Store conn.new).is_open → IsTrue (state S.Store conn.old).is_open }
-    ensures crash { Survives (state S.Store conn.old) (state S.Store conn.new) (λ trees. IsTrue (state S.Store conn.old).is_open → (state S.Store conn.old).now.schema ≡ the_schema → AreEmpty the_schema (state S.Store conn.old).now.trees → HoldsTables trees no_rows) }
+    ensures crash { Survives (state S.Store conn.old) (state S.Store conn.new) (λ trees. IsTrue (state S.Store conn.old).is_open → (state S.Store conn.old).now.schema ≡ the_schema → AreBare (state S.Store conn.old).now.trees → HoldsTables trees no_rows) }
 {
     let mut tx = conn.transaction();
     put_version(&mut tx)?;

@@ -1,18 +1,19 @@
 // Opening: the tables are made, or what they hold is read.
-ghost use Rattle.std.specs.Prelude.{◌≡◌, ◌≢◌, ◌⊎◌, true, false, Err, IfOk, OnOk, OnErr, IsTrue};
+ghost use Rattle.std.specs.Prelude.{◌≡◌, ◌≢◌, ◌<◌, ℕ, true, false, Err, IfOk, OnOk, OnErr, IsTrue};
 ghost use Rattle.sqlite.specs.State.{HasCleanDisk, IsUnchanged, Survives, Opens};
 ghost use Rattle.sqlite.specs.Held.{state};
-ghost use Rattle.tables.specs.Schema.{the_schema, no_schema};
-ghost use Rattle.tables.specs.Tables.{Tables as Contents, HoldsTables, IsStore, IsFit, AreBare, AreRising, StandsFor, tables_view, no_rows};
+ghost use Rattle.tables.specs.Schema.{the_schema, beginning, IsBeginning};
+ghost use Rattle.tables.specs.Tables.{Tables as Contents, HoldsTables, IsStore, IsFit, AreBare, AreRising, Stands, StandsFor, counted, tables_view, no_rows};
 ghost use Rattle.tables.specs.Making.{AreNumbered, StandsEmpty};
 ghost use Rattle.tables.specs.Loading.{IsUnbegun};
 
+use crate::completing::complete;
 use crate::contents::{Fault, Tables};
 use crate::faults::fault_of;
 use crate::loading::{ask, is_bare, tables_of};
-use crate::making::{begin, make_all};
+use crate::making::begin;
 use crate::reading::is_begun;
-use crate::shape::{is_blank, is_ours};
+use crate::shape::beginning_of;
 use sqlite::{Alter, Connection};
 use std::alloc::Global;
 
@@ -62,7 +63,8 @@ fn begin_bare<S: Alter>(conn: &mut Connection<S>, tables: Tables) -> Result<Tabl
     ensures same { IfOk result (λ t. (tables_view t ≡ tables_view tables) × (tables_view t ≡ no_rows)) }
     ensures begun { HasCleanDisk (state S.Store conn.new) → (state S.Store conn.old).now.schema ≡ the_schema → AreBare (state S.Store conn.old).now.trees → OnOk result (IsStore (state S.Store conn.new) no_rows) }
     ensures damaged { result ≡ Err Fault.Damaged → tables_view tables ≢ no_rows }
-    ensures crash { Survives (state S.Store conn.old) (state S.Store conn.new) (λ trees. IsTrue (state S.Store conn.old).is_open → (state S.Store conn.old).now.schema ≡ the_schema → AreBare (state S.Store conn.old).now.trees → HoldsTables trees no_rows) }
+    ensures crash { Survives (state S.Store conn.old) (state S.Store conn.new) (λ trees. IsTrue (state S.Store conn.old).is_open → (state S.Store conn.old).now.schema ≡ the_schema
+        → (tables_view tables ≡ no_rows) × (AreBare (state S.Store conn.old).now.trees → HoldsTables trees no_rows)) }
 {
     if !is_bare(&tables) {
         return Err(Fault::Damaged);
@@ -82,7 +84,8 @@ fn load<S: Alter>(alloc: Global, conn: &mut Connection<S>) -> Result<Tables, Fau
     ensures fit { IfOk result (λ t. IsFit (tables_view t) × AreRising (tables_view t)) }
     ensures damaged { HasCleanDisk (state S.Store conn.new) → (state S.Store conn.old).now.schema ≡ the_schema → result ≡ Err Fault.Damaged
         → (t : Contents) → IsFit t → StandsFor (state S.Store conn.old).now.trees t → ⊥ }
-    ensures crash { Survives (state S.Store conn.old) (state S.Store conn.new) (λ trees. IsTrue (state S.Store conn.old).is_open → (state S.Store conn.old).now.schema ≡ the_schema → AreBare (state S.Store conn.old).now.trees → HoldsTables trees no_rows) }
+    ensures crash { Survives (state S.Store conn.old) (state S.Store conn.new) (λ trees. IsTrue (state S.Store conn.old).is_open → (state S.Store conn.old).now.schema ≡ the_schema
+        → AreBare (state S.Store conn.old).now.trees × HoldsTables trees no_rows) }
 {
     let (tables, is_begun) = match gather(alloc, conn) {
         Ok(found) => found,
@@ -94,40 +97,61 @@ fn load<S: Alter>(alloc: Global, conn: &mut Connection<S>) -> Result<Tables, Fau
     begin_bare(conn, tables)
 }
 
-/// Makes the five tables, with version 1 in `schema`, where the database has no table, in one transaction, or reads what the
-/// five tables hold. Five tables without any row, in `schema` too, are begun like absent ones. Call `renew` before: it gives
-/// what `loaded` asks for.
+// The first of the five tables, or none, hold no row: the others are made, and the row of `schema` is put.
+fn complete_bare<S: Alter>(
+    alloc: Global,
+    conn: &mut Connection<S>,
+    count: usize,
+) -> Result<Tables, Fault>
+    requires autocommit { conn.old.in_transaction ≡ false }
+    requires few { count < 5 }
+    ensures autocommit { conn.new.in_transaction ≡ false }
+    ensures made { HasCleanDisk (state S.Store conn.new) → (state S.Store conn.old).now.schema ≡ beginning count
+        → IfOk result (λ t. (tables_view t ≡ no_rows) × AreBare (counted (beginning count) (state S.Store conn.old).now.trees) × IsStore (state S.Store conn.new) no_rows) }
+    ensures empty { IfOk result (λ t. tables_view t ≡ no_rows) }
+    ensures damaged { HasCleanDisk (state S.Store conn.new) → (state S.Store conn.old).now.schema ≡ beginning count → result ≡ Err Fault.Damaged
+        → (t : Contents) → StandsFor (counted (beginning count) (state S.Store conn.old).now.trees) t → ⊥ }
+    ensures crash { Survives (state S.Store conn.old) (state S.Store conn.new) (λ trees. IsTrue (state S.Store conn.old).is_open → (state S.Store conn.old).now.schema ≡ beginning count
+        → AreBare (counted (beginning count) (state S.Store conn.old).now.trees) × HoldsTables trees no_rows) }
+{
+    match complete(conn, count) {
+        Ok(true) => Ok(no_tables(alloc)),
+        Ok(false) => Err(Fault::Damaged),
+        Err(error) => Err(fault_of(error)),
+    }
+}
+
+/// Reads what the five tables hold. The first of them in the order in which they are made may stand alone, and there may be
+/// none: a table that is absent counts as empty. Where all are empty, those that are absent are made and version 1 is put into
+/// `schema`, in one transaction. Call `renew` before: it gives what `loaded` asks for.
 ///
-/// - `Damaged`: the tables hold no rows that fit their columns, or `schema` has another row than 1 or none beside rows. A
-///   value of another type than its column's, a version outside 32 bits, a role that is not UTF-8, a digest that is not 64 hex
-///   digits of lower case, and a third slot in `current` do not fit.
-/// - `Database`: a call of the database answered a fault, or the database has other tables than just these five in their
-///   order, more or fewer. No other is tried.
+/// - `Damaged`: the tables hold no rows that fit their columns, or `schema` has another row than 1 or none beside rows, also
+///   where it is absent. A value of another type than its column's, a version outside 32 bits, a role that is not UTF-8, a
+///   digest that is not 64 hex digits of lower case, and a third slot in `current` do not fit. Nothing is made.
+/// - `Database`: a call of the database answered a fault, or the database has other tables than the first of these five in
+///   their order. No other is tried.
 /// - `OutOfMemory`: memory was refused.
 pub fn prepare<S: Alter>(alloc: Global, conn: &mut Connection<S>) -> Result<Tables, Fault>
     requires { conn.old.in_transaction ≡ false }
     ensures autocommit { conn.new.in_transaction ≡ false }
-    ensures schema { IfOk result (λ _. (conn.old.schema ≡ no_schema) ⊎ (conn.old.schema ≡ the_schema)) }
-    ensures made { HasCleanDisk (state S.Store conn.new) → conn.old.schema ≡ no_schema → IfOk result (λ t. (tables_view t ≡ no_rows) × IsStore (state S.Store conn.new) no_rows) }
-    ensures loaded { HasCleanDisk (state S.Store conn.new) → Opens (state S.Store conn.old) → conn.old.schema ≡ the_schema → AreNumbered the_schema (state S.Store conn.old).now.trees
-        → IfOk result (λ t. StandsFor (state S.Store conn.old).now.trees (tables_view t) × IsStore (state S.Store conn.new) (tables_view t)) }
+    ensures schema { IfOk result (λ _. IsBeginning conn.old.schema) }
+    ensures made { HasCleanDisk (state S.Store conn.new) → (count : ℕ) → count < 5 → conn.old.schema ≡ beginning count → IfOk result (λ t. (tables_view t ≡ no_rows) × StandsEmpty (state S.Store conn.old) × IsStore (state S.Store conn.new) no_rows) }
+    ensures loaded { HasCleanDisk (state S.Store conn.new) → Opens (state S.Store conn.old) → AreNumbered conn.old.schema (state S.Store conn.old).now.trees
+        → IfOk result (λ t. Stands (state S.Store conn.old).now (tables_view t) × IsStore (state S.Store conn.new) (tables_view t)) }
     ensures fit { IfOk result (λ t. IsFit (tables_view t)) }
     ensures rising { IfOk result (λ t. AreRising (tables_view t)) }
     ensures damaged { HasCleanDisk (state S.Store conn.new) → result ≡ Err Fault.Damaged
-        → (conn.old.schema ≡ the_schema) × ((t : Contents) → IsFit t → StandsFor (state S.Store conn.old).now.trees t → ⊥) }
-    ensures crash { Survives (state S.Store conn.old) (state S.Store conn.new) (λ trees. IsTrue (state S.Store conn.old).is_open → StandsEmpty (state S.Store conn.old) → HoldsTables trees no_rows) }
+        → IsBeginning conn.old.schema × ((t : Contents) → IsFit t → Stands (state S.Store conn.old).now t → ⊥) }
+    ensures crash { Survives (state S.Store conn.old) (state S.Store conn.new) (λ trees. IsTrue (state S.Store conn.old).is_open → StandsEmpty (state S.Store conn.old) × HoldsTables trees no_rows) }
 {
-    let schema = conn.schema();
-    if is_blank(schema) {
-        return match make_all(conn) {
-            Ok(()) => Ok(no_tables(alloc)),
-            Err(error) => Err(fault_of(error)),
-        };
+    let count = match beginning_of(conn.schema()) {
+        Some(count) => count,
+        None => return Err(Fault::Database),
+    };
+    if count == 5 {
+        return load(alloc, conn);
     }
-    if !is_ours(schema) {
-        return Err(Fault::Database);
-    }
-    load(alloc, conn)
+    complete_bare(alloc, conn, count)
 }
 
 /// Whether the connection still answers, by one small query. After a fault has shut it, no reply may be given from memory

@@ -1,6 +1,6 @@
 // Whether a schema is that of the five tables.
-ghost use Rattle.std.specs.Prelude.{◌≡◌, IsTrue, IfSome, true, [], ◌∷◌, if◌then◌else◌};
-ghost use Rattle.tables.specs.Schema.{required, table, unique_index, no_schema, the_schema, root_table, current_table, shelf_table, blob_table, version_table};
+ghost use Rattle.std.specs.Prelude.{◌≡◌, ◌≤◌, ◌-◌, IsTrue, IfSome, true, [], ◌∷◌, codes, length, take, if◌then◌else◌};
+ghost use Rattle.tables.specs.Schema.{required, table, unique_index, the_schema, beginning, root_table, current_table, shelf_table, blob_table, version_table};
 ghost use Rattle.sqlite_value.specs.Keys.{plain};
 
 use sqlite_items::Items;
@@ -43,15 +43,6 @@ fn three<T>(items: &[T]) -> Option<(&T, &T, &T)>
 {
     match items {
         [a, b, c] => Some((a, b, c)),
-        _ => None,
-    }
-}
-
-fn five<T>(items: &[T]) -> Option<(&T, &T, &T, &T, &T)>
-    ensures { IfSome result (λ p. items.now ≡ p.0.now ∷ p.1.now ∷ p.2.now ∷ p.3.now ∷ p.4.now ∷ []) }
-{
-    match items {
-        [a, b, c, d, e] => Some((a, b, c, d, e)),
         _ => None,
     }
 }
@@ -122,13 +113,6 @@ pub(crate) fn is_index(index: &Index, name: &[u8], tree: u32, on: u32, columns: 
         && index.is_unique
 }
 
-// Whether there is no table yet.
-pub(crate) fn is_blank(schema: &Schema) -> bool
-    ensures { IsTrue result → schema.now ≡ no_schema }
-{
-    schema.tables.is_empty() && schema.indexes.is_empty() && schema.views.is_empty()
-}
-
 fn is_root(of: &Table) -> bool
     ensures { IsTrue result → of.now ≡ root_table 0 }
 {
@@ -195,25 +179,75 @@ fn is_version(of: &Table) -> bool
     }
 }
 
-// Whether the schema is the five tables in their order, and nothing else.
-pub(crate) fn is_ours(schema: &Schema) -> bool
-    ensures { IsTrue result → schema.now ≡ the_schema }
+fn is_current_index(index: &Index) -> bool
+    ensures { IsTrue result → index.now ≡ unique_index (codes "sqlite_autoindex_current_1") 2 1 (1 ∷ []) }
 {
-    let tables = match five(schema.tables.as_slice()) {
-        Some(tables) => tables,
-        None => return false,
-    };
-    let indexes = match three(schema.indexes.as_slice()) {
-        Some(indexes) => indexes,
-        None => return false,
-    };
-    is_root(tables.0)
-        && is_current(tables.1)
-        && is_shelf(tables.2)
-        && is_blob(tables.3)
-        && is_version(tables.4)
-        && is_index(indexes.0, b"sqlite_autoindex_current_1", 2, 1, &[1])
-        && is_index(indexes.1, b"sqlite_autoindex_shelf_1", 4, 3, &[1, 2])
-        && is_index(indexes.2, b"sqlite_autoindex_blob_1", 6, 5, &[1])
-        && schema.views.is_empty()
+    is_index(index, b"sqlite_autoindex_current_1", 2, 1, &[1])
+}
+
+fn is_shelf_index(index: &Index) -> bool
+    ensures { IsTrue result → index.now ≡ unique_index (codes "sqlite_autoindex_shelf_1") 4 3 (1 ∷ 2 ∷ []) }
+{
+    is_index(index, b"sqlite_autoindex_shelf_1", 4, 3, &[1, 2])
+}
+
+fn is_blob_index(index: &Index) -> bool
+    ensures { IsTrue result → index.now ≡ unique_index (codes "sqlite_autoindex_blob_1") 6 5 (1 ∷ []) }
+{
+    is_index(index, b"sqlite_autoindex_blob_1", 6, 5, &[1])
+}
+
+// Whether the indexes are the first of the three, one less than there are tables, or none.
+fn are_indexes(indexes: &[Index], count: usize) -> bool
+    ensures { IsTrue result → indexes.now ≡ take (count - 1) the_schema.indexes }
+{
+    match count {
+        0 | 1 => indexes.is_empty(),
+        2 => match one(indexes) {
+            Some(first) => is_current_index(first),
+            None => false,
+        },
+        3 => match two(indexes) {
+            Some((first, second)) => is_current_index(first) && is_shelf_index(second),
+            None => false,
+        },
+        _ => match three(indexes) {
+            Some((first, second, third)) => {
+                is_current_index(first) && is_shelf_index(second) && is_blob_index(third)
+            }
+            None => false,
+        },
+    }
+}
+
+// Whether the tables are the first of the five in their order.
+fn are_tables(tables: &[Table]) -> bool
+    ensures { IsTrue result → tables.now ≡ take (length tables.now) the_schema.tables }
+{
+    match tables {
+        [] => true,
+        [a] => is_root(a),
+        [a, b] => is_root(a) && is_current(b),
+        [a, b, c] => is_root(a) && is_current(b) && is_shelf(c),
+        [a, b, c, d] => is_root(a) && is_current(b) && is_shelf(c) && is_blob(d),
+        [a, b, c, d, e] => {
+            is_root(a) && is_current(b) && is_shelf(c) && is_blob(d) && is_version(e)
+        }
+        _ => false,
+    }
+}
+
+// How many of the five tables there are, where they are the first in their order, and nothing else.
+pub(crate) fn beginning_of(schema: &Schema) -> Option<usize>
+    ensures { IfSome result (λ count. (schema.now ≡ beginning count) × (count ≤ 5)) }
+{
+    let count = schema.tables.len();
+    if count > 5 || !schema.views.is_empty() {
+        return None;
+    }
+    if are_tables(schema.tables.as_slice()) && are_indexes(schema.indexes.as_slice(), count) {
+        Some(count)
+    } else {
+        None
+    }
 }

@@ -1,5 +1,6 @@
 use crate::{Change, Fault, Tables, check_open, prepare, renew, write_all};
 use sqlite::{Alter, Connection, MemStore};
+use sqlite_value::value::ValueRef;
 use std::alloc::Global;
 use std::test::Fail;
 
@@ -150,7 +151,7 @@ fn after(alloc: Global, text: &str) -> Result<Result<Tables, Fault>, Fail> {
     Ok(read(alloc, &mut conn))
 }
 
-const DAMAGED: [&str; 18] = [
+const DAMAGED: [&str; 19] = [
     "INSERT INTO root (version, bytes) VALUES (-1, x'00')",
     "INSERT INTO root (version, bytes) VALUES (4294967296, x'00')",
     "INSERT INTO root (version, bytes) VALUES (3, 'text')",
@@ -169,6 +170,7 @@ const DAMAGED: [&str; 18] = [
     "UPDATE blob SET bytes = 'text'",
     "INSERT INTO schema (version) VALUES (2)",
     "DELETE FROM schema",
+    "DROP TABLE schema",
 ];
 
 #[test]
@@ -182,10 +184,11 @@ fn each_damage_is_told(rt: HostRuntime) -> Result<(), Fail> {
     Ok(())
 }
 
-const FOREIGN: [&str; 3] = [
+const FOREIGN: [&str; 4] = [
     "CREATE TABLE other (a)",
-    "DROP TABLE schema",
+    "DROP TABLE blob",
     "CREATE INDEX by_bytes ON blob (bytes)",
+    "CREATE VIEW other AS SELECT version FROM root",
 ];
 
 #[test]
@@ -209,6 +212,115 @@ fn tables_without_rows_are_begun(rt: HostRuntime) -> Result<(), Fail> {
         Ok(tables) => assert!(rt; is_empty(&tables)),
         Err(_) => assert!(rt; false),
     }
+    Ok(())
+}
+
+// ---- a beginning of the five tables
+
+const ROOT: &str = "CREATE TABLE root (version INTEGER NOT NULL PRIMARY KEY, bytes BLOB NOT NULL);";
+
+const CURRENT: &str =
+    "CREATE TABLE current (slot TEXT NOT NULL PRIMARY KEY, version INTEGER NOT NULL, bytes BLOB NOT NULL);";
+
+const SHELF: &str =
+    "CREATE TABLE shelf (role TEXT NOT NULL, version INTEGER NOT NULL, bytes BLOB NOT NULL, PRIMARY KEY (role, version));";
+
+const BLOB: &str = "CREATE TABLE blob (digest TEXT NOT NULL PRIMARY KEY, bytes BLOB NOT NULL);";
+
+// A database in memory that these texts made.
+fn holding(alloc: Global, texts: &[&str]) -> Result<Connection<MemStore>, Fail> {
+    let mut conn = Connection::open_in_memory(alloc)?;
+    for text in texts {
+        conn.execute_batch(text)?;
+    }
+    Ok(renew(alloc, conn)?)
+}
+
+// Whether there are five tables, and `schema` has the one row 1.
+fn is_whole<S: Alter>(conn: &mut Connection<S>) -> Result<bool, Fail> {
+    let rows = conn.query_all("SELECT version FROM schema", &[])?;
+    let is_one = match rows.as_slice() {
+        [row] => matches!(row.get_ref(0), Ok(ValueRef::Int(1))),
+        _ => false,
+    };
+    Ok(is_one && conn.schema().tables.len() == 5)
+}
+
+// Whether the database that the texts made opens without rows, and then takes and keeps rows.
+fn is_completed(alloc: Global, texts: &[&str]) -> Result<bool, Fail> {
+    let mut conn = holding(alloc, texts)?;
+    if !is_empty(&read(alloc, &mut conn)?) || !is_whole(&mut conn)? {
+        return Ok(false);
+    }
+    put_some(&mut conn)?;
+    let mut conn = renew(alloc, conn)?;
+    Ok(is_some(&read(alloc, &mut conn)?))
+}
+
+#[test]
+fn the_first_table_alone_is_completed(rt: HostRuntime) -> Result<(), Fail> {
+    assert!(rt; is_completed(rt.alloc(), &[ROOT])?);
+    Ok(())
+}
+
+#[test]
+fn the_first_two_tables_are_completed(rt: HostRuntime) -> Result<(), Fail> {
+    assert!(rt; is_completed(rt.alloc(), &[ROOT, CURRENT])?);
+    Ok(())
+}
+
+#[test]
+fn the_first_three_tables_are_completed(rt: HostRuntime) -> Result<(), Fail> {
+    assert!(rt; is_completed(rt.alloc(), &[ROOT, CURRENT, SHELF])?);
+    Ok(())
+}
+
+#[test]
+fn the_first_four_tables_are_completed(rt: HostRuntime) -> Result<(), Fail> {
+    assert!(rt; is_completed(rt.alloc(), &[ROOT, CURRENT, SHELF, BLOB])?);
+    Ok(())
+}
+
+// What the opening of the database that the texts made answers, and how many tables there are afterwards.
+fn opened(alloc: Global, texts: &[&str]) -> Result<(Result<Tables, Fault>, usize), Fail> {
+    let mut conn = holding(alloc, texts)?;
+    let found = read(alloc, &mut conn);
+    Ok((found, conn.schema().tables.len()))
+}
+
+// The table `schema` is absent, so it has no row beside the others' rows.
+#[test]
+fn rows_without_the_table_of_the_version_are_damage(rt: HostRuntime) -> Result<(), Fail> {
+    let (found, count) = opened(
+        rt.alloc(),
+        &[ROOT, "INSERT INTO root (version, bytes) VALUES (1, x'00')"],
+    )?;
+    assert!(rt; matches!(found, Err(Fault::Damaged)) && count == 1);
+    let (found, count) = opened(
+        rt.alloc(),
+        &[
+            ROOT,
+            CURRENT,
+            "INSERT INTO current (slot, version, bytes) VALUES ('timestamp', 1, x'00')",
+        ],
+    )?;
+    assert!(rt; matches!(found, Err(Fault::Damaged)) && count == 2);
+    Ok(())
+}
+
+#[test]
+fn another_order_of_the_tables_is_refused(rt: HostRuntime) -> Result<(), Fail> {
+    let (found, count) = opened(rt.alloc(), &[CURRENT, ROOT])?;
+    assert!(rt; matches!(found, Err(Fault::Database)) && count == 2);
+    let (found, count) = opened(rt.alloc(), &[CURRENT])?;
+    assert!(rt; matches!(found, Err(Fault::Database)) && count == 1);
+    Ok(())
+}
+
+#[test]
+fn a_foreign_table_beside_the_first_is_refused(rt: HostRuntime) -> Result<(), Fail> {
+    let (found, count) = opened(rt.alloc(), &[ROOT, "CREATE TABLE other (a)"])?;
+    assert!(rt; matches!(found, Err(Fault::Database)) && count == 2);
     Ok(())
 }
 

@@ -3,5 +3,5 @@ use Rattle.tables.proofs.MakingLemmas.{makes}
 use Rattle.tables.proofs.making.make.Goals as goal
 
 pub returns-clause-wrote : goal.returns-clause-wrote
-returns-clause-wrote g c clean before after m is =
-    makes before after c.args.sql.now (state g.S.Store c.args.tx.now.conn.now) (state g.S.Store c.execute.new.self.conn.now) c.in_ok-execute.field-0 m is (c.in_ok-execute.ensures.runs clean is.inside)
+returns-clause-wrote g c clean before after m rows lacks is =
+    makes before after c.args.sql.now rows (state g.S.Store c.args.tx.now.conn.now) (state g.S.Store c.execute.new.self.conn.now) c.in_ok-execute.field-0 m lacks is (c.in_ok-execute.ensures.runs clean is.inside)

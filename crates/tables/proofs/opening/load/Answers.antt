@@ -5,7 +5,7 @@ use Rattle.sqlite.specs.Held.{state}
 use Rattle.sqlite.specs.State.{HasCleanDisk, IsUnchanged}
 use Rattle.sqlite.proofs.StateLemmas.{survives_then}
 use Rattle.tables.specs.Schema.{the_schema}
-use Rattle.tables.specs.Tables.{AreBare, HoldsTables, no_rows}
+use Rattle.tables.specs.Tables.{AreBare, HoldsTables, no_rows, tables_view}
 use Rattle.tables.proofs.Gathering.{same_error}
 use Rattle.tables.proofs.opening.load.Goals as goal
 
@@ -22,11 +22,14 @@ returns-clause-crash g c =
     let old = state g.S.Store c.args.conn.now in
     let mid = state g.S.Store c.gather.new.conn in
     let end = state g.S.Store c.begin_bare.new.conn in
-    let P = λ (trees : Trees). IsTrue old.is_open → old.now.schema ≡ the_schema → AreBare old.now.trees → HoldsTables trees no_rows in
-    let Q = λ (trees : Trees). IsTrue mid.is_open → mid.now.schema ≡ the_schema → AreBare mid.now.trees → HoldsTables trees no_rows in
+    let rows = tables_view c.in-Ok.found.0 in
+    let P = λ (trees : Trees). IsTrue old.is_open → old.now.schema ≡ the_schema → AreBare old.now.trees × HoldsTables trees no_rows in
+    let Q = λ (trees : Trees). IsTrue mid.is_open → mid.now.schema ≡ the_schema → (rows ≡ no_rows) × (AreBare mid.now.trees → HoldsTables trees no_rows) in
     survives_then old mid end (λ _. ⊥) Q P (λ _ db none. absurd none)
-    (λ clean db h is_open schema bare.
+    (λ clean db h is_open schema.
     let early : HasCleanDisk mid = omega (arith, clean, c.begin_bare.ensures.crash.clean) in
     let same : IsUnchanged old mid = c.in-Ok.ensures.unchanged early schema in
-    h same.0.is_open (ap (λ (d : Database). d.schema) same.0.now_is ∙ schema) (subst (λ (d : Database). AreBare d.trees) (sym same.0.now_is) bare))
+    let done = h same.0.is_open (ap (λ (d : Database). d.schema) same.0.now_is ∙ schema) in
+    let bare = (c.in-Ok.ensures.unbegun early schema c.if-is_begun.false).bare done.0 in
+    (bare, done.1 (subst (λ (d : Database). AreBare d.trees) (sym same.0.now_is) bare)))
     c.gather.ensures.survives c.begin_bare.ensures.crash

@@ -1,30 +1,27 @@
-use Rattle.std.proofs.Common.{◌≡◌, ◌∙◌, inl, inr, IsTrue, ap, sym}
-use Rattle.sqlite_trees.specs.Tree.{Trees}
-use Rattle.sqlite.specs.Schema.{Schema}
+use Rattle.std.proofs.Common.{◌≡◌, ◌∙◌, ap, arith, subst, sym}
 use Rattle.sqlite.specs.Held.{state}
-use Rattle.sqlite.proofs.StateLemmas.{survives_weaker}
-use Rattle.tables.specs.Schema.{the_schema, no_schema}
-use Rattle.tables.specs.Tables.{HoldsTables, no_rows}
-use Rattle.tables.specs.Making.{StandsEmpty}
+use Rattle.tables.specs.Schema.{beginning}
+use Rattle.tables.specs.Tables.{StandsFor, counted}
+use Rattle.tables.proofs.Beginnings.{IfOk_then, from_counted, same_count}
 use Rattle.tables.proofs.ItemLemmas.{none_rise}
 use Rattle.tables.proofs.opening.prepare.Goals as goal
 
-pub returns-in-Ok-clause-rising : goal.returns-in-Ok-clause-rising
-returns-in-Ok-clause-rising g c = none_rise _ c.no_tables.ensures
+pub returns-then-count-eq5-clause-made : goal.returns-then-count-eq5-clause-made
+returns-then-count-eq5-clause-made g c clean count few schema =
+    let five : c.args.conn.now.schema ≡ beginning 5 = sym c.schema.ensures.value ∙ c.in-Some.ensures.0 ∙ ap beginning c.if-count-eq5.true in
+    absurd (omega (arith, few, same_count count 5 (omega (arith, few)) (omega arith) (sym schema ∙ five)))
+
+pub returns-then-count-eq5-clause-damaged : goal.returns-then-count-eq5-clause-damaged
+returns-then-count-eq5-clause-damaged g c clean is =
+    let trees = (state g.S.Store c.args.conn.now).now.trees in
+    let five : c.args.conn.now.schema ≡ beginning 5 = sym c.schema.ensures.value ∙ c.in-Some.ensures.0 ∙ ap beginning c.if-count-eq5.true in
+    ((5, five), λ t fit stands. c.load.ensures.damaged clean five is t fit (from_counted trees t (subst (λ s. StandsFor (counted s trees) t) five stands.1)))
+
+pub returns-clause-rising : goal.returns-clause-rising
+returns-clause-rising g c = IfOk_then c.complete_bare.result c.complete_bare.ensures.empty (λ t is. none_rise _ is)
 
 pub returns-clause-damaged : goal.returns-clause-damaged
 returns-clause-damaged g c clean is =
-    let ours : c.args.conn.now.schema ≡ the_schema = sym c.schema-schema.ensures.value ∙ c.is_ours.ensures c.if-not-is_ours.false in
-    (ours, c.load.ensures.damaged clean ours is)
-
-apart : the_schema ≡ no_schema → ⊥
-apart e = let f = ap (λ (s : Schema). s.tables) e in cc
-
-pub returns-clause-crash : goal.returns-clause-crash
-returns-clause-crash g c =
-    let old = state g.S.Store c.args.conn.now in
-    let new = state g.S.Store c.load.new.conn in
-    let ours : c.args.conn.now.schema ≡ the_schema = sym c.schema-schema.ensures.value ∙ c.is_ours.ensures c.if-not-is_ours.false in
-    survives_weaker old new _ (λ (trees : Trees). IsTrue old.is_open → StandsEmpty old → HoldsTables trees no_rows)
-    (λ _ db h is_open empty. elim empty [ inl none ↦ absurd (apart (sym ours ∙ none)) | inr both ↦ h is_open both.0 both.1 ])
-    c.load.ensures.crash
+    let trees = (state g.S.Store c.args.conn.now).now.trees in
+    let schema : c.args.conn.now.schema ≡ beginning c.in-Some.count = sym c.schema.ensures.value ∙ c.in-Some.ensures.0 in
+    ((c.in-Some.count, schema), λ t fit stands. c.complete_bare.ensures.damaged clean schema is t (subst (λ s. StandsFor (counted s trees) t) schema stands.1))

@@ -1,10 +1,10 @@
-use Rattle.std.proofs.Common.{Err, inl, inr, sym, subst, ap, arith}
+use Rattle.std.proofs.Common.{Err, sym, subst, ap, arith}
 use Rattle.sqlite.specs.Effect.{IsDatabase}
 use Rattle.sqlite.specs.Held.{state}
 use Rattle.sqlite.specs.State.{HasCleanDisk}
 use Rattle.machine.specs.State.{State}
-use Rattle.tables.specs.Making.{AreNumbered}
-use Rattle.store.specs.Kept.{Stands, rows_of}
+use Rattle.tables.specs.Tables.{Stands}
+use Rattle.store.specs.Kept.{rows_of}
 use Rattle.store.proofs.store.Store.open_over.Goals as goal
 
 pub returns-in-Ok-read_state-clause-opened : goal.returns-in-Ok-read_state-clause-opened
@@ -14,11 +14,7 @@ returns-in-Ok-read_state-clause-opened g c clean =
     let early : HasCleanDisk (state g.S.Store c.in-Ok.conn) = omega (arith, late, c.read_state.ensures.crash.clean) in
     let opened = c.in-Ok.ensures.opened early in
     let sound : IsDatabase db = (opened.1 opened.0.is_open).0 in
-    let stands : Stands db (rows_of c.in-Ok-read_state.held.state) =
-    elim c.in-Ok-read_state.ensures.schema [
-      | inl none ↦ inl (none, (c.in-Ok-read_state.ensures.made late none).0)
-      | inr ours ↦ inr (ours, (c.in-Ok-read_state.ensures.loaded late opened.0 ours (subst (λ s. AreNumbered s db.trees) ours (c.in-Ok.ensures.numbered early))).0)
-    ] in
+    let stands : Stands db (rows_of c.in-Ok-read_state.held.state) = (c.in-Ok-read_state.ensures.loaded late opened.0 (c.in-Ok.ensures.numbered early)).0 in
     (db, c.in-Ok.ensures.same early, sound, subst (λ (S : State). Stands db (rows_of S)) (sym c.over.ensures.state) stands)
 
 pub returns-in-Err-read_state-clause-damaged : goal.returns-in-Err-read_state-clause-damaged

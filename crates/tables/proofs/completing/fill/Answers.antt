@@ -1,0 +1,16 @@
+use Rattle.std.proofs.Common.{true≢false, arith}
+use Rattle.sqlite.specs.Held.{state}
+use Rattle.sqlite.specs.State.{HasCleanDisk}
+use Rattle.tables.proofs.Beginnings.{bare_made, made_same}
+use Rattle.tables.proofs.completing.fill.Goals as goal
+
+pub returns-clause-made : goal.returns-clause-made
+returns-clause-made g c clean rows lacks is =
+    let one = state g.S.Store c.make_rest.new.tx.conn.now in
+    let two = state g.S.Store c.has_rows.new.tx.conn.now in
+    let late : HasCleanDisk two = omega (arith, clean, c.put_version.ensures.survives.clean) in
+    let early : HasCleanDisk one = omega (arith, late, c.has_rows.ensures.survives.clean) in
+    let full = c.in_ok-make_rest.ensures.wrote early rows lacks is in
+    let bare = bare_made rows one full ((c.in_ok-has_rows.ensures.rows late full.schema_is).0 c.if-branch.false) in
+    let same = c.in_ok-has_rows.ensures.unchanged late full.schema_is in
+    (λ _. (bare, c.in_ok-put_version.ensures.wrote clean rows bare (made_same rows one two same full)), λ e. absurd (true≢false e))

@@ -1,0 +1,45 @@
+use Rattle.std.proofs.Common.{◌≡◌, arith, rules, sym, subst, refl, IsTrue, OnOk}
+use Rattle.sqlite_trees.specs.Tree.{Trees}
+use Rattle.sqlite.specs.Held.{state}
+use Rattle.sqlite.specs.State.{HasCleanDisk, Survives}
+use Rattle.sqlite.proofs.StateLemmas.{survives_then}
+use Rattle.sqlite.proofs.Callers.{survives_begin}
+use Rattle.tables.specs.Schema.{the_schema}
+use Rattle.tables.specs.Tables.{AreBare, HoldsTables, IsStore, no_rows}
+use Rattle.tables.specs.Making.{IsMade}
+use Rattle.tables.proofs.Changes.{OnOk_then, committed, to_tables}
+use Rattle.tables.proofs.making.begin.Goals as goal
+
+pub returns-clause-wrote : goal.returns-clause-wrote
+returns-clause-wrote g c clean schema bare =
+    let old = state g.S.Store c.args.conn.now in
+    let tx = state g.S.Store c.put_version.new.tx.conn.now in
+    let end = c.commit.new.self.0 in
+    let same : end ≡ c.conn-2-1.given.0 = search rules in
+    let late : HasCleanDisk (state g.S.Store end) = subst (λ h. HasCleanDisk (state g.S.Store h)) (sym same) clean in
+    let early : HasCleanDisk tx = omega (arith, late, c.commit.ensures.survives.clean) in
+    subst (λ h. OnOk c.commit.result (IsStore (state g.S.Store h) no_rows)) same
+    (OnOk_then c.commit.result (c.commit.ensures.ok late) (λ done.
+    let is_open = (c.in_ok-put_version.ensures.kept early).was_open done.1.was_open in
+    let begun : IsMade old.now.trees the_schema (state g.S.Store c.transaction-tx.result.conn.now) =
+    subst (λ h. IsMade old.now.trees the_schema (state g.S.Store h)) (sym c.transaction-tx.ensures.begun)
+    (record { is_open = subst (λ h. IsTrue (state g.S.Store h).is_open) c.transaction-tx.ensures.begun is_open; inside = refl; schema_is = schema; holds = (refl, (refl, (refl, (refl, (refl, tt))))) }) in
+    committed tx (state g.S.Store end) no_rows (c.in_ok-put_version.ensures.wrote early old.now.trees bare begun) done.1))
+
+pub returns-clause-crash : goal.returns-clause-crash
+returns-clause-crash g c =
+    let old = state g.S.Store c.args.conn.now in
+    let tx = state g.S.Store c.put_version.new.tx.conn.now in
+    let end = c.commit.new.self.0 in
+    let P = λ (trees : Trees). IsTrue old.is_open → old.now.schema ≡ the_schema → AreBare old.now.trees → HoldsTables trees no_rows in
+    let first : Survives old tx (λ _. ⊥) = survives_begin g.S.Store c.args.conn.now tx (λ _. ⊥) (subst (λ h. Survives (state g.S.Store h) tx (λ _. ⊥)) c.transaction-tx.ensures.begun c.put_version.ensures.survives) in
+    let all = survives_then old tx (state g.S.Store end) (λ _. ⊥) (λ db. db ≡ tx.now.trees) P (λ _ db none. absurd none)
+    (λ clean db is is_open schema bare.
+    let early : HasCleanDisk tx = omega (arith, clean, c.commit.ensures.survives.clean) in
+    let begun : IsMade old.now.trees the_schema (state g.S.Store c.transaction-tx.result.conn.now) =
+    subst (λ h. IsMade old.now.trees the_schema (state g.S.Store h)) (sym c.transaction-tx.ensures.begun)
+    (record { is_open = is_open; inside = refl; schema_is = schema; holds = (refl, (refl, (refl, (refl, (refl, tt))))) }) in
+    subst (λ (d : Trees). HoldsTables d no_rows) (sym is) (to_tables (c.in_ok-put_version.ensures.wrote early old.now.trees bare begun).holds))
+    first c.commit.ensures.survives in
+    let same : end ≡ c.conn-2-1.given.0 = search rules in
+    subst (λ h. Survives old (state g.S.Store h) P) same all
