@@ -1,5 +1,12 @@
-// A store over a database in memory.
+// A store over databases in memory and in files.
+mod damaged;
+mod files;
+mod refused;
+mod reopened;
+mod rows;
+mod runs;
 mod signed;
+mod steps;
 
 use crate::{Command, Fault, Reply, Store};
 use machine::Offer;

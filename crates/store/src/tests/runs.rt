@@ -1,0 +1,135 @@
+// Runs of commands, over any store.
+use super::rows::{FIRST_ROWS, Line, SECOND_ROWS, rows_in, text_of};
+use super::signed::{
+    EMPTY_TARGET_FILE, ROOT_FILE, SECOND_ROOT_FILE, SECOND_SNAPSHOT_FILE, SECOND_TIMESTAMP_FILE,
+    SNAPSHOT_FILE, TARGETS_FILE, THIRD_SNAPSHOT_FILE, TIMESTAMP_FILE,
+};
+use super::steps::{
+    ABC, NOTHING, begun, denies, lacks, moment, refuses, serves, shows, stores, takes,
+    targets_offer,
+};
+use crate::Store;
+use machine::Offer;
+use metadata::Moment;
+use sqlite::{Alter, Connection, Error};
+use std::process::Abort;
+use std::test::Fail;
+
+// A granted target of no bytes.
+pub(super) fn an_empty_file<S: Alter + Drop>(
+    rt: &(impl Abort + AllocGlobal),
+    conn: Connection<S>,
+) -> Result<Store<S>, Fail> {
+    let now = moment(rt);
+    let mut store = begun(rt, conn, EMPTY_TARGET_FILE, NOTHING, b"")?;
+    assert!(rt; serves(&mut store, "empty", None, b"", now)?);
+    assert!(rt; serves(&mut store, "empty", Some(NOTHING), b"", now)?);
+    assert!(rt; denies(&mut store, "empty", Some(ABC), 39, now)?);
+    assert!(rt; stores(&mut store, NOTHING, b"", false, now)?);
+    Ok(store)
+}
+
+#[test]
+fn an_empty_file_in_memory(rt: HostRuntime) -> Result<(), Fail> {
+    let conn = Connection::open_in_memory(rt.alloc())?;
+    let _store = an_empty_file(&rt, conn)?;
+    Ok(())
+}
+
+// Whether the tables hold just these rows.
+pub(super) fn has_rows<S: Alter>(
+    rt: &(impl Abort + AllocGlobal),
+    conn: &mut Connection<S>,
+    lines: &[Line],
+) -> Result<bool, Error> {
+    let rows = rows_in(rt.alloc(), conn)?;
+    let wanted = text_of(rt.alloc(), lines)?;
+    Ok(rows.as_str() == wanted.as_str())
+}
+
+// The store, opened again over its connection, of which the tables hold just these rows.
+pub(super) fn with_rows<S: Alter + Drop>(
+    rt: &(impl Abort + AllocGlobal),
+    store: Store<S>,
+    lines: &[Line],
+) -> Result<Store<S>, Fail> {
+    let mut conn = store.into_connection();
+    assert!(rt; has_rows(rt, &mut conn, lines)?);
+    Ok(Store::open(rt.alloc(), conn)?)
+}
+
+// A state of the first run answers so.
+pub(super) fn is_first<S: Alter>(
+    rt: &(impl Abort + AllocGlobal),
+    store: &mut Store<S>,
+    now: Moment,
+) -> Result<(), Fail> {
+    assert!(rt; store.root_version() == Some(1));
+    assert!(rt; shows(store, "1.root.json", ROOT_FILE, now)?);
+    assert!(rt; lacks(store, "2.root.json", now)?);
+    assert!(rt; shows(store, "timestamp.json", TIMESTAMP_FILE, now)?);
+    assert!(rt; shows(store, "1.snapshot.json", SNAPSHOT_FILE, now)?);
+    assert!(rt; shows(store, "1.targets.json", TARGETS_FILE, now)?);
+    assert!(rt; serves(store, "a/b.tgz", Some(ABC), b"abc", now)?);
+    assert!(rt; stores(store, ABC, b"abc", false, now)?);
+    Ok(())
+}
+
+// A root and a timestamp that are taken, and a snapshot of another version than the timestamp names, twice.
+fn is_refused<S: Alter>(
+    rt: &(impl Abort + AllocGlobal),
+    store: &mut Store<S>,
+    now: Moment,
+) -> Result<(), Fail> {
+    let documents = [
+        (Offer::Root, SECOND_ROOT_FILE.as_bytes()),
+        (Offer::Timestamp, SECOND_TIMESTAMP_FILE.as_bytes()),
+        (Offer::Snapshot, THIRD_SNAPSHOT_FILE.as_bytes()),
+    ];
+    assert!(rt; refuses(store, &documents, 20, 2, now)?);
+    assert!(rt; refuses(store, &documents, 20, 2, now)?);
+    Ok(())
+}
+
+// The same batch with the snapshot that the timestamp names, and with the targets document, which a new timestamp key took off
+// the shelf.
+fn is_taken<S: Alter>(
+    rt: &(impl Abort + AllocGlobal),
+    store: &mut Store<S>,
+    now: Moment,
+) -> Result<(), Fail> {
+    let targets = targets_offer(rt.alloc()).expect(rt, "a role");
+    let documents = [
+        (Offer::Root, SECOND_ROOT_FILE.as_bytes()),
+        (Offer::Timestamp, SECOND_TIMESTAMP_FILE.as_bytes()),
+        (Offer::Snapshot, SECOND_SNAPSHOT_FILE.as_bytes()),
+        (targets, TARGETS_FILE.as_bytes()),
+    ];
+    assert!(rt; refuses(store, &documents[..3], 51, 3, now)?);
+    assert!(rt; takes(store, &documents, 4, 0, now)?);
+    assert!(rt; takes(store, &documents, 0, 4, now)?);
+    Ok(())
+}
+
+// A batch that is refused at its third document changes no row.
+pub(super) fn a_refused_batch<S: Alter + Drop>(
+    rt: &(impl Abort + AllocGlobal),
+    conn: Connection<S>,
+) -> Result<Store<S>, Fail> {
+    let now = moment(rt);
+    let store = begun(rt, conn, TARGETS_FILE, ABC, b"abc")?;
+    let mut store = with_rows(rt, store, &FIRST_ROWS)?;
+    is_refused(rt, &mut store, now)?;
+    is_first(rt, &mut store, now)?;
+    let mut store = with_rows(rt, store, &FIRST_ROWS)?;
+    is_refused(rt, &mut store, now)?;
+    is_taken(rt, &mut store, now)?;
+    with_rows(rt, store, &SECOND_ROWS)
+}
+
+#[test]
+fn a_refused_batch_in_memory(rt: HostRuntime) -> Result<(), Fail> {
+    let conn = Connection::open_in_memory(rt.alloc())?;
+    let _store = a_refused_batch(&rt, conn)?;
+    Ok(())
+}
