@@ -1,5 +1,6 @@
 pub mod Asked
 pub mod Lines
 pub mod Standings
+pub mod OneResponse
 pub mod Responding
 pub mod Telling

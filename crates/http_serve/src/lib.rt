@@ -1,10 +1,14 @@
 //! Serving HTTP requests from a store (RFC 9112): what the trust machine replies goes out as the bytes of a response.
 #![tactic(auto)]
 
+mod laws;
 mod offers;
 mod replies;
 mod respond;
 mod serve;
+#[cfg(test)]
+mod tests;
 
 pub use http_messages::{Cut, Fault, Receive, Routes, Transmit};
+pub use laws::{one_response, only_responses, runs_on};
 pub use serve::{ServeFault, serve_list, serve_one};

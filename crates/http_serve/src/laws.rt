@@ -1,0 +1,36 @@
+// What follows from the definitions alone.
+ghost use Rattle.std.specs.Prelude.{◌≡◌, ◌⊎◌, ◌++◌, ℕ, List, Option};
+ghost use Rattle.machine.specs.State.{State};
+ghost use Rattle.machine.specs.Steps.{Command, Reply, Runs};
+ghost use Rattle.http_messages.specs.Faults.{fault_response};
+ghost use Rattle.http_messages.specs.declared.faults.Fault.TheVariants.{Memory, Database};
+ghost use Rattle.http_serve.specs.Response.{Responds};
+ghost use Rattle.http_serve.specs.Serving.{Answered, Line, Serves};
+ghost use Rattle.http_serve.specs.Standing.{Standing};
+
+use http_messages::one_request;
+use machine::one_judgement;
+use path_patterns::names_undo;
+
+/// A law, which does nothing: an input has one response at a moment, and leaves one state.
+pub fn one_response()
+    ensures { (S : State) (input : List ℕ) (now : ℕ) (t u : List ℕ) (T U : State) → Responds S input now t T → Responds S input now u U → (t ≡ u) × (T ≡ U) }
+{
+    one_request();
+    one_judgement();
+    names_undo();
+}
+
+/// A law, which does nothing: what an input is answered is its response, or a refusal by 503, which leaves the state as it was.
+pub fn only_responses()
+    ensures { (A B : Standing) (input : List ℕ) (now : ℕ) (text : List ℕ) → Answered A input now text B
+        → Responds A.state input now text B.state ⊎ (((text ≡ fault_response Memory) ⊎ (text ≡ fault_response Database)) × (B.state ≡ A.state)) }
+{}
+
+/// A law, which does nothing: whatever commands led to a state, they and those made while connections were served lead to the
+/// state that is left.
+pub fn runs_on()
+    ensures { (lines : List Line) (helds : List (Option (List ℕ))) (A B : Standing) (count : ℕ) → Serves lines helds A B count
+        → (first : State) (before : List (Command × ℕ)) (replies : List Reply) → Runs first before A.state replies
+        → (made : List (Command × ℕ)) × (later : List Reply) × Runs first (before ++ made) B.state (replies ++ later) }
+{}

@@ -1,0 +1,189 @@
+// Readers and writers that fail at some call.
+ghost use Rattle.std.specs.Prelude.{false};
+
+use super::{begun, is_put, json, now, put_abc};
+use crate::{Receive, Routes, ServeFault, Transmit, serve_list, serve_one};
+use sqlite::MemStore;
+use std::alloc::Global;
+use std::io;
+use std::io::{ErrorKind, Read, Write};
+use std::test::Fail;
+use store::Store;
+
+// A reader that gives at most three bytes at a time, and fails at a call.
+#[derive(Drop)]
+struct Slow<'a> {
+    bytes: &'a [u8],
+    calls: usize,
+    fails_at: usize,
+}
+
+impl Read for Slow<'_> {
+    fn read(&mut self, buf: &mut [u8]) -> io::Result<usize> {
+        self.calls = self.calls.saturating_add(1);
+        if self.calls == self.fails_at {
+            return Err(io::Error::from(ErrorKind::ConnectionReset));
+        }
+        let count = self.bytes.len().min(buf.len()).min(3);
+        buf[..count].copy_from_slice(&self.bytes[..count]);
+        self.bytes = &self.bytes[count..];
+        Ok(count)
+    }
+}
+
+impl Receive for Slow<'_> {
+    ghost sound = { λ _. false };
+
+    fn receive(&mut self, buf: &mut [u8]) -> io::Result<usize> {
+        self.read(buf)
+    }
+}
+
+// A writer that takes at most seven bytes at a time, and takes none from some call on.
+#[derive(Drop)]
+struct Narrow {
+    taken: Vec<u8>,
+    calls: usize,
+    stops_at: usize,
+}
+
+impl Write for Narrow {
+    fn write(&mut self, buf: &[u8]) -> io::Result<usize> {
+        self.calls = self.calls.saturating_add(1);
+        if self.calls >= self.stops_at {
+            return Ok(0);
+        }
+        let count = buf.len().min(7);
+        match self.taken.extend_from_slice(&buf[..count]) {
+            Ok(()) => Ok(count),
+            Err(_) => Err(io::Error::from(ErrorKind::OutOfMemory)),
+        }
+    }
+
+    fn flush(&mut self) -> io::Result<()> {
+        Ok(())
+    }
+}
+
+impl Transmit for Narrow {
+    ghost sound = { λ _. false };
+
+    fn transmit(&mut self, buf: &[u8]) -> io::Result<usize> {
+        self.write(buf)
+    }
+}
+
+fn reader_of(bytes: &[u8], fails_at: usize) -> Slow<'_> {
+    Slow {
+        bytes,
+        calls: 0,
+        fails_at,
+    }
+}
+
+fn writer_of(alloc: Global, stops_at: usize) -> Narrow {
+    Narrow {
+        taken: Vec::new(alloc),
+        calls: 0,
+        stops_at,
+    }
+}
+
+// Whether a reader that fails at this call ends the connection as one that failed, with nothing written.
+fn is_unread(
+    alloc: Global,
+    store: &mut Store<MemStore>,
+    request: &[u8],
+    fails_at: usize,
+) -> Result<bool, Fail> {
+    let routes = Routes::new(alloc)?;
+    let mut writer = Vec::new(alloc);
+    let mut reader = reader_of(request, fails_at);
+    let ended = serve_one(alloc, &routes, &mut reader, &mut writer, store, now()?);
+    Ok(ended == Err(ServeFault::Read) && writer.is_empty())
+}
+
+// At whichever call the reader fails, no command was made.
+fn reads(alloc: Global, store: &mut Store<MemStore>) -> Result<bool, Fail> {
+    let request = put_abc(alloc, b"abc")?;
+    for fails_at in 1..=request.len().div_ceil(3) {
+        if !is_unread(alloc, store, &request, fails_at)? {
+            return Ok(false);
+        }
+    }
+    is_put(alloc, store, b"abc", "200 OK", "{\"stored\":true}")
+}
+
+#[test]
+fn reads_that_fail(rt: HostRuntime) -> Result<(), Fail> {
+    let mut store = begun(rt.alloc())?;
+    let good = reads(rt.alloc(), &mut store)?;
+    assert!(rt; good);
+    Ok(())
+}
+
+// Whether a writer that stops at this call took a beginning of this answer, and the connection ended as one that was cut.
+fn is_cut(
+    alloc: Global,
+    store: &mut Store<MemStore>,
+    stops_at: usize,
+    body: &str,
+) -> Result<bool, Fail> {
+    let routes = Routes::new(alloc)?;
+    let request = put_abc(alloc, b"abc")?;
+    let wanted = json(alloc, "200 OK", body)?;
+    let mut reader = request.as_slice();
+    let mut writer = writer_of(alloc, stops_at);
+    let ended = serve_one(alloc, &routes, &mut reader, &mut writer, store, now()?);
+    Ok(ended == Err(ServeFault::Write) && wanted.as_slice().starts_with(&writer.taken))
+}
+
+// At whichever call the writer stops, it took a beginning of the answer, and the command stands.
+fn writes(alloc: Global, store: &mut Store<MemStore>) -> Result<bool, Fail> {
+    if !is_cut(alloc, store, 1, "{\"stored\":true}")? {
+        return Ok(false);
+    }
+    for stops_at in 1..10 {
+        if !is_cut(alloc, store, stops_at, "{\"stored\":false}")? {
+            return Ok(false);
+        }
+    }
+    Ok(true)
+}
+
+#[test]
+fn writes_that_fail(rt: HostRuntime) -> Result<(), Fail> {
+    let mut store = begun(rt.alloc())?;
+    let good = writes(rt.alloc(), &mut store)?;
+    assert!(rt; good);
+    Ok(())
+}
+
+// A connection that is cut leaves the later ones to be served, each from the state that is left.
+fn behind_a_cut(alloc: Global, store: &mut Store<MemStore>) -> Result<bool, Fail> {
+    let routes = Routes::new(alloc)?;
+    let request = put_abc(alloc, b"abc")?;
+    let first = json(alloc, "200 OK", "{\"stored\":true}")?;
+    let second = json(alloc, "200 OK", "{\"stored\":false}")?;
+    let now = now()?;
+    let mut connections = [
+        (reader_of(&request, 2), Vec::new(alloc), now),
+        (reader_of(&request, 0), Vec::new(alloc), now),
+        (reader_of(&request, 0), Vec::new(alloc), now),
+    ];
+    let served = serve_list(alloc, &routes, &mut connections, store);
+    Ok(
+        served == 2
+            && connections[0].1.is_empty()
+            && connections[1].1.as_slice() == first.as_slice()
+            && connections[2].1.as_slice() == second.as_slice(),
+    )
+}
+
+#[test]
+fn after_a_cut_connection(rt: HostRuntime) -> Result<(), Fail> {
+    let mut store = begun(rt.alloc())?;
+    let good = behind_a_cut(rt.alloc(), &mut store)?;
+    assert!(rt; good);
+    Ok(())
+}

@@ -1,0 +1,66 @@
+// Memory that is refused.
+use super::signed::TARGETS_FILE;
+use super::{answer, batch, file, get, json, published, put_abc};
+use sqlite::MemStore;
+use std::alloc::Global;
+use std::test::Fail;
+use store::Store;
+
+// Whether a request has this answer, or is refused for want of memory and then has it. One allocation at most is refused in a
+// run of these tests.
+fn is_answered(
+    alloc: Global,
+    store: &mut Store<MemStore>,
+    request: &[u8],
+    wanted: &[u8],
+) -> Result<bool, Fail> {
+    let given = answer(alloc, store, request)?;
+    if given.as_slice() == wanted {
+        return Ok(true);
+    }
+    let memory = json(alloc, "503 Service Unavailable", "{\"fault\":\"memory\"}")?;
+    if given.as_slice() != memory.as_slice() {
+        return Ok(false);
+    }
+    let given = answer(alloc, store, request)?;
+    Ok(given.as_slice() == wanted)
+}
+
+fn target(alloc: Global, store: &mut Store<MemStore>) -> Result<bool, Fail> {
+    let wanted = file(alloc, b"abc")?;
+    let request = get(alloc, "/targets/a/b.tgz")?;
+    is_answered(alloc, store, &request, &wanted)
+}
+
+fn denial(alloc: Global, store: &mut Store<MemStore>) -> Result<bool, Fail> {
+    let wanted = json(
+        alloc,
+        "404 Not Found",
+        "{\"denial\":35,\"rule\":\"NotFound\"}",
+    )?;
+    let request = get(alloc, "/targets/none")?;
+    is_answered(alloc, store, &request, &wanted)
+}
+
+fn blob(alloc: Global, store: &mut Store<MemStore>) -> Result<bool, Fail> {
+    let wanted = json(alloc, "200 OK", "{\"stored\":false}")?;
+    let request = put_abc(alloc, b"abc")?;
+    is_answered(alloc, store, &request, &wanted)
+}
+
+fn documents(alloc: Global, store: &mut Store<MemStore>) -> Result<bool, Fail> {
+    let wanted = json(alloc, "200 OK", "{\"accepted\":0,\"same\":3}")?;
+    let request = batch(alloc, TARGETS_FILE)?;
+    is_answered(alloc, store, &request, &wanted)
+}
+
+#[test]
+fn refused_memory(rt: HostRuntime) -> Result<(), Fail> {
+    let mut store = published(rt.alloc())?;
+    let target = target(rt.alloc(), &mut store)?;
+    let denial = denial(rt.alloc(), &mut store)?;
+    let blob = blob(rt.alloc(), &mut store)?;
+    let documents = documents(rt.alloc(), &mut store)?;
+    assert!(rt; target && denial && blob && documents);
+    Ok(())
+}
