@@ -19,15 +19,14 @@ fn make_folder(rt: HostRuntime, name: &str) -> Result<(), Fail> {
     Ok(())
 }
 
-// Runs the words in place of a database's folder, and compares status, standard output and standard error.
+// Runs the words, and fails where status, standard output or standard error is another.
 fn wants(rt: HostRuntime, words: &[&str], status: u8, out: &str, err: &str) -> Result<(), Fail> {
     let (ended, said, complained) = ran(rt, words)?;
-    assert_eq!(rt;
-        (ended, said.as_str(), complained.as_str()),
-        (status, out, err),
-        "{words:?}"
-    );
-    Ok(())
+    if ended == status && said.as_str() == out && complained.as_str() == err {
+        return Ok(());
+    }
+    eprintln!(rt; "{words:?}: {ended} {said:?} {complained:?}")?;
+    Err(Fail::from("another answer"))
 }
 
 fn begin(rt: HostRuntime, db: &str, root: &str) -> Result<(), Fail> {
