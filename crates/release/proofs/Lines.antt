@@ -1,17 +1,16 @@
 -- The command line as clap's definitions see it.
-use Rattle.std.proofs.Common.{◌≡◌, Option, Some, true, refl, ap, ◌∙◌, Bor, List, ℕ}
-use Rattle.clap.specs.Words.{app_of, is_simple}
-use Rattle.clap.specs.Simple.{app_of_fields}
-use Rattle.clap.specs.declared.builder.command.Command.{Command}
-use Rattle.clap.specs.declared.builder.command.Command.TheViews.{out-Command}
-use Rattle.clap.specs.declared.builder.value_parser.ValueParser.{ValueParser}
+use Rattle.std.proofs.Common.{◌≡◌, ◌∙◌, ◌∷◌, ◌++◌, [], List, ℕ, Bor, Option, None, Some, true, refl, sym, ap, map, option_map, string_bytes, String, Global, append-nil, append_assoc, length, arith}
+use Rattle.clap.specs.Words.{Row, Text, first_of, first_value, found_of, is_simple, rows_of}
+use Rattle.clap.specs.declared.parser.matches.Found.{Found}
 use Rattle.clap.proofs.OnLiterals.{clap_on_literals}
+use Rattle.clap.proofs.WalkLemmas.{first_value-rows}
 use Rattle.release.specs.CommandLine.{release_line}
 
--- the text in help changes nothing that words say
-pub about_kept : (old new : Command) (text : Option (Bor (List ℕ))) → out-Command new ≡ record (out-Command old) { about = text } → app_of new ≡ app_of old
-about_kept old new text e = ap app_of_fields e
-
-pub line_is_simple : (parser : Option ValueParser) → is_simple (release_line parser) ≡ true
+pub line_is_simple : is_simple release_line ≡ true
 unfolding clap_on_literals
-line_is_simple parser = refl
+line_is_simple = refl
+
+-- what is found for an argument, as `get_str` answers it
+pub found_first : (found : Found) (id : Text) (given : Option (Bor (List ℕ))) → option_map (λ s. s.now) given ≡ first_value found id
+    → first_of id (rows_of found) ≡ option_map (λ s. s.now) given
+found_first found id given e = sym (e ∙ first_value-rows found id)

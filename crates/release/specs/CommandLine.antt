@@ -1,61 +1,146 @@
--- The command line, in the definitions of `clap`: the arguments that a subcommand has, and what words say with them.
-use Rattle.std.specs.Prelude.{◌≡◌, ℕ, ◌≤◌, List, Option, Some, None, true, codes, string_bytes}
+-- The command line, in the definitions of `clap`: the arguments that each subcommand has, and what words say with them.
+use Rattle.std.specs.Prelude.{◌≡◌, ℕ, ◌≤◌, List, Option, Some, None, true, codes, length, map, string_bytes, String}
+use Rattle.std.specs.declared.alloc.Global.{Global}
 use Rattle.std.specs.Str.Parse.{digits_value, without_leading_plus}
-use Rattle.clap.specs.Words.{App, Rule, Row, Text, new_app, new_rule, with_rule, with_subcommand, subcommand_of, first_of}
-use Rattle.clap.specs.declared.builder.action.ArgAction.TheVariants.{Set}
-use Rattle.clap.specs.declared.builder.value_parser.ValueParser.{ValueParser}
+use Rattle.clap.specs.Words.{App, Rule, Row, Text, all_of, first_of, new_app, new_rule, subcommand_of, with_rule, with_subcommand}
+use Rattle.clap.specs.declared.builder.action.ArgAction.TheVariants.{Append, Set}
+use Rattle.clap.specs.declared.builder.value_parser.ValueParser.TheVariants.{Unsigned}
 use Rattle.release.specs.declared.tasks.Task.{Task}
 use Rattle.release.specs.declared.tasks.Subcommand.{Subcommand}
-use Rattle.release.specs.declared.tasks.Subcommand.TheVariants.{Canon}
+use Rattle.release.specs.declared.tasks.Subcommand.TheVariants.{Canon, Init, Publish, Put, Serve}
 
--- `--at SECONDS`, with some test of its value
-abbrev pub at_rule : Option ValueParser → Rule
-at_rule parser = record (new_rule (codes "at")) {
-  long = Some (codes "at");
-  value_names = 1;
-  action = Some Set;
-  parser = parser;
-}
+-- ---- the arguments
 
--- `FILE`, which has to be there
-abbrev pub file_rule : Rule
-file_rule = record (new_rule (codes "file")) { value_names = 1; required = true; action = Some Set }
-
-abbrev pub canon_line : Option ValueParser → App
-canon_line parser = with_rule (with_rule (new_app (codes "canon")) (at_rule parser)) file_rule
-
-abbrev pub needs_subcommand : App → App
-needs_subcommand a = record a { top = record a.top { subcommand_required = true } }
-
--- the whole command line
-abbrev pub release_line : Option ValueParser → App
-release_line parser = with_subcommand (needs_subcommand (new_app (codes "release"))) (canon_line parser).top
+-- `--NAME VALUE`
+abbrev pub option_rule : Text → Rule
+option_rule name = record (new_rule name) { long = Some name; value_names = 1; action = Some Set }
 
 -- the last moment, 9999-12-31T23:59:59Z, in seconds since 1970-01-01T00:00:00Z
 abbrev pub last_moment : ℕ
 last_moment = 253402300799
 
--- no moment is given, or the text is that number
-abbrev pub IsMoment : Option Text → Option ℕ → Type 0
-IsMoment None None = Unit {0}
-IsMoment (Some t) (Some n) = (n ≡ digits_value 10 (without_leading_plus t)) × (n ≤ last_moment)
-IsMoment _ _ = ⊥
+-- `--at SECONDS`
+abbrev pub moment_rule : Rule
+moment_rule = record (option_rule (codes "at")) { parser = Some (Unsigned 0 last_moment) }
 
--- the task with that operand
-abbrev pub IsCanonOf : Text → Subcommand → Type 0
-IsCanonOf file (Canon f) = string_bytes f ≡ file
+-- `--db FILE`, which has to be there
+abbrev pub db_rule : Rule
+db_rule = record (option_rule (codes "db")) { required = true }
 
--- what was found for the arguments of `canon` is this task
-pub record SaysCanon (rows : List Row) (task : Task) : Type 0 where
-  pub file : Text
-  pub operand : first_of (codes "file") rows ≡ Some file
-  pub subcommand : IsCanonOf file task.subcommand
-  pub moment : IsMoment (first_of (codes "at") rows) task.at
+-- an operand, which has to be there
+abbrev pub operand_rule : Text → Rule
+operand_rule name = record (new_rule name) { value_names = 1; required = true; action = Some Set }
+
+-- so many documents may be published at once
+abbrev pub most_documents : ℕ
+most_documents = 160
+
+-- `ROLE:FILE ..`
+abbrev pub documents_rule : Rule
+documents_rule = record (operand_rule (codes "document")) {
+  action = Some Append;
+  range = Some (record { start_inclusive = 1; end_inclusive = most_documents });
+}
+
+-- the last port, and so many connections may be counted
+abbrev pub last_port : ℕ
+last_port = 65535
+
+abbrev pub most_connections : ℕ
+most_connections = 4294967295
+
+-- `--port P`, which has to be there
+abbrev pub port_rule : Rule
+port_rule = record (option_rule (codes "port")) { required = true; parser = Some (Unsigned 1 last_port) }
+
+-- `--count N`
+abbrev pub count_rule : Rule
+count_rule = record (option_rule (codes "count")) { parser = Some (Unsigned 1 most_connections) }
+
+-- ---- the subcommands
+
+abbrev pub begun_line : Text → App
+begun_line name = with_rule (new_app name) moment_rule
+
+abbrev pub stored_line : Text → App
+stored_line name = with_rule (begun_line name) db_rule
+
+abbrev pub canon_line : App
+canon_line = with_rule (begun_line (codes "canon")) (operand_rule (codes "file"))
+
+abbrev pub init_line : App
+init_line = with_rule (stored_line (codes "init")) (operand_rule (codes "root"))
+
+abbrev pub publish_line : App
+publish_line = with_rule (stored_line (codes "publish")) documents_rule
+
+abbrev pub put_line : App
+put_line = with_rule (stored_line (codes "put")) (operand_rule (codes "file"))
+
+abbrev pub serve_line : App
+serve_line = with_rule (with_rule (stored_line (codes "serve")) port_rule) count_rule
+
+abbrev pub needs_subcommand : App → App
+needs_subcommand a = record a { top = record a.top { subcommand_required = true } }
+
+abbrev pub with_command : App → App → App
+with_command a c = with_subcommand a c.top
+
+-- the whole command line
+abbrev pub release_line : App
+release_line = with_command (with_command (with_command (with_command (with_command (needs_subcommand (new_app (codes "release")))
+    canon_line) init_line) publish_line) put_line) serve_line
+
+-- ---- what is found for a subcommand's arguments
+
+-- the text of an argument
+abbrev pub HasText : List Row → Text → String Global → Type 0
+HasText rows id s = first_of id rows ≡ Some (string_bytes s)
+
+-- the number of an argument, within its range
+abbrev pub HasNumber : List Row → Text → ℕ → ℕ → ℕ → Type 0
+HasNumber rows id least most n = (t : Text) × (first_of id rows ≡ Some t)
+    × (n ≡ digits_value 10 (without_leading_plus t)) × (least ≤ n) × (n ≤ most)
+
+-- the number of an argument that may be left out
+abbrev pub MayHaveNumber : List Row → Text → ℕ → ℕ → Option ℕ → Type 0
+MayHaveNumber rows id least most None = first_of id rows ≡ None
+MayHaveNumber rows id least most (Some n) = HasNumber rows id least most n
+
+-- the texts of an argument, of which there may be up to so many
+abbrev pub HasTexts : List Row → Text → ℕ → List (String Global) → Type 0
+HasTexts rows id most ss = (all_of id rows ≡ Some (map string_bytes ss)) × (1 ≤ length ss) × (length ss ≤ most)
+
+-- ---- tasks
+
+abbrev pub name_of : Subcommand → Text
+name_of (Canon file) = codes "canon"
+name_of (Init db root) = codes "init"
+name_of (Publish db documents) = codes "publish"
+name_of (Put db file) = codes "put"
+name_of (Serve db port count) = codes "serve"
+
+-- the subcommand has the options and operands that were found
+abbrev pub HasArguments : List Row → Subcommand → Type 0
+HasArguments rows (Canon file) = HasText rows (codes "file") file
+HasArguments rows (Init db root) = HasText rows (codes "db") db × HasText rows (codes "root") root
+HasArguments rows (Publish db documents) = HasText rows (codes "db") db × HasTexts rows (codes "document") most_documents documents.items
+HasArguments rows (Put db file) = HasText rows (codes "db") db × HasText rows (codes "file") file
+HasArguments rows (Serve db port count) = HasText rows (codes "db") db × HasNumber rows (codes "port") 1 last_port port
+    × MayHaveNumber rows (codes "count") 1 most_connections count
+
+-- a subcommand of this name with what was found for it
+abbrev pub IsAsked : Text → List Row → Subcommand → Type 0
+IsAsked name rows s = (name_of s ≡ name) × HasArguments rows s
+
+-- what was found for a subcommand's arguments is this task
+abbrev pub IsTask : Text → List Row → Task → Type 0
+IsTask name rows task = IsAsked name rows task.subcommand × MayHaveNumber rows (codes "at") 0 last_moment task.at
 
 -- the line has the subcommand of the task, with its options and operands
 abbrev pub Says : Option (Text × List Row) → Task → Type 0
-Says line task = (rows : List Row) × (line ≡ Some (codes "canon", rows)) × SaysCanon rows task
+Says line task = (name : Text) × (rows : List Row) × (line ≡ Some (name, rows)) × IsTask name rows task
 
 -- the words, the program's own name first, say this task
 abbrev pub IsTaskOf : List Text → Task → Type 0
-IsTaskOf words task = (parser : Option ValueParser) × Says (subcommand_of (release_line parser) words) task
+IsTaskOf words task = Says (subcommand_of release_line words) task

@@ -1,3 +1,4 @@
 pub mod Canon
 pub mod CommandLine
+pub mod Documents
 pub mod Statuses

@@ -1,13 +1,14 @@
 //! The command line, read with `clap`.
-ghost use Rattle.std.specs.Prelude.{◌≡◌, Option, IfOk, false, map, option_map, string_bytes};
-ghost use Rattle.clap.specs.Words.{app_of, found_of, rows_of, rule_of, subcommand_rows_of};
+ghost use Rattle.std.specs.Prelude.{◌≡◌, IfOk, codes, false, map, string_bytes};
+ghost use Rattle.clap.specs.Words.{app_of, found_of, new_app, rows_of, subcommand_rows_of};
 ghost use Rattle.clap.specs.declared.builder.command.Command.TheViews.{out-Command};
-ghost use Rattle.clap.specs.declared.builder.value_parser.ValueParser.{ValueParser};
-ghost use Rattle.release.specs.CommandLine.{at_rule, file_rule, canon_line, release_line, IsMoment, SaysCanon, Says, IsTaskOf};
+ghost use Rattle.release.specs.CommandLine.{IsAsked, IsTask, IsTaskOf, Says, needs_subcommand, release_line, with_command};
 
-use crate::tasks::{LAST_MOMENT, Subcommand, Task, Usage};
+use crate::arguments::{canon, init, publish, put, serve};
+use crate::given::{count_of, fault, moment_of, port_of, text_of, texts_of};
+use crate::tasks::{Subcommand, Task, Usage};
 use clap::error::ErrorKind;
-use clap::{Arg, ArgAction, ArgMatches, Command, value_parser};
+use clap::{ArgMatches, Command};
 use std::alloc::{AllocError, Global};
 
 /// The task that the words ask for, the program's own name first: the subcommand, its options and operands, each one
@@ -24,94 +25,101 @@ pub fn task(alloc: Global, words: &[String]) -> Result<Task, Usage>
 
 // The whole command line.
 fn release<'a>(alloc: Global) -> Result<Command<'a>, AllocError>
-    ensures { IfOk result (λ c. (parser : Option ValueParser) × (app_of c ≡ release_line parser)) }
+    ensures { IfOk result (λ c. app_of c ≡ release_line) }
 {
-    let canon = canon(alloc)?;
+    let command = begun(alloc);
+    let command = with(command, canon(alloc)?)?;
+    let command = with(command, init(alloc)?)?;
+    let command = with(command, publish(alloc)?)?;
+    let command = with(command, put(alloc)?)?;
+    with(command, serve(alloc)?)
+}
+
+// The program, before its subcommands.
+fn begun<'a>(alloc: Global) -> Command<'a>
+    ensures { app_of result ≡ needs_subcommand (new_app (codes "release")) }
+{
     Command::new(alloc, "release")
         .about("A release repository after The Update Framework 1.0")
         .subcommand_required(true)
-        .subcommand(canon)
 }
 
-fn canon<'a>(alloc: Global) -> Result<Command<'a>, AllocError>
-    ensures line { IfOk result (λ c. (parser : Option ValueParser) × (app_of c ≡ canon_line parser)) }
-    ensures local { IfOk result (λ c. (out-Command c).has_globals ≡ false) }
+// The command with one more subcommand.
+fn with<'a>(command: Command<'a>, subcommand: Command<'a>) -> Result<Command<'a>, AllocError>
+    requires local { (out-Command subcommand).has_globals ≡ false }
+    ensures line { IfOk result (λ c. app_of c ≡ with_command (app_of command.entry) (app_of subcommand.entry)) }
 {
-    let about = "Print the canonical form of any JSON";
-    Command::new(alloc, "canon")
-        .about(about)
-        .arg(at(alloc))?
-        .arg(file(alloc))
-}
-
-// Each subcommand takes a moment.
-fn at<'a>(alloc: Global) -> Arg<'a>
-    ensures rule { (parser : Option ValueParser) × (rule_of result ≡ at_rule parser) }
-    ensures local { result.global ≡ false }
-{
-    Arg::new(alloc, "at")
-        .long("at")
-        .value_name("SECONDS")
-        .help("The moment, in seconds since 1970-01-01T00:00:00Z, in place of the clock's")
-        .action(ArgAction::Set)
-        .value_parser(value_parser!(u64).range(0..=253402300799))
-}
-
-fn file<'a>(alloc: Global) -> Arg<'a>
-    ensures rule { rule_of result ≡ file_rule }
-    ensures local { result.global ≡ false }
-{
-    Arg::new(alloc, "file")
-        .value_name("FILE")
-        .help("The file to read")
-        .required(true)
-        .action(ArgAction::Set)
+    command.subcommand(subcommand)
 }
 
 fn task_of(alloc: Global, matches: &ArgMatches<'_>) -> Result<Task, Usage>
     ensures { IfOk result (Says (subcommand_rows_of matches.now)) }
 {
     match matches.subcommand() {
-        Some((name, given)) if name == "canon" => canon_task(alloc, given),
-        _ => Err(fault(alloc, "error: no subcommand\n")),
+        Some((name, given)) => named_task(alloc, name, given),
+        None => Err(fault(alloc, "error: no subcommand\n")),
     }
 }
 
-fn canon_task(alloc: Global, given: &ArgMatches<'_>) -> Result<Task, Usage>
-    ensures { IfOk result (SaysCanon (rows_of (found_of given.now))) }
+fn named_task(alloc: Global, name: &str, given: &ArgMatches<'_>) -> Result<Task, Usage>
+    ensures { IfOk result (IsTask name.now (rows_of (found_of given.now))) }
 {
-    let at = moment(alloc, given.get_str("at"))?;
-    match given.get_str("file") {
-        Some(file) => {
-            let file = String::from_str(alloc, file)?;
-            Ok(Task {
-                at,
-                subcommand: Subcommand::Canon { file },
-            })
-        }
-        None => Err(fault(alloc, "error: no file\n")),
-    }
+    let at = moment_of(alloc, given)?;
+    let subcommand = asked(alloc, name, given)?;
+    Ok(Task { at, subcommand })
 }
 
-// The number that a moment's text says.
-fn moment(alloc: Global, text: Option<&str>) -> Result<Option<u64>, Usage>
-    ensures { IfOk result (IsMoment (option_map (λ t. t.now) text.entry)) }
+fn asked(alloc: Global, name: &str, given: &ArgMatches<'_>) -> Result<Subcommand, Usage>
+    ensures { IfOk result (IsAsked name.now (rows_of (found_of given.now))) }
 {
-    let Some(text) = text else {
-        return Ok(None);
-    };
-    match text.parse::<u64>() {
-        Ok(n) if n <= LAST_MOMENT => Ok(Some(n)),
-        _ => Err(fault(alloc, "error: no moment\n")),
+    match name {
+        "canon" => canon_asked(alloc, given),
+        "init" => init_asked(alloc, given),
+        "publish" => publish_asked(alloc, given),
+        "put" => put_asked(alloc, given),
+        "serve" => serve_asked(alloc, given),
+        _ => Err(fault(alloc, "error: no such subcommand\n")),
     }
 }
 
-// A fault that `clap` does not name. Its own tests of the words leave none of these.
-fn fault(alloc: Global, text: &str) -> Usage {
-    match String::from_str(alloc, text) {
-        Ok(text) => Usage::Text(text),
-        Err(_) => Usage::OutOfMemory,
-    }
+fn canon_asked(alloc: Global, given: &ArgMatches<'_>) -> Result<Subcommand, Usage>
+    ensures { IfOk result (IsAsked (codes "canon") (rows_of (found_of given.now))) }
+{
+    let file = text_of(alloc, given, "file")?;
+    Ok(Subcommand::Canon { file })
+}
+
+fn init_asked(alloc: Global, given: &ArgMatches<'_>) -> Result<Subcommand, Usage>
+    ensures { IfOk result (IsAsked (codes "init") (rows_of (found_of given.now))) }
+{
+    let db = text_of(alloc, given, "db")?;
+    let root = text_of(alloc, given, "root")?;
+    Ok(Subcommand::Init { db, root })
+}
+
+fn publish_asked(alloc: Global, given: &ArgMatches<'_>) -> Result<Subcommand, Usage>
+    ensures { IfOk result (IsAsked (codes "publish") (rows_of (found_of given.now))) }
+{
+    let db = text_of(alloc, given, "db")?;
+    let documents = texts_of(alloc, given, "document")?;
+    Ok(Subcommand::Publish { db, documents })
+}
+
+fn put_asked(alloc: Global, given: &ArgMatches<'_>) -> Result<Subcommand, Usage>
+    ensures { IfOk result (IsAsked (codes "put") (rows_of (found_of given.now))) }
+{
+    let db = text_of(alloc, given, "db")?;
+    let file = text_of(alloc, given, "file")?;
+    Ok(Subcommand::Put { db, file })
+}
+
+fn serve_asked(alloc: Global, given: &ArgMatches<'_>) -> Result<Subcommand, Usage>
+    ensures { IfOk result (IsAsked (codes "serve") (rows_of (found_of given.now))) }
+{
+    let db = text_of(alloc, given, "db")?;
+    let port = port_of(alloc, given)?;
+    let count = count_of(alloc, given)?;
+    Ok(Subcommand::Serve { db, port, count })
 }
 
 // The text of a fault of the command line.

@@ -4,26 +4,27 @@ ghost use Rattle.release.specs.Statuses.{status_of};
 
 use crate::canon::CanonFault;
 use crate::tasks::Usage;
-use std::alloc::AllocError;
-use std::io;
-use thiserror::Error;
+use machine::Denial;
+use std::alloc::{AllocError, AllocFailed};
+use std::{fmt, io};
 
 /// Why a command was not done. Its text is what standard error gets.
-#[derive(Debug, Drop, Error)]
+#[derive(Debug, Drop)]
 pub enum Fault {
     /// The fault text of the command line, with its line end.
-    #[error("{0}")]
     Usage(String),
     /// The help that the command line asks for, with its line end. It goes to standard output.
-    #[error("{0}")]
     Help(String),
-    #[error("denied 2 NotCanonical\n")]
-    NotCanonical,
-    #[error("fault memory\n")]
+    /// The first rule that fails, and of a batch the index of its document, or the number of the documents where it is what
+    /// they leave as a whole.
+    Denied(Denial, Option<usize>),
     Memory,
-    #[error("fault file\n")]
+    /// The database could not be opened or used, or it has other tables than those of a store.
+    Database,
+    /// The tables hold the rows of no state.
+    Damaged,
+    Network,
     File,
-    #[error("fault clock\n")]
     Clock,
 }
 
@@ -34,10 +35,43 @@ impl Fault {
     {
         match self {
             Fault::Help(_) => 0,
-            Fault::NotCanonical => 1,
+            Fault::Denied(_, _) => 1,
             Fault::Usage(_) => 2,
-            Fault::Memory | Fault::File | Fault::Clock => 3,
+            Fault::Memory
+            | Fault::Database
+            | Fault::Damaged
+            | Fault::Network
+            | Fault::File
+            | Fault::Clock => 3,
         }
+    }
+}
+
+impl fmt::Display for Fault {
+    fn fmt<W: fmt::Write>(&self, f: &mut fmt::Formatter<W>) -> fmt::Result {
+        match self {
+            Fault::Usage(text) | Fault::Help(text) => f.write_str(text.as_str()),
+            Fault::Denied(denial, index) => write_denial(f, denial, *index),
+            Fault::Memory => f.write_str("fault memory\n"),
+            Fault::Database => f.write_str("fault database\n"),
+            Fault::Damaged => f.write_str("fault damaged\n"),
+            Fault::Network => f.write_str("fault network\n"),
+            Fault::File => f.write_str("fault file\n"),
+            Fault::Clock => f.write_str("fault clock\n"),
+        }
+    }
+}
+
+fn write_denial<W: fmt::Write>(
+    f: &mut fmt::Formatter<W>,
+    denial: &Denial,
+    index: Option<usize>,
+) -> fmt::Result {
+    let number = denial.number();
+    let name = denial.name();
+    match index {
+        None => writeln!(f, "denied {number} {name}"),
+        Some(index) => writeln!(f, "denied {number} {name} at {index}"),
     }
 }
 
@@ -48,6 +82,17 @@ impl From<AllocError> for Fault {
     ghost from_gives = { λ _ f. f ≡ Memory };
 
     fn from(_: AllocError) -> Fault {
+        Fault::Memory
+    }
+}
+
+impl<T: Drop> From<AllocFailed<T>> for Fault {
+    ghost use Rattle.std.specs.Prelude.{◌≡◌};
+    ghost use Rattle.release.specs.declared.fault.Fault.TheVariants.{Memory};
+
+    ghost from_gives = { λ _ f. f ≡ Memory };
+
+    fn from(_: AllocFailed<T>) -> Fault {
         Fault::Memory
     }
 }
@@ -75,8 +120,23 @@ impl From<CanonFault> for Fault {
 
     fn from(fault: CanonFault) -> Fault {
         match fault {
-            CanonFault::NotCanonical => Fault::NotCanonical,
+            CanonFault::NotCanonical => Fault::Denied(Denial::NotCanonical, None),
             CanonFault::OutOfMemory => Fault::Memory,
+        }
+    }
+}
+
+impl From<store::Fault> for Fault {
+    ghost use Rattle.std.specs.Prelude.{◌≡◌};
+    ghost use Rattle.release.specs.Statuses.{fault_of_store};
+
+    ghost from_gives = { λ s f. f ≡ fault_of_store s };
+
+    fn from(fault: store::Fault) -> Fault {
+        match fault {
+            store::Fault::Damaged => Fault::Damaged,
+            store::Fault::Database => Fault::Database,
+            store::Fault::OutOfMemory => Fault::Memory,
         }
     }
 }

@@ -1,21 +1,19 @@
 //! A command from its words to its exit status.
 use crate::canon::canon;
 use crate::command_line::task;
-use crate::fault::{Fault, file_fault};
-use crate::tasks::{LAST_MOMENT, Subcommand, Task};
-use std::fs;
+use crate::fault::Fault;
+use crate::files::{print, read};
+use crate::init::init;
+use crate::moments::moment;
+use crate::publish::publish;
+use crate::put::put;
+use crate::serve::serve;
+use crate::tasks::{Subcommand, Task};
 use std::io::Write;
-use std::rt::{Clock, Files};
-use std::time::{SystemTime, UNIX_EPOCH};
 
 /// Does what the words ask for. What it prints goes to `out`, why it was not done to `err`, and the exit status is
 /// answered: 0 done, 1 denied, 2 a fault of the command line, 3 all else.
-pub fn run<R: Files + Clock + AllocGlobal, O: Write, E: Write>(
-    rt: &R,
-    words: &[String],
-    out: &mut O,
-    err: &mut E,
-) -> u8 {
+pub fn run<O: Write, E: Write>(rt: &HostRuntime, words: &[String], out: &mut O, err: &mut E) -> u8 {
     match perform(rt, words, out) {
         Ok(()) => 0,
         Err(fault) => report(&fault, out, err),
@@ -38,51 +36,26 @@ fn report_to<E: Write>(fault: &Fault, err: &mut E) -> u8 {
     fault.status()
 }
 
-// The moment is judged before any file is read.
-fn perform<R: Files + Clock + AllocGlobal, O: Write>(
-    rt: &R,
-    words: &[String],
-    out: &mut O,
-) -> Result<(), Fault> {
+fn perform<O: Write>(rt: &HostRuntime, words: &[String], out: &mut O) -> Result<(), Fault> {
     let Task { at, subcommand } = task(rt.alloc(), words)?;
-    let _moment = moment(rt, at)?;
     match subcommand {
-        Subcommand::Canon { file } => print_canon(rt, file.as_str(), out),
+        Subcommand::Canon { file } => print_canon(rt, file.as_str(), at, out),
+        Subcommand::Init { db, root } => init(rt, db.as_str(), root.as_str(), at, out),
+        Subcommand::Publish { db, documents } => publish(rt, db.as_str(), &documents, at, out),
+        Subcommand::Put { db, file } => put(rt, db.as_str(), file.as_str(), at, out),
+        Subcommand::Serve { db, port, count } => serve(rt, db.as_str(), port, count, at, out),
     }
 }
 
-// The moment that was handed in, or the clock's.
-fn moment(clock: &impl Clock, at: Option<u64>) -> Result<u64, Fault> {
-    if let Some(at) = at {
-        return Ok(at);
-    }
-    let Ok(now) = SystemTime::now(clock) else {
-        return Err(Fault::Clock);
-    };
-    match now.duration_since(UNIX_EPOCH) {
-        Ok(since) if since.as_secs() <= LAST_MOMENT => Ok(since.as_secs()),
-        _ => Err(Fault::Clock),
-    }
-}
-
-fn print_canon<R: Files + AllocGlobal, O: Write>(
-    rt: &R,
+// The moment of no use is judged, too.
+fn print_canon<O: Write>(
+    rt: &HostRuntime,
     file: &str,
+    at: Option<u64>,
     out: &mut O,
 ) -> Result<(), Fault> {
-    let bytes = fs::read(rt, file).map_err(|e| file_fault(&e))?;
+    let _now = moment(rt, at)?;
+    let bytes = read(rt, file)?;
     let text = canon(rt.alloc(), &bytes)?;
     print(out, &text)
-}
-
-// A write that fails is a fault of a file.
-fn print<O: Write>(out: &mut O, bytes: &[u8]) -> Result<(), Fault> {
-    match out.write_all(bytes) {
-        Ok(()) => flush(out),
-        Err(_) => Err(Fault::File),
-    }
-}
-
-fn flush<O: Write>(out: &mut O) -> Result<(), Fault> {
-    out.flush().map_err(|_| Fault::File)
 }

@@ -5,6 +5,15 @@ use thiserror::Error;
 /// The last moment, 9999-12-31T23:59:59Z.
 pub const LAST_MOMENT: u64 = 253402300799;
 
+/// So many documents may be published at once.
+pub const MOST_DOCUMENTS: usize = 160;
+
+/// The last port.
+pub const LAST_PORT: u64 = 65535;
+
+/// So many connections may be counted.
+pub const MOST_CONNECTIONS: u64 = 4294967295;
+
 /// What the words of a command line ask for.
 #[derive(Debug, Drop)]
 pub struct Task {
@@ -13,11 +22,34 @@ pub struct Task {
     pub subcommand: Subcommand,
 }
 
-/// A subcommand with its operands.
+/// A subcommand with its options and operands.
 #[derive(Debug, Drop)]
 pub enum Subcommand {
     /// `canon FILE`: prints the canonical form of any JSON.
-    Canon { file: String },
+    Canon {
+        file: String,
+    },
+    /// `init --db FILE ROOT`: begins the trust with a first root.
+    Init {
+        db: String,
+        root: String,
+    },
+    /// `publish --db FILE ROLE:FILE ..`: offers 1 to 160 documents in order, together.
+    Publish {
+        db: String,
+        documents: Vec<String>,
+    },
+    /// `put --db FILE FILE`: stores a target file under its digest.
+    Put {
+        db: String,
+        file: String,
+    },
+    /// `serve --db FILE --port P [--count N]`: answers HTTP requests on 127.0.0.1, over so many connections or without end.
+    Serve {
+        db: String,
+        port: u16,
+        count: Option<u64>,
+    },
 }
 
 /// Why the words are no task.

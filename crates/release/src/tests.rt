@@ -1,4 +1,7 @@
 mod loose;
+mod signed;
+mod stored;
+mod words;
 
 use crate::canon::{CanonFault, canon};
 use crate::run::run;
@@ -143,7 +146,7 @@ fn refuses_other_words(rt: HostRuntime) -> Result<(), Fail> {
         ["release", "canon", "--at=-1", "a"],
         ["release", "canon", "--at=253402300800", "a"],
         ["release", "canon", "--on", "a"],
-        ["release", "serve", "--db", "a"],
+        ["release", "sign", "--book", "a"],
     ] {
         let (ended, said, complained) = ran(rt, words.as_slice())?;
         assert!(rt; ended == 2 && said.is_empty() && complained.starts_with("error: "));

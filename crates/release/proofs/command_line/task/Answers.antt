@@ -1,4 +1,4 @@
-use Rattle.std.proofs.Common.{◌≡◌, ap, subst, ◌∙◌, rules, map, string_bytes}
+use Rattle.std.proofs.Common.{◌≡◌, ap, subst, ◌∙◌, map, string_bytes}
 use Rattle.std.proofs.lemmas.Result.{IfOk-weaker}
 use Rattle.clap.specs.Words.{is_simple, subcommand_of}
 use Rattle.release.specs.CommandLine.{Says}
@@ -8,6 +8,6 @@ use Rattle.release.proofs.command_line.task.Goals as goal
 pub returns-in-Ok : goal.returns-in-Ok
 returns-in-Ok c =
     let line = c.in_ok-command.ensures in
-    let read = c.in-Ok.ensures.matches (ap is_simple line.1 ∙ line_is_simple line.0) in
-    let rows = read.1 ∙ ap (λ a. subcommand_of a (map string_bytes c.args.words.now)) line.1 in
-    IfOk-weaker c.task_of.result _ _ (λ t says. (line.0, subst (λ l. Says l t) rows says)) c.task_of.ensures
+    let read = c.in-Ok.ensures.matches (ap is_simple line ∙ line_is_simple) in
+    let rows = read.1 ∙ ap (λ a. subcommand_of a (map string_bytes c.args.words.now)) line in
+    IfOk-weaker c.task_of.result _ _ (λ t says. subst (λ l. Says l t) rows says) c.task_of.ensures

@@ -1,0 +1,28 @@
+//! The moment of a command.
+use crate::fault::Fault;
+use metadata::Moment;
+use std::rt::Clock;
+use std::time::{SystemTime, UNIX_EPOCH};
+
+/// The moment that was handed in, or the clock's.
+pub fn moment(clock: &impl Clock, at: Option<u64>) -> Result<Moment, Fault> {
+    let seconds = match at {
+        Some(at) => at,
+        None => seconds(clock)?,
+    };
+    match Moment::new(seconds) {
+        Some(moment) => Ok(moment),
+        None => Err(Fault::Clock),
+    }
+}
+
+// The seconds of the clock since 1970-01-01T00:00:00Z.
+fn seconds(clock: &impl Clock) -> Result<u64, Fault> {
+    let Ok(now) = SystemTime::now(clock) else {
+        return Err(Fault::Clock);
+    };
+    match now.duration_since(UNIX_EPOCH) {
+        Ok(since) => Ok(since.as_secs()),
+        Err(_) => Err(Fault::Clock),
+    }
+}
