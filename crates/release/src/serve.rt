@@ -14,7 +14,9 @@ use std::time::Duration;
 const PATIENCE: u64 = 30;
 
 // After the reply, so many bytes at a time are read away of what the peer still sends, and so many times: 1,048,576 bytes in
-// all.
+// all. For each of them a second is waited.
+const LAST_PATIENCE: u64 = 1;
+
 const PIECE: usize = 8192;
 
 const PIECES: u32 = 128;
@@ -98,10 +100,14 @@ fn limit_waiting(stream: &TcpStream) -> io::Result<()> {
     stream.set_write_timeout(Some(patience))
 }
 
+fn wait_less(stream: &TcpStream) -> io::Result<()> {
+    stream.set_read_timeout(Some(Duration::from_secs(LAST_PATIENCE)))
+}
+
 // Ends a connection: nothing is sent any more, and what the peer still sends is read away, so that the reply reaches a peer
 // that is still sending.
 fn end(stream: &TcpStream) {
-    if stream.shutdown(Shutdown::Write).is_err() {
+    if stream.shutdown(Shutdown::Write).is_err() || wait_less(stream).is_err() {
         return;
     }
     let mut stream = stream;
