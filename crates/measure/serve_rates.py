@@ -3,10 +3,9 @@
 
 usage: serve_rates.py [--requests N] [--large N]
 
-It makes a repository that lists the two files, signed by `verdicts` with test seeds, puts it into a database of its own, and
-asks the server and then nginx for the same bytes, one connection at a time, each closed after its reply. `ab` (Debian's
-apache2-utils) and nginx (nginx-light) have to be there, and the programs as `rt run` leaves them:
-crates/release/out/release and crates/verdicts/out/verdicts.
+It makes a repository that lists the two files, signed with test seeds, puts it into a database of its own, and asks the server
+and then nginx for the same bytes, one connection at a time, each closed after its reply. `ab` (Debian's apache2-utils) and
+nginx (nginx-light) have to be there, and the program as `rt run` leaves it: crates/release/out/release.
 The bar is half of nginx for 1 KiB and 0.7 of it for 1 MiB; the exit status is 1 below it.
 """
 import argparse
@@ -22,8 +21,10 @@ import time
 from pathlib import Path
 
 HERE = Path(__file__).resolve().parent.parent
+sys.path.insert(0, str(HERE / "verdicts"))
+import straight  # noqa: E402
+
 RELEASE = HERE / "release/out/release"
-VERDICTS = HERE / "verdicts/out/verdicts"
 EXPIRES = "2031-01-01T00:00:00Z"
 
 
@@ -33,9 +34,7 @@ def spelled(value):
 
 def sign(seed, leaf, message):
     """The public key of a test seed and its signature: W4, height 5."""
-    line = f"sign 4 5 {f'{seed:02x}' * 16} {f'{seed:02x}' * 32} {leaf} {message.hex() or '-'}\n"
-    run = subprocess.run([VERDICTS], input=line, capture_output=True, text=True, check=True)
-    public, signature = run.stdout.split()
+    public, signature = straight.signed(4, 5, bytes([seed]) * 16, bytes([seed]) * 32, leaf, message).split()
     return public, signature
 
 
@@ -45,9 +44,9 @@ def key_of(seed):
     return hashlib.sha256(spelled(key)).hexdigest(), key
 
 
-def signed(seed, body):
+def signed(seed, body, leaf=0):
     keyid, _ = key_of(seed)
-    _, signature = sign(seed, 0, spelled(body))
+    _, signature = sign(seed, leaf, spelled(body))
     return spelled({"signatures": [{"keyid": keyid, "sig": signature}], "signed": body})
 
 

@@ -1,0 +1,158 @@
+#!/usr/bin/env python3
+"""Times the store of the built program beside CPython's sqlite3 on the same rows, in one run.
+
+usage: store_rates.py [--opens N] [--puts N] [--batches N]
+
+- Opening: a database file with 1,000 blobs of 64 KiB and 1,000 shelf rows. `release put` of a blob that is held opens it and writes
+  nothing; the time of the program over an empty repository is taken off. Beside it sqlite3 reads every row, and reads every row
+  and hashes every blob.
+- Puts of 1 MiB, through `release serve` over loopback, one connection each, and as one transaction each of sqlite3 in a file.
+- Batches of a timestamp, a snapshot and a targets document, each of the next version, in the same two ways.
+
+The program is crates/release/out/release, as `rt run` leaves it.
+"""
+import argparse
+import hashlib
+import http.client
+import sqlite3
+import subprocess
+import tempfile
+import time
+from pathlib import Path
+
+from serve_rates import RELEASE, document, free_port, release, repository, signed
+
+
+def seconds(call, times):
+    best = []
+    for _ in range(times):
+        start = time.perf_counter()
+        call()
+        best.append(time.perf_counter() - start)
+    return sorted(best)[len(best) // 2]
+
+
+def fill(db, targets):
+    """The rows that no command makes: a shelf document under 999 further names, and 1,000 blobs."""
+    connection = sqlite3.connect(db)
+    connection.executemany("INSERT INTO shelf VALUES (?, 1, ?)", [(f"r{n}", targets) for n in range(999)])
+    blobs = [n.to_bytes(4, "big") + bytes([7]) * 65532 for n in range(1000)]
+    connection.executemany("INSERT INTO blob VALUES (?, ?)", [(hashlib.sha256(b).hexdigest(), b) for b in blobs])
+    connection.commit()
+    connection.close()
+
+
+def read_all(db, hashed):
+    connection = sqlite3.connect(db)
+    for table in ("root", "current", "shelf"):
+        connection.execute(f"SELECT * FROM {table}").fetchall()
+    for digest, blob in connection.execute("SELECT digest, bytes FROM blob").fetchall():
+        if hashed and hashlib.sha256(blob).hexdigest() != digest:
+            raise SystemExit("another digest")
+    connection.close()
+
+
+def opens(folder, times):
+    empty, held = str(folder / "empty.db"), str(folder / "held.db")
+    small = folder / "small.bin"
+    small.write_bytes(b"abc")
+    for db in (empty, held):
+        release("init", "--db", db, str(folder / "root.json"))
+        release("publish", "--db", db, *(f"{role}:{folder / role}.json" for role in ("timestamp", "snapshot", "targets")))
+        release("put", "--db", db, str(small))
+    fill(held, (folder / "targets.json").read_bytes())
+    base = seconds(lambda: release("put", "--db", empty, str(small)), times)
+    ours = seconds(lambda: release("put", "--db", held, str(small)), times) - base
+    plain = seconds(lambda: read_all(held, False), times)
+    hashed = seconds(lambda: read_all(held, True), times)
+    print(f"open: release {1 / ours:.1f} a second ({ours * 1000:.0f} ms, and {base * 1000:.0f} ms for the program), "
+          f"sqlite3 {1 / plain:.1f}, with the hashes {1 / hashed:.1f}")
+
+
+def request(port, method, target, body):
+    connection = http.client.HTTPConnection("127.0.0.1", port)
+    connection.request(method, target, body)
+    reply = connection.getresponse()
+    text = reply.read()
+    if reply.status != 200:
+        raise SystemExit(text.decode())
+    connection.close()
+
+
+def serve(db):
+    port = free_port()
+    server = subprocess.Popen([RELEASE, "serve", "--db", db, "--port", str(port)], stdout=subprocess.PIPE)
+    server.stdout.readline()
+    return port, server
+
+
+def beside(folder, rows):
+    """One transaction for each list of rows, in a file of sqlite3."""
+    connection = sqlite3.connect(folder / "beside.db", isolation_level=None)
+    connection.execute("PRAGMA journal_mode=WAL")
+    connection.execute("PRAGMA synchronous=FULL")
+    connection.execute("CREATE TABLE IF NOT EXISTS blob (digest TEXT NOT NULL PRIMARY KEY, bytes BLOB NOT NULL)")
+    start = time.perf_counter()
+    for group in rows:
+        connection.execute("BEGIN")
+        for name, data in group:
+            connection.execute("INSERT OR REPLACE INTO blob VALUES (?, ?)", (name, data))
+        connection.execute("COMMIT")
+    took = time.perf_counter() - start
+    connection.close()
+    return len(rows) / took
+
+
+def puts(folder, times):
+    db = str(folder / "puts.db")
+    release("init", "--db", db, str(folder / "root.json"))
+    blobs = [n.to_bytes(4, "big") + bytes([9]) * 1048572 for n in range(times)]
+    names = [hashlib.sha256(b).hexdigest() for b in blobs]
+    port, server = serve(db)
+    start = time.perf_counter()
+    for name, blob in zip(names, blobs):
+        request(port, "PUT", f"/blobs/{name}", blob)
+    ours = times / (time.perf_counter() - start)
+    server.kill()
+    print(f"put of 1 MiB: release {ours:.1f} a second, sqlite3 {beside(folder, [[p] for p in zip(names, blobs)]):.1f}")
+
+
+def batches(folder, times):
+    db = str(folder / "batches.db")
+    release("init", "--db", db, str(folder / "root.json"))
+    roles = {"timestamp": 2, "snapshot": 3, "targets": 4}
+    bodies, rows = [], []
+    for version in range(1, times + 1):
+        files = {
+            "timestamp": document("timestamp", meta={"snapshot.json": {"version": version}}),
+            "snapshot": document("snapshot", meta={"targets.json": {"version": version}}),
+            "targets": document("targets", targets={}),
+        }
+        texts = {role: signed(roles[role], {**body, "version": version}, version % 32) for role, body in files.items()}
+        bodies.append(b"".join(b"%s %d\n%s" % (role.encode(), len(text), text) for role, text in texts.items()))
+        rows.append(list(texts.items()))
+    port, server = serve(db)
+    start = time.perf_counter()
+    for body in bodies:
+        request(port, "POST", "/batch", body)
+    ours = times / (time.perf_counter() - start)
+    server.kill()
+    print(f"batch of 3: release {ours:.1f} a second, sqlite3 {beside(folder, rows):.1f}")
+
+
+def main():
+    parser = argparse.ArgumentParser()
+    parser.add_argument("--opens", type=int, default=5)
+    parser.add_argument("--puts", type=int, default=100)
+    parser.add_argument("--batches", type=int, default=30)
+    args = parser.parse_args()
+    with tempfile.TemporaryDirectory() as name:
+        folder = Path(name)
+        repository(folder, {"small.bin": b"abc"})
+        opens(folder, args.opens)
+        puts(folder, args.puts)
+        batches(folder, args.batches)
+
+
+if __name__ == "__main__":
+    main()
