@@ -44,16 +44,16 @@ fn begin(store: &mut Store<MemStore>) -> Result<(), Fail> {
 // A store that serves `abc` as `a/b.tgz`.
 fn published(alloc: Global) -> Result<Store<MemStore>, Fail> {
     let mut store = begun(alloc)?;
-    publish(alloc, &mut store)?;
+    if !publish(alloc, &mut store)? {
+        return Err(Fail::from("not published"));
+    }
     Ok(store)
 }
 
-fn publish(alloc: Global, store: &mut Store<MemStore>) -> Result<(), Fail> {
-    let request = batch(alloc, TARGETS_FILE)?;
-    let _ = answer(alloc, store, &request)?;
-    let request = put_abc(alloc, b"abc")?;
-    let _ = answer(alloc, store, &request)?;
-    Ok(())
+fn publish(alloc: Global, store: &mut Store<MemStore>) -> Result<bool, Fail> {
+    let taken = is_taken(alloc, store, TARGETS_FILE, "{\"accepted\":3,\"same\":0}")?;
+    let put = is_put(alloc, store, b"abc", "200 OK", "{\"stored\":true}")?;
+    Ok(taken && put)
 }
 
 // What a request is answered.

@@ -54,13 +54,24 @@ fn documents(alloc: Global, store: &mut Store<MemStore>) -> Result<bool, Fail> {
     is_answered(alloc, store, &request, &wanted)
 }
 
+// Whether four requests are answered so. An error is want of memory of the test's own.
+fn all(alloc: Global, store: &mut Store<MemStore>) -> Result<bool, Fail> {
+    let target = target(alloc, store)?;
+    let denial = denial(alloc, store)?;
+    let blob = blob(alloc, store)?;
+    let documents = documents(alloc, store)?;
+    Ok(target && denial && blob && documents)
+}
+
+// The same over a store of their own.
+fn outcome(alloc: Global) -> Result<bool, Fail> {
+    let mut store = published(alloc)?;
+    all(alloc, &mut store)
+}
+
 #[test]
 fn refused_memory(rt: HostRuntime) -> Result<(), Fail> {
-    let mut store = published(rt.alloc())?;
-    let target = target(rt.alloc(), &mut store)?;
-    let denial = denial(rt.alloc(), &mut store)?;
-    let blob = blob(rt.alloc(), &mut store)?;
-    let documents = documents(rt.alloc(), &mut store)?;
-    assert!(rt; target && denial && blob && documents);
+    let good = outcome(rt.alloc())?;
+    assert!(rt; good);
     Ok(())
 }
