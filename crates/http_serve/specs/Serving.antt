@@ -39,8 +39,8 @@ pub record Line : Type 0 where
   pub reads : Bool
   pub writes : Bool
 
--- What became of a connection, whose writer holds `held` now: it took the whole answer, or a call of the reader failed and nothing was
--- done, or a call of the writer failed, which took a beginning of the answer, and what was done stands.
+-- What became of a connection, whose writer holds `held` now: it took the whole answer; or the reader is one that can fail, and nothing
+-- was done; or the writer is one that can fail, it took a beginning of the answer, and what was done stands.
 abbrev pub Ended : Line → Option (List ℕ) → Standing → Result (Unit {0}) ServeFault → Standing → Type 0
 Ended line held A (Ok u) B =
     (input : List ℕ) × IsInput line.given input × (text : List ℕ) × Answered A input line.now text B × Appends line.held held text

@@ -236,7 +236,7 @@ fn holding(alloc: Global, texts: &[&str]) -> Result<Connection<MemStore>, Fail> 
     Ok(renew(alloc, conn)?)
 }
 
-// Whether there are five tables, and `schema` has the one row 1.
+// Whether there are five tables, and `schema` has version 1 alone.
 fn is_whole<S: Alter>(conn: &mut Connection<S>) -> Result<bool, Fail> {
     let rows = conn.query_all("SELECT version FROM schema", &[])?;
     let is_one = match rows.as_slice() {
