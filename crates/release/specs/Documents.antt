@@ -1,8 +1,11 @@
 -- The arguments of `publish`.
-use Rattle.std.specs.Prelude.{◌≡◌, ℕ, List, ◌∷◌, ◌++◌, codes, if◌then◌else◌}
+use Rattle.std.specs.Prelude.{◌≡◌, ℕ, ◌<◌, List, [], ◌∷◌, ◌++◌, Some, codes, get_or, length, if◌then◌else◌, take}
 use Rattle.std.specs.Str.{bytes_eq}
 use Rattle.path_patterns.specs.Grammar.{IsName}
 use Rattle.machine.specs.Commands.{Offer, RootOffer, SnapshotOffer, TargetsOffer, TimestampOffer}
+use Rattle.machine.specs.declared.denial.Denial.TheVariants as denials
+use Rattle.release.specs.declared.fault.Fault.{Fault}
+use Rattle.release.specs.declared.fault.Fault.TheVariants.{Denied, Memory}
 
 -- what a document of this role is offered as: three roles have documents of their own, and any other has targets metadata
 abbrev pub offer_of : List ℕ → Offer
@@ -18,3 +21,22 @@ pub record IsDocument (argument : List ℕ) (offer : Offer) (file : List ℕ) : 
   pub name : IsName role
   pub whole : argument ≡ role ++ 58 ∷ file
   pub offered : offer ≡ offer_of role
+
+-- the arguments are these documents, in order
+abbrev pub AreDocuments : List (List ℕ) → List (Offer × List ℕ) → Type 0
+AreDocuments [] [] = Unit {0}
+AreDocuments (argument ∷ arguments) (d ∷ documents) = IsDocument argument d.0 d.1 × AreDocuments arguments documents
+AreDocuments _ _ = ⊥
+
+-- the argument at the index is no document, and those before it are some
+pub record IsFirstIll (arguments : List (List ℕ)) (index : ℕ) : Type 0 where
+  pub there : index < length arguments
+  pub none : (offer : Offer) (file : List ℕ) → IsDocument (get_or arguments index []) offer file → ⊥
+  pub documents : List (Offer × List ℕ)
+  pub earlier : AreDocuments (take index arguments) documents
+
+-- why arguments are not documents: the first that is none is denied as of another shape, at its index; or memory was refused
+abbrev pub IsWhyNot : List (List ℕ) → Fault → Type 0
+IsWhyNot arguments Memory = Unit {0}
+IsWhyNot arguments (Denied denials.WrongShape (Some index)) = IsFirstIll arguments index
+IsWhyNot arguments _ = ⊥

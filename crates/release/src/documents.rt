@@ -1,7 +1,8 @@
 //! The arguments of `publish`.
-ghost use Rattle.std.specs.Prelude.{◌≡◌, IfOk, IfSome};
+ghost use Rattle.std.specs.Prelude.{◌≡◌, ℕ, List, IfErr, IfNone, IfOk, IfSome, map, string_bytes};
+ghost use Rattle.machine.specs.Commands as commands;
 ghost use Rattle.machine.specs.Views.{offer_view};
-ghost use Rattle.release.specs.Documents.{IsDocument, offer_of as offer_named};
+ghost use Rattle.release.specs.Documents.{AreDocuments, IsDocument, IsWhyNot, offer_of as offer_named};
 
 use crate::fault::Fault;
 use machine::{Denial, Offer};
@@ -12,11 +13,13 @@ use std::alloc::{AllocError, Global};
 pub fn documents_of<'a>(
     alloc: Global,
     arguments: &'a [String],
-) -> Result<Vec<(Offer, &'a str)>, Fault> {
+) -> Result<Vec<(Offer, &'a str)>, Fault>
+    ensures all { IfOk result (λ v. AreDocuments (map (λ a. string_bytes a) arguments.now) (map (λ d. (offer_view d.0, d.1.now)) v.items)) }
+    ensures none { IfErr result (IsWhyNot (map (λ a. string_bytes a) arguments.now)) }
+{
     let mut documents = Vec::new(alloc);
-    for index in 0..arguments.len() {
-        let argument = arguments[index].as_str();
-        match document_of(alloc, argument)? {
+    for (index, argument) in arguments.iter().enumerate() {
+        match document_of(alloc, argument.as_str())? {
             Some(document) => documents.push(document)?,
             None => return Err(Fault::Denied(Denial::WrongShape, Some(index))),
         }
@@ -27,6 +30,7 @@ pub fn documents_of<'a>(
 // The offer and the file of an argument: a role's name, a colon and the file. `None` is answered for another text.
 fn document_of(alloc: Global, argument: &str) -> Result<Option<(Offer, &str)>, AllocError>
     ensures some { IfOk result (λ o. IfSome o (λ d. IsDocument argument.now (offer_view d.0) d.1.now)) }
+    ensures none { IfOk result (λ o. IfNone o ((offer : commands.Offer) (file : List ℕ) → IsDocument argument.now offer file → ⊥)) }
 {
     let Some((role, file)) = argument.split_once(':') else {
         return Ok(None);
