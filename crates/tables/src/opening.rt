@@ -135,6 +135,7 @@ pub fn prepare<S: Alter>(alloc: Global, conn: &mut Connection<S>) -> Result<Tabl
     requires { conn.old.in_transaction ≡ false }
     ensures autocommit { conn.new.in_transaction ≡ false }
     ensures schema { IfOk result (λ _. IsBeginning conn.old.schema) }
+    ensures foreign { (IsBeginning conn.old.schema → ⊥) → (result ≡ Err Fault.Database) × (conn.new ≡ conn.old) }
     ensures made { HasCleanDisk (state S.Store conn.new) → (count : ℕ) → count < 5 → conn.old.schema ≡ beginning count → IfOk result (λ t. (tables_view t ≡ no_rows) × StandsEmpty (state S.Store conn.old) × IsStore (state S.Store conn.new) no_rows) }
     ensures loaded { HasCleanDisk (state S.Store conn.new) → Opens (state S.Store conn.old) → AreNumbered conn.old.schema (state S.Store conn.old).now.trees
         → IfOk result (λ t. Stands (state S.Store conn.old).now (tables_view t) × IsStore (state S.Store conn.new) (tables_view t)) }
