@@ -63,6 +63,7 @@ fn begin_bare<S: Alter>(conn: &mut Connection<S>, tables: Tables) -> Result<Tabl
     ensures same { IfOk result (λ t. (tables_view t ≡ tables_view tables) × (tables_view t ≡ no_rows)) }
     ensures begun { HasCleanDisk (state S.Store conn.new) → (state S.Store conn.old).now.schema ≡ the_schema → AreBare (state S.Store conn.old).now.trees → OnOk result (IsStore (state S.Store conn.new) no_rows) }
     ensures damaged { result ≡ Err Fault.Damaged → tables_view tables ≢ no_rows }
+    ensures told { tables_view tables ≢ no_rows → (result ≡ Err Fault.Damaged) × (conn.new ≡ conn.old) }
     ensures crash { Survives (state S.Store conn.old) (state S.Store conn.new) (λ trees. IsTrue (state S.Store conn.old).is_open → (state S.Store conn.old).now.schema ≡ the_schema
         → (tables_view tables ≡ no_rows) × (AreBare (state S.Store conn.old).now.trees → HoldsTables trees no_rows)) }
 {
