@@ -5,7 +5,7 @@ use Rattle.sqlite_rules.specs.Lists.{Has}
 use Rattle.sqlite_rules.proofs.ListLemmas.{has_left, has_right, has_either}
 use Rattle.sqlite.specs.Order.{Row}
 use Rattle.sqlite.specs.Effect.{Database}
-use Rattle.sqlite.specs.State.{State, Shows, KeepsCommit}
+use Rattle.sqlite.specs.State.{State, Shows, IsUnchanged, KeepsCommit}
 use Rattle.tables.specs.declared.contents.Change.{Change}
 use Rattle.tables.specs.Rows.{AreRows}
 use Rattle.tables.specs.Tables.{Tables, HoldsTables, IsStore, root_row, slot_row, slot_rows, current_rows, shelf_row, blob_row, with_root, with_row, with_blob, with_timestamp, with_snapshot, after, after_all}
@@ -102,3 +102,6 @@ committed tx end t is shows = record {
 
 pub keeps_then : (a b c : State) → KeepsCommit a b → KeepsCommit b c → KeepsCommit a c
 keeps_then a b c one two = record { was_open = λ stays. one.was_open (two.was_open stays); committed = λ stays. two.committed stays ∙ one.committed (two.was_open stays) }
+
+pub unchanged_keeps : (old new : State) → IsUnchanged old new → KeepsCommit old new
+unchanged_keeps old new same = record { was_open = λ _. same.0.was_open; committed = λ _. same.0.committed_is }

@@ -5,6 +5,7 @@ use Rattle.sqlite.specs.declared.types.Value.TheVariants.{Null}
 use Rattle.sqlite.specs.Table.{Table}
 use Rattle.sqlite_schema.specs.declared.schema.Column.{Column}
 use Rattle.sqlite_schema.specs.declared.schema.Index.{Index}
+use Rattle.sqlite_schema.specs.declared.schema.Stamps.{Stamps}
 use Rattle.sqlite_value.specs.Keys.{plain}
 use Rattle.sqlite.specs.Schema.{Schema}
 use Rattle.sqlite.specs.Kind.{Kind}
@@ -13,6 +14,9 @@ use Rattle.sqlite.specs.Kind.TheVariants.{Integer, Text, Any}
 -- a column that is NOT NULL and has a type with an affinity
 abbrev pub required : List ℕ → Kind → Column
 required name kind = record { name = name; kind = kind; is_strict = false; not_null = true; default = Null; collation = Binary }
+
+abbrev pub no_stamps : Stamps
+no_stamps = record { places = []; terms = []; formats = [] }
 
 abbrev pub table : List ℕ → List Column → Option ℕ → List ℕ → List (List ℕ) → ℕ → Table
 table name columns key primary uniques tree = record {
@@ -26,9 +30,13 @@ table name columns key primary uniques tree = record {
   checks = [];
   references = [];
   computed = [];
-  stamps = record { places = []; terms = []; formats = [] };
+  stamps = no_stamps;
   is_counted = false;
 }
+
+-- no CHECK, no reference, no default that is computed, and no AUTOINCREMENT
+abbrev pub HasNoRule : Table → Type 0
+HasNoRule t = (t.checks ≡ []) × (t.references ≡ []) × (t.computed ≡ []) × (t.stamps ≡ no_stamps) × (t.is_counted ≡ false)
 
 abbrev pub root_table : ℕ → Table
 root_table = table (codes "root") (required (codes "version") Integer ∷ required (codes "bytes") Any ∷ []) (Some 0) (0 ∷ []) []

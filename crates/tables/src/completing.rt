@@ -62,6 +62,8 @@ fn fill<S: Alter>(tx: &mut Transaction<'_, S>, count: usize) -> Result<bool, Err
     ensures same_reference { tx.new.conn.ghost_name ≡ tx.old.conn.ghost_name }
     ensures made { HasCleanDisk (state S.Store tx.new.conn.now) → (rows : Trees) → LacksRest count rows → IsMade rows (beginning count) (state S.Store tx.old.conn.now)
         → IfOk result (λ bare. (IsTrue bare → AreBare rows × IsInside (state S.Store tx.new.conn.now) no_cells) × (bare ≡ false → AreBare rows → ⊥)) }
+    ensures kept { HasCleanDisk (state S.Store tx.new.conn.now) → (rows : Trees) → LacksRest count rows → IsMade rows (beginning count) (state S.Store tx.old.conn.now)
+        → IfOk result (λ bare. bare ≡ false → KeepsCommit (state S.Store tx.old.conn.now) (state S.Store tx.new.conn.now)) }
     ensures was_open { HasCleanDisk (state S.Store tx.new.conn.now) → OnOk result (IsTrue (state S.Store tx.old.conn.now).is_open) }
     ensures survives { Survives (state S.Store tx.old.conn.now) (state S.Store tx.new.conn.now) (λ _. ⊥) }
 {
@@ -82,6 +84,7 @@ pub(crate) fn complete<S: Alter>(conn: &mut Connection<S>, count: usize) -> Resu
     ensures found { HasCleanDisk (state S.Store conn.new) → (state S.Store conn.old).now.schema ≡ beginning count
         → IfOk result (λ bare. (IsTrue bare → AreBare (counted (beginning count) (state S.Store conn.old).now.trees) × IsStore (state S.Store conn.new) no_rows)
         × (bare ≡ false → AreBare (counted (beginning count) (state S.Store conn.old).now.trees) → ⊥)) }
+    ensures kept { HasCleanDisk (state S.Store conn.new) → (state S.Store conn.old).now.schema ≡ beginning count → IfOk result (λ bare. bare ≡ false → KeepsCommit (state S.Store conn.old) (state S.Store conn.new)) }
     ensures crash { Survives (state S.Store conn.old) (state S.Store conn.new) (λ trees. IsTrue (state S.Store conn.old).is_open → (state S.Store conn.old).now.schema ≡ beginning count
         → AreBare (counted (beginning count) (state S.Store conn.old).now.trees) × HoldsTables trees no_rows) }
 {

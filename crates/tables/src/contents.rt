@@ -49,6 +49,11 @@ pub enum Fault {
 }
 
 impl From<AllocError> for Fault {
+    ghost use Rattle.std.specs.Prelude.{◌≡◌};
+    ghost use Rattle.tables.specs.declared.contents.Fault.TheVariants.{OutOfMemory};
+
+    ghost from_gives = { λ _ f. f ≡ OutOfMemory };
+
     fn from(_error: AllocError) -> Fault {
         Fault::OutOfMemory
     }

@@ -137,6 +137,7 @@ pub(crate) fn ask<S: Alter>(conn: &mut Connection<S>) -> Result<Answers, Fault>
 pub(crate) fn tables_of(alloc: Global, answers: &Answers) -> Result<Tables, Fault>
     ensures read { IfOk result (λ t. AreItems answers.now (tables_view t)) }
     ensures damaged { result ≡ Err Fault.Damaged → AreSorted answers.now → AreDamaged answers.now }
+    ensures fault { result ≢ Err Fault.Database }
 {
     let roots = match roots_of(alloc, answers.roots.as_slice()) {
         Ok(roots) => roots,

@@ -1,6 +1,6 @@
 // Opening: the tables are made, or what they hold is read.
 ghost use Rattle.std.specs.Prelude.{◌≡◌, ◌≢◌, ◌<◌, ℕ, true, false, Err, IfOk, OnOk, OnErr, IsTrue};
-ghost use Rattle.sqlite.specs.State.{HasCleanDisk, IsUnchanged, Survives, Opens};
+ghost use Rattle.sqlite.specs.State.{HasCleanDisk, IsUnchanged, KeepsCommit, Survives, Opens};
 ghost use Rattle.sqlite.specs.Held.{state};
 ghost use Rattle.tables.specs.Schema.{the_schema, beginning, IsBeginning};
 ghost use Rattle.tables.specs.Tables.{Tables as Contents, HoldsTables, IsStore, IsFit, AreBare, AreRising, Stands, StandsFor, counted, tables_view, no_rows};
@@ -38,6 +38,7 @@ fn gather<S: Alter>(alloc: Global, conn: &mut Connection<S>) -> Result<(Tables, 
     ensures fit { IfOk result (λ p. IsFit (tables_view p.0) × AreRising (tables_view p.0)) }
     ensures damaged { HasCleanDisk (state S.Store conn.new) → (state S.Store conn.old).now.schema ≡ the_schema → result ≡ Err Fault.Damaged
         → (t : Contents) → IsFit t → StandsFor (state S.Store conn.old).now.trees t → ⊥ }
+    ensures kept { HasCleanDisk (state S.Store conn.new) → (state S.Store conn.old).now.schema ≡ the_schema → result ≡ Err Fault.Damaged → KeepsCommit (state S.Store conn.old) (state S.Store conn.new) }
     ensures unchanged { HasCleanDisk (state S.Store conn.new) → (state S.Store conn.old).now.schema ≡ the_schema → OnOk result (IsUnchanged (state S.Store conn.old) (state S.Store conn.new)) }
     ensures mode { conn.old.in_transaction ≡ false → conn.new.in_transaction ≡ false }
     ensures survives { Survives (state S.Store conn.old) (state S.Store conn.new) (λ _. ⊥) }
@@ -63,6 +64,7 @@ fn begin_bare<S: Alter>(conn: &mut Connection<S>, tables: Tables) -> Result<Tabl
     ensures same { IfOk result (λ t. (tables_view t ≡ tables_view tables) × (tables_view t ≡ no_rows)) }
     ensures begun { HasCleanDisk (state S.Store conn.new) → (state S.Store conn.old).now.schema ≡ the_schema → AreBare (state S.Store conn.old).now.trees → OnOk result (IsStore (state S.Store conn.new) no_rows) }
     ensures damaged { result ≡ Err Fault.Damaged → tables_view tables ≢ no_rows }
+    ensures told { tables_view tables ≢ no_rows → (result ≡ Err Fault.Damaged) × (conn.new ≡ conn.old) }
     ensures crash { Survives (state S.Store conn.old) (state S.Store conn.new) (λ trees. IsTrue (state S.Store conn.old).is_open → (state S.Store conn.old).now.schema ≡ the_schema
         → (tables_view tables ≡ no_rows) × (AreBare (state S.Store conn.old).now.trees → HoldsTables trees no_rows)) }
 {
@@ -84,6 +86,7 @@ fn load<S: Alter>(alloc: Global, conn: &mut Connection<S>) -> Result<Tables, Fau
     ensures fit { IfOk result (λ t. IsFit (tables_view t) × AreRising (tables_view t)) }
     ensures damaged { HasCleanDisk (state S.Store conn.new) → (state S.Store conn.old).now.schema ≡ the_schema → result ≡ Err Fault.Damaged
         → (t : Contents) → IsFit t → StandsFor (state S.Store conn.old).now.trees t → ⊥ }
+    ensures kept { HasCleanDisk (state S.Store conn.new) → (state S.Store conn.old).now.schema ≡ the_schema → result ≡ Err Fault.Damaged → KeepsCommit (state S.Store conn.old) (state S.Store conn.new) }
     ensures crash { Survives (state S.Store conn.old) (state S.Store conn.new) (λ trees. IsTrue (state S.Store conn.old).is_open → (state S.Store conn.old).now.schema ≡ the_schema
         → AreBare (state S.Store conn.old).now.trees × HoldsTables trees no_rows) }
 {
@@ -111,6 +114,7 @@ fn complete_bare<S: Alter>(
     ensures empty { IfOk result (λ t. tables_view t ≡ no_rows) }
     ensures damaged { HasCleanDisk (state S.Store conn.new) → (state S.Store conn.old).now.schema ≡ beginning count → result ≡ Err Fault.Damaged
         → (t : Contents) → StandsFor (counted (beginning count) (state S.Store conn.old).now.trees) t → ⊥ }
+    ensures kept { HasCleanDisk (state S.Store conn.new) → (state S.Store conn.old).now.schema ≡ beginning count → result ≡ Err Fault.Damaged → KeepsCommit (state S.Store conn.old) (state S.Store conn.new) }
     ensures crash { Survives (state S.Store conn.old) (state S.Store conn.new) (λ trees. IsTrue (state S.Store conn.old).is_open → (state S.Store conn.old).now.schema ≡ beginning count
         → AreBare (counted (beginning count) (state S.Store conn.old).now.trees) × HoldsTables trees no_rows) }
 {
@@ -135,6 +139,7 @@ pub fn prepare<S: Alter>(alloc: Global, conn: &mut Connection<S>) -> Result<Tabl
     requires { conn.old.in_transaction ≡ false }
     ensures autocommit { conn.new.in_transaction ≡ false }
     ensures schema { IfOk result (λ _. IsBeginning conn.old.schema) }
+    ensures foreign { (IsBeginning conn.old.schema → ⊥) → (result ≡ Err Fault.Database) × (conn.new ≡ conn.old) }
     ensures made { HasCleanDisk (state S.Store conn.new) → (count : ℕ) → count < 5 → conn.old.schema ≡ beginning count → IfOk result (λ t. (tables_view t ≡ no_rows) × StandsEmpty (state S.Store conn.old) × IsStore (state S.Store conn.new) no_rows) }
     ensures loaded { HasCleanDisk (state S.Store conn.new) → Opens (state S.Store conn.old) → AreNumbered conn.old.schema (state S.Store conn.old).now.trees
         → IfOk result (λ t. Stands (state S.Store conn.old).now (tables_view t) × IsStore (state S.Store conn.new) (tables_view t)) }
@@ -142,6 +147,7 @@ pub fn prepare<S: Alter>(alloc: Global, conn: &mut Connection<S>) -> Result<Tabl
     ensures rising { IfOk result (λ t. AreRising (tables_view t)) }
     ensures damaged { HasCleanDisk (state S.Store conn.new) → result ≡ Err Fault.Damaged
         → IsBeginning conn.old.schema × ((t : Contents) → IsFit t → Stands (state S.Store conn.old).now t → ⊥) }
+    ensures kept { HasCleanDisk (state S.Store conn.new) → result ≡ Err Fault.Damaged → KeepsCommit (state S.Store conn.old) (state S.Store conn.new) }
     ensures crash { Survives (state S.Store conn.old) (state S.Store conn.new) (λ trees. IsTrue (state S.Store conn.old).is_open → StandsEmpty (state S.Store conn.old) × HoldsTables trees no_rows) }
 {
     let count = match beginning_of(conn.schema()) {

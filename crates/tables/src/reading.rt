@@ -1,5 +1,5 @@
 // The rows of each table as items.
-ghost use Rattle.std.specs.Prelude.{◌≡◌, ◌≢◌, ◌++◌, ◌∷◌, [], ◌<◌, List, ℕ, pos, map, codes, Err, IfOk, IsTrue, IfNone, IfSome, MatchOption, Some, None, option_map, true, false, ◌⊎◌, string_bytes};
+ghost use Rattle.std.specs.Prelude.{◌≡◌, ◌≢◌, ◌++◌, ◌∷◌, [], ◌<◌, List, ℕ, pos, map, codes, Err, IfOk, IfErr, IsTrue, IfNone, IfSome, MatchOption, Some, None, option_map, true, false, ◌⊎◌, string_bytes};
 ghost use Rattle.std.specs.List.{AllByRecursion};
 ghost use Rattle.std.specs.Ordering.{nat_cmp};
 ghost use Rattle.std.specs.Cmp.Lexicographic.{slice_cmp};
@@ -57,7 +57,7 @@ fn version_at(row: &Row, at: usize) -> Option<u32>
 
 fn copied(alloc: Global, bytes: &[u8]) -> Result<Vec<u8>, Fault>
     ensures value { IfOk result (λ v. v.items ≡ bytes.now) }
-    ensures fault { result ≢ Err Fault.Damaged }
+    ensures fault { IfErr result (λ f. f ≡ Fault.OutOfMemory) }
 {
     match Vec::from_slice(alloc, bytes) {
         Ok(copy) => Ok(copy),
@@ -69,6 +69,8 @@ fn copied(alloc: Global, bytes: &[u8]) -> Result<Vec<u8>, Fault>
 fn root_of(alloc: Global, row: &Row) -> Result<(u32, Vec<u8>), Fault>
     ensures read { IfOk result (λ r. IsRootRow row.now (r.0, r.1.items) × FitsRoot (r.0, r.1.items)) }
     ensures damaged { result ≡ Err Fault.Damaged → (r : ℕ × List ℕ) → FitsRoot r → IsRootRow row.now r → ⊥ }
+    ensures told { ((r : ℕ × List ℕ) → FitsRoot r → IsRootRow row.now r → ⊥) → result ≡ Err Fault.Damaged }
+    ensures fault { result ≢ Err Fault.Database }
 {
     let Some(version) = version_at(row, 0) else {
         return Err(Fault::Damaged);
@@ -119,6 +121,7 @@ fn root_place(roots: &[(u32, Vec<u8>)], root: &(u32, Vec<u8>)) -> Place
 pub(crate) fn roots_of(alloc: Global, rows: &[Row]) -> Result<Vec<(u32, Vec<u8>)>, Fault>
     ensures read { IfOk result (λ v. AreGathered nat_cmp IsRootRow FitsRoot rows.now (map (λ r. (r.0, r.1.items)) v.items)) }
     ensures damaged { result ≡ Err Fault.Damaged → AreOrdered nat_cmp IsRootRow FitsRoot rows.now → AreSpoiled IsRootRow FitsRoot rows.now }
+    ensures fault { result ≢ Err Fault.Database }
 {
     let mut roots = Vec::new(alloc);
     'rows: for row in rows {
@@ -144,6 +147,8 @@ pub(crate) fn roots_of(alloc: Global, rows: &[Row]) -> Result<Vec<(u32, Vec<u8>)
 fn document_of(alloc: Global, row: &Row) -> Result<(String, u32, Vec<u8>), Fault>
     ensures read { IfOk result (λ r. IsShelfRow row.now ((string_bytes r.0, r.1), r.2.items) × FitsShelf ((string_bytes r.0, r.1), r.2.items)) }
     ensures damaged { result ≡ Err Fault.Damaged → (r : (List ℕ × ℕ) × List ℕ) → FitsShelf r → IsShelfRow row.now r → ⊥ }
+    ensures told { ((r : (List ℕ × ℕ) × List ℕ) → FitsShelf r → IsShelfRow row.now r → ⊥) → result ≡ Err Fault.Damaged }
+    ensures fault { result ≢ Err Fault.Database }
 {
     let Some(role) = text_at(row, 0) else {
         return Err(Fault::Damaged);
@@ -190,6 +195,7 @@ pub(crate) fn documents_of(
 ) -> Result<Vec<(String, u32, Vec<u8>)>, Fault>
     ensures read { IfOk result (λ v. AreGathered row_cmp IsShelfRow FitsShelf rows.now (map (λ r. ((string_bytes r.0, r.1), r.2.items)) v.items)) }
     ensures damaged { result ≡ Err Fault.Damaged → AreOrdered row_cmp IsShelfRow FitsShelf rows.now → AreSpoiled IsShelfRow FitsShelf rows.now }
+    ensures fault { result ≢ Err Fault.Database }
 {
     let mut documents = Vec::new(alloc);
     'rows: for row in rows {
@@ -240,6 +246,8 @@ fn are_bytes(bytes: &[u8])
 fn blob_of(alloc: Global, row: &Row) -> Result<([u8; 32], Vec<u8>), Fault>
     ensures read { IfOk result (λ r. IsBlobRow row.now (r.0, r.1.items) × FitsBlob (r.0, r.1.items)) }
     ensures damaged { result ≡ Err Fault.Damaged → (r : List ℕ × List ℕ) → FitsBlob r → IsBlobRow row.now r → ⊥ }
+    ensures told { ((r : List ℕ × List ℕ) → FitsBlob r → IsBlobRow row.now r → ⊥) → result ≡ Err Fault.Damaged }
+    ensures fault { result ≢ Err Fault.Database }
 {
     let Some(digits) = text_at(row, 0) else {
         return Err(Fault::Damaged);
@@ -270,6 +278,7 @@ fn blob_place(blobs: &[([u8; 32], Vec<u8>)], blob: &([u8; 32], Vec<u8>)) -> Plac
 pub(crate) fn blobs_of(alloc: Global, rows: &[Row]) -> Result<Vec<([u8; 32], Vec<u8>)>, Fault>
     ensures read { IfOk result (λ v. AreGathered (slice_cmp nat_cmp) IsBlobRow FitsBlob rows.now (map (λ r. (r.0, r.1.items)) v.items)) }
     ensures damaged { result ≡ Err Fault.Damaged → AreOrdered (slice_cmp nat_cmp) IsBlobRow FitsBlob rows.now → AreSpoiled IsBlobRow FitsBlob rows.now }
+    ensures fault { result ≢ Err Fault.Database }
 {
     let mut blobs = Vec::new(alloc);
     'rows: for row in rows {
@@ -303,6 +312,8 @@ pub(crate) struct Current {
 fn slot_of(alloc: Global, row: &Row) -> Result<(bool, (u32, Vec<u8>)), Fault>
     ensures read { IfOk result (λ r. IsSlotRow row.now (slot_name r.0, (r.1.0, r.1.1.items)) × FitsSlot (slot_name r.0, (r.1.0, r.1.1.items))) }
     ensures damaged { result ≡ Err Fault.Damaged → (r : List ℕ × (ℕ × List ℕ)) → FitsSlot r → IsSlotRow row.now r → ⊥ }
+    ensures told { ((r : List ℕ × (ℕ × List ℕ)) → FitsSlot r → IsSlotRow row.now r → ⊥) → result ≡ Err Fault.Damaged }
+    ensures fault { result ≢ Err Fault.Database }
 {
     let Some(slot) = text_at(row, 0) else {
         return Err(Fault::Damaged);
@@ -350,6 +361,7 @@ fn fill(slot: &mut Option<(u32, Vec<u8>)>, item: (u32, Vec<u8>)) -> bool
 pub(crate) fn current_of(alloc: Global, rows: &[Row]) -> Result<Current, Fault>
     ensures read { IfOk result (λ v. AreRead IsSlotRow FitsSlot rows.now (current_items (slot_view v.timestamp) (slot_view v.snapshot))) }
     ensures damaged { result ≡ Err Fault.Damaged → AreSpoiled IsSlotRow FitsSlot rows.now }
+    ensures fault { result ≢ Err Fault.Database }
 {
     let mut timestamp = None;
     let mut snapshot = None;
@@ -386,6 +398,7 @@ pub(crate) fn is_begun(rows: &[Row]) -> Result<bool, Fault>
     ensures some { IfOk result (λ b. IsTrue b → rows.now ≢ []) }
     ensures none { IfOk result (λ b. b ≡ false → rows.now ≡ []) }
     ensures damaged { result ≡ Err Fault.Damaged → (r : Row) × Has rows.now r × (IsOne r → ⊥) }
+    ensures fault { IfErr result (λ f. f ≡ Fault.Damaged) }
 {
     'rows: for row in rows {
         if !is_one(row) {

@@ -184,6 +184,24 @@ fn each_damage_is_told(rt: HostRuntime) -> Result<(), Fail> {
     Ok(())
 }
 
+// What a targets document with a role of these bytes makes of the rows for the next opening.
+fn with_role(alloc: Global, role: &[u8]) -> Result<Result<Tables, Fault>, Fail> {
+    let mut conn = made(alloc)?;
+    conn.execute(
+        "INSERT INTO shelf (role, version, bytes) VALUES (?1, 1, x'00')",
+        &[ValueRef::Text(role)],
+    )?;
+    let mut conn = renew(alloc, conn)?;
+    Ok(read(alloc, &mut conn))
+}
+
+#[test]
+fn a_role_that_is_not_utf8_is_damage(rt: HostRuntime) -> Result<(), Fail> {
+    assert!(rt; matches!(with_role(rt.alloc(), &[255])?, Err(Fault::Damaged)));
+    assert!(rt; matches!(with_role(rt.alloc(), b"b")?, Ok(_)));
+    Ok(())
+}
+
 const FOREIGN: [&str; 4] = [
     "CREATE TABLE other (a)",
     "DROP TABLE blob",

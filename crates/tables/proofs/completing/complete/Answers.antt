@@ -1,14 +1,14 @@
-use Rattle.std.proofs.Common.{◌≡◌, arith, rules, true≢false, sym, subst, refl, IsTrue}
+use Rattle.std.proofs.Common.{◌≡◌, ◌∙◌, arith, rules, true≢false, ap, sym, subst, refl, IsTrue}
 use Rattle.sqlite_trees.specs.Tree.{Trees}
 use Rattle.sqlite.specs.Held.{state}
-use Rattle.sqlite.specs.State.{HasCleanDisk, Survives}
+use Rattle.sqlite.specs.State.{HasCleanDisk, KeepsCommit, Survives}
 use Rattle.sqlite.proofs.StateLemmas.{survives_then}
 use Rattle.sqlite.proofs.Callers.{survives_begin}
 use Rattle.tables.specs.Schema.{beginning}
 use Rattle.tables.specs.Tables.{AreBare, HoldsTables, IsStore, counted, no_rows}
 use Rattle.tables.specs.Making.{IsMade}
 use Rattle.tables.proofs.Beginnings.{as_counted, lacks}
-use Rattle.tables.proofs.Changes.{committed, to_tables}
+use Rattle.tables.proofs.Changes.{committed, keeps_then, to_tables}
 use Rattle.tables.proofs.completing.complete.Goals as goal
 
 pub returns-then-not-branch-clause-found : goal.returns-then-not-branch-clause-found
@@ -26,6 +26,27 @@ returns-then-not-branch-clause-found g c clean schema =
     (record { is_open = is_open; inside = refl; schema_is = schema; holds = as_counted c.args.count old.now.trees c.requires.few }) in
     let made = c.in_ok-fill.ensures.made early rows (lacks c.args.count old.now.trees) begun in
     (λ e. absurd (true≢false (sym e)), λ _. made.1 c.if-not-branch.true)
+
+pub returns-then-not-branch-clause-kept : goal.returns-then-not-branch-clause-kept
+returns-then-not-branch-clause-kept g c clean schema =
+    let old = state g.S.Store c.args.conn.now in
+    let tx = state g.S.Store c.fill.new.tx.conn.now in
+    let end = c.drop-tx-then-not-branch.new.self.0 in
+    let rows = counted (beginning c.args.count) old.now.trees in
+    let same : end ≡ c.conn-then-not-branch-1.given.0 = search rules in
+    let late : HasCleanDisk (state g.S.Store end) = subst (λ h. HasCleanDisk (state g.S.Store h)) (sym same) clean in
+    let early : HasCleanDisk tx = omega (arith, late, c.drop-tx-then-not-branch.ensures.survives.clean) in
+    let is_open = subst (λ h. IsTrue (state g.S.Store h).is_open) c.transaction-tx.ensures.begun (c.in_ok-fill.ensures.was_open early) in
+    let begun : IsMade rows (beginning c.args.count) (state g.S.Store c.transaction-tx.result.conn.now) =
+    subst (λ h. IsMade rows (beginning c.args.count) (state g.S.Store h)) (sym c.transaction-tx.ensures.begun)
+    (record { is_open = is_open; inside = refl; schema_is = schema; holds = as_counted c.args.count old.now.trees c.requires.few }) in
+    let kept = c.in_ok-fill.ensures.kept early rows (lacks c.args.count old.now.trees) begun c.if-not-branch.true in
+    let first : KeepsCommit old tx = record {
+      was_open = λ stays. subst (λ h. IsTrue (state g.S.Store h).is_open) c.transaction-tx.ensures.begun (kept.was_open stays);
+      committed = λ stays. kept.committed stays ∙ ap (λ h. (state g.S.Store h).committed) c.transaction-tx.ensures.begun;
+    } in
+    let back = c.drop-tx-then-not-branch.ensures.undone late in
+    λ _. subst (λ h. KeepsCommit old (state g.S.Store h)) same (keeps_then old tx (state g.S.Store end) first (record { was_open = back.was_open; committed = λ stays. (back.undone stays).1 }))
 
 pub returns-clause-found : goal.returns-clause-found
 returns-clause-found g c clean schema =

@@ -2,10 +2,11 @@ use Rattle.std.proofs.Common.{◌≡◌, ◌∙◌, Err, IsTrue, ap, subst, sym,
 use Rattle.sqlite_trees.specs.Tree.{Trees}
 use Rattle.sqlite.specs.Effect.{Database}
 use Rattle.sqlite.specs.Held.{state}
-use Rattle.sqlite.specs.State.{HasCleanDisk, IsUnchanged}
+use Rattle.sqlite.specs.State.{HasCleanDisk, IsUnchanged, KeepsCommit}
 use Rattle.sqlite.proofs.StateLemmas.{survives_then}
 use Rattle.tables.specs.Schema.{the_schema}
 use Rattle.tables.specs.Tables.{AreBare, HoldsTables, no_rows, tables_view}
+use Rattle.tables.proofs.Changes.{unchanged_keeps}
 use Rattle.tables.proofs.Gathering.{same_error}
 use Rattle.tables.proofs.opening.load.Goals as goal
 
@@ -33,3 +34,14 @@ returns-clause-crash g c =
     let bare = (c.in-Ok.ensures.unbegun early schema c.if-is_begun.false).bare done.0 in
     (bare, done.1 (subst (λ (d : Database). AreBare d.trees) (sym same.0.now_is) bare)))
     c.gather.ensures.survives c.begin_bare.ensures.crash
+
+pub returns-in-Err-clause-kept : goal.returns-in-Err-clause-kept
+returns-in-Err-clause-kept g c clean schema is = c.in-Err.ensures.kept clean schema (ap Err (same_error is))
+
+pub returns-clause-kept : goal.returns-clause-kept
+returns-clause-kept g c clean schema is =
+    let old = state g.S.Store c.args.conn.now in
+    let mid = state g.S.Store c.gather.new.conn in
+    let early : HasCleanDisk mid = omega (arith, clean, c.begin_bare.ensures.crash.clean) in
+    let told = c.begin_bare.ensures.told (c.begin_bare.ensures.damaged is) in
+    subst (λ h. KeepsCommit old (state g.S.Store h)) (sym told.1) (unchanged_keeps old mid (c.in-Ok.ensures.unchanged early schema))

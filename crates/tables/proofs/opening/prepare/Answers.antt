@@ -25,3 +25,13 @@ returns-clause-damaged g c clean is =
     let trees = (state g.S.Store c.args.conn.now).now.trees in
     let schema : c.args.conn.now.schema ≡ beginning c.in-Some.count = sym c.schema.ensures.value ∙ c.in-Some.ensures.0 in
     ((c.in-Some.count, schema), λ t fit stands. c.complete_bare.ensures.damaged clean schema is t (subst (λ s. StandsFor (counted s trees) t) schema stands.1))
+
+pub returns-then-count-eq5-clause-kept : goal.returns-then-count-eq5-clause-kept
+returns-then-count-eq5-clause-kept g c clean is =
+    let five : c.args.conn.now.schema ≡ beginning 5 = sym c.schema.ensures.value ∙ c.in-Some.ensures.0 ∙ ap beginning c.if-count-eq5.true in
+    c.load.ensures.kept clean five is
+
+pub returns-clause-kept : goal.returns-clause-kept
+returns-clause-kept g c clean is =
+    let schema : c.args.conn.now.schema ≡ beginning c.in-Some.count = sym c.schema.ensures.value ∙ c.in-Some.ensures.0 in
+    c.complete_bare.ensures.kept clean schema is
