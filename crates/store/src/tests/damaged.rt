@@ -1,4 +1,5 @@
 // Rows of no state, and beside each kind of them rows that differ in one thing and are those of a state.
+use super::roots::root_file;
 use super::signed::{
     ROOT_OF_NEW_KEYS_FILE, ROOT_OF_OLD_KEYS_FILE, SECOND_ROOT_FILE, SECOND_SNAPSHOT_FILE,
     SNAPSHOT_FILE, TARGETS_FILE, THIRD_ROOT_FILE, TIMESTAMP_FILE, UNSIGNED_ROOT_FILE,
@@ -98,11 +99,17 @@ fn other_rows_are_of_a_state(rt: HostRuntime) -> Result<(), Fail> {
 // Statements, then one with a file, and the file.
 type Change = (&'static str, &'static str, &'static str);
 
+// Makes a change.
+fn make(conn: &mut Connection<MemStore>, change: &Change) -> Result<(), Error> {
+    conn.execute_batch(change.0)?;
+    conn.execute(change.1, params![change.2.as_bytes()])?;
+    Ok(())
+}
+
 // Whether a store opens after a change.
 fn opens_with(rt: &(impl Abort + AllocGlobal), change: &Change) -> Result<bool, Fail> {
     let mut conn = first(rt)?;
-    conn.execute_batch(change.0)?;
-    conn.execute(change.1, params![change.2.as_bytes()])?;
+    make(&mut conn, change)?;
     Ok(opens(rt.alloc(), conn)?)
 }
 
@@ -171,15 +178,6 @@ fn other_files_are_of_a_state(rt: HostRuntime) -> Result<(), Fail> {
 
 // ---- as much as is held at most
 
-// Whether a store opens with one more blob, of so many bytes 0.
-fn opens_with_zeros(rt: &(impl Abort + AllocGlobal), length: usize) -> Result<bool, Fail> {
-    let alloc = rt.alloc();
-    let mut conn = first(rt)?;
-    let bytes = vec![in alloc; 0u8; length]?;
-    put_blob(alloc, &mut conn, &bytes)?;
-    Ok(opens(alloc, conn)?)
-}
-
 // Writes the row of a blob.
 fn put_blob(alloc: Global, conn: &mut Connection<MemStore>, bytes: &[u8]) -> Result<(), Error> {
     let digits = Digest::new(Sha256::digest(bytes)).text(alloc)?;
@@ -190,6 +188,19 @@ fn put_blob(alloc: Global, conn: &mut Connection<MemStore>, bytes: &[u8]) -> Res
     Ok(())
 }
 
+// Writes the row of a blob of so many bytes 0.
+fn put_zeros(alloc: Global, conn: &mut Connection<MemStore>, length: usize) -> Result<(), Error> {
+    let bytes = vec![in alloc; 0u8; length]?;
+    put_blob(alloc, conn, &bytes)
+}
+
+// Whether a store opens with one more blob, of so many bytes 0.
+fn opens_with_zeros(rt: &(impl Abort + AllocGlobal), length: usize) -> Result<bool, Fail> {
+    let mut conn = first(rt)?;
+    put_zeros(rt.alloc(), &mut conn, length)?;
+    Ok(opens(rt.alloc(), conn)?)
+}
+
 #[test]
 fn a_blob_of_the_most_bytes(rt: HostRuntime) -> Result<(), Fail> {
     assert!(rt; opens_with_zeros(&rt, 1_048_576)?);
@@ -197,16 +208,20 @@ fn a_blob_of_the_most_bytes(rt: HostRuntime) -> Result<(), Fail> {
     Ok(())
 }
 
-// Whether a store opens with this many blobs.
-fn opens_with_blobs(rt: &(impl Abort + AllocGlobal), count: u32) -> Result<bool, Fail> {
-    let alloc = rt.alloc();
-    let mut conn = first(rt)?;
+// Writes the rows of this many blobs, in place of those that are there.
+fn put_blobs(alloc: Global, conn: &mut Connection<MemStore>, count: u32) -> Result<(), Error> {
     conn.execute_batch("DELETE FROM blob; BEGIN")?;
     for number in 0..count {
-        put_blob(alloc, &mut conn, &number.to_be_bytes())?;
+        put_blob(alloc, conn, &number.to_be_bytes())?;
     }
-    conn.execute_batch("COMMIT")?;
-    Ok(opens(alloc, conn)?)
+    conn.execute_batch("COMMIT")
+}
+
+// Whether a store opens with this many blobs.
+fn opens_with_blobs(rt: &(impl Abort + AllocGlobal), count: u32) -> Result<bool, Fail> {
+    let mut conn = first(rt)?;
+    put_blobs(rt.alloc(), &mut conn, count)?;
+    Ok(opens(rt.alloc(), conn)?)
 }
 
 #[test]
@@ -225,14 +240,19 @@ fn put_row(conn: &mut Connection<MemStore>, role: u32) -> Result<(), Error> {
     Ok(())
 }
 
+// Writes this many rows of the shelf, in place of those that are there.
+fn put_rows(conn: &mut Connection<MemStore>, count: u32) -> Result<(), Error> {
+    conn.execute_batch("DELETE FROM shelf; BEGIN")?;
+    for role in 0..count {
+        put_row(conn, role)?;
+    }
+    conn.execute_batch("COMMIT")
+}
+
 // Whether a store opens with this many rows of the shelf.
 fn opens_with_rows(rt: &(impl Abort + AllocGlobal), count: u32) -> Result<bool, Fail> {
     let mut conn = first(rt)?;
-    conn.execute_batch("DELETE FROM shelf; BEGIN")?;
-    for role in 0..count {
-        put_row(&mut conn, role)?;
-    }
-    conn.execute_batch("COMMIT")?;
+    put_rows(&mut conn, count)?;
     Ok(opens(rt.alloc(), conn)?)
 }
 
@@ -240,5 +260,46 @@ fn opens_with_rows(rt: &(impl Abort + AllocGlobal), count: u32) -> Result<bool, 
 fn the_most_rows(rt: HostRuntime) -> Result<(), Fail> {
     assert!(rt; opens_with_rows(&rt, 4_096)?);
     assert!(rt; !opens_with_rows(&rt, 4_097)?);
+    Ok(())
+}
+
+// Writes the row of a root of this version.
+fn put_root(alloc: Global, conn: &mut Connection<MemStore>, version: u32) -> Result<(), Error> {
+    let file = root_file(alloc, version)?;
+    conn.execute(
+        "INSERT INTO root (version, bytes) VALUES (?1, ?2)",
+        params![version, file.as_bytes()],
+    )?;
+    Ok(())
+}
+
+// Writes the rows of this many roots, in place of those that are there and of the files that they do not sign for.
+fn put_roots(alloc: Global, conn: &mut Connection<MemStore>, count: u32) -> Result<(), Error> {
+    conn.execute_batch("DELETE FROM current; DELETE FROM root; BEGIN")?;
+    for version in 1..=count {
+        put_root(alloc, conn, version)?;
+    }
+    conn.execute_batch("COMMIT")
+}
+
+// The connection, if its rows are damaged.
+fn given_back(alloc: Global, conn: Connection<MemStore>) -> Option<Connection<MemStore>> {
+    match Store::open_over(alloc, conn) {
+        Ok(_) => None,
+        Err(unopened) => match unopened.fault {
+            Fault::Damaged => unopened.conn,
+            _ => None,
+        },
+    }
+}
+
+// The roots are damaged for their number alone: without the first they are those of a state.
+#[test]
+fn the_most_roots(rt: HostRuntime) -> Result<(), Fail> {
+    let mut conn = first(&rt)?;
+    put_roots(rt.alloc(), &mut conn, 4_097)?;
+    let mut conn = given_back(rt.alloc(), conn).expect(&rt, "damaged");
+    conn.execute("DELETE FROM root WHERE version = 1", &[])?;
+    assert!(rt; opens(rt.alloc(), conn)?);
     Ok(())
 }

@@ -50,15 +50,22 @@ const EMPTY: Place = Place {
     file: "store_empty_target/store.db",
 };
 
+// The file serves the empty target, and is closed.
+fn serve_and_close(
+    rt: &(impl Abort + AllocGlobal),
+    mut store: Store<FileStore<File>>,
+) -> Result<(), Fail> {
+    assert!(rt; serves(&mut store, "empty", Some(NOTHING), b"", moment(rt))?);
+    close(store)?;
+    Ok(())
+}
+
 #[test]
 fn an_empty_file_in_a_file(rt: HostRuntime) -> Result<(), Fail> {
     clear(&rt, EMPTY)?;
     let conn = connect(&rt, EMPTY)?;
-    let store = an_empty_file(&rt, conn)?;
-    close(store)?;
-    let mut store = open(&rt, EMPTY)?;
-    assert!(rt; serves(&mut store, "empty", Some(NOTHING), b"", moment(&rt))?);
-    close(store)?;
+    close(an_empty_file(&rt, conn)?)?;
+    serve_and_close(&rt, open(&rt, EMPTY)?)?;
     fs::remove_dir_all(&rt, EMPTY.folder)?;
     Ok(())
 }
@@ -72,11 +79,8 @@ const REFUSED: Place = Place {
 fn a_refused_batch_in_a_file(rt: HostRuntime) -> Result<(), Fail> {
     clear(&rt, REFUSED)?;
     let conn = connect(&rt, REFUSED)?;
-    let store = a_refused_batch(&rt, conn)?;
-    close(store)?;
-    let store = open(&rt, REFUSED)?;
-    let store = with_rows(&rt, store, &SECOND_ROWS)?;
-    close(store)?;
+    close(a_refused_batch(&rt, conn)?)?;
+    close(with_rows(&rt, open(&rt, REFUSED)?, &SECOND_ROWS)?)?;
     fs::remove_dir_all(&rt, REFUSED.folder)?;
     Ok(())
 }
@@ -109,15 +113,23 @@ const LEFT: Place = Place {
     file: "store_left/store.db",
 };
 
+// The file is that of the first run, and is closed.
+fn look_and_close(
+    rt: &(impl Abort + AllocGlobal),
+    mut store: Store<FileStore<File>>,
+) -> Result<(), Fail> {
+    is_first(rt, &mut store, moment(rt))?;
+    close(store)?;
+    Ok(())
+}
+
 // Nothing but the log holds what was committed last.
 #[test]
 fn a_file_that_was_not_closed(rt: HostRuntime) -> Result<(), Fail> {
     clear(&rt, LEFT)?;
     let conn = connect(&rt, LEFT)?;
     drop(begun(&rt, conn, TARGETS_FILE, ABC, b"abc")?);
-    let mut store = open(&rt, LEFT)?;
-    is_first(&rt, &mut store, moment(&rt))?;
-    close(store)?;
+    look_and_close(&rt, open(&rt, LEFT)?)?;
     fs::remove_dir_all(&rt, LEFT.folder)?;
     Ok(())
 }

@@ -13,40 +13,31 @@ use super::steps::{
 use crate::{Fault, Store};
 use machine::Offer;
 use metadata::Moment;
-use sqlite::{Alter, Connection, MemStore};
+use sqlite::{Alter, Connection, Error, MemStore};
 use std::alloc::Global;
 use std::process::Abort;
 use std::test::Fail;
 
-// The store after a command that answered this fault, which is want of memory. Where `looks` is set, its tables hold just these
-// rows, and it is opened again.
-fn after_fault(
+// Whether the tables hold just these rows. A refused allocation is tried once more.
+fn has_rows_at_last<S: Alter>(
     rt: &(impl Abort + AllocGlobal),
-    store: Store<MemStore>,
-    fault: Fault,
+    conn: &mut Connection<S>,
     lines: &[Line],
-    looks: bool,
-) -> Result<Store<MemStore>, Fail> {
-    assert_eq!(rt; fault, Fault::OutOfMemory);
-    if looks {
-        with_rows(rt, store, lines)
-    } else {
-        Ok(store)
+) -> Result<bool, Error> {
+    match has_rows(rt, conn, lines) {
+        Ok(is_so) => Ok(is_so),
+        Err(_) => has_rows(rt, conn, lines),
     }
 }
 
-/// The tables hold just these rows in the end. A refused allocation is tried once more.
+/// The tables hold just these rows in the end.
 pub(super) fn ends<S: Alter + Drop>(
     rt: &(impl Abort + AllocGlobal),
     store: Store<S>,
     lines: &[Line],
 ) -> Result<(), Fail> {
     let mut conn = store.into_connection();
-    let is_so = match has_rows(rt, &mut conn, lines) {
-        Ok(is_so) => is_so,
-        Err(_) => has_rows(rt, &mut conn, lines)?,
-    };
-    assert!(rt; is_so);
+    assert!(rt; has_rows_at_last(rt, &mut conn, lines)?);
     Ok(())
 }
 
@@ -107,58 +98,54 @@ const BLOB_ROWS: [Line; 3] = [
     ("schema 1", ""),
 ];
 
-fn init(rt: &(impl Abort + AllocGlobal), looks: bool) -> Result<(), Fail> {
-    let now = moment(rt);
-    let Some(mut store) = new_store(rt.alloc()) else {
-        return Ok(());
-    };
-    match begins(&mut store, ROOT_FILE, now) {
-        Ok(done) => assert!(rt; done),
-        Err(fault) => {
-            assert!(rt; lacks(&mut store, "1.root.json", now)?);
-            store = after_fault(rt, store, fault, &NO_ROWS, looks)?;
-            assert!(rt; begins(&mut store, ROOT_FILE, now)?);
-        }
-    }
-    ends(rt, store, &ROOT_ROWS)
+// A command of which memory may be refused.
+#[derive(Clone, Copy)]
+enum Task {
+    Init,
+    Batch,
+    Rotation,
+    DeniedBatch,
+    Offer,
+    Put,
+    Metadata,
+    Target,
+    DeniedTarget,
 }
 
-#[test]
-fn refused_in_init(rt: HostRuntime) -> Result<(), Fail> {
-    init(&rt, false)?;
-    init(&rt, true)
-}
-
-// Whether the three documents are taken by a batch.
-fn is_published(
+// The store over which it is made, where no memory is refused.
+fn store_before(
     rt: &(impl Abort + AllocGlobal),
-    store: &mut Store<MemStore>,
+    task: Task,
     now: Moment,
-) -> Result<bool, Fault> {
-    let targets = targets_offer(rt.alloc()).expect(rt, "a role");
-    publishes(store, targets, TARGETS_FILE, 3, 0, now)
-}
-
-fn batch(rt: &(impl Abort + AllocGlobal), looks: bool) -> Result<(), Fail> {
-    let now = moment(rt);
-    let Some(mut store) = store_with_root(rt.alloc(), now) else {
-        return Ok(());
-    };
-    match is_published(rt, &mut store, now) {
-        Ok(done) => assert!(rt; done),
-        Err(fault) => {
-            assert!(rt; lacks(&mut store, "timestamp.json", now)?);
-            store = after_fault(rt, store, fault, &ROOT_ROWS, looks)?;
-            assert!(rt; is_published(rt, &mut store, now)?);
-        }
+) -> Option<Store<MemStore>> {
+    match task {
+        Task::Init => new_store(rt.alloc()),
+        Task::Batch | Task::Offer | Task::Put => store_with_root(rt.alloc(), now),
+        Task::Rotation | Task::DeniedBatch | Task::Metadata | Task::Target | Task::DeniedTarget =>
+            first_store(rt),
     }
-    ends(rt, store, &PUBLISHED_ROWS)
 }
 
-#[test]
-fn refused_in_a_batch(rt: HostRuntime) -> Result<(), Fail> {
-    batch(&rt, false)?;
-    batch(&rt, true)
+// The rows before it, and after it if it was refused.
+fn rows_before(task: Task) -> &'static [Line] {
+    match task {
+        Task::Init => &NO_ROWS,
+        Task::Batch | Task::Offer | Task::Put => &ROOT_ROWS,
+        Task::Rotation | Task::DeniedBatch | Task::Metadata | Task::Target | Task::DeniedTarget =>
+            &FIRST_ROWS,
+    }
+}
+
+// The rows after it.
+fn rows_after(task: Task) -> &'static [Line] {
+    match task {
+        Task::Init => &ROOT_ROWS,
+        Task::Batch => &PUBLISHED_ROWS,
+        Task::Rotation => &SECOND_ROWS,
+        Task::Offer => &TIMESTAMP_ROWS,
+        Task::Put => &BLOB_ROWS,
+        Task::DeniedBatch | Task::Metadata | Task::Target | Task::DeniedTarget => &FIRST_ROWS,
+    }
 }
 
 // Whether a batch of four documents is taken, of which the root takes the others off.
@@ -177,28 +164,6 @@ fn is_rotated(
     takes(store, &documents, 4, 0, now)
 }
 
-fn rotation(rt: &(impl Abort + AllocGlobal), looks: bool) -> Result<(), Fail> {
-    let now = moment(rt);
-    let Some(mut store) = first_store(rt) else {
-        return Ok(());
-    };
-    match is_rotated(rt, &mut store, now) {
-        Ok(done) => assert!(rt; done),
-        Err(fault) => {
-            assert!(rt; lacks(&mut store, "2.root.json", now)?);
-            store = after_fault(rt, store, fault, &FIRST_ROWS, looks)?;
-            assert!(rt; is_rotated(rt, &mut store, now)?);
-        }
-    }
-    ends(rt, store, &SECOND_ROWS)
-}
-
-#[test]
-fn refused_in_a_rotation(rt: HostRuntime) -> Result<(), Fail> {
-    rotation(&rt, false)?;
-    rotation(&rt, true)
-}
-
 // Whether a batch of three documents is denied.
 fn is_denied(store: &mut Store<MemStore>, now: Moment) -> Result<bool, Fault> {
     let documents = [
@@ -209,109 +174,141 @@ fn is_denied(store: &mut Store<MemStore>, now: Moment) -> Result<bool, Fault> {
     refuses(store, &documents, 20, 2, now)
 }
 
-fn denied(rt: &(impl Abort + AllocGlobal), looks: bool) -> Result<(), Fail> {
-    let now = moment(rt);
-    let Some(mut store) = first_store(rt) else {
-        return Ok(());
-    };
-    match is_denied(&mut store, now) {
-        Ok(done) => assert!(rt; done),
+// Whether it is answered as with ample memory.
+fn is_answered(
+    rt: &(impl Abort + AllocGlobal),
+    store: &mut Store<MemStore>,
+    task: Task,
+    now: Moment,
+) -> Result<bool, Fault> {
+    match task {
+        Task::Init => begins(store, ROOT_FILE, now),
+        Task::Batch => publishes(rt, store, TARGETS_FILE, 3, 0, now),
+        Task::Rotation => is_rotated(rt, store, now),
+        Task::DeniedBatch => is_denied(store, now),
+        Task::Offer => accepts(store, &Offer::Timestamp, TIMESTAMP_FILE, false, now),
+        Task::Put => stores(store, ABC, b"abc", true, now),
+        Task::Metadata => shows(store, "timestamp.json", TIMESTAMP_FILE, now),
+        Task::Target => serves(store, "a/b.tgz", Some(ABC), b"abc", now),
+        Task::DeniedTarget => denies(store, "unknown", None, 37, now),
+    }
+}
+
+// Whether a metadata file that it would bring, or that a batch names which is denied, is absent.
+fn is_absent(store: &mut Store<MemStore>, task: Task, now: Moment) -> Result<bool, Fault> {
+    match task {
+        Task::Init => lacks(store, "1.root.json", now),
+        Task::Batch | Task::Offer => lacks(store, "timestamp.json", now),
+        Task::Rotation | Task::DeniedBatch => lacks(store, "2.root.json", now),
+        Task::Put | Task::Metadata | Task::Target | Task::DeniedTarget => Ok(true),
+    }
+}
+
+// Whether it is answered. Otherwise memory was refused, and the state is as before.
+fn is_made(
+    rt: &(impl Abort + AllocGlobal),
+    store: &mut Store<MemStore>,
+    task: Task,
+    now: Moment,
+) -> Result<bool, Fail> {
+    match is_answered(rt, store, task, now) {
+        Ok(done) => {
+            assert!(rt; done);
+            Ok(true)
+        }
         Err(fault) => {
-            assert!(rt; lacks(&mut store, "2.root.json", now)?);
-            store = after_fault(rt, store, fault, &FIRST_ROWS, looks)?;
-            assert!(rt; is_denied(&mut store, now)?);
+            assert!(rt; is_absent(store, task, now)?);
+            assert_eq!(rt; fault, Fault::OutOfMemory);
+            Ok(false)
         }
     }
-    ends(rt, store, &FIRST_ROWS)
+}
+
+// The store after a refusal. Where `looks` is set, its tables hold just the rows from before, and it is opened again.
+fn after_refusal(
+    rt: &(impl Abort + AllocGlobal),
+    store: Store<MemStore>,
+    task: Task,
+    looks: bool,
+) -> Result<Store<MemStore>, Fail> {
+    if looks {
+        with_rows(rt, store, rows_before(task))
+    } else {
+        Ok(store)
+    }
+}
+
+// Makes the command again, and looks at the rows.
+fn make_again(
+    rt: &(impl Abort + AllocGlobal),
+    mut store: Store<MemStore>,
+    task: Task,
+    now: Moment,
+) -> Result<(), Fail> {
+    assert!(rt; is_answered(rt, &mut store, task, now)?);
+    ends(rt, store, rows_after(task))
+}
+
+// Makes the command, and looks at the rows.
+fn make(rt: &(impl Abort + AllocGlobal), task: Task, looks: bool) -> Result<(), Fail> {
+    let now = moment(rt);
+    let Some(mut store) = store_before(rt, task, now) else {
+        return Ok(());
+    };
+    if is_made(rt, &mut store, task, now)? {
+        ends(rt, store, rows_after(task))
+    } else {
+        make_again(rt, after_refusal(rt, store, task, looks)?, task, now)
+    }
+}
+
+// Makes the command twice. Only the second time the rows are looked at after a refusal.
+fn make_both(rt: &(impl Abort + AllocGlobal), task: Task) -> Result<(), Fail> {
+    make(rt, task, false)?;
+    make(rt, task, true)
+}
+
+#[test]
+fn refused_in_init(rt: HostRuntime) -> Result<(), Fail> {
+    make_both(&rt, Task::Init)
+}
+
+#[test]
+fn refused_in_a_batch(rt: HostRuntime) -> Result<(), Fail> {
+    make_both(&rt, Task::Batch)
+}
+
+#[test]
+fn refused_in_a_rotation(rt: HostRuntime) -> Result<(), Fail> {
+    make_both(&rt, Task::Rotation)
 }
 
 #[test]
 fn refused_in_a_denied_batch(rt: HostRuntime) -> Result<(), Fail> {
-    denied(&rt, false)?;
-    denied(&rt, true)
-}
-
-fn offer(rt: &(impl Abort + AllocGlobal), looks: bool) -> Result<(), Fail> {
-    let now = moment(rt);
-    let Some(mut store) = store_with_root(rt.alloc(), now) else {
-        return Ok(());
-    };
-    match accepts(&mut store, &Offer::Timestamp, TIMESTAMP_FILE, false, now) {
-        Ok(done) => assert!(rt; done),
-        Err(fault) => {
-            assert!(rt; lacks(&mut store, "timestamp.json", now)?);
-            store = after_fault(rt, store, fault, &ROOT_ROWS, looks)?;
-            assert!(rt; accepts(&mut store, &Offer::Timestamp, TIMESTAMP_FILE, false, now)?);
-        }
-    }
-    ends(rt, store, &TIMESTAMP_ROWS)
+    make_both(&rt, Task::DeniedBatch)
 }
 
 #[test]
 fn refused_in_an_offer(rt: HostRuntime) -> Result<(), Fail> {
-    offer(&rt, false)?;
-    offer(&rt, true)
-}
-
-fn put(rt: &(impl Abort + AllocGlobal), looks: bool) -> Result<(), Fail> {
-    let now = moment(rt);
-    let Some(mut store) = store_with_root(rt.alloc(), now) else {
-        return Ok(());
-    };
-    match stores(&mut store, ABC, b"abc", true, now) {
-        Ok(done) => assert!(rt; done),
-        Err(fault) => {
-            store = after_fault(rt, store, fault, &ROOT_ROWS, looks)?;
-            assert!(rt; stores(&mut store, ABC, b"abc", true, now)?);
-        }
-    }
-    ends(rt, store, &BLOB_ROWS)
+    make_both(&rt, Task::Offer)
 }
 
 #[test]
 fn refused_in_a_put(rt: HostRuntime) -> Result<(), Fail> {
-    put(&rt, false)?;
-    put(&rt, true)
-}
-
-// Whether a metadata file, a target, and the denial of another are answered.
-fn answers(store: &mut Store<MemStore>, which: u8, now: Moment) -> Result<bool, Fault> {
-    match which {
-        0 => shows(store, "timestamp.json", TIMESTAMP_FILE, now),
-        1 => serves(store, "a/b.tgz", Some(ABC), b"abc", now),
-        _ => denies(store, "unknown", None, 37, now),
-    }
-}
-
-fn read(rt: &(impl Abort + AllocGlobal), which: u8, looks: bool) -> Result<(), Fail> {
-    let now = moment(rt);
-    let Some(mut store) = first_store(rt) else {
-        return Ok(());
-    };
-    match answers(&mut store, which, now) {
-        Ok(done) => assert!(rt; done),
-        Err(fault) => {
-            store = after_fault(rt, store, fault, &FIRST_ROWS, looks)?;
-            assert!(rt; answers(&mut store, which, now)?);
-        }
-    }
-    ends(rt, store, &FIRST_ROWS)
+    make_both(&rt, Task::Put)
 }
 
 #[test]
 fn refused_in_metadata(rt: HostRuntime) -> Result<(), Fail> {
-    read(&rt, 0, false)?;
-    read(&rt, 0, true)
+    make_both(&rt, Task::Metadata)
 }
 
 #[test]
 fn refused_in_a_target(rt: HostRuntime) -> Result<(), Fail> {
-    read(&rt, 1, false)?;
-    read(&rt, 1, true)
+    make_both(&rt, Task::Target)
 }
 
 #[test]
 fn refused_in_a_denied_target(rt: HostRuntime) -> Result<(), Fail> {
-    read(&rt, 2, false)?;
-    read(&rt, 2, true)
+    make_both(&rt, Task::DeniedTarget)
 }

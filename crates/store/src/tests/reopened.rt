@@ -5,9 +5,9 @@ use super::refused::{ends, first_store};
 use super::rows::{FIRST_ROWS, Line};
 use super::signed::TARGETS_FILE;
 use super::steps::{ABC, begun, moment, serves};
-use crate::{Fault, Store};
+use crate::{Fault, Store, Unopened};
 use metadata::Moment;
-use sqlite::{Connection, File, FileStore};
+use sqlite::{Connection, File, FileStore, MemStore};
 use std::fs;
 use std::process::Abort;
 use std::test::Fail;
@@ -60,6 +60,15 @@ fn serves_at_last(store: &mut Store<FileStore<File>>, now: Moment) -> Result<boo
     }
 }
 
+// Serves the target, and has the rows of the first run.
+fn serve_and_end(
+    rt: &(impl Abort + AllocGlobal),
+    mut store: Store<FileStore<File>>,
+) -> Result<(), Fail> {
+    assert!(rt; serves_at_last(&mut store, moment(rt))?);
+    ends(rt, store, &FIRST_ROWS)
+}
+
 #[test]
 fn refused_in_opening(rt: HostRuntime) -> Result<(), Fail> {
     if clear(&rt, HELD).is_err() {
@@ -71,14 +80,23 @@ fn refused_in_opening(rt: HostRuntime) -> Result<(), Fail> {
     if !is_made(&rt, conn) {
         return Ok(());
     }
-    let mut store = open_at_last(&rt, HELD)?;
-    assert!(rt; serves_at_last(&mut store, moment(&rt))?);
-    ends(&rt, store, &FIRST_ROWS)?;
+    serve_and_end(&rt, open_at_last(&rt, HELD)?)?;
     let _ = fs::remove_dir_all(&rt, HELD.folder);
     Ok(())
 }
 
 // The connection that is given back holds the rows as before.
+fn open_given_back(
+    rt: &(impl Abort + AllocGlobal),
+    unopened: Unopened<MemStore>,
+) -> Result<(), Fail> {
+    assert_eq!(rt; unopened.fault, Fault::OutOfMemory);
+    match unopened.conn {
+        Some(conn) => ends(rt, Store::open(rt.alloc(), conn)?, &FIRST_ROWS),
+        None => Ok(()),
+    }
+}
+
 #[test]
 fn refused_over_a_connection(rt: HostRuntime) -> Result<(), Fail> {
     let Some(store) = first_store(&rt) else {
@@ -86,12 +104,6 @@ fn refused_over_a_connection(rt: HostRuntime) -> Result<(), Fail> {
     };
     match Store::open_over(rt.alloc(), store.into_connection()) {
         Ok(store) => ends(&rt, store, &FIRST_ROWS),
-        Err(unopened) => {
-            assert_eq!(rt; unopened.fault, Fault::OutOfMemory);
-            let Some(conn) = unopened.conn else {
-                return Ok(());
-            };
-            ends(&rt, Store::open(rt.alloc(), conn)?, &FIRST_ROWS)
-        }
+        Err(unopened) => open_given_back(&rt, unopened),
     }
 }

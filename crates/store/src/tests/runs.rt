@@ -16,16 +16,25 @@ use std::process::Abort;
 use std::test::Fail;
 
 // A granted target of no bytes.
+fn serves_nothing<S: Alter>(
+    rt: &(impl Abort + AllocGlobal),
+    store: &mut Store<S>,
+) -> Result<(), Fail> {
+    let now = moment(rt);
+    assert!(rt; serves(store, "empty", None, b"", now)?);
+    assert!(rt; serves(store, "empty", Some(NOTHING), b"", now)?);
+    assert!(rt; denies(store, "empty", Some(ABC), 39, now)?);
+    assert!(rt; stores(store, NOTHING, b"", false, now)?);
+    Ok(())
+}
+
+// A store with a granted target of no bytes.
 pub(super) fn an_empty_file<S: Alter + Drop>(
     rt: &(impl Abort + AllocGlobal),
     conn: Connection<S>,
 ) -> Result<Store<S>, Fail> {
-    let now = moment(rt);
     let mut store = begun(rt, conn, EMPTY_TARGET_FILE, NOTHING, b"")?;
-    assert!(rt; serves(&mut store, "empty", None, b"", now)?);
-    assert!(rt; serves(&mut store, "empty", Some(NOTHING), b"", now)?);
-    assert!(rt; denies(&mut store, "empty", Some(ABC), 39, now)?);
-    assert!(rt; stores(&mut store, NOTHING, b"", false, now)?);
+    serves_nothing(rt, &mut store)?;
     Ok(store)
 }
 
@@ -111,19 +120,39 @@ fn is_taken<S: Alter>(
     Ok(())
 }
 
+// A store of the first run that refuses the batch, and is as before.
+fn refused<S: Alter>(rt: &(impl Abort + AllocGlobal), store: &mut Store<S>) -> Result<(), Fail> {
+    is_refused(rt, store, moment(rt))?;
+    is_first(rt, store, moment(rt))
+}
+
+// The same store refuses the batch again, and takes the right one.
+fn taken_at_last<S: Alter>(
+    rt: &(impl Abort + AllocGlobal),
+    store: &mut Store<S>,
+) -> Result<(), Fail> {
+    is_refused(rt, store, moment(rt))?;
+    is_taken(rt, store, moment(rt))
+}
+
+// The store of the first run after the refused batch, opened again.
+fn after_refusal<S: Alter + Drop>(
+    rt: &(impl Abort + AllocGlobal),
+    store: Store<S>,
+) -> Result<Store<S>, Fail> {
+    let mut store = with_rows(rt, store, &FIRST_ROWS)?;
+    refused(rt, &mut store)?;
+    with_rows(rt, store, &FIRST_ROWS)
+}
+
 // A batch that is refused at its third document changes no row.
 pub(super) fn a_refused_batch<S: Alter + Drop>(
     rt: &(impl Abort + AllocGlobal),
     conn: Connection<S>,
 ) -> Result<Store<S>, Fail> {
-    let now = moment(rt);
     let store = begun(rt, conn, TARGETS_FILE, ABC, b"abc")?;
-    let mut store = with_rows(rt, store, &FIRST_ROWS)?;
-    is_refused(rt, &mut store, now)?;
-    is_first(rt, &mut store, now)?;
-    let mut store = with_rows(rt, store, &FIRST_ROWS)?;
-    is_refused(rt, &mut store, now)?;
-    is_taken(rt, &mut store, now)?;
+    let mut store = after_refusal(rt, store)?;
+    taken_at_last(rt, &mut store)?;
     with_rows(rt, store, &SECOND_ROWS)
 }
 

@@ -1,5 +1,5 @@
-// Commands with the answers that are wanted. These have no clause, so that the proof of a test does not carry the state of each
-// call.
+// Commands with the answers that are wanted, over a store that is borrowed. What owns a store does little besides, since each of
+// its early returns drops it. These have no clause, so that the proof of a test does not carry the state of each call.
 use super::signed::{ROOT_FILE, SNAPSHOT_FILE, TIMESTAMP_FILE};
 use crate::{Command, Fault, Reply, Store};
 use machine::Offer;
@@ -146,7 +146,8 @@ pub(super) fn serves<S: Alter>(
     Ok(is_bytes(&reply, bytes))
 }
 
-fn is_denied(reply: &Reply, number: u8) -> bool {
+/// Whether the reply is a denial by this number, of no document of a batch.
+pub(super) fn is_denied(reply: &Reply, number: u8) -> bool {
     match reply {
         Reply::Denied(denial, None) => denial.number() == number,
         _ => false,
@@ -188,19 +189,35 @@ pub(super) fn lacks<S: Alter>(
 
 /// Whether the three documents behind the root are taken, or are there already.
 pub(super) fn publishes<S: Alter>(
+    rt: &(impl Abort + AllocGlobal),
     store: &mut Store<S>,
-    offer: Offer,
     targets: &str,
     taken: usize,
     held: usize,
     now: Moment,
 ) -> Result<bool, Fault> {
+    let offer = targets_offer(rt.alloc()).expect(rt, "a role");
     let documents = [
         (Offer::Timestamp, TIMESTAMP_FILE.as_bytes()),
         (Offer::Snapshot, SNAPSHOT_FILE.as_bytes()),
         (offer, targets.as_bytes()),
     ];
     takes(store, &documents, taken, held, now)
+}
+
+// Takes the first root, the three documents and a file into an empty store.
+fn fill<S: Alter>(
+    rt: &(impl Abort + AllocGlobal),
+    store: &mut Store<S>,
+    targets: &str,
+    digest: Digest,
+    file: &[u8],
+) -> Result<(), Fault> {
+    let now = moment(rt);
+    assert!(rt; begins(store, ROOT_FILE, now)?);
+    assert!(rt; publishes(rt, store, targets, 3, 0, now)?);
+    assert!(rt; stores(store, digest, file, true, now)?);
+    Ok(())
 }
 
 /// A store over a new database, with the first root, the three documents and a file.
@@ -211,12 +228,7 @@ pub(super) fn begun<S: Alter + Drop>(
     digest: Digest,
     file: &[u8],
 ) -> Result<Store<S>, Fault> {
-    let alloc = rt.alloc();
-    let now = moment(rt);
-    let mut store = Store::open(alloc, conn)?;
-    let offer = targets_offer(alloc).expect(rt, "a role");
-    assert!(rt; begins(&mut store, ROOT_FILE, now)?);
-    assert!(rt; publishes(&mut store, offer, targets, 3, 0, now)?);
-    assert!(rt; stores(&mut store, digest, file, true, now)?);
+    let mut store = Store::open(rt.alloc(), conn)?;
+    fill(rt, &mut store, targets, digest, file)?;
     Ok(store)
 }
