@@ -3,3 +3,4 @@ pub mod SameRows
 pub mod Holding
 pub mod Applying
 pub mod Fitting
+pub mod Replied

@@ -23,6 +23,10 @@ use Rattle.machine.specs.declared.refusal.Refusal.TheVariants as refusals
 abbrev pub HoldsStep : State → Command → ℕ → Trees → Type 0
 HoldsStep S command now trees = (U : State) × (reply : Reply) × Steps S command now (U, reply) × HoldsTables trees (rows_of U)
 
+-- the same, and with this reply
+abbrev pub HoldsReply : State → Command → ℕ → Reply → Trees → Type 0
+HoldsReply S command now reply trees = (U : State) × Steps S command now (U, reply) × HoldsTables trees (rows_of U)
+
 -- The command is the machine's step, or a fault that leaves the state as it was. A crash leaves the rows from before the
 -- command or those from after it.
 pub record Applies (S T : State) (old new : database.State) (command : Command) (now : ℕ) (r : Result Answer Fault) : Type 0 where

@@ -1,3 +1,4 @@
 pub mod Applies
 pub mod Kept
+pub mod Next
 pub mod Views

@@ -2,10 +2,12 @@
 #![tactic(auto)]
 
 mod changes;
+mod closing;
 mod command;
 mod opening;
 mod store;
 
+pub use closing::apply_and_close;
 pub use command::{Command, Fault, Reply};
 pub use opening::Unopened;
 pub use store::Store;

@@ -1,0 +1,50 @@
+//! The end of a store over two files: what the next open finds in them.
+ghost use Rattle.std.specs.Prelude.{◌≡◌, ◌⊎◌, false, IfOk, IsTrue};
+ghost use Rattle.sqlite.specs.Files.{file_state};
+ghost use Rattle.sqlite.specs.State.{HasCleanDisk};
+ghost use Rattle.sqlite_trees.specs.Tree.{Trees};
+ghost use Rattle.sqlite_wal.specs.Files.{outcomes};
+ghost use Rattle.sqlite_wal.specs.Reads.{AreClean};
+ghost use Rattle.sqlite_wal.specs.Recovery.{Image};
+ghost use Rattle.tables.specs.Tables.{HoldsTables};
+ghost use Rattle.store.specs.Applies.{HoldsReply, HoldsStep};
+ghost use Rattle.store.specs.Kept.{rows_of};
+ghost use Rattle.store.specs.Next.{IsFound};
+ghost use Rattle.store.specs.Views.{command_view, reply_view};
+
+use crate::command::{Command, Fault, Reply};
+use crate::store::Store;
+use metadata::Moment;
+use sqlite::{Connection, FileStore, Files};
+use sqlite_disk::Disk;
+
+// Hands back the files of a connection. What the next open of an image finds that a crash may leave of them is what the
+// connection may leave.
+fn close<D: Disk + Drop>(conn: Connection<FileStore<D>>) -> Files<D>
+    ensures clean { AreClean D.Disk result.log result.db → HasCleanDisk (file_state conn) }
+    ensures left { AreClean D.Disk result.log result.db → (left : Image) → outcomes D.Disk result.log result.db left
+        → (found : Trees) → IsFound left found → ∥ (file_state conn).may_leave found ∥₁ }
+{
+    let store = conn.into_store();
+    store.close()
+}
+
+/// Makes a command at a moment, as `Store::apply` does, and hands back the two files. Whatever a crash leaves of them, inside the
+/// call or after it, the next open finds the rows of the state before the command or of the state after it, and after a reply
+/// those of the state after it. A crash inside the call is one from which on each call of the disks fails.
+pub fn apply_and_close<D: Disk + Drop>(
+    mut store: Store<FileStore<D>>,
+    command: Command<'_>,
+    now: Moment,
+) -> (Result<Reply, Fault>, Files<D>)
+    ensures before_or_after { AreClean D.Disk result.1.log result.1.db → IsTrue (file_state store.conn).is_open
+        → (left : Image) → outcomes D.Disk result.1.log result.1.db left → (found : Trees) → IsFound left found
+        → ∥ HoldsTables found (rows_of store.state) ⊎ HoldsStep store.state (command_view command.entry) now found ∥₁ }
+    ensures after { AreClean D.Disk result.1.log result.1.db
+        → (left : Image) → outcomes D.Disk result.1.log result.1.db left → (found : Trees) → IsFound left found
+        → IfOk result.0 (λ reply. ∥ HoldsReply store.state (command_view command.entry) now (reply_view reply) found ∥₁) }
+{
+    let result = store.apply(command, now);
+    let conn = store.into_connection();
+    (result, close(conn))
+}
