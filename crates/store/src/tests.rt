@@ -1,4 +1,5 @@
 // A store over databases in memory and in files.
+mod closed;
 mod damaged;
 mod files;
 mod refused;
