@@ -1,0 +1,69 @@
+"""What the program's subcommands print: exit status, standard output, standard error, and the state that is left."""
+import hashlib
+
+import canonical_json
+import loose_json
+import repository
+from denials import Denied
+from names import is_role_name
+
+DONE, DENIED, USAGE, FAULT = 0, 1, 2, 3
+
+
+def denied_line(denied):
+    place = "" if denied.index is None else f" at {denied.index}"
+    return DENIED, b"", f"denied {denied.number} {denied.name}{place}\n".encode()
+
+
+def fault(word):
+    return FAULT, b"", f"fault {word}\n".encode()
+
+
+def init(state, text, _now):
+    """`text` is None where there is no such file."""
+    if text is None:
+        return fault("file"), state
+    try:
+        return (DONE, b"begun\n", b""), repository.begin(state, text)
+    except Denied as denied:
+        return denied_line(denied), state
+
+
+def put(state, text, _now):
+    if text is None:
+        return fault("file"), state
+    digest = hashlib.sha256(text).hexdigest()
+    try:
+        after = repository.put_blob(state, digest, text)
+    except Denied as denied:
+        return denied_line(denied), state
+    return (DONE, digest.encode() + b"\n", b""), state if after is repository.SAME else after
+
+
+def publish(state, arguments, files, now):
+    """Every argument is judged before a file is read. `files` has the bytes of each file that is there."""
+    offered = []
+    for index, argument in enumerate(arguments):
+        role, colon, _ = argument.partition(":")
+        if not colon or not is_role_name(role):
+            return denied_line(Denied("WrongShape", index)), state
+    for argument in arguments:
+        role, _, file = argument.partition(":")
+        if file not in files:
+            return fault("file"), state
+        offered.append((role, files[file]))
+    try:
+        after, accepted, same = repository.batch(state, offered, now)
+    except Denied as denied:
+        return denied_line(denied), state
+    return (DONE, b'{"accepted":%d,"same":%d}\n' % (accepted, same), b""), after
+
+
+def canon(text):
+    try:
+        value = loose_json.read(text)
+    except loose_json.NotJson:
+        return denied_line(Denied("NotCanonical"))
+    if loose_json.has_other_number(value) or loose_json.depth(value) > canonical_json.MAXIMUM_DEPTH:
+        return denied_line(Denied("NotCanonical"))
+    return DONE, canonical_json.write(value), b""

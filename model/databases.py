@@ -1,0 +1,234 @@
+"""Databases that the program did not write so: rows that stand for no state, tables that are absent, further ones."""
+import itertools
+import sqlite3
+
+import command_line
+import signed_documents as make
+import tables
+from denials import Denied
+from names import LARGEST_NUMBER
+from program import World, insert_rows, read_rows
+from repository import MAXIMUM_BLOB_LENGTH
+from scenes import LIVE, NOW, RULES, SNAPSHOT_SIGNERS, TIMESTAMP_SIGNERS, ZEROS, granting_state, signed_document
+from test_keys import KEYS
+
+ROOT_SIGNERS = KEYS[0:3]
+DAMAGED = command_line.fault("damaged")
+REFUSED = command_line.fault("database")
+NO_ROOT = command_line.denied_line(Denied("NoRoot"))
+BLOB = b"abc"
+STORED = (command_line.DONE, make.digest(BLOB).encode() + b"\n", b"")
+
+
+def held_state():
+    state = granting_state()
+    state.roots.append(signed_document("root", make.root(4, LIVE, RULES), ROOT_SIGNERS))
+    state.blobs[make.digest(BLOB)] = BLOB
+    return state
+
+
+def insert_root(version, root_version=None, rules=None, signers=ROOT_SIGNERS):
+    text = make.signed_file(make.root(root_version or version, LIVE, rules or RULES), signers)
+    return "INSERT INTO root VALUES (?, ?)", (version, text)
+
+
+def root_changes(state):
+    yield "DELETE FROM root"
+    yield "DELETE FROM root WHERE version = 4"
+    yield "DELETE FROM root WHERE version = 3"
+    yield "UPDATE root SET version = 5 WHERE version = 4"
+    yield "UPDATE root SET version = 9 WHERE version = 3"
+    yield "UPDATE root SET bytes = ? WHERE version = 4", (state.timestamp.bytes,)
+    yield "UPDATE root SET bytes = x'00' WHERE version = 3"
+    yield "UPDATE root SET bytes = '{}' WHERE version = 3"
+    yield "UPDATE root SET bytes = CAST(bytes AS TEXT) WHERE version = 3"
+    for version in (6, 5, 2):
+        yield insert_root(version)
+    for version in (0, -1):
+        yield insert_root(version, 2)
+    yield insert_root(5, signers=ROOT_SIGNERS[:1])
+    for rules in (
+        {"timestamp": (KEYS[12:13], 1)}, {"timestamp": (KEYS[3:5], 2)}, {"targets": (KEYS[12:13], 1)},
+        {"root": (KEYS[12:14], 2)},
+    ):
+        yield insert_root(5, rules={**RULES, **rules})
+    yield insert_root(5, rules={**RULES, "root": (KEYS[12:14], 2)}, signers=ROOT_SIGNERS + KEYS[12:14])
+
+
+def current_changes(state):
+    for slot in ("timestamp", "snapshot"):
+        yield f"DELETE FROM current WHERE slot = '{slot}'"
+    yield "DELETE FROM current"
+    for version in ("6", "'x'", "5.0", "5.5", "'5'"):
+        yield f"UPDATE current SET version = {version} WHERE slot = 'timestamp'"
+    yield "UPDATE current SET version = 9 WHERE slot = 'snapshot'"
+    yield "INSERT INTO current VALUES ('targets', 4, x'00')"
+    yield "INSERT INTO current VALUES ('root', 4, ?)", (state.roots[-1].bytes,)
+    for slot in ("'Timestamp'", "''", "x'74696d657374616d70'"):
+        yield f"UPDATE current SET slot = {slot} WHERE slot = 'timestamp'"
+    changed = [
+        ("snapshot", state.timestamp.bytes),
+        ("timestamp", make.signed_file(make.timestamp(5, LIVE, 8), [])),
+        ("timestamp", make.signed_file(make.timestamp(5, 0, 99), TIMESTAMP_SIGNERS)),
+        ("snapshot", make.signed_file(make.snapshot(8, LIVE, {"targets": (4,)}), SNAPSHOT_SIGNERS[:1])),
+        ("snapshot", make.signed_file(make.snapshot(8, 0, {"targets": (44,)}), SNAPSHOT_SIGNERS)),
+    ]
+    for slot, text in changed:
+        yield f"UPDATE current SET bytes = ? WHERE slot = '{slot}'", (text,)
+
+
+def shelf_changes(state):
+    def targets(version):
+        return make.signed_file(make.targets(version, 1, {}), [])
+
+    roles = ["targets", "zeta", "root", "timestamp", "snapshot", "Zeta", "a" * 32, "a" * 33, "", 7, b"a"]
+    rows = [(role, 9, targets(9)) for role in roles]
+    rows += [("zeta", 8, targets(9)), ("a", 9, b""), ("a", 8, state.snapshot.bytes), ("a", 9, targets(9).decode())]
+    rows += [("a", -9, targets(9)), ("a", "q", targets(9)), ("a", LARGEST_NUMBER, targets(LARGEST_NUMBER))]
+    for row in rows:
+        yield "INSERT INTO shelf VALUES (?, ?, ?)", row
+    yield "DELETE FROM shelf"
+
+
+def blob_changes(_state):
+    yield "UPDATE blob SET bytes = x'00'"
+    digest = make.digest(b"q")
+    keys = [ZEROS, digest.upper(), digest, digest[1:], digest.encode()]
+    rows = [(digest, "q"), *((key, b"q") for key in keys)]
+    for length in (MAXIMUM_BLOB_LENGTH, MAXIMUM_BLOB_LENGTH + 1):
+        blob = b"q" * length
+        rows.append((make.digest(blob), blob))
+    for row in rows:
+        yield "INSERT INTO blob VALUES (?, ?)", row
+    yield "DELETE FROM blob"
+
+
+def schema_changes(_state):
+    yield "DELETE FROM schema"
+    for version in (2, 0, -1):
+        yield f"UPDATE schema SET version = {version}"
+    yield "INSERT INTO schema VALUES (2)"
+
+
+def emptied():
+    """Lists of tables that lose all their rows."""
+    data = ["root", "current", "shelf", "blob"]
+    yield data
+    yield data + ["schema"]
+    yield data[1:]
+    yield data[:3]
+    yield ["root", "current", "blob"]
+
+
+def compare_damaged(session, _random):
+    """Rows that are those of no state are refused, and left as they are; others go on."""
+    state = held_state()
+    cases = [[]]
+    for changes in (root_changes, current_changes, shelf_changes, blob_changes, schema_changes):
+        cases += [[change] for change in changes(state)]
+    cases += [[f"DELETE FROM {table}" for table in listed] for listed in emptied()]
+    for case in cases:
+        world = World(session, state)
+        connection = sqlite3.connect(world.database)
+        for change in case:
+            connection.execute(*((change,) if isinstance(change, str) else change))
+        connection.commit()
+        connection.close()
+        compare_put(session, world.database, f"damaged by {[str(change)[:100] for change in case]}")
+
+
+def compare_put(session, database, label):
+    """A put of one blob: what it prints, and the rows that it leaves."""
+    before, _ = read_rows(database)
+    after = {table: list(rows) for table, rows in before.items()}
+    if not tables.stand_for_a_state(before):
+        wanted = DAMAGED
+    else:
+        after["schema"] = [(tables.SCHEMA_VERSION,)]
+        wanted = STORED if before["root"] else NO_ROOT
+        if before["root"]:
+            after["blob"] = sorted({*before["blob"], (make.digest(BLOB), BLOB)})
+    session.check(label, wanted, put_blob(session, database))
+    session.check(f"{label}, rows", str(after), str(read_rows(database)[0]))
+
+
+def put_blob(session, database):
+    file = session.folder / "blob"
+    file.write_bytes(BLOB)
+    return session.run("put", "--db", str(database), "--at", str(NOW), str(file))
+
+
+def build(session, listed, rows, before=(), after=(), statements=None):
+    """A database with these tables in this order, and these rows."""
+    database = session.folder / "built.db"
+    for suffix in ("", "-wal", "-shm"):
+        database.with_name(database.name + suffix).unlink(missing_ok=True)
+    statements = statements or session.empty_database()[1]
+    connection = sqlite3.connect(database, isolation_level=None)
+    for statement in before:
+        connection.execute(statement)
+    for table in listed:
+        connection.execute(statements[table])
+    for table in listed:
+        insert_rows(connection, table, rows.get(table, []))
+    for statement in after:
+        connection.execute(statement)
+    connection.close()
+    return database
+
+
+def compare_absent(session, _random):
+    """Every choice of the five tables, empty or with rows: only a beginning of the five is opened."""
+    held = tables.rows_of(held_state())
+    for count in range(len(tables.TABLES) + 1):
+        for listed in itertools.combinations(tables.TABLES, count):
+            for rows in ({}, {"schema": [(tables.SCHEMA_VERSION,)]}, held):
+                there = {table: rows.get(table, []) if table in listed else [] for table in tables.TABLES}
+                if not tables.are_opened(listed):
+                    wanted = REFUSED
+                elif not tables.stand_for_a_state(there):
+                    wanted = DAMAGED
+                else:
+                    wanted = STORED if there["root"] else NO_ROOT
+                database = build(session, listed, there)
+                session.check(f"tables {listed}", wanted, put_blob(session, database))
+
+
+OTHER_STATEMENTS = {
+    "root": "CREATE TABLE root(version INTEGER PRIMARY KEY NOT NULL, bytes BLOB NOT NULL)",
+    "current": "CREATE TABLE current(slot TEXT PRIMARY KEY NOT NULL, version INTEGER NOT NULL, bytes BLOB NOT NULL)",
+    "shelf": "CREATE TABLE shelf(role TEXT NOT NULL, version INTEGER NOT NULL, bytes BLOB NOT NULL,"
+             " PRIMARY KEY(role, version))",
+    "blob": "CREATE TABLE blob(digest TEXT PRIMARY KEY NOT NULL, bytes BLOB NOT NULL)",
+    "schema": "CREATE TABLE schema(version INTEGER PRIMARY KEY NOT NULL)",
+}
+FURTHER = [
+    "CREATE TABLE further(a)", "CREATE INDEX further ON blob(digest)", "CREATE VIEW further AS SELECT 1",
+    "CREATE TRIGGER further AFTER INSERT ON blob BEGIN SELECT 1; END", "ANALYZE",
+]
+HARMLESS_AFTER = ["VACUUM", "PRAGMA user_version = 7", "PRAGMA application_id = 7"]
+HARMLESS_BEFORE = [
+    "PRAGMA page_size = 1024", "PRAGMA page_size = 8192", "PRAGMA page_size = 65536", "PRAGMA journal_mode = WAL",
+]
+
+
+def compare_forms(session, _random):
+    """The same rows in other files: further tables, another order, other pages, other spelling of the tables."""
+    rows = tables.rows_of(held_state())
+    listed = list(tables.TABLES)
+    for order in (listed[::-1], ["schema", *listed[:-1]]):
+        session.check(f"order {order}", REFUSED, put_blob(session, build(session, order, rows)))
+    for statement in FURTHER:
+        database = build(session, listed, rows, after=[statement])
+        session.check(f"further {statement}", REFUSED, put_blob(session, database))
+    for statement in HARMLESS_AFTER:
+        session.check(statement, STORED, put_blob(session, build(session, listed, rows, after=[statement])))
+    for statement in HARMLESS_BEFORE:
+        session.check(statement, STORED, put_blob(session, build(session, listed, rows, before=[statement])))
+    for table, statement in OTHER_STATEMENTS.items():
+        statements = {**session.empty_database()[1], table: statement}
+        database = build(session, listed, rows, statements=statements)
+        session.check(f"{table} spelled otherwise", STORED, put_blob(session, database))
+    database = session.folder / "no bytes.db"
+    database.write_bytes(b"")
+    session.check("a file of no bytes", NO_ROOT, put_blob(session, database))

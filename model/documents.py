@@ -1,0 +1,232 @@
+"""The signed files of the four roles (TUF 1.0, sections 4.2 to 4.6), key ids and thresholds."""
+import hashlib
+import re
+from functools import lru_cache
+
+import canonical_json
+import lms
+from denials import Denied, deny_unless
+from names import LARGEST_NUMBER, is_hex, is_role_name, is_target_path, is_whole, moment_of
+
+MAXIMUM_LENGTH = 262144
+MAXIMUM_SIGNATURES = 16
+MAXIMUM_SIGNATURE_LENGTH = 9324
+MAXIMUM_KEYS = 256
+MAXIMUM_RULE_KEYS = 16
+MAXIMUM_SNAPSHOT_ENTRIES = 128
+TOP_LEVEL_ROLES = {"root", "targets", "snapshot", "timestamp"}
+
+
+class Document:
+    """A file that was read.
+
+    Each has `version`, `expires`, `signatures`, `bytes`, `signed_bytes` and `digest`; a root has `keys` and `rules`, a
+    timestamp `snapshot`, a snapshot `roles`, and targets metadata `listings`.
+    """
+
+
+class Rule:
+    """Who may sign for a role: so many of these keys."""
+
+    def __init__(self, keyids, threshold, keys):
+        self.keyids = keyids
+        self.threshold = threshold
+        self.keys = keys
+
+    def public_keys(self):
+        return {keyid: self.keys[keyid] for keyid in self.keyids}
+
+    def same_as(self, other):
+        """One threshold, one set of ids, and each id names the same key."""
+        return self.threshold == other.threshold and self.public_keys() == other.public_keys()
+
+
+class Entry:
+    """What a file says of another: its version, and its length and digest where they are given."""
+
+    def __init__(self, version, length, digest):
+        self.version = version
+        self.length = length
+        self.digest = digest
+
+    def has_length(self, document):
+        return self.length in (None, len(document.bytes))
+
+    def has_digest(self, document):
+        return self.digest in (None, document.digest)
+
+    def names(self, document):
+        return self.version == document.version and self.has_length(document) and self.has_digest(document)
+
+
+def shape(condition):
+    deny_unless(condition, "WrongShape")
+
+
+def key_id(public):
+    """TUF 1.0, section 4.2: the SHA-256 of the key object's canonical form."""
+    key = {"keytype": "lms", "keyval": {"public": public}, "scheme": "lms-sha256"}
+    return hashlib.sha256(canonical_json.write(key)).hexdigest()
+
+
+def read_signatures(value):
+    shape(type(value) is list and len(value) <= MAXIMUM_SIGNATURES)
+    signatures = []
+    for entry in value:
+        shape(type(entry) is dict and set(entry) == {"keyid", "sig"})
+        shape(is_hex(entry["keyid"], 64) and type(entry["sig"]) is str)
+        shape(re.fullmatch("(?:[0-9a-f]{2}){0,%d}" % MAXIMUM_SIGNATURE_LENGTH, entry["sig"]) is not None)
+        signatures.append((entry["keyid"], bytes.fromhex(entry["sig"])))
+    shape(len({keyid for keyid, _ in signatures}) == len(signatures))
+    return signatures
+
+
+def read_digest(value):
+    shape(type(value) is dict and set(value) == {"sha256"} and is_hex(value["sha256"], 64))
+    return value["sha256"]
+
+
+def read_entry(value):
+    shape(type(value) is dict and is_whole(value.get("version"), 1, LARGEST_NUMBER))
+    length = digest = None
+    if "length" in value:
+        length = value["length"]
+        shape(is_whole(length, 0, LARGEST_NUMBER))
+    if "hashes" in value:
+        digest = read_digest(value["hashes"])
+    return Entry(value["version"], length, digest)
+
+
+def read_key(value):
+    shape(type(value) is dict and set(value) == {"keytype", "keyval", "scheme"})
+    shape(value["keytype"] == "lms" and value["scheme"] == "lms-sha256")
+    shape(type(value["keyval"]) is dict and set(value["keyval"]) == {"public"})
+    public = value["keyval"]["public"]
+    shape(is_hex(public, 112))
+    return public
+
+
+def read_rule(value, keys):
+    shape(type(value) is dict)
+    keyids = value.get("keyids")
+    threshold = value.get("threshold")
+    shape(type(keyids) is list and 1 <= len(keyids) <= MAXIMUM_RULE_KEYS)
+    shape(all(type(keyid) is str for keyid in keyids) and len(set(keyids)) == len(keyids))
+    shape(all(keyid in keys for keyid in keyids))
+    shape(is_whole(threshold, 1, len(keyids)))
+    return Rule(keyids, threshold, keys)
+
+
+def read_root(document, signed):
+    """Section 4.3. A name in the key table that is not the key's id is judged after all members."""
+    shape(signed.get("consistent_snapshot") is True)
+    keys = signed.get("keys")
+    shape(type(keys) is dict and len(keys) <= MAXIMUM_KEYS)
+    document.keys = {keyid: read_key(key) for keyid, key in keys.items()}
+    roles = signed.get("roles")
+    shape(type(roles) is dict and set(roles) == TOP_LEVEL_ROLES)
+    document.rules = {role: read_rule(rule, document.keys) for role, rule in roles.items()}
+    deny_unless(all(keyid == key_id(public) for keyid, public in document.keys.items()), "BadKeyId")
+
+
+def read_timestamp(document, signed):
+    """Section 4.6."""
+    meta = signed.get("meta")
+    shape(type(meta) is dict and set(meta) == {"snapshot.json"})
+    document.snapshot = read_entry(meta["snapshot.json"])
+
+
+def read_snapshot(document, signed):
+    """Section 4.4."""
+    meta = signed.get("meta")
+    shape(type(meta) is dict and 1 <= len(meta) <= MAXIMUM_SNAPSHOT_ENTRIES and "targets.json" in meta)
+    document.roles = {}
+    for name, entry in meta.items():
+        role = name.removesuffix(".json")
+        shape(name.endswith(".json") and is_role_name(role) and role not in ("root", "timestamp", "snapshot"))
+        document.roles[role] = read_entry(entry)
+
+
+def read_targets(document, signed):
+    """Section 4.5. Delegations and layouts are not built, and a file with them is of the wrong shape."""
+    targets = signed.get("targets")
+    shape(type(targets) is dict)
+    document.listings = {}
+    for path, listing in targets.items():
+        shape(is_target_path(path) and type(listing) is dict and is_whole(listing.get("length"), 0, LARGEST_NUMBER))
+        digest = read_digest(listing.get("hashes"))
+        if "custom" in listing:
+            shape(type(listing["custom"]) is dict and "layout" not in listing["custom"])
+        document.listings[path] = (listing["length"], digest)
+    shape("delegations" not in signed)
+
+
+READERS = {"root": read_root, "timestamp": read_timestamp, "snapshot": read_snapshot, "targets": read_targets}
+
+
+def read_checked(kind, text):
+    """The checks in their order: length, canonical form, envelope, type, members, key table."""
+    deny_unless(len(text) <= MAXIMUM_LENGTH, "TooLong")
+    try:
+        envelope, spans = canonical_json.read(text)
+    except canonical_json.NotCanonical:
+        raise Denied("NotCanonical") from None
+    shape(type(envelope) is dict and set(envelope) == {"signatures", "signed"})
+    signed = envelope["signed"]
+    document = Document()
+    document.signatures = read_signatures(envelope["signatures"])
+    shape(type(signed) is dict and type(signed.get("_type")) is str)
+    deny_unless(signed["_type"] == kind, "WrongType")
+    specification = signed.get("spec_version")
+    shape(type(specification) is str and re.fullmatch(r"1\.0\.[0-9]{1,3}", specification) is not None)
+    shape(is_whole(signed.get("version"), 1, LARGEST_NUMBER))
+    document.version = signed["version"]
+    document.expires = moment_of(signed.get("expires"))
+    shape(document.expires is not None)
+    first, end = spans["signed"]
+    document.bytes = text
+    document.signed_bytes = text[first:end]
+    document.digest = hashlib.sha256(text).hexdigest()
+    READERS[kind](document, signed)
+    return document
+
+
+@lru_cache(maxsize=8192)
+def read_once(kind, text):
+    try:
+        return read_checked(kind, text)
+    except Denied as denied:
+        return denied.name
+
+
+def read_document(kind, text):
+    """The document that the bytes are, or the denial of the first check that fails."""
+    read = read_once(kind, text)
+    if isinstance(read, str):
+        raise Denied(read)
+    return read
+
+
+def is_document(kind, text):
+    return not isinstance(read_once(kind, text), str)
+
+
+@lru_cache(maxsize=65536)
+def verifies(public, signed_bytes, signature):
+    return lms.verify(bytes.fromhex(public), signed_bytes, signature)
+
+
+def meets(rule, document):
+    """Whether as many distinct public keys of the rule signed as its threshold asks for."""
+    keys = rule.public_keys()
+    signers = set()
+    for keyid, signature in document.signatures:
+        public = keys.get(keyid)
+        if public is not None and public not in signers and verifies(public, document.signed_bytes, signature):
+            signers.add(public)
+    return len(signers) >= rule.threshold
+
+
+def is_live(document, now):
+    """Before the moment at which it expires."""
+    return now < document.expires

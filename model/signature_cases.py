@@ -1,0 +1,138 @@
+"""LMS: the test keys beside `crates/verdicts/straight.py`, and odd signatures and keys before the program."""
+import importlib.util
+from pathlib import Path
+
+import canonical_json
+import documents
+import lms
+import signed_documents as make
+from documents import read_document
+from http_requests import post
+from program import World
+from repository import State
+from scenes import LIVE, NOW, SIMPLE_RULES, signed_document
+from test_keys import KEYS
+
+STRAIGHT = Path(__file__).resolve().parent.parent / "crates/verdicts/straight.py"
+
+
+def straight():
+    specification = importlib.util.spec_from_file_location("straight", STRAIGHT)
+    module = importlib.util.module_from_spec(specification)
+    specification.loader.exec_module(module)
+    return module
+
+
+def compare_keys(session, random):
+    """One key of each width, and the one of height 10: its signature and two verdicts by both."""
+    other = straight()
+    for key in (KEYS[5], KEYS[3], KEYS[0], KEYS[7], KEYS[11]):
+        label = f"key of width {key.width} and height {key.height}"
+        message = random.randbytes(20)
+        leaf = random.randrange(1 << key.height)
+        signature = key.sign_with(leaf, message)
+        made = other.signed(key.width, key.height, key.identifier, key.seed, leaf, message)
+        session.check(f"{label}: made", made, f"{key.public.hex()} {signature.hex()}")
+        session.check(f"{label}: id", other.key_id(key.public), key.id)
+        for text in (message, message + b"x"):
+            verdict = other.verdict(key.public, signature, text).split(" ")[0]
+            session.check(f"{label}: verdict", verdict == "valid", lms.verify(key.public, text, signature))
+
+
+def replaced(text, first, part):
+    return text[:first] + part + text[first + len(part):]
+
+
+def further_chains(key, message, signature):
+    """One step further along each of the last chains, which carry the checksum."""
+    leaf = lms.number_at(signature, 0)
+    randomizer = signature[8:40]
+    message_hash = lms.sha256(key.identifier, signature[:4], lms.MESSAGE, randomizer, message)
+    digits = lms.digits(message_hash, key.one_time_type)
+    for element in range(key.elements - 5, key.elements):
+        first = 40 + 32 * element
+        digit = digits[element]
+        if digit < (1 << key.width) - 1:
+            step = lms.chain(key.identifier, leaf, element, digit, digit + 1, signature[first:first + 32])
+            yield replaced(signature, first, step)
+
+
+def odd_signatures(random, key, message):
+    """Signatures of a message with each part changed, cut, or from another leaf. Some are good."""
+    good = key.sign(message)
+    leaves = 1 << key.height
+    for leaf in (0, 1, leaves - 2, leaves - 1):
+        yield f"leaf {leaf}", key.sign_with(leaf, message)
+    for leaf in (1, leaves, leaves + 1, 2**31, 2**32 - 1):
+        yield f"said to be of leaf {leaf}", replaced(key.sign_with(0, message), 0, lms.u32(leaf))
+    for code in (0, 1, 2, 3, 4, 5, 255):
+        yield f"one-time type {code}", replaced(good, 4, lms.u32(code))
+    path = 40 + 32 * key.elements
+    for code in (0, 4, 5, 6, 7, 9, 10):
+        yield f"tree type {code}", replaced(good, path, lms.u32(code))
+    edges = [0, 4, 7, 8, 39, 40, 71, 72, path - 65, path - 64, path - 33, path - 32, path - 1, path, path + 3, path + 4]
+    edges += [len(good) - 32, len(good) - 1]
+    for place in edges + [random.randrange(len(good)) for _ in range(25)]:
+        yield f"bit of byte {place}", replaced(good, place, bytes([good[place] ^ 1 << random.randrange(8)]))
+    lengths = [b"", good[:-1], good + b"\0", good[:-32], good + good[-32:], bytes(len(good)), bytes(9324)]
+    for signature in [*lengths, good * 2 if len(good) * 2 <= 9324 else good[:5]]:
+        yield f"{len(signature)} bytes", signature
+    yield "two elements exchanged", replaced(good, 40, good[72:104] + good[40:72])
+    for signature in further_chains(key, message, good):
+        yield "one step further", signature
+    for other in (message + b"x", b" " + message):
+        yield "another message", key.sign(other)
+
+
+def one_key_state(key_objects, timestamp_id, signers):
+    """A root whose timestamp rule names one key."""
+    root = make.root(1, LIVE, SIMPLE_RULES)
+    root["keys"].update(key_objects)
+    root["roles"]["timestamp"] = {"keyids": [timestamp_id], "threshold": 1}
+    state = State()
+    state.roots = [signed_document("root", root, signers)]
+    return state
+
+
+def compare_odd_signatures(session, random):
+    """Each as the one signature of a timestamp, with a root behind it that is refused, so that nothing is kept."""
+    timestamp = make.timestamp(5, LIVE, 1)
+    message = canonical_json.write(timestamp)
+    for key in (KEYS[5], KEYS[3], KEYS[0], KEYS[7], KEYS[11]):
+        state = one_key_state(make.key_table([key]), key.id, KEYS[0:1])
+        requests = []
+        for label, signature in odd_signatures(random, key, message):
+            text = make.signed_file(timestamp, [(key.id, signature.hex())])
+            label = f"width {key.width}, height {key.height}, {label}"
+            requests.append((label, post(("timestamp", text), ("root", b""))))
+        World(session, state).serve(NOW, requests)
+
+
+def compare_odd_keys(session, _random):
+    """Keys of types that there are not, or of other types than the signature's."""
+    key = KEYS[0]
+    timestamp = make.timestamp(5, LIVE, 1)
+    good = key.sign(canonical_json.write(timestamp))
+    for tree_type, one_time_type in ((5, 0), (5, 5), (4, 3), (10, 3), (0, 0), (6, 3), (5, 4), (9, 4), (7, 1)):
+        public = lms.u32(tree_type) + lms.u32(one_time_type) + key.public[8:]
+        keyid = documents.key_id(public.hex())
+        state = one_key_state({keyid: make.key_object(public.hex())}, keyid, KEYS[0:1])
+        requests = []
+        for signature in (good, replaced(good, 4, lms.u32(one_time_type)), b""):
+            text = make.signed_file(timestamp, [(keyid, signature.hex())])
+            requests.append((f"key of types {tree_type} and {one_time_type}", post(("timestamp", text), ("root", b""))))
+        World(session, state).serve(NOW, requests)
+
+
+def compare_sixteen_keys(session, _random):
+    """The largest rule, with as many signatures as a file may have."""
+    keys = [key for key in KEYS if key.width < 8][:16]
+    for threshold in (15, 16):
+        rules = {**SIMPLE_RULES, "timestamp": (keys, threshold)}
+        state = State()
+        state.roots = [read_document("root", make.signed_file(make.root(1, LIVE, rules), KEYS[0:1]))]
+        world = World(session, state)
+        for count in (14, 15, 16):
+            timestamp = ("timestamp", make.signed_file(make.timestamp(count, LIVE, 1), keys[:count]))
+            label = f"{count} of {threshold} signatures"
+            world.serve(NOW, [(label, post(timestamp)), (label, post(timestamp, ("snapshot", b"")))])

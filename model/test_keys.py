@@ -1,0 +1,85 @@
+"""LMS keys from fixed seeds (RFC 8554, section 5 and appendix A).
+
+They are for tests alone: a leaf signs again when all have signed. `crates/verdicts/straight.py` makes the whole tree
+for each signature. Here a key keeps its tree, since thousands of files are signed. The first group of `compare`
+compares the two.
+"""
+import hashlib
+
+import documents
+import lms
+from lms import sha256, u16, u32
+
+ONE_TIME_TYPE_OF_WIDTH = {1: 1, 2: 2, 4: 3, 8: 4}
+TREE_TYPE_OF_HEIGHT = {5: 5, 10: 6}
+SECRET = b"\xff"
+RANDOMIZER = 0xFFFD
+
+
+class Key:
+    def __init__(self, name, width, height):
+        self.width = width
+        self.height = height
+        self.identifier = sha256(b"identifier of ", name)[:16]
+        self.seed = sha256(b"seed of ", name)
+        self.one_time_type = ONE_TIME_TYPE_OF_WIDTH[width]
+        self.tree_type = TREE_TYPE_OF_HEIGHT[height]
+        self.elements = lms.ONE_TIME_TYPES[self.one_time_type][1]
+        self.tree = self.make_tree()
+        self.public = u32(self.tree_type) + u32(self.one_time_type) + self.identifier + self.tree[1]
+        self.id = documents.key_id(self.public.hex())
+        self.next_leaf = 0
+        self.signatures = {}
+
+    def private_element(self, leaf, element):
+        """Appendix A."""
+        return sha256(self.identifier, u32(leaf), u16(element), SECRET, self.seed)
+
+    def leaf_hash(self, leaf):
+        last = (1 << self.width) - 1
+        ends = []
+        for element in range(self.elements):
+            ends.append(lms.chain(self.identifier, leaf, element, 0, last, self.private_element(leaf, element)))
+        key = sha256(self.identifier, u32(leaf), lms.END_OF_CHAINS, *ends)
+        return sha256(self.identifier, u32((1 << self.height) + leaf), lms.LEAF, key)
+
+    def make_tree(self):
+        """All nodes by their number, the root as 1."""
+        leaves = 1 << self.height
+        tree = [None] * leaves + [self.leaf_hash(leaf) for leaf in range(leaves)]
+        for node in range(leaves - 1, 0, -1):
+            tree[node] = sha256(self.identifier, u32(node), lms.INNER_NODE, tree[2 * node], tree[2 * node + 1])
+        return tree
+
+    def sign_with(self, leaf, message):
+        randomizer = self.private_element(leaf, RANDOMIZER)
+        message_hash = sha256(self.identifier, u32(leaf), lms.MESSAGE, randomizer, message)
+        parts = [u32(leaf), u32(self.one_time_type), randomizer]
+        for element, digit in enumerate(lms.digits(message_hash, self.one_time_type)):
+            start = self.private_element(leaf, element)
+            parts.append(lms.chain(self.identifier, leaf, element, 0, digit, start))
+        parts.append(u32(self.tree_type))
+        node = (1 << self.height) + leaf
+        parts.extend(self.tree[(node >> level) ^ 1] for level in range(self.height))
+        return b"".join(parts)
+
+    def sign(self, message):
+        """One message has one signature; each new one takes the next leaf."""
+        name = hashlib.sha256(message).digest()
+        if name not in self.signatures:
+            self.signatures[name] = self.sign_with(self.next_leaf, message)
+            self.next_leaf = (self.next_leaf + 1) % (1 << self.height)
+        return self.signatures[name]
+
+
+def width_of(number):
+    """Most keys have W4; one has W8, one W1, and some W2."""
+    if number == 7:
+        return 8
+    if number == 5:
+        return 1
+    return 2 if number % 4 == 3 else 4
+
+
+KEYS = [Key(b"test key %d" % number, width_of(number), 10 if number == 11 else 5) for number in range(26)]
+KEY_OF_ID = {key.id: key for key in KEYS}
