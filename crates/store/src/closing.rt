@@ -31,7 +31,8 @@ fn close<D: Disk + Drop>(conn: Connection<FileStore<D>>) -> Files<D>
 
 /// Makes a command at a moment, as `Store::apply` does, and hands back the two files. Whatever a crash leaves of them, inside the
 /// call or after it, the next open finds the rows of the state before the command or of the state after it, and after a reply
-/// those of the state after it. A crash inside the call is one from which on each call of the disks fails.
+/// those of the state after it. A crash inside the call is one from which on each call of the disks fails. Nothing is said where the
+/// connection was shut and no reply is answered, nor where a wrong answer of the disks was taken as true.
 pub fn apply_and_close<D: Disk + Drop>(
     mut store: Store<FileStore<D>>,
     command: Command<'_>,
