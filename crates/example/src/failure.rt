@@ -1,6 +1,6 @@
 //! Why the example is not made.
 use canonical_json::WriteFault;
-use lms::SignFault;
+use signed_files::Fault;
 use std::alloc::{AllocError, AllocFailed};
 use std::io;
 use thiserror::Error;
@@ -12,11 +12,8 @@ pub enum Failure {
     Memory,
     #[error("a file cannot be written")]
     File,
-    /// A text has no spelling.
-    #[error("no canonical text")]
-    NotWritten,
-    /// A leaf is past the end of its tree.
-    #[error("no such leaf")]
+    /// A text has no spelling, or a leaf is past the end of its tree.
+    #[error("not signed")]
     NotSigned,
 }
 
@@ -36,16 +33,16 @@ impl From<WriteFault> for Failure {
     fn from(fault: WriteFault) -> Self {
         match fault {
             WriteFault::OutOfMemory => Failure::Memory,
-            WriteFault::TooDeep | WriteFault::Unordered => Failure::NotWritten,
+            WriteFault::TooDeep | WriteFault::Unordered => Failure::NotSigned,
         }
     }
 }
 
-impl From<SignFault> for Failure {
-    fn from(fault: SignFault) -> Self {
+impl From<Fault> for Failure {
+    fn from(fault: Fault) -> Self {
         match fault {
-            SignFault::OutOfMemory => Failure::Memory,
-            SignFault::LeafRange => Failure::NotSigned,
+            Fault::OutOfMemory => Failure::Memory,
+            _ => Failure::NotSigned,
         }
     }
 }

@@ -1,7 +1,11 @@
 //! The files of the example.
-use crate::documents::{Keys, Said, meta, root, targets};
 use crate::failure::Failure;
-use crate::signer::{Signer, signed_file};
+use canonical_json::write;
+use metadata::digest_of;
+use signed_files::{
+    Entry, Keys, Leaf, Listing, OtsType, Root, Rule, Value, meta_signed, root_signed, signed_file,
+    targets_signed,
+};
 use std::alloc::{AllocError, Global};
 
 /// A file of the example.
@@ -14,44 +18,28 @@ pub struct File {
 // A target file, which is not empty.
 const HELLO: &[u8] = b"Hello from a signed repository.\n";
 
+const EXPIRES: &str = "2100-01-01T00:00:00Z";
+
 // The keys by their test seeds: 1 to 4 for the four roles, and 5 for the next root.
-#[derive(Drop)]
-struct Signers {
-    root: Signer,
-    timestamp: Signer,
-    snapshot: Signer,
-    targets: Signer,
-    next: Signer,
-}
+const ROOT: u8 = 1;
 
-impl Signers {
-    fn new(alloc: Global) -> Result<Signers, AllocError> {
-        Ok(Signers {
-            root: Signer::new(alloc, 1)?,
-            timestamp: Signer::new(alloc, 2)?,
-            snapshot: Signer::new(alloc, 3)?,
-            targets: Signer::new(alloc, 4)?,
-            next: Signer::new(alloc, 5)?,
-        })
-    }
+const TIMESTAMP: u8 = 2;
 
-    // The keys of the roles, this one for the root.
-    fn keys<'a>(&'a self, root: &'a Signer) -> Keys<'a> {
-        Keys {
-            root,
-            timestamp: &self.timestamp,
-            snapshot: &self.snapshot,
-            targets: &self.targets,
-        }
-    }
-}
+const SNAPSHOT: u8 = 3;
+
+const TARGETS: u8 = 4;
+
+const NEXT: u8 = 5;
 
 /// All files: a repository of two targets, one of them empty, and three documents behind it that are refused together.
 pub fn files(alloc: Global) -> Result<Vec<File>, Failure> {
-    let signers = Signers::new(alloc)?;
+    let mut keys = Keys::new(alloc, OtsType::W4);
+    for seed in [ROOT, TIMESTAMP, SNAPSHOT, TARGETS, NEXT] {
+        keys.make(seed)?;
+    }
     let mut files = Vec::new(alloc);
-    put_repository(alloc, &signers, &mut files)?;
-    put_refused(alloc, &signers, &mut files)?;
+    put_repository(alloc, &keys, &mut files)?;
+    put_refused(alloc, &keys, &mut files)?;
     Ok(files)
 }
 
@@ -60,18 +48,98 @@ fn put(files: &mut Vec<File>, name: &'static str, bytes: Vec<u8>) -> Result<(), 
     Ok(())
 }
 
+// The file of a signed part, with the signatures of these leaves.
+fn signed_by(
+    alloc: Global,
+    keys: &Keys,
+    signed: Value,
+    leaves: &[Leaf],
+) -> Result<Vec<u8>, Failure> {
+    let mut text = Vec::new(alloc);
+    write(&signed, &mut text)?;
+    Ok(signed_file(alloc, keys, &text, leaves)?)
+}
+
+fn leaf(seed: u8, number: u32) -> Leaf {
+    Leaf { seed, number }
+}
+
+// The rule of one key.
+fn rule(alloc: Global, seed: u8) -> Result<Rule, AllocError> {
+    let mut seeds = Vec::new(alloc);
+    seeds.push(seed)?;
+    Ok(Rule {
+        seeds,
+        threshold: 1,
+    })
+}
+
+// Root metadata, with the key of this seed for the root.
+fn root(alloc: Global, keys: &Keys, version: u32, seed: u8) -> Result<Value, Failure> {
+    let said = Root {
+        version,
+        expires: EXPIRES,
+        root: &rule(alloc, seed)?,
+        timestamp: &rule(alloc, TIMESTAMP)?,
+        snapshot: &rule(alloc, SNAPSHOT)?,
+        targets: &rule(alloc, TARGETS)?,
+    };
+    Ok(root_signed(alloc, keys, &said)?)
+}
+
+// Timestamp or snapshot metadata, which says this of one other role.
+fn meta(
+    alloc: Global,
+    kind: &str,
+    version: u32,
+    role: &str,
+    entry: Entry,
+) -> Result<Value, Failure> {
+    let mut roles = Vec::new(alloc);
+    roles.push((String::from_str(alloc, role)?, entry))?;
+    Ok(meta_signed(alloc, kind, version, EXPIRES, &roles)?)
+}
+
+// A version alone.
+fn version_alone(version: u32) -> Entry {
+    Entry {
+        version,
+        length: None,
+        digest: None,
+    }
+}
+
+// Version 1, with the length and the hash of the file.
+fn first_of(bytes: &[u8]) -> Entry {
+    Entry {
+        version: 1,
+        length: u32::try_from(bytes.len()).ok(),
+        digest: Some(digest_of(bytes)),
+    }
+}
+
+// Targets metadata that lists the two target files.
+fn targets(alloc: Global) -> Result<Value, Failure> {
+    let mut listings = Vec::new(alloc);
+    for (name, bytes) in [("empty.txt", b"".as_slice()), ("hello.txt", HELLO)] {
+        let listing = Listing {
+            length: u32::try_from(bytes.len()).unwrap_or(0),
+            digest: digest_of(bytes),
+        };
+        listings.push((String::from_str(alloc, name)?, listing))?;
+    }
+    Ok(targets_signed(alloc, 1, EXPIRES, &listings)?)
+}
+
 // Leaf 0 of each key signs the document of its role.
-fn put_repository(alloc: Global, signers: &Signers, files: &mut Vec<File>) -> Result<(), Failure> {
-    let signed = root(alloc, 1, &signers.keys(&signers.root))?;
-    let root = signed_file(alloc, signed, &[(&signers.root, 0)])?;
-    let signed = targets(alloc, 1, &[("empty.txt", b""), ("hello.txt", HELLO)])?;
-    let targets = signed_file(alloc, signed, &[(&signers.targets, 0)])?;
-    let said = Said::Whole(1, &targets);
-    let signed = meta(alloc, "snapshot", 1, "targets.json", &said)?;
-    let snapshot = signed_file(alloc, signed, &[(&signers.snapshot, 0)])?;
-    let said = Said::Whole(1, &snapshot);
-    let signed = meta(alloc, "timestamp", 1, "snapshot.json", &said)?;
-    let timestamp = signed_file(alloc, signed, &[(&signers.timestamp, 0)])?;
+fn put_repository(alloc: Global, keys: &Keys, files: &mut Vec<File>) -> Result<(), Failure> {
+    let signed = root(alloc, keys, 1, ROOT)?;
+    let root = signed_by(alloc, keys, signed, &[leaf(ROOT, 0)])?;
+    let targets = signed_by(alloc, keys, targets(alloc)?, &[leaf(TARGETS, 0)])?;
+    let signed = meta(alloc, "snapshot", 1, "targets", first_of(&targets))?;
+    let snapshot = signed_by(alloc, keys, signed, &[leaf(SNAPSHOT, 0)])?;
+    let signed = meta(alloc, "timestamp", 1, "snapshot", first_of(&snapshot))?;
+    let timestamp = signed_by(alloc, keys, signed, &[leaf(TIMESTAMP, 0)])?;
     put(files, "root.json", root)?;
     put(files, "timestamp.json", timestamp)?;
     put(files, "snapshot.json", snapshot)?;
@@ -83,13 +151,13 @@ fn put_repository(alloc: Global, signers: &Signers, files: &mut Vec<File>) -> Re
 
 // A root of version 2 for another key, a timestamp that names version 3 of the snapshot alone, and a snapshot of version 2.
 // Each is well signed.
-fn put_refused(alloc: Global, signers: &Signers, files: &mut Vec<File>) -> Result<(), Failure> {
-    let signed = root(alloc, 2, &signers.keys(&signers.next))?;
-    let root = signed_file(alloc, signed, &[(&signers.root, 1), (&signers.next, 0)])?;
-    let signed = meta(alloc, "timestamp", 2, "snapshot.json", &Said::Version(3))?;
-    let timestamp = signed_file(alloc, signed, &[(&signers.timestamp, 1)])?;
-    let signed = meta(alloc, "snapshot", 2, "targets.json", &Said::Version(1))?;
-    let snapshot = signed_file(alloc, signed, &[(&signers.snapshot, 1)])?;
+fn put_refused(alloc: Global, keys: &Keys, files: &mut Vec<File>) -> Result<(), Failure> {
+    let signed = root(alloc, keys, 2, NEXT)?;
+    let root = signed_by(alloc, keys, signed, &[leaf(ROOT, 1), leaf(NEXT, 0)])?;
+    let signed = meta(alloc, "timestamp", 2, "snapshot", version_alone(3))?;
+    let timestamp = signed_by(alloc, keys, signed, &[leaf(TIMESTAMP, 1)])?;
+    let signed = meta(alloc, "snapshot", 2, "targets", version_alone(1))?;
+    let snapshot = signed_by(alloc, keys, signed, &[leaf(SNAPSHOT, 1)])?;
     put(files, "refused/root.json", root)?;
     put(files, "refused/timestamp.json", timestamp)?;
     put(files, "refused/snapshot.json", snapshot)?;

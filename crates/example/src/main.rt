@@ -3,13 +3,8 @@
 //! `example` prints the SHA-256 and the name of each file. `example FOLDER` writes the files into the folder, too.
 #![tactic(auto)]
 
-mod documents;
 mod failure;
 mod files;
-mod signer;
-#[cfg(test)]
-mod tests;
-mod values;
 
 use failure::Failure;
 use files::{File, files};

@@ -12,8 +12,6 @@ mod draft;
 mod effects;
 mod files;
 mod getting;
-#[cfg(test)]
-mod kept_tests;
 mod laws;
 mod loading;
 mod names;
@@ -24,8 +22,6 @@ mod refusal;
 mod shelving;
 mod state;
 mod taking;
-#[cfg(test)]
-mod tests;
 mod updating;
 
 pub use batches::batch;

@@ -146,3 +146,12 @@ impl From<BatchRefusal> for Failure {
         }
     }
 }
+
+impl From<signed_files::Fault> for Failure {
+    fn from(fault: signed_files::Fault) -> Self {
+        match fault {
+            signed_files::Fault::OutOfMemory => Failure::Memory,
+            _ => Failure::NoDocument,
+        }
+    }
+}

@@ -107,7 +107,7 @@ fn state_of(
 
 // Trusts the root.
 fn begin(alloc: Global, state: &mut State, files: &Repository) -> Result<(), Failure> {
-    match init(alloc, state, files.root.as_bytes()) {
+    match init(alloc, state, &files.root) {
         Ok(Outcome::Changed(effects)) => {
             if state.room(&effects).is_err() {
                 return Err(Failure::Memory);
@@ -128,9 +128,9 @@ fn renew(
     moment: Moment,
 ) -> Result<(), Failure> {
     let documents = [
-        (Offer::Timestamp, files.timestamp.as_bytes()),
-        (Offer::Snapshot, files.snapshot.as_bytes()),
-        (Offer::Targets(top_role(alloc)?), files.targets.as_bytes()),
+        (Offer::Timestamp, &files.timestamp),
+        (Offer::Snapshot, &files.snapshot),
+        (Offer::Targets(top_role(alloc)?), &files.targets),
     ];
     match batch(alloc, state, &documents, moment) {
         Ok(done) => {
@@ -182,12 +182,12 @@ struct Documents {
 
 fn documents_of(alloc: Global, files: &Repository) -> Result<Documents, Failure> {
     Ok(Documents {
-        root: read_root_file(alloc, files.root.as_bytes())?,
-        snapshot: read_snapshot_file(alloc, files.snapshot.as_bytes())?,
+        root: read_root_file(alloc, &files.root)?,
+        snapshot: read_snapshot_file(alloc, &files.snapshot)?,
         row: [Row {
             role: top_role(alloc)?,
             version: 1,
-            file: read_targets_file(alloc, files.targets.as_bytes())?,
+            file: read_targets_file(alloc, &files.targets)?,
         }],
     })
 }

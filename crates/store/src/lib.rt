@@ -12,5 +12,3 @@ pub use command::{Command, Fault, Reply};
 pub use opening::Unopened;
 pub use store::Store;
 
-#[cfg(test)]
-mod tests;

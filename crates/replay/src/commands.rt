@@ -1,0 +1,206 @@
+//! Commands over the store, each answered by one line.
+use crate::descriptions::Kind;
+use crate::escapes::with_literals;
+use crate::failure::LineFault;
+use crate::files::find;
+use crate::replies::{fault_text, reply_text, row_text, told};
+use crate::session::Session;
+use crate::words::{byte_of, digest_word};
+use machine::Offer;
+use path_patterns::RoleName;
+use std::alloc::Global;
+use store::{Command, Fault, Reply};
+
+/// What a document is offered as: `root`, `timestamp`, `snapshot`, or the name of another role.
+fn offer_of(alloc: Global, role: &str) -> Result<Offer, LineFault> {
+    Ok(match role {
+        "root" => Offer::Root,
+        "timestamp" => Offer::Timestamp,
+        "snapshot" => Offer::Snapshot,
+        _ => match RoleName::read(alloc, role)? {
+            Some(role) => Offer::Targets(role),
+            None => return Err(LineFault::NotUnderstood),
+        },
+    })
+}
+
+// The kind of the documents of a role.
+fn kind_of(role: &str) -> Kind {
+    Kind::named(role).unwrap_or(Kind::Targets)
+}
+
+impl Session {
+    /// Makes a command. Where memory was refused, the rows have to be as before, and it is made once more.
+    pub fn ask(&mut self, command: Command<'_>) -> Result<String, LineFault> {
+        let mut result = self.base.apply(command, self.now);
+        if matches!(result, Err(Fault::OutOfMemory)) {
+            self.refusals = self.refusals.saturating_add(1);
+            if !self.has_rows_of_before()? {
+                return Ok(told(self.alloc, "rows are changed by a refusal")?);
+            }
+            result = self.base.apply(command, self.now);
+        }
+        self.rows = None;
+        Ok(reply_text(self.alloc, &self.files, result)?)
+    }
+
+    /// Whether the rows are those that were looked at before, where they were.
+    pub fn has_rows_of_before(&mut self) -> Result<bool, LineFault> {
+        let Some(before) = &self.rows else {
+            return Ok(true);
+        };
+        match self.base.rows(self.alloc) {
+            Ok(rows) => Ok(rows.as_slice() == before.as_slice()),
+            Err(_) => Ok(false),
+        }
+    }
+
+    /// `init DOCUMENT`.
+    pub fn init(&mut self, text: &str) -> Result<String, LineFault> {
+        let bytes = self.document(Kind::Root, text)?;
+        self.ask(Command::Init(&bytes))
+    }
+
+    /// `offer ROLE DOCUMENT`.
+    pub fn offer(&mut self, text: &str) -> Result<String, LineFault> {
+        let (role, text) = text.split_once(' ').unwrap_or((text, ""));
+        let bytes = self.document(kind_of(role), text)?;
+        let offer = offer_of(self.alloc, role)?;
+        self.ask(Command::Offer(&offer, &bytes))
+    }
+
+    /// `batch ROLE:NAME ..`.
+    pub fn batch(&mut self, text: &str) -> Result<String, LineFault> {
+        let mut offers = Vec::new(self.alloc);
+        let mut files = Vec::new(self.alloc);
+        for word in text.split_whitespace() {
+            let Some((role, name)) = word.split_once(':') else {
+                return Err(LineFault::NotUnderstood);
+            };
+            offers.push(offer_of(self.alloc, role)?)?;
+            files.push(find(&self.files, name)?.bytes.clone()?)?;
+        }
+        let mut documents = Vec::new(self.alloc);
+        for (offer, file) in offers.into_iter().zip(files.iter()) {
+            documents.push((offer, file.as_slice()))?;
+        }
+        self.ask(Command::Batch(&documents))
+    }
+
+    /// `put DIGEST NAME`.
+    pub fn put(&mut self, text: &str) -> Result<String, LineFault> {
+        let Some((digest, name)) = text.split_once(' ') else {
+            return Err(LineFault::NotUnderstood);
+        };
+        let digest = digest_word(&self.files, digest)?;
+        let bytes = find(&self.files, name)?.bytes.clone()?;
+        self.ask(Command::PutBlob(digest, &bytes))
+    }
+
+    /// `get PATH [DIGEST]`.
+    pub fn get(&mut self, text: &str) -> Result<String, LineFault> {
+        match text.split_once(' ') {
+            Some((path, digest)) => {
+                let digest = digest_word(&self.files, digest)?;
+                self.ask(Command::Target(path, Some(digest)))
+            }
+            None => self.ask(Command::Target(text, None)),
+        }
+    }
+
+    /// `metadata NAME`.
+    pub fn metadata(&mut self, text: &str) -> Result<String, LineFault> {
+        self.ask(Command::Metadata(text))
+    }
+
+    /// `update`: the trusted root's version, and the snapshot version that is due.
+    pub fn update(&mut self) -> Result<String, LineFault> {
+        let alloc = self.alloc;
+        let Some(store) = self.base.store() else {
+            return Ok(told(alloc, "shut")?);
+        };
+        let mut text = match store.root_version() {
+            Some(version) => format!(in alloc; "root {version}")?,
+            None => told(alloc, "no root")?,
+        };
+        if let Some(version) = store.snapshot_due() {
+            let due = format!(in alloc; " snapshot {version} is due")?;
+            text.push_str(due.as_str())?;
+        }
+        Ok(text)
+    }
+
+    /// `equal NAME NAME`: whether two files have the same bytes.
+    pub fn equal(&self, text: &str) -> Result<String, LineFault> {
+        let Some((first, second)) = text.split_once(' ') else {
+            return Err(LineFault::NotUnderstood);
+        };
+        let is_same = find(&self.files, first)?.bytes == find(&self.files, second)?.bytes;
+        Ok(told(self.alloc, if is_same { "equal" } else { "different" })?)
+    }
+
+    /// `key SEED`: the id of the seed's key, and the key.
+    pub fn key(&mut self, text: &str) -> Result<String, LineFault> {
+        let seed = byte_of(text)?;
+        self.keys.make(seed)?;
+        let id = self.keys.id(seed)?;
+        let public = self.keys.public(seed)?;
+        Ok(format!(in self.alloc; "{id} {public}")?)
+    }
+
+    /// `case NAME`: a new database, and an empty store over it.
+    pub fn begin_case(&mut self, line: &str) -> Result<String, LineFault> {
+        self.base.begin(self.alloc);
+        self.rows = None;
+        match self.opened() {
+            Ok(()) => Ok(told(self.alloc, line)?),
+            Err(fault) => Ok(told(self.alloc, fault_text(fault))?),
+        }
+    }
+
+    // Opens a store, and once more where memory was refused.
+    fn opened(&mut self) -> Result<(), Fault> {
+        match self.base.open(self.alloc) {
+            Err(Fault::OutOfMemory) => {
+                self.refusals = self.refusals.saturating_add(1);
+                self.base.open(self.alloc)
+            }
+            result => result,
+        }
+    }
+
+    /// `reopen`: opens a store over what the tables hold now.
+    pub fn reopen(&mut self) -> Result<String, LineFault> {
+        let text = match self.opened() {
+            Ok(()) => "opened",
+            Err(fault) => fault_text(fault),
+        };
+        Ok(told(self.alloc, text)?)
+    }
+
+    /// `sql TEXT`: changes the tables behind the store's back.
+    pub fn execute(&mut self, text: &str) -> Result<String, LineFault> {
+        let text = with_literals(self.alloc, &self.files, text)?;
+        self.rows = None;
+        let done = self.base.execute(text.as_str());
+        Ok(told(self.alloc, if done.is_ok() { "done" } else { "failed" })?)
+    }
+
+    /// `rows`: a line for each row of the five tables.
+    pub fn look(&mut self) -> Result<String, LineFault> {
+        let mut rows = self.base.rows(self.alloc);
+        if rows.is_err() {
+            rows = self.base.rows(self.alloc);
+        }
+        let Ok(rows) = rows else {
+            return Ok(told(self.alloc, "no rows")?);
+        };
+        let mut text = told(self.alloc, "rows")?;
+        for line in &rows {
+            text.push_str("\n  ")?;
+            text.push_str(row_text(self.alloc, &self.files, line.as_str())?.as_str())?;
+        }
+        self.rows = Some(rows);
+        Ok(text)
+    }
+}

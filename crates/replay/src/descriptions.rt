@@ -1,0 +1,278 @@
+//! Documents that a line describes: a kind, a version, what differs from the documents of the usual repository, and who signs.
+//!
+//! The usual repository has the key of seed 1 and 2 for its root (both sign), 3 for the timestamp, 4 for the snapshot, 5 for targets;
+//! its documents expire in 2031, its timestamp names version 1 of the snapshot, and its snapshot version 1 of `targets`.
+use crate::failure::LineFault;
+use crate::files::{File, find};
+use crate::words::{entry_of, leaf_of, listing_of, number_of, rule_of};
+use canonical_json::write;
+use signed_files::{
+    Entry, Keys, Leaf, Listing, Root, Rule, Value, meta_signed, root_signed, signed_file,
+    targets_signed,
+};
+use std::alloc::Global;
+
+/// A kind of documents.
+#[derive(Debug, Clone, Copy, PartialEq, Eq)]
+pub enum Kind {
+    Root,
+    Timestamp,
+    Snapshot,
+    Targets,
+}
+
+impl Kind {
+    /// The kind that a word names.
+    pub fn named(word: &str) -> Option<Kind> {
+        match word {
+            "root" => Some(Kind::Root),
+            "timestamp" => Some(Kind::Timestamp),
+            "snapshot" => Some(Kind::Snapshot),
+            "targets" => Some(Kind::Targets),
+            _ => None,
+        }
+    }
+}
+
+// The rules of a root.
+#[derive(Drop)]
+struct Rules {
+    root: Rule,
+    timestamp: Rule,
+    snapshot: Rule,
+    targets: Rule,
+}
+
+// What a line says so far.
+#[derive(Drop)]
+struct Description {
+    alloc: Global,
+    kind: Kind,
+    version: u32,
+    expires: String,
+    rules: Rules,
+    entries: Vec<(String, Entry)>,
+    listings: Vec<(String, Listing)>,
+    leaves: Vec<Leaf>,
+}
+
+fn usual_rules(alloc: Global) -> Result<Rules, LineFault> {
+    Ok(Rules {
+        root: rule_of(alloc, "1,2:2")?,
+        timestamp: rule_of(alloc, "3")?,
+        snapshot: rule_of(alloc, "4")?,
+        targets: rule_of(alloc, "5")?,
+    })
+}
+
+impl Description {
+    // The usual document of a kind.
+    fn usual(alloc: Global, kind: Kind) -> Result<Description, LineFault> {
+        let mut entries = Vec::new(alloc);
+        let named = match kind {
+            Kind::Timestamp => "snapshot",
+            _ => "targets",
+        };
+        let entry = Entry {
+            version: 1,
+            length: None,
+            digest: None,
+        };
+        entries.push((String::from_str(alloc, named)?, entry))?;
+        Ok(Description {
+            alloc,
+            kind,
+            version: 1,
+            expires: String::from_str(alloc, "2031-01-01T00:00:00Z")?,
+            rules: usual_rules(alloc)?,
+            entries,
+            listings: Vec::new(alloc),
+            leaves: Vec::new(alloc),
+        })
+    }
+
+    // Takes one more word.
+    fn take(&mut self, files: &[File], now: &str, word: &str) -> Result<(), LineFault> {
+        let Some((name, value)) = word.split_once('=') else {
+            self.version = number_of(word)?;
+            return Ok(());
+        };
+        if name == "expires" {
+            let text = if value == "now" { now } else { value };
+            self.expires = String::from_str(self.alloc, text)?;
+            return Ok(());
+        }
+        match self.kind {
+            Kind::Root => self.take_rule(name, value),
+            Kind::Timestamp | Kind::Snapshot => self.take_entry(files, name, value),
+            Kind::Targets => self.take_listing(files, name, value),
+        }
+    }
+
+    fn take_rule(&mut self, name: &str, value: &str) -> Result<(), LineFault> {
+        let rule = rule_of(self.alloc, value)?;
+        match Kind::named(name) {
+            Some(Kind::Root) => self.rules.root = rule,
+            Some(Kind::Timestamp) => self.rules.timestamp = rule,
+            Some(Kind::Snapshot) => self.rules.snapshot = rule,
+            Some(Kind::Targets) => self.rules.targets = rule,
+            None => return Err(LineFault::NotUnderstood),
+        }
+        Ok(())
+    }
+
+    // A dash takes the entry away.
+    fn take_entry(&mut self, files: &[File], name: &str, value: &str) -> Result<(), LineFault> {
+        self.entries.retain(|held| held.0.as_str() != name);
+        if value != "-" {
+            let entry = entry_of(files, value)?;
+            self.entries
+                .push((String::from_str(self.alloc, name)?, entry))?;
+        }
+        Ok(())
+    }
+
+    fn take_listing(&mut self, files: &[File], name: &str, value: &str) -> Result<(), LineFault> {
+        self.listings.retain(|held| held.0.as_str() != name);
+        if value != "-" {
+            let listing = listing_of(files, value)?;
+            self.listings
+                .push((String::from_str(self.alloc, name)?, listing))?;
+        }
+        Ok(())
+    }
+
+    // Makes the keys that the document names and that sign it.
+    fn make_keys(&self, keys: &mut Keys) -> Result<(), LineFault> {
+        if self.kind == Kind::Root {
+            for rule in [
+                &self.rules.root,
+                &self.rules.timestamp,
+                &self.rules.snapshot,
+                &self.rules.targets,
+            ] {
+                for seed in &rule.seeds {
+                    keys.make(*seed)?;
+                }
+            }
+        }
+        make_signers(keys, &self.leaves)
+    }
+
+    // The signed part.
+    fn signed(&self, keys: &Keys) -> Result<Value, LineFault> {
+        let expires = self.expires.as_str();
+        Ok(match self.kind {
+            Kind::Root => root_signed(
+                self.alloc,
+                keys,
+                &Root {
+                    version: self.version,
+                    expires,
+                    root: &self.rules.root,
+                    timestamp: &self.rules.timestamp,
+                    snapshot: &self.rules.snapshot,
+                    targets: &self.rules.targets,
+                },
+            )?,
+            Kind::Timestamp => meta_signed(
+                self.alloc,
+                "timestamp",
+                self.version,
+                expires,
+                &self.entries,
+            )?,
+            Kind::Snapshot => {
+                meta_signed(self.alloc, "snapshot", self.version, expires, &self.entries)?
+            }
+            Kind::Targets => targets_signed(self.alloc, self.version, expires, &self.listings)?,
+        })
+    }
+}
+
+fn make_signers(keys: &mut Keys, leaves: &[Leaf]) -> Result<(), LineFault> {
+    for leaf in leaves {
+        keys.make(leaf.seed)?;
+    }
+    Ok(())
+}
+
+/// The leaves that stand behind `by`.
+pub fn leaves_of(alloc: Global, words: &str) -> Result<Vec<Leaf>, LineFault> {
+    let mut leaves = Vec::new(alloc);
+    for word in words.split_whitespace() {
+        leaves.push(leaf_of(word)?)?;
+    }
+    Ok(leaves)
+}
+
+/// The file of a signed part that is handed in, with these signatures.
+pub fn signed_by(
+    alloc: Global,
+    keys: &mut Keys,
+    signed: &[u8],
+    leaves: &[Leaf],
+) -> Result<Vec<u8>, LineFault> {
+    make_signers(keys, leaves)?;
+    Ok(signed_file(alloc, keys, signed, leaves)?)
+}
+
+// The words of a description, with those of the file that it is like put before them.
+fn whole_words(alloc: Global, files: &[File], words: &str) -> Result<String, LineFault> {
+    let Some(others) = words.strip_prefix("like ") else {
+        return Ok(String::from_str(alloc, words)?);
+    };
+    let (name, rest) = others.split_once(' ').unwrap_or((others, ""));
+    let mut whole = find(files, name)?.words.clone()?;
+    whole.push_str(" ")?;
+    whole.push_str(rest)?;
+    Ok(whole)
+}
+
+// What the words say. Where the first is no kind, it is the usual one.
+fn description_of(
+    alloc: Global,
+    files: &[File],
+    now: &str,
+    usual: Kind,
+    words: &str,
+) -> Result<Description, LineFault> {
+    let (kind, rest) = match words.split_once(' ') {
+        Some((first, rest)) => match Kind::named(first) {
+            Some(kind) => (kind, rest),
+            None => (usual, words),
+        },
+        None => (usual, words),
+    };
+    let mut description = Description::usual(alloc, kind)?;
+    for word in rest.split_whitespace() {
+        description.take(files, now, word)?;
+    }
+    Ok(description)
+}
+
+/// A document that words describe: `[like NAME] [KIND] [VERSION] [WORD=VALUE ..] [by SEED/LEAF ..]`, with the words that a later
+/// description can be like.
+pub fn described(
+    alloc: Global,
+    keys: &mut Keys,
+    files: &[File],
+    now: &str,
+    usual: Kind,
+    text: &str,
+) -> Result<(String, Vec<u8>), LineFault> {
+    let (words, leaves) = match text.split_once(" by") {
+        Some((words, leaves)) => (words, leaves),
+        None => (text, ""),
+    };
+    let words = whole_words(alloc, files, words)?;
+    let mut description = description_of(alloc, files, now, usual, words.as_str())?;
+    description.leaves = leaves_of(alloc, leaves)?;
+    description.make_keys(keys)?;
+    let mut signed = Vec::new(alloc);
+    if write(&description.signed(keys)?, &mut signed).is_err() {
+        return Err(LineFault::NotUnderstood);
+    }
+    let bytes = signed_file(alloc, keys, &signed, &description.leaves)?;
+    Ok((words, bytes))
+}

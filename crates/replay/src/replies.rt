@@ -1,0 +1,123 @@
+//! Replies as text.
+ghost use Rattle.std.specs.Prelude.{◌≤◌, length};
+
+use crate::escapes::push_escaped;
+use crate::files::{File, name_of};
+use machine::Denial;
+use metadata::digest_of;
+use std::alloc::{AllocError, Global};
+use std::fmt::Write;
+use store::{Fault, Reply};
+
+/// A fixed text.
+pub fn told(alloc: Global, text: &str) -> Result<String, AllocError> {
+    String::from_str(alloc, text)
+}
+
+/// A fault of the store.
+pub fn fault_text(fault: Fault) -> &'static str {
+    match fault {
+        Fault::Damaged => "damaged",
+        Fault::Database => "database",
+        Fault::OutOfMemory => "memory",
+    }
+}
+
+/// A reply of the store, or its fault.
+pub fn reply_text(
+    alloc: Global,
+    files: &[File],
+    answer: Result<Reply, Fault>,
+) -> Result<String, AllocError> {
+    match answer {
+        Ok(reply) => done_text(alloc, files, reply),
+        Err(fault) => told(alloc, fault_text(fault)),
+    }
+}
+
+fn done_text(alloc: Global, files: &[File], reply: Reply) -> Result<String, AllocError> {
+    match reply {
+        Reply::Begun => told(alloc, "begun"),
+        Reply::Batch { accepted, same } => format!(in alloc; "accepted {accepted} same {same}"),
+        Reply::Offered { same } => told(alloc, if same { "same" } else { "taken" }),
+        Reply::Stored(new) => told(alloc, if new { "stored" } else { "held" }),
+        Reply::Bytes(bytes) => bytes_text(alloc, files, &bytes),
+        Reply::Absent => told(alloc, "absent"),
+        Reply::Denied(denial, index) => denial_text(alloc, &denial, index),
+    }
+}
+
+/// Bytes: the name of the file that has them, or else their number and their digest.
+pub fn bytes_text(alloc: Global, files: &[File], bytes: &[u8]) -> Result<String, AllocError> {
+    if let Some(name) = name_of(files, bytes) {
+        return format!(in alloc; "file {name}");
+    }
+    let digits = digest_of(bytes).text(alloc)?;
+    let length = bytes.len();
+    format!(in alloc; "{length} bytes {digits}")
+}
+
+// A denial with its number and its name, what it says is missing, and the index of the document.
+fn denial_text(alloc: Global, denial: &Denial, index: Option<usize>) -> Result<String, AllocError> {
+    let number = denial.number();
+    let name = denial.name();
+    let mut text = format!(in alloc; "denied {number} {name}")?;
+    match denial {
+        Denial::RoleMissing { role, version } => write!(text, " {role} {version}")?,
+        Denial::BlobMissing {
+            path,
+            digest,
+            length,
+        } => {
+            let path = path.as_str();
+            let digits = digest.text(alloc)?;
+            write!(text, " {path} {digits} {length}")?;
+        }
+        _ => {}
+    }
+    if let Some(index) = index {
+        write!(text, " at {index}")?;
+    }
+    Ok(text)
+}
+
+/// A line of a row: its table and its key, and its bytes as the name of their file, or else their number and their digest.
+pub fn row_text(alloc: Global, files: &[File], line: &str) -> Result<String, AllocError> {
+    let Some((head, digits)) = line.rsplit_once(' ') else {
+        return told(alloc, line);
+    };
+    if digits.is_empty() {
+        return told(alloc, head);
+    }
+    let Ok(bytes) = hex::decode(alloc, digits) else {
+        return told(alloc, line);
+    };
+    let bytes = bytes_text(alloc, files, &bytes)?;
+    format!(in alloc; "{head} {bytes}")
+}
+
+// Where the body of a response begins.
+fn body_of(response: &[u8]) -> usize
+    ensures { result ≤ length response.now }
+{
+    let mut at = 0usize;
+    for window in response.windows(4) {
+        at = at.saturating_add(1);
+        if window == b"\r\n\r\n".as_slice() {
+            return at.saturating_add(3).min(response.len());
+        }
+    }
+    response.len()
+}
+
+/// A response in escapes. A body that is a file of more than 64 bytes is told by its name, `{NAME}`.
+pub fn response_text(alloc: Global, files: &[File], response: &[u8]) -> Result<String, AllocError> {
+    let mut text = String::new(alloc);
+    let (head, body) = response.split_at(body_of(response));
+    push_escaped(&mut text, head)?;
+    match name_of(files, body) {
+        Some(name) if body.len() > 64 => write!(text, "{{{name}}}")?,
+        _ => push_escaped(&mut text, body)?,
+    }
+    Ok(text)
+}

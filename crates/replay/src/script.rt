@@ -1,0 +1,156 @@
+//! A script, line by line.
+use crate::failure::{Failure, LineFault};
+use crate::replies::told;
+use crate::session::Session;
+use crate::words::number_of;
+use std::alloc::Global;
+use std::io::{BufRead, Write};
+
+// Steps that are being kept.
+type Kept = Option<(String, Vec<String>)>;
+
+/// Answers each line of the script, up to one that is not understood, and says how often memory was refused in what it did.
+pub fn replay<R: BufRead, W: Write>(
+    alloc: Global,
+    input: &mut R,
+    output: &mut W,
+) -> Result<u64, Failure> {
+    let mut session = match Session::new(alloc) {
+        Ok(session) => session,
+        Err(fault) => return Err(failure_of(fault, 0)),
+    };
+    let answered = replay_lines(&mut session, input, output);
+    output.flush()?;
+    answered?;
+    Ok(session.refusals)
+}
+
+fn failure_of(fault: LineFault, line: u64) -> Failure {
+    match fault {
+        LineFault::NotUnderstood => Failure::NotUnderstood(line),
+        LineFault::OutOfMemory => Failure::Memory,
+    }
+}
+
+fn replay_lines<R: BufRead, W: Write>(
+    session: &mut Session,
+    input: &mut R,
+    output: &mut W,
+) -> Result<(), Failure> {
+    let mut kept = None;
+    let mut line = Vec::new(session.alloc);
+    for number in 1..u64::MAX {
+        line.clear();
+        if input.read_until(b'\n', &mut line)? == 0 {
+            return Ok(());
+        }
+        let Ok(text) = str::from_utf8(line.strip_suffix(b"\n").unwrap_or(&line)) else {
+            return Err(Failure::NotUnderstood(number));
+        };
+        match answer(session, &mut kept, text) {
+            Ok(reply) if reply.is_empty() => {}
+            Ok(reply) => writeln!(output, "{reply}")?,
+            Err(fault) => return Err(failure_of(fault, number)),
+        }
+    }
+    Err(Failure::Stream)
+}
+
+// What a line is answered; nothing where it only sets something.
+fn answer(session: &mut Session, kept: &mut Kept, line: &str) -> Result<String, LineFault> {
+    let nothing = String::new(session.alloc);
+    if line.is_empty() || line.starts_with("#") {
+        return Ok(nothing);
+    }
+    if let Some((name, mut lines)) = kept.take() {
+        if line == "end" {
+            session.keep_steps(name, lines)?;
+        } else {
+            lines.push(String::from_str(session.alloc, line.trim_start())?)?;
+            *kept = Some((name, lines));
+        }
+        return Ok(nothing);
+    }
+    let (word, rest) = line.split_once(' ').unwrap_or((line, ""));
+    match word {
+        "steps" => {
+            *kept = Some((
+                String::from_str(session.alloc, rest)?,
+                Vec::new(session.alloc),
+            ));
+            Ok(nothing)
+        }
+        "begin" => replayed(session, rest),
+        "repeat" => repeated(session, rest),
+        _ => answer_line(session, line),
+    }
+}
+
+// The lines that are kept under a name.
+fn lines_of(session: &Session, name: &str) -> Result<Vec<String>, LineFault> {
+    for steps in &session.steps {
+        if steps.name.as_str() == name {
+            return Ok(steps.lines.clone()?);
+        }
+    }
+    Err(LineFault::NotUnderstood)
+}
+
+// `begin NAME`: the replies of the lines that are kept under the name, in one line.
+fn replayed(session: &mut Session, name: &str) -> Result<String, LineFault> {
+    let lines = lines_of(session, name)?;
+    let mut text = String::new(session.alloc);
+    for line in &lines {
+        let reply = answer_line(session, line.as_str())?;
+        if !text.is_empty() && !reply.is_empty() {
+            text.push_str(", ")?;
+        }
+        text.push_str(reply.as_str())?;
+    }
+    Ok(text)
+}
+
+// `repeat N NAME`: the same N times, and whether all of them were as the first.
+fn repeated(session: &mut Session, text: &str) -> Result<String, LineFault> {
+    let (count, name) = text.split_once(' ').unwrap_or((text, ""));
+    let first = replayed(session, name)?;
+    for time in 1..number_of(count)? {
+        if replayed(session, name)? != first {
+            return Ok(format!(in session.alloc; "time {time} was another")?);
+        }
+    }
+    Ok(format!(in session.alloc; "{count} times: {first}")?)
+}
+
+// A line that is no word about other lines.
+fn answer_line(session: &mut Session, line: &str) -> Result<String, LineFault> {
+    let (word, rest) = line.split_once(' ').unwrap_or((line, ""));
+    match word {
+        "case" => session.begin_case(line),
+        "init" => session.init(rest),
+        "offer" => session.offer(rest),
+        "batch" => session.batch(rest),
+        "put" => session.put(rest),
+        "get" => session.get(rest),
+        "metadata" => session.metadata(rest),
+        "http" => session.request(rest),
+        "update" => session.update(),
+        "rows" => session.look(),
+        "reopen" => session.reopen(),
+        "sql" => session.execute(rest),
+        "fill" => session.fill(rest),
+        "equal" => session.equal(rest),
+        "key" => session.key(rest),
+        _ => set(session, word, rest),
+    }
+}
+
+// A line that has no reply.
+fn set(session: &mut Session, word: &str, rest: &str) -> Result<String, LineFault> {
+    match word {
+        "now" => session.set_now(rest)?,
+        "file" => session.name_file(rest)?,
+        _ => return Err(LineFault::NotUnderstood),
+    }
+    Ok(told(session.alloc, "")?)
+}

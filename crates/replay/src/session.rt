@@ -1,0 +1,149 @@
+//! What a script works on.
+use crate::base::Base;
+use crate::descriptions::{Kind, described, leaves_of, signed_by};
+use crate::escapes::{bytes_of_hex, expanded};
+use crate::failure::LineFault;
+use crate::files::{File, find, put};
+use crate::words::number_of;
+use http_serve::Routes;
+use metadata::{Moment, read_date_time};
+use signed_files::{Keys, OtsType};
+use std::alloc::{AllocError, Global};
+
+/// Lines that are replayed by one name.
+#[derive(Drop)]
+pub struct Steps {
+    pub name: String,
+    pub lines: Vec<String>,
+}
+
+/// What a script works on: the moment, the files that it has named, and the database of the case.
+#[derive(Drop)]
+pub struct Session {
+    pub alloc: Global,
+    pub keys: Keys,
+    pub now: Moment,
+    pub now_text: String,
+    pub files: Vec<File>,
+    pub steps: Vec<Steps>,
+    pub routes: Routes,
+    pub base: Base,
+    /// The rows that were looked at last, where nothing was done since.
+    pub rows: Option<Vec<String>>,
+    /// How often memory was refused within a command or a request.
+    pub refusals: u64,
+}
+
+// The moment at which a script begins.
+const START: &str = "2030-01-01T00:00:00Z";
+
+impl Session {
+    /// A session with nothing named and no database.
+    pub fn new(alloc: Global) -> Result<Session, LineFault> {
+        let Some(now) = read_date_time(START) else {
+            return Err(LineFault::NotUnderstood);
+        };
+        Ok(Session {
+            alloc,
+            keys: Keys::new(alloc, OtsType::W4),
+            now,
+            now_text: String::from_str(alloc, START)?,
+            files: Vec::new(alloc),
+            steps: Vec::new(alloc),
+            routes: routes(alloc)?,
+            base: Base::None,
+            rows: None,
+            refusals: 0,
+        })
+    }
+
+    /// Sets the moment.
+    pub fn set_now(&mut self, text: &str) -> Result<(), LineFault> {
+        let Some(now) = read_date_time(text) else {
+            return Err(LineFault::NotUnderstood);
+        };
+        self.now = now;
+        self.now_text = String::from_str(self.alloc, text)?;
+        Ok(())
+    }
+
+    /// Names a file: `NAME = FORM`.
+    pub fn name_file(&mut self, text: &str) -> Result<(), LineFault> {
+        let Some((name, form)) = text.split_once(" = ") else {
+            return Err(LineFault::NotUnderstood);
+        };
+        let (words, bytes) = self.made(form)?;
+        put(self.alloc, &mut self.files, name, words, bytes)
+    }
+
+    // The words and the bytes of a form: `text TEXT`, `hex DIGITS`, `many N TEXT`, `bytes TEXT`, `signed NAME by LEAF ..`, or the
+    // description of a document.
+    fn made(&mut self, form: &str) -> Result<(String, Vec<u8>), LineFault> {
+        let (word, rest) = form.split_once(' ').unwrap_or((form, ""));
+        let bytes = match word {
+            "text" => Vec::from_slice(self.alloc, rest.as_bytes())?,
+            "hex" => bytes_of_hex(self.alloc, rest)?,
+            "bytes" => expanded(self.alloc, &self.files, rest)?,
+            "many" => self.many(rest)?,
+            "signed" => self.signed(rest)?,
+            _ => {
+                return described(
+                    self.alloc,
+                    &mut self.keys,
+                    &self.files,
+                    self.now_text.as_str(),
+                    Kind::Targets,
+                    form,
+                );
+            }
+        };
+        Ok((String::new(self.alloc), bytes))
+    }
+
+    // `N TEXT`: the bytes of the text, N times.
+    fn many(&self, text: &str) -> Result<Vec<u8>, LineFault> {
+        let Some((count, part)) = text.split_once(' ') else {
+            return Err(LineFault::NotUnderstood);
+        };
+        let part = expanded(self.alloc, &self.files, part)?;
+        let mut bytes = Vec::new(self.alloc);
+        for _ in 0..number_of(count)? {
+            bytes.extend_from_slice(&part)?;
+        }
+        Ok(bytes)
+    }
+
+    // `NAME by LEAF ..`: the file whose signed part is the file of that name.
+    fn signed(&mut self, text: &str) -> Result<Vec<u8>, LineFault> {
+        let (name, leaves) = text.split_once(" by").unwrap_or((text, ""));
+        let leaves = leaves_of(self.alloc, leaves)?;
+        let signed = find(&self.files, name)?;
+        signed_by(self.alloc, &mut self.keys, &signed.bytes, &leaves)
+    }
+
+    /// The bytes of a document: those of a file that is named, or those of the document that is described.
+    pub fn document(&mut self, usual: Kind, text: &str) -> Result<Vec<u8>, LineFault> {
+        if let Ok(file) = find(&self.files, text) {
+            return Ok(file.bytes.clone()?);
+        }
+        let (_, bytes) = described(
+            self.alloc,
+            &mut self.keys,
+            &self.files,
+            self.now_text.as_str(),
+            usual,
+            text,
+        )?;
+        Ok(bytes)
+    }
+
+    /// Keeps lines under a name.
+    pub fn keep_steps(&mut self, name: String, lines: Vec<String>) -> Result<(), LineFault> {
+        self.steps.push(Steps { name, lines })?;
+        Ok(())
+    }
+}
+
+fn routes(alloc: Global) -> Result<Routes, AllocError> {
+    Routes::new(alloc)
+}

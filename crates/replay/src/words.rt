@@ -1,0 +1,112 @@
+//! What single words of a line write down.
+use crate::failure::LineFault;
+use crate::files::{File, find};
+use metadata::digest_of;
+use signed_files::{Digest, Entry, Leaf, Listing, Rule};
+use std::alloc::Global;
+
+/// A number in decimal.
+pub fn number_of(word: &str) -> Result<u32, LineFault> {
+    match word.parse::<u32>() {
+        Ok(number) => Ok(number),
+        Err(_) => Err(LineFault::NotUnderstood),
+    }
+}
+
+/// A number of one byte in decimal.
+pub fn byte_of(word: &str) -> Result<u8, LineFault> {
+    match word.parse::<u8>() {
+        Ok(number) => Ok(number),
+        Err(_) => Err(LineFault::NotUnderstood),
+    }
+}
+
+/// The file that `@NAME` names.
+fn file_of<'a>(files: &'a [File], word: &str) -> Result<&'a File, LineFault> {
+    match word.strip_prefix("@") {
+        Some(name) => find(files, name),
+        None => Err(LineFault::NotUnderstood),
+    }
+}
+
+fn length_of(file: &File) -> Result<u32, LineFault> {
+    match u32::try_from(file.bytes.len()) {
+        Ok(length) => Ok(length),
+        Err(_) => Err(LineFault::NotUnderstood),
+    }
+}
+
+/// A digest: 64 hex digits, or `@NAME`, that of a file.
+pub fn digest_word(files: &[File], word: &str) -> Result<Digest, LineFault> {
+    if let Some(digest) = Digest::read(word) {
+        return Ok(digest);
+    }
+    Ok(digest_of(&file_of(files, word)?.bytes))
+}
+
+/// What is said of another file: `V`, `V:LENGTH`, `V:LENGTH:DIGEST`, `V::DIGEST`, or `V@NAME`, which says length and digest of that
+/// file.
+pub fn entry_of(files: &[File], word: &str) -> Result<Entry, LineFault> {
+    let mut parts = word.split(':');
+    let first = parts.next().unwrap_or("");
+    if let Some((version, name)) = first.split_once('@') {
+        let file = find(files, name)?;
+        return Ok(Entry {
+            version: number_of(version)?,
+            length: Some(length_of(file)?),
+            digest: Some(digest_of(&file.bytes)),
+        });
+    }
+    let length = match parts.next() {
+        None | Some("") => None,
+        Some(length) => Some(number_of(length)?),
+    };
+    let digest = match parts.next() {
+        None => None,
+        Some(digest) => Some(digest_word(files, digest)?),
+    };
+    Ok(Entry {
+        version: number_of(first)?,
+        length,
+        digest,
+    })
+}
+
+/// What is said of a target: `LENGTH:DIGEST`, or `@NAME`, which says both of that file.
+pub fn listing_of(files: &[File], word: &str) -> Result<Listing, LineFault> {
+    if let Some((length, digest)) = word.split_once(':') {
+        return Ok(Listing {
+            length: number_of(length)?,
+            digest: digest_word(files, digest)?,
+        });
+    }
+    let file = file_of(files, word)?;
+    Ok(Listing {
+        length: length_of(file)?,
+        digest: digest_of(&file.bytes),
+    })
+}
+
+/// The seeds of a rule's keys, and its threshold, where it is not 1: `1,2:2`.
+pub fn rule_of(alloc: Global, word: &str) -> Result<Rule, LineFault> {
+    let (list, threshold) = match word.split_once(':') {
+        Some((list, threshold)) => (list, number_of(threshold)?),
+        None => (word, 1),
+    };
+    let mut seeds = Vec::new(alloc);
+    for seed in list.split(',') {
+        seeds.push(byte_of(seed)?)?;
+    }
+    Ok(Rule { seeds, threshold })
+}
+
+/// A leaf of a seed: `3/1`.
+pub fn leaf_of(word: &str) -> Result<Leaf, LineFault> {
+    match word.split_once('/') {
+        Some((seed, number)) => Ok(Leaf {
+            seed: byte_of(seed)?,
+            number: number_of(number)?,
+        }),
+        None => Err(LineFault::NotUnderstood),
+    }
+}

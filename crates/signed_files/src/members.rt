@@ -1,0 +1,66 @@
+//! Objects of canonical JSON.
+ghost use Rattle.std.specs.Prelude.{◌≤◌, vec_len};
+
+use canonical_json::Value;
+use std::alloc::{AllocError, Global};
+
+/// The members of an object, in the order of their names, whatever the order in which they are put.
+#[derive(Drop)]
+pub struct Members {
+    alloc: Global,
+    list: Vec<(String, Value)>,
+}
+
+impl Members {
+    /// No members.
+    pub fn new(alloc: Global) -> Self {
+        Members {
+            alloc,
+            list: Vec::new(alloc),
+        }
+    }
+
+    /// Puts a member at its place. A name that is there already stands twice then, and the object has no canonical text.
+    pub fn put(&mut self, name: &str, value: Value) -> Result<(), AllocError> {
+        let at = self.place_of(name);
+        let name = String::from_str(self.alloc, name)?;
+        self.list.insert(at, (name, value))?;
+        Ok(())
+    }
+
+    // How many members stand before this name. Most are put in order, so the last is looked at first.
+    fn place_of(&self, name: &str) -> usize
+        ensures { result ≤ vec_len self.now.list }
+    {
+        let mut at = self.list.len();
+        for (held, _) in self.list.iter().rev() {
+            if held.as_str() <= name {
+                break;
+            }
+            at = at.saturating_sub(1);
+        }
+        at.min(self.list.len())
+    }
+
+    /// Puts a text.
+    pub fn put_text(&mut self, name: &str, text: &str) -> Result<(), AllocError> {
+        let value = text_value(self.alloc, text)?;
+        self.put(name, value)
+    }
+
+    /// Puts a number.
+    pub fn put_number(&mut self, name: &str, number: u32) -> Result<(), AllocError> {
+        self.put(name, Value::Int(i64::from(number)))
+    }
+
+    /// The object of these members.
+    pub fn object(self) -> Value {
+        let Members { list, .. } = self;
+        Value::Object(list)
+    }
+}
+
+/// A text of its own.
+pub fn text_value(alloc: Global, text: &str) -> Result<Value, AllocError> {
+    Ok(Value::Text(String::from_str(alloc, text)?))
+}

@@ -1,0 +1,5 @@
+//! Tests of `store` over disks that fail, which a script of `replay` cannot say.
+#![tactic(auto)]
+
+#[cfg(test)]
+mod crashes;
