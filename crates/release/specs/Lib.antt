@@ -1,4 +1,2 @@
-pub mod Canon
-pub mod CommandLine
 pub mod Documents
 pub mod Statuses

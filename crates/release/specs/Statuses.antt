@@ -1,12 +1,12 @@
 -- Exit statuses: 0 done, 1 denied, 2 a fault of the command line, 3 all else.
-use Rattle.std.specs.Prelude.{ℕ, Option, None}
+use Rattle.std.specs.Prelude.{ℕ, None}
 use Rattle.machine.specs.declared.denial.Denial.TheVariants as denials
 use Rattle.release.specs.declared.fault.Fault.{Fault}
 use Rattle.release.specs.declared.fault.Fault.TheVariants.{Usage, Help, Denied, Memory, Database, Damaged, Network, File, Clock}
-use Rattle.release.specs.declared.tasks.Usage.{Usage as Usages}
-use Rattle.release.specs.declared.tasks.Usage.TheVariants as usages
-use Rattle.release.specs.declared.canon.CanonFault.{CanonFault}
-use Rattle.release.specs.declared.canon.CanonFault.TheVariants as canon_faults
+use Rattle.command_line.specs.declared.tasks.Usage.{Usage as Usages}
+use Rattle.command_line.specs.declared.tasks.Usage.TheVariants as usages
+use Rattle.canon.specs.declared.CanonFault.{CanonFault}
+use Rattle.canon.specs.declared.CanonFault.TheVariants as canon_faults
 use Rattle.store.specs.declared.command.Fault.{Fault as StoreFault}
 use Rattle.store.specs.declared.command.Fault.TheVariants as store_faults
 

@@ -2,8 +2,8 @@
 ghost use Rattle.std.specs.Prelude.{◌≡◌};
 ghost use Rattle.release.specs.Statuses.{status_of};
 
-use crate::canon::CanonFault;
-use crate::tasks::Usage;
+use canon::CanonFault;
+use command_line::Usage;
 use machine::Denial;
 use std::alloc::{AllocError, AllocFailed};
 use std::{fmt, io};

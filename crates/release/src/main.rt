@@ -1,13 +1,9 @@
 //! The program `release`: one subcommand for each task of a release repository.
 #![tactic(auto)]
 
-mod arguments;
-mod canon;
-mod command_line;
 mod documents;
 mod fault;
 mod files;
-mod given;
 mod init;
 mod moments;
 mod publish;
@@ -15,9 +11,6 @@ mod put;
 mod repository;
 mod run;
 mod serve;
-mod tasks;
-#[cfg(test)]
-mod tests;
 
 use fault::Fault;
 use run::{report, run};

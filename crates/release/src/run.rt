@@ -1,6 +1,4 @@
 //! A command from its words to its exit status.
-use crate::canon::canon;
-use crate::command_line::task;
 use crate::fault::Fault;
 use crate::files::{print, read};
 use crate::init::init;
@@ -8,7 +6,8 @@ use crate::moments::moment;
 use crate::publish::publish;
 use crate::put::put;
 use crate::serve::serve;
-use crate::tasks::{Subcommand, Task};
+use canon::canon;
+use command_line::{Subcommand, Task, task};
 use std::io::Write;
 
 /// Does what the words ask for. What it prints goes to `out`, why it was not done to `err`, and the exit status is

@@ -1,0 +1,12 @@
+use Rattle.std.proofs.Common.{ap₂, ◌∙◌}
+use Rattle.std.proofs.lemmas.Result.{IfOk-weaker}
+use Rattle.command_line.specs.CommandLine.{with_command}
+use Rattle.command_line.proofs.release.Goals as goal
+
+pub returns : goal.returns
+returns c =
+    let one = c.in_ok-command.ensures.line ∙ ap₂ with_command c.begun-command.ensures c.in_ok-canon.ensures.line in
+    let two = c.in_ok-command-2.ensures.line ∙ ap₂ with_command one c.in_ok-init.ensures.line in
+    let three = c.in_ok-command-3.ensures.line ∙ ap₂ with_command two c.in_ok-publish.ensures.line in
+    let four = c.in_ok-command-4.ensures.line ∙ ap₂ with_command three c.in_ok-put.ensures.line in
+    IfOk-weaker c.with-5.result _ _ (λ r added. added ∙ ap₂ with_command four c.in_ok-serve.ensures.line) c.with-5.ensures.line

@@ -1,0 +1,146 @@
+-- The command line, in the definitions of `clap`: the arguments that each subcommand has, and what words say with them.
+use Rattle.std.specs.Prelude.{◌≡◌, ℕ, ◌≤◌, List, Option, Some, None, true, codes, length, map, string_bytes, String}
+use Rattle.std.specs.declared.alloc.Global.{Global}
+use Rattle.std.specs.Str.Parse.{digits_value, without_leading_plus}
+use Rattle.clap.specs.Words.{App, Rule, Row, Text, all_of, first_of, new_app, new_rule, subcommand_of, with_rule, with_subcommand}
+use Rattle.clap.specs.declared.builder.action.ArgAction.TheVariants.{Append, Set}
+use Rattle.clap.specs.declared.builder.value_parser.ValueParser.TheVariants.{Unsigned}
+use Rattle.command_line.specs.declared.tasks.Task.{Task}
+use Rattle.command_line.specs.declared.tasks.Subcommand.{Subcommand}
+use Rattle.command_line.specs.declared.tasks.Subcommand.TheVariants.{Canon, Init, Publish, Put, Serve}
+
+-- ---- the arguments
+
+-- `--NAME VALUE`
+abbrev pub option_rule : Text → Rule
+option_rule name = record (new_rule name) { long = Some name; value_names = 1; action = Some Set }
+
+-- the last moment, 9999-12-31T23:59:59Z, in seconds since 1970-01-01T00:00:00Z
+abbrev pub last_moment : ℕ
+last_moment = 253402300799
+
+-- `--at SECONDS`
+abbrev pub moment_rule : Rule
+moment_rule = record (option_rule (codes "at")) { parser = Some (Unsigned 0 last_moment) }
+
+-- `--db FILE`, which has to be there
+abbrev pub db_rule : Rule
+db_rule = record (option_rule (codes "db")) { required = true }
+
+-- an operand, which has to be there
+abbrev pub operand_rule : Text → Rule
+operand_rule name = record (new_rule name) { value_names = 1; required = true; action = Some Set }
+
+-- so many documents may be published at once
+abbrev pub most_documents : ℕ
+most_documents = 160
+
+-- `ROLE:FILE ..`
+abbrev pub documents_rule : Rule
+documents_rule = record (operand_rule (codes "document")) {
+  action = Some Append;
+  range = Some (record { start_inclusive = 1; end_inclusive = most_documents });
+}
+
+-- the last port, and so many connections may be counted
+abbrev pub last_port : ℕ
+last_port = 65535
+
+abbrev pub most_connections : ℕ
+most_connections = 4294967295
+
+-- `--port P`, which has to be there
+abbrev pub port_rule : Rule
+port_rule = record (option_rule (codes "port")) { required = true; parser = Some (Unsigned 1 last_port) }
+
+-- `--count N`
+abbrev pub count_rule : Rule
+count_rule = record (option_rule (codes "count")) { parser = Some (Unsigned 1 most_connections) }
+
+-- ---- the subcommands
+
+abbrev pub begun_line : Text → App
+begun_line name = with_rule (new_app name) moment_rule
+
+abbrev pub stored_line : Text → App
+stored_line name = with_rule (begun_line name) db_rule
+
+abbrev pub canon_line : App
+canon_line = with_rule (begun_line (codes "canon")) (operand_rule (codes "file"))
+
+abbrev pub init_line : App
+init_line = with_rule (stored_line (codes "init")) (operand_rule (codes "root"))
+
+abbrev pub publish_line : App
+publish_line = with_rule (stored_line (codes "publish")) documents_rule
+
+abbrev pub put_line : App
+put_line = with_rule (stored_line (codes "put")) (operand_rule (codes "file"))
+
+abbrev pub serve_line : App
+serve_line = with_rule (with_rule (stored_line (codes "serve")) port_rule) count_rule
+
+abbrev pub needs_subcommand : App → App
+needs_subcommand a = record a { top = record a.top { subcommand_required = true } }
+
+abbrev pub with_command : App → App → App
+with_command a c = with_subcommand a c.top
+
+-- the whole command line
+abbrev pub release_line : App
+release_line = with_command (with_command (with_command (with_command (with_command (needs_subcommand (new_app (codes "release")))
+    canon_line) init_line) publish_line) put_line) serve_line
+
+-- ---- what is found for a subcommand's arguments
+
+-- the text of an argument
+abbrev pub HasText : List Row → Text → String Global → Type 0
+HasText rows id s = first_of id rows ≡ Some (string_bytes s)
+
+-- the number of an argument, within its range
+abbrev pub HasNumber : List Row → Text → ℕ → ℕ → ℕ → Type 0
+HasNumber rows id least most n = (t : Text) × (first_of id rows ≡ Some t)
+    × (n ≡ digits_value 10 (without_leading_plus t)) × (least ≤ n) × (n ≤ most)
+
+-- the number of an argument that may be left out
+abbrev pub MayHaveNumber : List Row → Text → ℕ → ℕ → Option ℕ → Type 0
+MayHaveNumber rows id least most None = first_of id rows ≡ None
+MayHaveNumber rows id least most (Some n) = HasNumber rows id least most n
+
+-- the texts of an argument, of which there may be up to so many
+abbrev pub HasTexts : List Row → Text → ℕ → List (String Global) → Type 0
+HasTexts rows id most ss = (all_of id rows ≡ Some (map string_bytes ss)) × (1 ≤ length ss) × (length ss ≤ most)
+
+-- ---- tasks
+
+abbrev pub name_of : Subcommand → Text
+name_of (Canon file) = codes "canon"
+name_of (Init db root) = codes "init"
+name_of (Publish db documents) = codes "publish"
+name_of (Put db file) = codes "put"
+name_of (Serve db port count) = codes "serve"
+
+-- the subcommand has the options and operands that were found
+abbrev pub HasArguments : List Row → Subcommand → Type 0
+HasArguments rows (Canon file) = HasText rows (codes "file") file
+HasArguments rows (Init db root) = HasText rows (codes "db") db × HasText rows (codes "root") root
+HasArguments rows (Publish db documents) = HasText rows (codes "db") db × HasTexts rows (codes "document") most_documents documents.items
+HasArguments rows (Put db file) = HasText rows (codes "db") db × HasText rows (codes "file") file
+HasArguments rows (Serve db port count) = HasText rows (codes "db") db × HasNumber rows (codes "port") 1 last_port port
+    × MayHaveNumber rows (codes "count") 1 most_connections count
+
+-- a subcommand of this name with what was found for it
+abbrev pub IsAsked : Text → List Row → Subcommand → Type 0
+IsAsked name rows s = (name_of s ≡ name) × HasArguments rows s
+
+-- what was found for a subcommand's arguments is this task
+abbrev pub IsTask : Text → List Row → Task → Type 0
+IsTask name rows task = IsAsked name rows task.subcommand × MayHaveNumber rows (codes "at") 0 last_moment task.at
+
+-- the line has the subcommand of the task, with its options and operands
+abbrev pub Says : Option (Text × List Row) → Task → Type 0
+Says line task = (name : Text) × (rows : List Row) × (line ≡ Some (name, rows)) × IsTask name rows task
+
+-- the words, the program's own name first, say this task
+abbrev pub IsTaskOf : List Text → Task → Type 0
+IsTaskOf words task = Says (subcommand_of release_line words) task

@@ -1,0 +1,162 @@
+//! The subcommands and their arguments, as `clap` is told of them.
+ghost use Rattle.std.specs.Prelude.{◌≡◌, IfOk, codes, false};
+ghost use Rattle.clap.specs.Words.{app_of, rule_of, with_rule};
+ghost use Rattle.clap.specs.declared.builder.command.Command.TheViews.{out-Command};
+ghost use Rattle.command_line.specs.CommandLine.{begun_line, canon_line, count_rule, db_rule, documents_rule, init_line, moment_rule, operand_rule, port_rule, publish_line, put_line, serve_line, stored_line};
+
+use clap::{Arg, ArgAction, Command, value_parser};
+use std::alloc::{AllocError, Global};
+
+/// `canon [--at SECONDS] FILE`
+pub fn canon<'a>(alloc: Global) -> Result<Command<'a>, AllocError>
+    ensures line { IfOk result (λ c. app_of c ≡ canon_line) }
+    ensures local { IfOk result (λ c. (out-Command c).has_globals ≡ false) }
+{
+    let command = begun(alloc, "canon", "Print the canonical form of any JSON")?;
+    with(command, operand(alloc, "file", "FILE", "The file to read"))
+}
+
+/// `init [--at SECONDS] --db FILE ROOT`
+pub fn init<'a>(alloc: Global) -> Result<Command<'a>, AllocError>
+    ensures line { IfOk result (λ c. app_of c ≡ init_line) }
+    ensures local { IfOk result (λ c. (out-Command c).has_globals ≡ false) }
+{
+    let command = stored(alloc, "init", "Begin the trust with a first root")?;
+    with(
+        command,
+        operand(alloc, "root", "ROOT", "The file of the root metadata"),
+    )
+}
+
+/// `publish [--at SECONDS] --db FILE ROLE:FILE ..`
+pub fn publish<'a>(alloc: Global) -> Result<Command<'a>, AllocError>
+    ensures line { IfOk result (λ c. app_of c ≡ publish_line) }
+    ensures local { IfOk result (λ c. (out-Command c).has_globals ≡ false) }
+{
+    let command = stored(
+        alloc,
+        "publish",
+        "Take documents in the order given, all or none",
+    )?;
+    with(command, documents(alloc))
+}
+
+/// `put [--at SECONDS] --db FILE FILE`
+pub fn put<'a>(alloc: Global) -> Result<Command<'a>, AllocError>
+    ensures line { IfOk result (λ c. app_of c ≡ put_line) }
+    ensures local { IfOk result (λ c. (out-Command c).has_globals ≡ false) }
+{
+    let command = stored(alloc, "put", "Store a target file under its SHA-256")?;
+    with(command, operand(alloc, "file", "FILE", "The file to store"))
+}
+
+/// `serve [--at SECONDS] --db FILE --port P [--count N]`
+pub fn serve<'a>(alloc: Global) -> Result<Command<'a>, AllocError>
+    ensures line { IfOk result (λ c. app_of c ≡ serve_line) }
+    ensures local { IfOk result (λ c. (out-Command c).has_globals ≡ false) }
+{
+    let command = stored(alloc, "serve", "Answer HTTP requests on 127.0.0.1")?;
+    let command = with(command, port(alloc))?;
+    with(command, count(alloc))
+}
+
+// A subcommand over a database.
+fn stored<'a>(alloc: Global, name: &'a str, about: &'a str) -> Result<Command<'a>, AllocError>
+    ensures line { IfOk result (λ c. app_of c ≡ stored_line name.entry.now) }
+    ensures local { IfOk result (λ c. (out-Command c).has_globals ≡ false) }
+{
+    let command = begun(alloc, name, about)?;
+    with(command, db(alloc))
+}
+
+// A subcommand, which takes a moment.
+fn begun<'a>(alloc: Global, name: &'a str, about: &'a str) -> Result<Command<'a>, AllocError>
+    ensures line { IfOk result (λ c. app_of c ≡ begun_line name.entry.now) }
+    ensures local { IfOk result (λ c. (out-Command c).has_globals ≡ false) }
+{
+    let command = Command::new(alloc, name).about(about);
+    with(command, at(alloc))
+}
+
+// The command with one more argument.
+fn with<'a>(command: Command<'a>, arg: Arg<'a>) -> Result<Command<'a>, AllocError>
+    requires local { arg.global ≡ false }
+    requires no_globals { (out-Command command).has_globals ≡ false }
+    ensures line { IfOk result (λ c. app_of c ≡ with_rule (app_of command.entry) (rule_of arg.entry)) }
+    ensures local { IfOk result (λ c. (out-Command c).has_globals ≡ false) }
+{
+    command.arg(arg)
+}
+
+fn at<'a>(alloc: Global) -> Arg<'a>
+    ensures rule { rule_of result ≡ moment_rule }
+    ensures local { result.global ≡ false }
+{
+    Arg::new(alloc, "at")
+        .long("at")
+        .value_name("SECONDS")
+        .help("The moment, in seconds since 1970-01-01T00:00:00Z, in place of the clock's")
+        .action(ArgAction::Set)
+        .value_parser(value_parser!(u64).range(0..=253402300799))
+}
+
+fn db<'a>(alloc: Global) -> Arg<'a>
+    ensures rule { rule_of result ≡ db_rule }
+    ensures local { result.global ≡ false }
+{
+    Arg::new(alloc, "db")
+        .long("db")
+        .value_name("FILE")
+        .help("The database file of the repository, made where there is none")
+        .required(true)
+        .action(ArgAction::Set)
+}
+
+fn port<'a>(alloc: Global) -> Arg<'a>
+    ensures rule { rule_of result ≡ port_rule }
+    ensures local { result.global ≡ false }
+{
+    Arg::new(alloc, "port")
+        .long("port")
+        .value_name("P")
+        .help("The port to listen on")
+        .required(true)
+        .action(ArgAction::Set)
+        .value_parser(value_parser!(u64).range(1..=65535))
+}
+
+fn count<'a>(alloc: Global) -> Arg<'a>
+    ensures rule { rule_of result ≡ count_rule }
+    ensures local { result.global ≡ false }
+{
+    Arg::new(alloc, "count")
+        .long("count")
+        .value_name("N")
+        .help("End after so many connections")
+        .action(ArgAction::Set)
+        .value_parser(value_parser!(u64).range(1..=4294967295))
+}
+
+// An operand, which has to be there.
+fn operand<'a>(alloc: Global, id: &'a str, name: &'a str, help: &'a str) -> Arg<'a>
+    ensures rule { rule_of result ≡ operand_rule id.entry.now }
+    ensures local { result.global ≡ false }
+{
+    Arg::new(alloc, id)
+        .value_name(name)
+        .help(help)
+        .required(true)
+        .action(ArgAction::Set)
+}
+
+fn documents<'a>(alloc: Global) -> Arg<'a>
+    ensures rule { rule_of result ≡ documents_rule }
+    ensures local { result.global ≡ false }
+{
+    Arg::new(alloc, "document")
+        .value_name("ROLE:FILE")
+        .help("A document's role and file: root, timestamp, snapshot, targets or a delegated role")
+        .required(true)
+        .action(ArgAction::Append)
+        .num_args(1..=160)
+}

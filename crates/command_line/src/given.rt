@@ -1,0 +1,110 @@
+//! What the words give for the arguments of a subcommand.
+ghost use Rattle.std.specs.Prelude.{◌≡◌, ◌≤◌, IfOk, Some, codes, map, string_bytes};
+ghost use Rattle.std.specs.Str.Parse.{digits_value, without_leading_plus};
+ghost use Rattle.clap.specs.Words.{found_of, rows_of};
+ghost use Rattle.command_line.specs.CommandLine.{HasNumber, HasText, HasTexts, MayHaveNumber, last_moment, last_port, most_connections, most_documents};
+
+use crate::tasks::{LAST_MOMENT, LAST_PORT, MOST_CONNECTIONS, MOST_DOCUMENTS, Usage};
+use clap::ArgMatches;
+use std::alloc::{AllocError, Global};
+
+/// The text that is given for an argument.
+pub fn text_of(alloc: Global, given: &ArgMatches<'_>, id: &str) -> Result<String, Usage>
+    ensures { IfOk result (HasText (rows_of (found_of given.now)) id.now) }
+{
+    match given.get_str(id) {
+        Some(text) => Ok(String::from_str(alloc, text)?),
+        None => Err(fault(alloc, "error: an argument is not there\n")),
+    }
+}
+
+/// The texts that are given for an argument, 1 to 160.
+pub fn texts_of(alloc: Global, given: &ArgMatches<'_>, id: &str) -> Result<Vec<String>, Usage>
+    ensures { IfOk result (λ texts. HasTexts (rows_of (found_of given.now)) id.now most_documents texts.items) }
+{
+    let Some(found) = given.get_strs(id) else {
+        return Err(fault(alloc, "error: no documents\n"));
+    };
+    if found.is_empty() || MOST_DOCUMENTS < found.len() {
+        return Err(fault(
+            alloc,
+            "error: 1 to 160 documents may be published at once\n",
+        ));
+    }
+    let texts = copied(alloc, found)?;
+    Ok(texts)
+}
+
+// The texts, as texts of their own.
+fn copied(alloc: Global, found: &[&str]) -> Result<Vec<String>, AllocError>
+    ensures { IfOk result (λ texts. map (λ t. string_bytes t) texts.items ≡ map (λ t. t.now) found.now) }
+{
+    let mut texts = Vec::new(alloc);
+    for text in found {
+        let text = String::from_str(alloc, text)?;
+        texts.push(text)?;
+    }
+    Ok(texts)
+}
+
+/// The moment that is given, if there is one.
+pub fn moment_of(alloc: Global, given: &ArgMatches<'_>) -> Result<Option<u64>, Usage>
+    ensures { IfOk result (MayHaveNumber (rows_of (found_of given.now)) (codes "at") 0 last_moment) }
+{
+    number_of(alloc, given, "at", 0, LAST_MOMENT)
+}
+
+/// The count of connections that is given, if there is one.
+pub fn count_of(alloc: Global, given: &ArgMatches<'_>) -> Result<Option<u64>, Usage>
+    ensures { IfOk result (MayHaveNumber (rows_of (found_of given.now)) (codes "count") 1 most_connections) }
+{
+    number_of(alloc, given, "count", 1, MOST_CONNECTIONS)
+}
+
+/// The port that is given.
+pub fn port_of(alloc: Global, given: &ArgMatches<'_>) -> Result<u16, Usage>
+    ensures { IfOk result (HasNumber (rows_of (found_of given.now)) (codes "port") 1 last_port) }
+{
+    match number_of(alloc, given, "port", 1, LAST_PORT) {
+        Ok(Some(port)) => Ok(port as u16),
+        Ok(None) => Err(fault(alloc, "error: no port\n")),
+        Err(usage) => Err(usage),
+    }
+}
+
+// The number that is given for an argument within its range, if there is one.
+fn number_of(
+    alloc: Global,
+    given: &ArgMatches<'_>,
+    id: &str,
+    least: u64,
+    most: u64,
+) -> Result<Option<u64>, Usage>
+    ensures { IfOk result (MayHaveNumber (rows_of (found_of given.now)) id.now least most) }
+{
+    match given.get_str(id) {
+        None => Ok(None),
+        Some(text) => {
+            let number = number(alloc, text, least, most)?;
+            Ok(Some(number))
+        }
+    }
+}
+
+// The number that a text says.
+fn number(alloc: Global, text: &str, least: u64, most: u64) -> Result<u64, Usage>
+    ensures { IfOk result (λ n. (n ≡ digits_value 10 (without_leading_plus text.now)) × (least ≤ n) × (n ≤ most)) }
+{
+    match text.parse::<u64>() {
+        Ok(n) if least <= n && n <= most => Ok(n),
+        _ => Err(fault(alloc, "error: no number within its range\n")),
+    }
+}
+
+/// A fault that `clap` does not name. Its own tests of the words leave few of these.
+pub fn fault(alloc: Global, text: &str) -> Usage {
+    match String::from_str(alloc, text) {
+        Ok(text) => Usage::Text(text),
+        Err(_) => Usage::OutOfMemory,
+    }
+}

@@ -1,0 +1,141 @@
+//! The command line of the program `release`, read with `clap`: the words, and the task that they ask for.
+#![tactic(auto)]
+
+ghost use Rattle.std.specs.Prelude.{◌≡◌, IfOk, codes, false, map, string_bytes};
+ghost use Rattle.clap.specs.Words.{app_of, found_of, new_app, rows_of, subcommand_rows_of};
+ghost use Rattle.clap.specs.declared.builder.command.Command.TheViews.{out-Command};
+ghost use Rattle.command_line.specs.CommandLine.{IsAsked, IsTask, IsTaskOf, Says, needs_subcommand, release_line, with_command};
+
+mod arguments;
+mod given;
+mod tasks;
+
+use arguments::{canon, init, publish, put, serve};
+use clap::error::ErrorKind;
+use clap::{ArgMatches, Command};
+use given::{count_of, fault, moment_of, port_of, text_of, texts_of};
+use std::alloc::{AllocError, Global};
+pub use tasks::{Subcommand, Task, Usage};
+
+/// The task that the words ask for, the program's own name first: the subcommand, its options and operands, each one
+/// that has to be there, and numbers within their range. Other words are answered with the fault text of `clap`.
+pub fn task(alloc: Global, words: &[String]) -> Result<Task, Usage>
+    ensures { IfOk result (IsTaskOf (map (λ w. string_bytes w) words.now)) }
+{
+    let command = release(alloc)?;
+    match command.try_get_matches_from(words) {
+        Ok(matches) => task_of(alloc, &matches),
+        Err(error) => Err(usage_of(alloc, &error)),
+    }
+}
+
+// The whole command line.
+fn release<'a>(alloc: Global) -> Result<Command<'a>, AllocError>
+    ensures { IfOk result (λ c. app_of c ≡ release_line) }
+{
+    let command = begun(alloc);
+    let command = with(command, canon(alloc)?)?;
+    let command = with(command, init(alloc)?)?;
+    let command = with(command, publish(alloc)?)?;
+    let command = with(command, put(alloc)?)?;
+    with(command, serve(alloc)?)
+}
+
+// The program, before its subcommands.
+fn begun<'a>(alloc: Global) -> Command<'a>
+    ensures { app_of result ≡ needs_subcommand (new_app (codes "release")) }
+{
+    Command::new(alloc, "release")
+        .about("A release repository after The Update Framework 1.0")
+        .subcommand_required(true)
+}
+
+// The command with one more subcommand.
+fn with<'a>(command: Command<'a>, subcommand: Command<'a>) -> Result<Command<'a>, AllocError>
+    requires local { (out-Command subcommand).has_globals ≡ false }
+    ensures line { IfOk result (λ c. app_of c ≡ with_command (app_of command.entry) (app_of subcommand.entry)) }
+{
+    command.subcommand(subcommand)
+}
+
+fn task_of(alloc: Global, matches: &ArgMatches<'_>) -> Result<Task, Usage>
+    ensures { IfOk result (Says (subcommand_rows_of matches.now)) }
+{
+    match matches.subcommand() {
+        Some((name, given)) => named_task(alloc, name, given),
+        None => Err(fault(alloc, "error: no subcommand\n")),
+    }
+}
+
+fn named_task(alloc: Global, name: &str, given: &ArgMatches<'_>) -> Result<Task, Usage>
+    ensures { IfOk result (IsTask name.now (rows_of (found_of given.now))) }
+{
+    let at = moment_of(alloc, given)?;
+    let subcommand = asked(alloc, name, given)?;
+    Ok(Task { at, subcommand })
+}
+
+fn asked(alloc: Global, name: &str, given: &ArgMatches<'_>) -> Result<Subcommand, Usage>
+    ensures { IfOk result (IsAsked name.now (rows_of (found_of given.now))) }
+{
+    match name {
+        "canon" => canon_asked(alloc, given),
+        "init" => init_asked(alloc, given),
+        "publish" => publish_asked(alloc, given),
+        "put" => put_asked(alloc, given),
+        "serve" => serve_asked(alloc, given),
+        _ => Err(fault(alloc, "error: no such subcommand\n")),
+    }
+}
+
+fn canon_asked(alloc: Global, given: &ArgMatches<'_>) -> Result<Subcommand, Usage>
+    ensures { IfOk result (IsAsked (codes "canon") (rows_of (found_of given.now))) }
+{
+    let file = text_of(alloc, given, "file")?;
+    Ok(Subcommand::Canon { file })
+}
+
+fn init_asked(alloc: Global, given: &ArgMatches<'_>) -> Result<Subcommand, Usage>
+    ensures { IfOk result (IsAsked (codes "init") (rows_of (found_of given.now))) }
+{
+    let db = text_of(alloc, given, "db")?;
+    let root = text_of(alloc, given, "root")?;
+    Ok(Subcommand::Init { db, root })
+}
+
+fn publish_asked(alloc: Global, given: &ArgMatches<'_>) -> Result<Subcommand, Usage>
+    ensures { IfOk result (IsAsked (codes "publish") (rows_of (found_of given.now))) }
+{
+    let db = text_of(alloc, given, "db")?;
+    let documents = texts_of(alloc, given, "document")?;
+    Ok(Subcommand::Publish { db, documents })
+}
+
+fn put_asked(alloc: Global, given: &ArgMatches<'_>) -> Result<Subcommand, Usage>
+    ensures { IfOk result (IsAsked (codes "put") (rows_of (found_of given.now))) }
+{
+    let db = text_of(alloc, given, "db")?;
+    let file = text_of(alloc, given, "file")?;
+    Ok(Subcommand::Put { db, file })
+}
+
+fn serve_asked(alloc: Global, given: &ArgMatches<'_>) -> Result<Subcommand, Usage>
+    ensures { IfOk result (IsAsked (codes "serve") (rows_of (found_of given.now))) }
+{
+    let db = text_of(alloc, given, "db")?;
+    let port = port_of(alloc, given)?;
+    let count = count_of(alloc, given)?;
+    Ok(Subcommand::Serve { db, port, count })
+}
+
+// The text of a fault of the command line.
+fn usage_of(alloc: Global, error: &clap::Error) -> Usage {
+    if error.kind() == ErrorKind::OutOfMemory {
+        return Usage::OutOfMemory;
+    }
+    match error.to_string(alloc) {
+        Ok(text) if error.use_stderr() => Usage::Text(text),
+        Ok(text) => Usage::Help(text),
+        Err(_) => Usage::OutOfMemory,
+    }
+}

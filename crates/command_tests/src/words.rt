@@ -1,0 +1,118 @@
+// The words of a command line.
+use command_line::{Subcommand, Task, Usage, task};
+use std::test::Fail;
+
+// What the words ask for.
+fn asked(rt: HostRuntime, words: &[&str]) -> Result<Result<Task, Usage>, Fail> {
+    let mut all = Vec::new(rt.alloc());
+    for word in words {
+        all.push(String::from_str(rt.alloc(), word)?)?;
+    }
+    Ok(task(rt.alloc(), &all))
+}
+
+// Whether the words are a fault of the command line, which says this.
+fn is_usage(rt: HostRuntime, words: &[&str], text: &str) -> Result<bool, Fail> {
+    match asked(rt, words)? {
+        Err(Usage::Text(said)) => Ok(said.starts_with("error: ") && said.contains(text)),
+        _ => Ok(false),
+    }
+}
+
+#[test]
+fn says_a_task(rt: HostRuntime) -> Result<(), Fail> {
+    for at in ["--at=253402300799", "--at=+253402300799"] {
+        let found = asked(rt, &["release", "canon", at, "--", "a"])?;
+        assert!(rt;
+            matches!(&found,
+            Ok(Task { at: Some(253402300799), subcommand: Subcommand::Canon { file } })
+                if file.as_str() == "a"
+        ),
+            "{at}"
+        );
+    }
+    let found = asked(
+        rt,
+        &["release", "serve", "--count", "3", "--db=d", "--port", "80"],
+    )?;
+    assert!(rt;
+        matches!(&found,
+        Ok(Task { at: None, subcommand: Subcommand::Serve { db, port: 80, count: Some(3) } })
+            if db.as_str() == "d"
+    )
+    );
+    Ok(())
+}
+
+#[test]
+fn refuses_other_words(rt: HostRuntime) -> Result<(), Fail> {
+    for words in [
+        ["release", "canon", "a", "b"],
+        ["release", "canon", "--at", "5"],
+        ["release", "canon", "--at=-1", "a"],
+        ["release", "canon", "--at=253402300800", "a"],
+        ["release", "canon", "--on", "a"],
+        ["release", "sign", "--book", "a"],
+    ] {
+        assert!(rt; is_usage(rt, &words, "")?, "{words:?}");
+    }
+    let help = asked(rt, &["release", "--help"])?;
+    assert!(rt; matches!(&help, Err(Usage::Help(text)) if text.contains("canon")));
+    Ok(())
+}
+
+#[test]
+fn each_argument_has_to_be_there(rt: HostRuntime) -> Result<(), Fail> {
+    for words in [
+        ["release", "init", "root.json", "--at=5"],
+        ["release", "init", "--db", "db"],
+        ["release", "publish", "root:a", "--at=5"],
+        ["release", "publish", "--db", "db"],
+        ["release", "put", "abc", "--at=5"],
+        ["release", "put", "--db", "db"],
+    ] {
+        assert!(rt; is_usage(rt, &words, "required")?, "{words:?}");
+    }
+    Ok(())
+}
+
+#[test]
+fn no_argument_too_many(rt: HostRuntime) -> Result<(), Fail> {
+    for words in [
+        ["release", "init", "--db=db", "a", "b"],
+        ["release", "put", "--db=db", "a", "b"],
+        ["release", "put", "--db=db", "--db=other", "a"],
+        ["release", "put", "--db=db", "--port=80", "a"],
+    ] {
+        assert!(rt;
+            is_usage(rt, &words, "--db")? || is_usage(rt, &words, "unexpected")?,
+            "{words:?}"
+        );
+    }
+    Ok(())
+}
+
+// What asks for so many documents.
+fn published(rt: HostRuntime, count: u32) -> Result<Result<Task, Usage>, Fail> {
+    let mut words = Vec::new(rt.alloc());
+    for word in ["release", "publish", "--at=5", "--db=db"] {
+        words.push(word)?;
+    }
+    for _ in 0..count {
+        words.push("targets:file")?;
+    }
+    asked(rt, &words)
+}
+
+#[test]
+fn publishes_up_to_160_documents(rt: HostRuntime) -> Result<(), Fail> {
+    let most = published(rt, 160)?;
+    assert!(rt;
+        matches!(&most,
+        Ok(Task { at: Some(5), subcommand: Subcommand::Publish { documents, .. } }) if documents.len() == 160
+    )
+    );
+    let more = published(rt, 161)?;
+    assert!(rt; matches!(&more, Err(Usage::Text(said)) if said.starts_with("error: ")));
+    Ok(())
+}
