@@ -7,8 +7,6 @@ mod documents;
 mod failure;
 mod files;
 mod signer;
-#[cfg(test)]
-mod tests;
 mod values;
 
 use failure::Failure;
