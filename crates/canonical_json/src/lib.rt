@@ -26,8 +26,6 @@ const MAX_DEPTH: usize = 32;
 
 mod members;
 mod reader;
-#[cfg(test)]
-mod tests;
 mod texts;
 mod write_faults;
 mod writer;

@@ -40,8 +40,6 @@ mod digits;
 mod ids;
 mod meeting;
 mod rotation;
-#[cfg(test)]
-mod tests;
 
 pub use ids::key_id;
 pub use meeting::{meets, meets_counted};

@@ -76,8 +76,6 @@ mod parameters;
 mod parts;
 mod signing;
 mod steps;
-#[cfg(test)]
-mod tests;
 mod tree;
 mod verifying;
 

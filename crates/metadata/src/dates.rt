@@ -94,6 +94,3 @@ pub fn read_date_time(text: &str) -> Option<Moment>
         second,
     )
 }
-
-#[cfg(test)]
-mod tests;

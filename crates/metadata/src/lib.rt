@@ -20,8 +20,6 @@ mod root;
 mod snapshot;
 mod source;
 mod targets;
-#[cfg(test)]
-mod tests;
 mod timestamp;
 
 ghost use Rattle.std.specs.Prelude.{◌≡◌, List, ℕ};

@@ -13,8 +13,6 @@ mod digests;
 mod grammar;
 mod matching;
 mod names;
-#[cfg(test)]
-mod tests;
 
 pub use digests::one_digest;
 pub use grammar::{is_role_name, is_target_path};

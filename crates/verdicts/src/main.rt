@@ -4,8 +4,6 @@
 mod case;
 mod failure;
 mod lines;
-#[cfg(test)]
-mod tests;
 mod verdict;
 mod words;
 

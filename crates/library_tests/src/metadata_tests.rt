@@ -1,9 +1,11 @@
 mod files;
 
-use crate::{Body, Document, Kind, Root, ShapeFault, one_document, one_shape, read_document};
-use files::{DOCUMENTS, FAULTS};
+use files::DOCUMENTS;
+use metadata::{
+    Body, Document, Kind, Moment, Root, ShapeFault, live, one_document, one_shape, read_date_time,
+    read_document,
+};
 use std::alloc::Global;
-use std::process::Abort;
 use std::test::Fail;
 
 // The first check that the bytes fail.
@@ -12,22 +14,6 @@ fn fault_of(alloc: Global, kind: Kind, bytes: &[u8]) -> Option<ShapeFault> {
         Ok(_) => None,
         Err(fault) => Some(fault),
     }
-}
-
-#[test]
-fn documents(rt: HostRuntime) -> Result<(), Fail> {
-    for (kind, text) in DOCUMENTS {
-        assert_eq!(rt; fault_of(rt.alloc(), kind, text.as_bytes()), None);
-    }
-    Ok(())
-}
-
-#[test]
-fn faults(rt: HostRuntime) -> Result<(), Fail> {
-    for (kind, fault, text) in FAULTS {
-        assert_eq!(rt; fault_of(rt.alloc(), kind, text.as_bytes()), Some(fault));
-    }
-    Ok(())
 }
 
 // A timestamp of so many bytes: a further member holds the rest.
@@ -178,13 +164,15 @@ fn looks_paths_up(rt: HostRuntime) -> Result<(), Fail> {
     Ok(())
 }
 
+// Holds whichever one allocation is refused: the call says so, and the next one answers in full.
 #[test]
 fn goes_on_after_a_refused_allocation(rt: HostRuntime) -> Result<(), Fail> {
     for (kind, text) in DOCUMENTS {
-        match fault_of(rt.alloc(), kind, text.as_bytes()) {
-            None => {}
-            Some(fault) => assert_eq!(rt; fault, ShapeFault::OutOfMemory),
+        let mut fault = fault_of(rt.alloc(), kind, text.as_bytes());
+        if fault == Some(ShapeFault::OutOfMemory) {
+            fault = fault_of(rt.alloc(), kind, text.as_bytes());
         }
+        assert_eq!(rt; fault, None);
     }
     Ok(())
 }
@@ -193,5 +181,25 @@ fn goes_on_after_a_refused_allocation(rt: HostRuntime) -> Result<(), Fail> {
 fn laws(_rt: HostRuntime) -> Result<(), Fail> {
     one_document();
     one_shape();
+    Ok(())
+}
+
+#[test]
+fn lives_before_it_expires(rt: HostRuntime) -> Result<(), Fail> {
+    let expires = read_date_time("2030-01-01T00:00:00Z").ok_or("no date and time")?;
+    let at = Moment::new(1_893_456_000).ok_or("no moment")?;
+    let before = Moment::new(1_893_455_999).ok_or("no moment")?;
+    assert_eq!(rt; expires, at);
+    assert!(rt; live(expires, before));
+    assert!(rt; !live(expires, at));
+    assert!(rt; before < at);
+    Ok(())
+}
+
+#[test]
+fn moments_end_with_the_year_9999(rt: HostRuntime) -> Result<(), Fail> {
+    let last = Moment::new(253_402_300_799).ok_or("no moment")?;
+    assert_eq!(rt; last.seconds(), 253_402_300_799);
+    assert_eq!(rt; Moment::new(253_402_300_800), None);
     Ok(())
 }

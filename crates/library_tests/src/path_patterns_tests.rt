@@ -1,4 +1,4 @@
-use crate::{
+use path_patterns::{
     Digest, RoleName, TargetPath, consistent_name, is_role_name, is_target_path, names_undo,
     one_digest, read_asked, tests_tell,
 };
@@ -176,36 +176,6 @@ fn laws(_rt: HostRuntime) {
     names_undo();
     one_digest();
     tests_tell();
-}
-
-// Texts that ask for no digest: too few digits, no dot, nothing behind it, upper case, digits in another segment, bytes of
-// no path.
-const PLAIN: [&str; 10] = [
-    "",
-    "a/b.tgz",
-    "a/../b",
-    "a/ba7816bf8f01cfea414140de5dae2223b00361a396177a9cb410ff61f20015a.b",
-    "a/ba7816bf8f01cfea414140de5dae2223b00361a396177a9cb410ff61f20015ad",
-    "a/ba7816bf8f01cfea414140de5dae2223b00361a396177a9cb410ff61f20015ad.",
-    "a/BA7816BF8F01CFEA414140DE5DAE2223B00361A396177A9CB410FF61F20015AD.b",
-    "a/ba7816bf8f01cfea414140de5dae2223b00361a396177a9cb410ff61f20015ad./b",
-    "ba7816bf8f01cfea414140de5dae2223b00361a396177a9cb410ff61f20015ad.a/b",
-    "ba7816bf8f01cfea414140de5dae2223b00361a396177a9cb410ff61f20015a\u{e9}.a",
-];
-
-#[test]
-fn plain_paths(rt: HostRuntime) -> Result<(), Fail> {
-    for text in PLAIN {
-        let (asked, with) = read_asked(rt.alloc(), text)?;
-        assert_eq!(rt; asked.as_str(), text);
-        assert!(rt; with.is_none(), "{text}");
-    }
-    let odd =
-        "/\0 \u{e9}/ba7816bf8f01cfea414140de5dae2223b00361a396177a9cb410ff61f20015ad.\u{e9} \0";
-    let (asked, with) = read_asked(rt.alloc(), odd)?;
-    assert_eq!(rt; asked.as_str(), "/\0 \u{e9}/\u{e9} \0");
-    assert!(rt; with == Some(digest(&rt, ABC)));
-    Ok(())
 }
 
 // Holds whichever one allocation is refused: the call says so, and the next one answers in full.

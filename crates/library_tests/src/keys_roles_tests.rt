@@ -1,4 +1,4 @@
-use crate::{Key, KeyId, KeyTable, NoMemory, RoleRule, Signature, key_id, meets, meets_counted};
+use keys_roles::{Key, KeyId, KeyTable, NoMemory, RoleRule, Signature, meets, meets_counted};
 use lms::{OtsType, Params, Seed, SigningHeight, Steps, public_of, sign};
 use std::alloc::Global;
 use std::process::Abort;
@@ -154,30 +154,4 @@ fn zeros(rt: &(impl Abort + AllocGlobal), count: usize) -> Result<String, Fail> 
         text.push('0')?;
     }
     Ok(text)
-}
-
-fn id_digits(rt: &(impl Abort + AllocGlobal), public: [u8; 56]) -> Result<String, Fail> {
-    let id = key_id(rt.alloc(), &Key::Lms(public))?;
-    Ok(hex::encode(rt.alloc(), &id.0)?)
-}
-
-#[test]
-fn ids_of_known_keys(rt: HostRuntime) -> Result<(), Fail> {
-    assert_eq!(rt;
-        id_digits(&rt, [0; 56])?.as_str(),
-        "b17ac8552fb62b5ade95039250fe2a823de6978b8eae322968a81dac7e2eb6c2"
-    );
-    assert_eq!(rt;
-        id_digits(&rt, [0xab; 56])?.as_str(),
-        "bca5dcedbbee8bfac7eabd4fad3e48097640dd344640bb2e88d32cf170e72f43"
-    );
-    let mut public = [0; 56];
-    for i in 0..56u8 {
-        public[usize::from(i)] = i;
-    }
-    assert_eq!(rt;
-        id_digits(&rt, public)?.as_str(),
-        "2547fa4f3d9472f7c97ec1f525f2bf85b42962e56299805a6dad80e7eae8a145"
-    );
-    Ok(())
 }
