@@ -11,8 +11,6 @@ mod line;
 mod reply;
 mod request;
 mod routes;
-#[cfg(test)]
-mod tests;
 
 pub use bodies::{accepted_body, denial_body, denial_status, stored_body};
 pub use body::read_body;

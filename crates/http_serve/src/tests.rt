@@ -1,10 +1,7 @@
 // Requests over a database in memory. What owns a store does little besides: the functions that ask borrow it.
 mod calm;
-mod cut;
-mod refused;
 mod rows;
 mod signed;
-mod socket;
 
 use crate::{Routes, serve_one};
 use metadata::Moment;

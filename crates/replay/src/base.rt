@@ -44,12 +44,18 @@ fn shut(conn: Option<Connection<MemStore>>) -> Base {
 }
 
 impl Base {
-    /// Puts a new database in the place of this one. Where memory was refused, once more.
-    pub fn begin(&mut self, alloc: Global) {
+    /// Puts a new database in the place of this one, and opens a store over it.
+    pub fn begin(&mut self, alloc: Global) -> Result<(), Fault> {
         *self = new_base(alloc);
-        if matches!(self, Base::None) {
-            *self = new_base(alloc);
+        if self.is_gone() {
+            return Err(Fault::OutOfMemory);
         }
+        self.open(alloc)
+    }
+
+    /// Whether there is no database: none was made, or its connection was lost with the memory for it.
+    pub fn is_gone(&self) -> bool {
+        matches!(self, Base::None)
     }
 
     /// Shuts the store, if there is one.
@@ -115,16 +121,13 @@ impl Base {
         let is_open = self.is_open();
         self.shut();
         let lines = match self.connection() {
-            Some(conn) => rows_in(alloc, conn),
-            None => Ok(Vec::new(alloc)),
+            Some(conn) => rows_in(alloc, conn).map_err(|_| Fault::Database),
+            None => Err(Fault::Database),
         };
         if is_open {
             self.open(alloc)?;
         }
-        match lines {
-            Ok(lines) => Ok(lines),
-            Err(_) => Err(Fault::Database),
-        }
+        lines
     }
 }
 

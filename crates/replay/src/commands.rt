@@ -51,7 +51,7 @@ impl Session {
         };
         match self.base.rows(self.alloc) {
             Ok(rows) => Ok(rows.as_slice() == before.as_slice()),
-            Err(_) => Ok(false),
+            Err(_) => Err(LineFault::OutOfMemory),
         }
     }
 
@@ -148,30 +148,31 @@ impl Session {
         Ok(format!(in self.alloc; "{id} {public}")?)
     }
 
-    /// `case NAME`: a new database, and an empty store over it.
+    /// `case NAME`: a new database, and an empty store over it. Where memory was refused, once more.
     pub fn begin_case(&mut self, line: &str) -> Result<String, LineFault> {
-        self.base.begin(self.alloc);
+        let mut opened = self.base.begin(self.alloc);
+        if matches!(opened, Err(Fault::OutOfMemory)) {
+            self.refusals = self.refusals.saturating_add(1);
+            opened = self.base.begin(self.alloc);
+        }
         self.rows = None;
-        match self.opened() {
+        match opened {
             Ok(()) => Ok(told(self.alloc, line)?),
             Err(fault) => Ok(told(self.alloc, fault_text(fault))?),
         }
     }
 
-    // Opens a store, and once more where memory was refused.
-    fn opened(&mut self) -> Result<(), Fault> {
-        match self.base.open(self.alloc) {
-            Err(Fault::OutOfMemory) => {
-                self.refusals = self.refusals.saturating_add(1);
-                self.base.open(self.alloc)
-            }
-            result => result,
-        }
-    }
-
-    /// `reopen`: opens a store over what the tables hold now.
+    /// `reopen`: opens a store over what the tables hold now. Where memory was refused, once more, if the connection is left.
     pub fn reopen(&mut self) -> Result<String, LineFault> {
-        let text = match self.opened() {
+        let mut opened = self.base.open(self.alloc);
+        if matches!(opened, Err(Fault::OutOfMemory)) {
+            if self.base.is_gone() {
+                return Err(LineFault::OutOfMemory);
+            }
+            self.refusals = self.refusals.saturating_add(1);
+            opened = self.base.open(self.alloc);
+        }
+        let text = match opened {
             Ok(()) => "opened",
             Err(fault) => fault_text(fault),
         };
@@ -193,7 +194,7 @@ impl Session {
             rows = self.base.rows(self.alloc);
         }
         let Ok(rows) = rows else {
-            return Ok(told(self.alloc, "no rows")?);
+            return Err(LineFault::OutOfMemory);
         };
         let mut text = told(self.alloc, "rows")?;
         for line in &rows {

@@ -17,6 +17,3 @@ pub use laws::{one_contents, rows_are_sets};
 pub use making::renew;
 pub use opening::{check_open, prepare};
 pub use writing::write_all;
-
-#[cfg(test)]
-mod tests;

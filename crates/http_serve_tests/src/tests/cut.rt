@@ -1,8 +1,8 @@
 // Readers and writers that fail at some call.
 ghost use Rattle.std.specs.Prelude.{false};
 
-use super::{begun, is_put, json, now, put_abc};
-use crate::{Receive, Routes, ServeFault, Transmit, serve_list, serve_one};
+use super::{Case, is_put, is_well, json, now, put_abc};
+use http_serve::{Receive, Routes, ServeFault, Transmit, serve_list, serve_one};
 use sqlite::MemStore;
 use std::alloc::Global;
 use std::io;
@@ -104,20 +104,19 @@ fn is_unread(
 }
 
 // At whichever call the reader fails, no command was made.
-fn reads(alloc: Global, store: &mut Store<MemStore>) -> Result<bool, Fail> {
-    let request = put_abc(alloc, b"abc")?;
+pub(super) fn reads(alloc: Global, store: &mut Store<MemStore>) -> Result<bool, Fail> {
+    let request = put_abc(alloc)?;
     for fails_at in 1..=request.len().div_ceil(3) {
         if !is_unread(alloc, store, &request, fails_at)? {
             return Ok(false);
         }
     }
-    is_put(alloc, store, b"abc", "200 OK", "{\"stored\":true}")
+    is_put(alloc, store, "{\"stored\":true}")
 }
 
 #[test]
 fn reads_that_fail(rt: HostRuntime) -> Result<(), Fail> {
-    let mut store = begun(rt.alloc())?;
-    let good = reads(rt.alloc(), &mut store)?;
+    let good = is_well(rt, Case::Reads)?;
     assert!(rt; good);
     Ok(())
 }
@@ -130,7 +129,7 @@ fn is_cut(
     body: &str,
 ) -> Result<bool, Fail> {
     let routes = Routes::new(alloc)?;
-    let request = put_abc(alloc, b"abc")?;
+    let request = put_abc(alloc)?;
     let wanted = json(alloc, "200 OK", body)?;
     let mut reader = request.as_slice();
     let mut writer = writer_of(alloc, stops_at);
@@ -139,7 +138,7 @@ fn is_cut(
 }
 
 // At whichever call the writer stops, it took a beginning of the answer, and the command stands.
-fn writes(alloc: Global, store: &mut Store<MemStore>) -> Result<bool, Fail> {
+pub(super) fn writes(alloc: Global, store: &mut Store<MemStore>) -> Result<bool, Fail> {
     if !is_cut(alloc, store, 1, "{\"stored\":true}")? {
         return Ok(false);
     }
@@ -153,16 +152,15 @@ fn writes(alloc: Global, store: &mut Store<MemStore>) -> Result<bool, Fail> {
 
 #[test]
 fn writes_that_fail(rt: HostRuntime) -> Result<(), Fail> {
-    let mut store = begun(rt.alloc())?;
-    let good = writes(rt.alloc(), &mut store)?;
+    let good = is_well(rt, Case::Writes)?;
     assert!(rt; good);
     Ok(())
 }
 
 // A connection that is cut leaves the later ones to be served, each from the state that is left.
-fn behind_a_cut(alloc: Global, store: &mut Store<MemStore>) -> Result<bool, Fail> {
+pub(super) fn behind_a_cut(alloc: Global, store: &mut Store<MemStore>) -> Result<bool, Fail> {
     let routes = Routes::new(alloc)?;
-    let request = put_abc(alloc, b"abc")?;
+    let request = put_abc(alloc)?;
     let first = json(alloc, "200 OK", "{\"stored\":true}")?;
     let second = json(alloc, "200 OK", "{\"stored\":false}")?;
     let now = now()?;
@@ -182,8 +180,7 @@ fn behind_a_cut(alloc: Global, store: &mut Store<MemStore>) -> Result<bool, Fail
 
 #[test]
 fn after_a_cut_connection(rt: HostRuntime) -> Result<(), Fail> {
-    let mut store = begun(rt.alloc())?;
-    let good = behind_a_cut(rt.alloc(), &mut store)?;
+    let good = is_well(rt, Case::BehindACut)?;
     assert!(rt; good);
     Ok(())
 }

@@ -1,6 +1,5 @@
 // Memory that is refused.
-use super::signed::TARGETS_FILE;
-use super::{answer, batch, file, get, json, published, put_abc};
+use super::{Case, abc, answer, batch, get, is_well, json, publish, put_abc};
 use sqlite::MemStore;
 use std::alloc::Global;
 use std::test::Fail;
@@ -27,7 +26,7 @@ fn is_answered(
 }
 
 fn target(alloc: Global, store: &mut Store<MemStore>) -> Result<bool, Fail> {
-    let wanted = file(alloc, b"abc")?;
+    let wanted = abc(alloc)?;
     let request = get(alloc, "/targets/a/b.tgz")?;
     is_answered(alloc, store, &request, &wanted)
 }
@@ -44,18 +43,19 @@ fn denial(alloc: Global, store: &mut Store<MemStore>) -> Result<bool, Fail> {
 
 fn blob(alloc: Global, store: &mut Store<MemStore>) -> Result<bool, Fail> {
     let wanted = json(alloc, "200 OK", "{\"stored\":false}")?;
-    let request = put_abc(alloc, b"abc")?;
+    let request = put_abc(alloc)?;
     is_answered(alloc, store, &request, &wanted)
 }
 
 fn documents(alloc: Global, store: &mut Store<MemStore>) -> Result<bool, Fail> {
     let wanted = json(alloc, "200 OK", "{\"accepted\":0,\"same\":3}")?;
-    let request = batch(alloc, TARGETS_FILE)?;
+    let request = batch(alloc)?;
     is_answered(alloc, store, &request, &wanted)
 }
 
 // Whether four requests are answered so. An error is want of memory of the test's own.
-fn all(alloc: Global, store: &mut Store<MemStore>) -> Result<bool, Fail> {
+pub(super) fn all(alloc: Global, store: &mut Store<MemStore>) -> Result<bool, Fail> {
+    publish(alloc, store)?;
     let target = target(alloc, store)?;
     let denial = denial(alloc, store)?;
     let blob = blob(alloc, store)?;
@@ -63,15 +63,9 @@ fn all(alloc: Global, store: &mut Store<MemStore>) -> Result<bool, Fail> {
     Ok(target && denial && blob && documents)
 }
 
-// The same over a store of their own.
-fn outcome(alloc: Global) -> Result<bool, Fail> {
-    let mut store = published(alloc)?;
-    all(alloc, &mut store)
-}
-
 #[test]
 fn refused_memory(rt: HostRuntime) -> Result<(), Fail> {
-    let good = outcome(rt.alloc())?;
+    let good = is_well(rt, Case::RefusedMemory)?;
     assert!(rt; good);
     Ok(())
 }

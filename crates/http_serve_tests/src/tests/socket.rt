@@ -1,6 +1,6 @@
 // A connection over loopback.
-use super::{file, get, now, published};
-use crate::{Routes, serve_one};
+use super::{Case, abc, get, is_well, now, publish};
+use http_serve::{Routes, serve_one};
 use sqlite::MemStore;
 use std::alloc::Global;
 use std::io::{Read, Write};
@@ -21,7 +21,8 @@ fn serve_next(
 }
 
 // What a client reads that asks for a target.
-fn exchange(rt: HostRuntime, store: &mut Store<MemStore>) -> Result<bool, Fail> {
+pub(super) fn exchange(rt: HostRuntime, store: &mut Store<MemStore>) -> Result<bool, Fail> {
+    publish(rt.alloc(), store)?;
     let listener = TcpListener::bind(&rt, "127.0.0.1:0")?;
     let mut client = TcpStream::connect(&rt, listener.local_addr()?)?;
     let request = get(rt.alloc(), "/targets/a/b.tgz")?;
@@ -29,14 +30,13 @@ fn exchange(rt: HostRuntime, store: &mut Store<MemStore>) -> Result<bool, Fail> 
     serve_next(rt.alloc(), &listener, store)?;
     let mut text = Vec::new(rt.alloc());
     client.read_to_end(&mut text)?;
-    let wanted = file(rt.alloc(), b"abc")?;
+    let wanted = abc(rt.alloc())?;
     Ok(text.as_slice() == wanted.as_slice())
 }
 
 #[test]
 fn loopback(rt: HostRuntime) -> Result<(), Fail> {
-    let mut store = published(rt.alloc())?;
-    let good = exchange(rt, &mut store)?;
+    let good = is_well(rt, Case::Loopback)?;
     assert!(rt; good);
     Ok(())
 }

@@ -1,6 +1,10 @@
 ghost use Rattle.std.specs.Prelude.{false};
 
-use super::*;
+use http_messages::{
+    Asked, Fault, Kind, Method, Receive, ReceiveFault, Received, Routes, Status, Transmit,
+    accepted_body, denial_body, denial_status, one_batch, one_request, read_batch, read_request,
+    send_both, stored_body, write_fault, write_response,
+};
 use std::alloc::{AllocError, Global};
 use std::io;
 use std::io::{ErrorKind, Read, Write};

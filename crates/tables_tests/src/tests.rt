@@ -1,8 +1,8 @@
-use crate::{Change, Fault, Tables, check_open, prepare, renew, write_all};
 use sqlite::{Alter, Connection, MemStore};
 use sqlite_value::value::ValueRef;
 use std::alloc::Global;
 use std::test::Fail;
+use tables::{Change, Fault, Tables, check_open, prepare, renew, write_all};
 
 fn read<S: Alter>(alloc: Global, conn: &mut Connection<S>) -> Result<Tables, Fault> {
     if !conn.is_autocommit() {

@@ -1,0 +1,5 @@
+//! Tests of `http_messages` through its public calls.
+#![tactic(auto)]
+
+#[cfg(test)]
+mod tests;
