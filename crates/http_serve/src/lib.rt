@@ -6,8 +6,6 @@ mod offers;
 mod replies;
 mod respond;
 mod serve;
-#[cfg(test)]
-mod tests;
 
 pub use http_messages::{Cut, Fault, Receive, Routes, Transmit};
 pub use laws::{one_response, only_responses, runs_on};
