@@ -1,5 +1,5 @@
 -- A rule stays if each of its ids is kept, and no other id is there.
-use Rattle.std.proofs.Common.{◌≡◌, List, ℕ}
+use Rattle.std.proofs.Common.{◌≡◌}
 use Rattle.std.specs.List.{AllByRecursion}
 use Rattle.keys_roles.specs.Counting.{IsIn, IsKept}
 use Rattle.keys_roles.specs.Plain.{RoleRule, Table}

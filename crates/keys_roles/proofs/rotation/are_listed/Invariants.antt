@@ -1,7 +1,7 @@
 use Rattle.std.proofs.Common.{length}
 use Rattle.std.specs.List.{AllByRecursion}
-use Rattle.keys_roles.specs.Counting.{IsIn, IsKept}
-use Rattle.keys_roles.specs.Views.{ids_view, table_view}
+use Rattle.keys_roles.specs.Counting.{IsIn}
+use Rattle.keys_roles.specs.Views.{ids_view}
 use Rattle.keys_roles.proofs.rotation.are_listed.Given as goal
 
 abbrev pub invariant-ids : goal.invariant-ids
