@@ -1,7 +1,8 @@
 //! Replies as text.
 ghost use Rattle.std.specs.Prelude.{◌≤◌, length};
 
-use crate::escapes::push_escaped;
+use crate::escapes::{bytes_of_hex, push_escaped};
+use crate::failure::LineFault;
 use crate::files::{File, name_of};
 use machine::Denial;
 use metadata::digest_of;
@@ -82,18 +83,16 @@ fn denial_text(alloc: Global, denial: &Denial, index: Option<usize>) -> Result<S
 }
 
 /// A line of a row: its table and its key, and its bytes as the name of their file, or else their number and their digest.
-pub fn row_text(alloc: Global, files: &[File], line: &str) -> Result<String, AllocError> {
+pub fn row_text(alloc: Global, files: &[File], line: &str) -> Result<String, LineFault> {
     let Some((head, digits)) = line.rsplit_once(' ') else {
-        return told(alloc, line);
+        return Ok(told(alloc, line)?);
     };
     if digits.is_empty() {
-        return told(alloc, head);
+        return Ok(told(alloc, head)?);
     }
-    let Ok(bytes) = hex::decode(alloc, digits) else {
-        return told(alloc, line);
-    };
+    let bytes = bytes_of_hex(alloc, digits)?;
     let bytes = bytes_text(alloc, files, &bytes)?;
-    format!(in alloc; "{head} {bytes}")
+    Ok(format!(in alloc; "{head} {bytes}")?)
 }
 
 // Where the body of a response begins.
