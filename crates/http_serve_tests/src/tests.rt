@@ -1,7 +1,6 @@
 // Requests over a database in memory. One function owns a store, and lends it to the case that is wanted: each further owner
 // would make the check much longer.
 mod cut;
-mod refused;
 mod signed;
 mod socket;
 
@@ -20,7 +19,6 @@ enum Case {
     Reads,
     Writes,
     BehindACut,
-    RefusedMemory,
     Loopback,
 }
 
@@ -39,7 +37,6 @@ fn looked_at(rt: HostRuntime, store: &mut Store<MemStore>, case: Case) -> Result
         Case::Reads => cut::reads(alloc, store),
         Case::Writes => cut::writes(alloc, store),
         Case::BehindACut => cut::behind_a_cut(alloc, store),
-        Case::RefusedMemory => refused::all(alloc, store),
         Case::Loopback => socket::exchange(rt, store),
     }
 }
