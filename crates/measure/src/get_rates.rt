@@ -128,9 +128,9 @@ fn renew(
     moment: Moment,
 ) -> Result<(), Failure> {
     let documents = [
-        (Offer::Timestamp, &files.timestamp),
-        (Offer::Snapshot, &files.snapshot),
-        (Offer::Targets(top_role(alloc)?), &files.targets),
+        (Offer::Timestamp, files.timestamp.as_slice()),
+        (Offer::Snapshot, files.snapshot.as_slice()),
+        (Offer::Targets(top_role(alloc)?), files.targets.as_slice()),
     ];
     match batch(alloc, state, &documents, moment) {
         Ok(done) => {
