@@ -11,4 +11,3 @@ pub use closing::apply_and_close;
 pub use command::{Command, Fault, Reply};
 pub use opening::Unopened;
 pub use store::Store;
-

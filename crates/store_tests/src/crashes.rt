@@ -1,6 +1,6 @@
 // A store over two files in memory, which are handed back after a command, and opened again after a crash.
-use metadata::{Moment, digest_of, read_date_time};
 use canonical_json::write;
+use metadata::{Moment, digest_of, read_date_time};
 use signed_files::{Keys, Leaf, OtsType, Root, Rule, root_signed, signed_file};
 use sqlite::{Connection, FileStore, Files};
 use sqlite_disk::{Crash, Fuse, Memory};
