@@ -7,6 +7,10 @@ mod shelf;
 mod visiting;
 
 pub use laws::no_chain_left_out;
+pub use metadata::{
+    File, KeyTable, Listing, Meta, Moment, RoleName, RoleRule, Root, Snapshot, Source, TargetPath,
+    Targets,
+};
 pub use rows::{Row, Rows};
 pub use shelf::{Found, SearchDenial, Shelf};
 pub use visiting::{has_hash, has_length, search, vouched};

@@ -11,8 +11,8 @@ use Rattle.machine.specs.Steps.{Command, Batch, PutBlob, Metadata, Target, Init,
 use Rattle.metadata.specs.Orders as orders
 use Rattle.store.specs.Kept.{rows_of}
 use Rattle.store.specs.Applies.{Applies}
-use Rattle.store.specs.declared.command.Fault.{Fault}
-use Rattle.store.specs.declared.command.Fault.TheVariants.{OutOfMemory, Database, Damaged}
+use Rattle.store.specs.declared.command.StoreFault.{StoreFault}
+use Rattle.store.specs.declared.command.StoreFault.TheVariants.{OutOfMemory, Database, Damaged}
 use Rattle.store.specs.Views.{reply_view}
 use Rattle.store.specs.declared.command.Reply.{Reply as Answer}
 use Rattle.http_messages.specs.Faults.{fault_response}
@@ -46,7 +46,7 @@ held S T old new c now reply applies there rows = record {
 }
 
 -- a call that met a fault
-pub kept : (S T : State) (old new : database.State) (c : Command) (now : ℕ) (fault : Fault) → Applies S T old new c now (Err fault) → Rows T new → Keeps (seen S old) (seen T new)
+pub kept : (S T : State) (old new : database.State) (c : Command) (now : ℕ) (fault : StoreFault) → Applies S T old new c now (Err fault) → Rows T new → Keeps (seen S old) (seen T new)
 kept S T old new c now fault applies rows = record { state = applies.kept; clean = applies.clean; rows = λ clean there. holding T new (rows clean there) }
 
 -- no call at all
@@ -119,7 +119,7 @@ told S T old new c now reply from to r served applies there rows (text, inr (den
 )
 
 -- that the command was not made was written
-pub untold : (S T : State) (old new : database.State) (c : Command) (now : ℕ) (fault : Fault) (word : Said) (from to : Option (List ℕ)) (r : Result (Unit {0}) Cut)
+pub untold : (S T : State) (old new : database.State) (c : Command) (now : ℕ) (fault : StoreFault) (word : Said) (from to : Option (List ℕ)) (r : Result (Unit {0}) Cut)
     → IsUnmade fault word → Applies S T old new c now (Err fault) → Rows T new → Wrote from to (fault_response word) r → Performed (seen S old) c now (seen T new) from to r
 untold S T old new c now OutOfMemory word from to r is applies rows wrote =
     (fault_response word, subst (λ w. Made (seen S old) c now (fault_response w) (seen T new)) (sym is) (no_memory (seen T new) (kept S T old new c now OutOfMemory applies rows)), wrote)

@@ -7,8 +7,8 @@ use Rattle.machine.specs.Steps.{Command, Init, OfferOne, Batch, PutBlob, Metadat
 use Rattle.machine.specs.Commands.{Offer}
 use Rattle.http_messages.specs.Faults.{fault_response}
 use Rattle.http_messages.specs.Request.{Request, Asks}
-use Rattle.store.specs.declared.command.Fault.{Fault as StoreFault}
-use Rattle.store.specs.declared.command.Fault.TheVariants as store
+use Rattle.store.specs.declared.command.StoreFault.{StoreFault}
+use Rattle.store.specs.declared.command.StoreFault.TheVariants as store
 use Rattle.http_messages.specs.declared.faults.Fault.{Fault}
 use Rattle.http_messages.specs.declared.faults.Fault.TheVariants.{Memory, Database}
 use Rattle.http_messages.specs.declared.reply.Kind.{Kind}

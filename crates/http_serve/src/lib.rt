@@ -10,3 +10,4 @@ mod serve;
 pub use http_messages::{Cut, Fault, Receive, Routes, Transmit};
 pub use laws::{one_response, only_responses, runs_on};
 pub use serve::{ServeFault, serve_list, serve_one};
+pub use store::{Moment, Store};

@@ -3,7 +3,7 @@
 ghost use Rattle.std.specs.Prelude.{◌≡◌, ◌≢◌, map};
 ghost use Rattle.sqlite.specs.Held.{state};
 ghost use Rattle.store.specs.Views.{command_view};
-ghost use Rattle.store.specs.declared.command.Fault.TheVariants.{Damaged};
+ghost use Rattle.store.specs.declared.command.StoreFault.TheVariants.{Damaged};
 ghost use Rattle.http_messages.specs.Framing.{Document};
 ghost use Rattle.http_messages.specs.Received.{request_of};
 ghost use Rattle.http_messages.specs.Request.{batch, target};
@@ -112,13 +112,13 @@ fn perform<W: Transmit, S: Alter>(
 }
 
 // How it is said that a command was not made.
-fn unmade(fault: store::Fault) -> Fault
+fn unmade(fault: store::StoreFault) -> Fault
     requires { fault ≢ Damaged }
     ensures { IsUnmade fault result }
 {
     match fault {
-        store::Fault::OutOfMemory => Fault::Memory,
-        store::Fault::Database => Fault::Database,
-        store::Fault::Damaged => unreachable!(),
+        store::StoreFault::OutOfMemory => Fault::Memory,
+        store::StoreFault::Database => Fault::Database,
+        store::StoreFault::Damaged => unreachable!(),
     }
 }

@@ -42,5 +42,6 @@ mod meeting;
 mod rotation;
 
 pub use ids::key_id;
+pub use lms::Steps;
 pub use meeting::{meets, meets_counted};
 pub use rotation::same_rule;

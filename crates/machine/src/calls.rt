@@ -12,11 +12,13 @@ use crate::draft::Draft;
 use crate::effects::Effects;
 use crate::files::new_root;
 use crate::laws::stays_valid;
-use crate::offers::{offer_root, offer_snapshot, offer_timestamp};
 use crate::outcome::{Offer, Outcome};
 use crate::refusal::Refusal;
-use crate::shelving::offer_targets;
+use crate::roots::offer_root;
+use crate::snapshots::offer_snapshot;
 use crate::state::State;
+use crate::targets_metadata::offer_targets;
+use crate::timestamps::offer_timestamp;
 use metadata::{File, Moment, Root};
 use std::alloc::{AllocError, Global};
 

@@ -14,7 +14,7 @@ use crate::blobs::blob_of;
 use crate::checks::are_same;
 use crate::denial::Denial;
 use crate::effects::Blob;
-use crate::offers::live_snapshot;
+use crate::liveness::live_snapshot;
 use crate::parts::Parts;
 use crate::refusal::Refusal;
 use crate::state::State;

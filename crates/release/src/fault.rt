@@ -126,17 +126,17 @@ impl From<CanonFault> for Fault {
     }
 }
 
-impl From<store::Fault> for Fault {
+impl From<store::StoreFault> for Fault {
     ghost use Rattle.std.specs.Prelude.{◌≡◌};
     ghost use Rattle.release.specs.Statuses.{fault_of_store};
 
     ghost from_gives = { λ s f. f ≡ fault_of_store s };
 
-    fn from(fault: store::Fault) -> Fault {
+    fn from(fault: store::StoreFault) -> Fault {
         match fault {
-            store::Fault::Damaged => Fault::Damaged,
-            store::Fault::Database => Fault::Database,
-            store::Fault::OutOfMemory => Fault::Memory,
+            store::StoreFault::Damaged => Fault::Damaged,
+            store::StoreFault::Database => Fault::Database,
+            store::StoreFault::OutOfMemory => Fault::Memory,
         }
     }
 }

@@ -3,7 +3,7 @@ use metadata::Moment;
 use sqlite::{Connection, Error, MemStore, Row};
 use std::alloc::{AllocError, Global};
 use std::mem::replace;
-use store::{Command, Fault, Reply, Store};
+use store::{Command, StoreFault, Reply, Store};
 
 /// The database of a case: a store, a connection to tables that something else may have changed, or nothing.
 #[derive(Drop)]
@@ -29,7 +29,7 @@ fn new_base(alloc: Global) -> Base {
 }
 
 // A store over a connection, if there is one.
-fn opened(alloc: Global, conn: Connection<MemStore>) -> (Base, Result<(), Fault>) {
+fn opened(alloc: Global, conn: Connection<MemStore>) -> (Base, Result<(), StoreFault>) {
     match Store::open_over(alloc, conn) {
         Ok(store) => (Base::Open(store), Ok(())),
         Err(unopened) => (shut(unopened.conn), Err(unopened.fault)),
@@ -45,10 +45,10 @@ fn shut(conn: Option<Connection<MemStore>>) -> Base {
 
 impl Base {
     /// Puts a new database in the place of this one, and opens a store over it.
-    pub fn begin(&mut self, alloc: Global) -> Result<(), Fault> {
+    pub fn begin(&mut self, alloc: Global) -> Result<(), StoreFault> {
         *self = new_base(alloc);
         if self.is_gone() {
-            return Err(Fault::OutOfMemory);
+            return Err(StoreFault::OutOfMemory);
         }
         self.open(alloc)
     }
@@ -67,11 +67,11 @@ impl Base {
     }
 
     /// Opens a store over the connection.
-    pub fn open(&mut self, alloc: Global) -> Result<(), Fault> {
+    pub fn open(&mut self, alloc: Global) -> Result<(), StoreFault> {
         let conn = match replace(self, Base::None) {
             Base::Open(store) => store.into_connection(),
             Base::Shut(conn) => conn,
-            Base::None => return Err(Fault::Database),
+            Base::None => return Err(StoreFault::Database),
         };
         let (base, result) = opened(alloc, conn);
         *self = base;
@@ -92,10 +92,10 @@ impl Base {
     }
 
     /// Makes a command.
-    pub fn apply(&mut self, command: Command<'_>, now: Moment) -> Result<Reply, Fault> {
+    pub fn apply(&mut self, command: Command<'_>, now: Moment) -> Result<Reply, StoreFault> {
         match self.store() {
             Some(store) => store.apply(command, now),
-            None => Err(Fault::Database),
+            None => Err(StoreFault::Database),
         }
     }
 
@@ -117,12 +117,12 @@ impl Base {
     }
 
     /// A line for each row of the five tables: its table, its key, and its bytes in hex. A store that was open is opened again.
-    pub fn rows(&mut self, alloc: Global) -> Result<Vec<String>, Fault> {
+    pub fn rows(&mut self, alloc: Global) -> Result<Vec<String>, StoreFault> {
         let is_open = self.is_open();
         self.shut();
         let lines = match self.connection() {
-            Some(conn) => rows_in(alloc, conn).map_err(|_| Fault::Database),
-            None => Err(Fault::Database),
+            Some(conn) => rows_in(alloc, conn).map_err(|_| StoreFault::Database),
+            None => Err(StoreFault::Database),
         };
         if is_open {
             self.open(alloc)?;

@@ -9,7 +9,7 @@ use crate::words::{byte_of, digest_word};
 use machine::Offer;
 use path_patterns::RoleName;
 use std::alloc::Global;
-use store::{Command, Fault, Reply};
+use store::{Command, StoreFault, Reply};
 
 /// What a document is offered as: `root`, `timestamp`, `snapshot`, or the name of another role.
 fn offer_of(alloc: Global, role: &str) -> Result<Offer, LineFault> {
@@ -33,7 +33,7 @@ impl Session {
     /// Makes a command. Where memory was refused, the rows have to be as before, and it is made once more.
     pub fn ask(&mut self, command: Command<'_>) -> Result<String, LineFault> {
         let mut result = self.base.apply(command, self.now);
-        if matches!(result, Err(Fault::OutOfMemory)) {
+        if matches!(result, Err(StoreFault::OutOfMemory)) {
             self.refusals = self.refusals.saturating_add(1);
             if !self.has_rows_of_before()? {
                 return Ok(told(self.alloc, "rows are changed by a refusal")?);
@@ -151,7 +151,7 @@ impl Session {
     /// `case NAME`: a new database, and an empty store over it. Where memory was refused, once more.
     pub fn begin_case(&mut self, line: &str) -> Result<String, LineFault> {
         let mut opened = self.base.begin(self.alloc);
-        if matches!(opened, Err(Fault::OutOfMemory)) {
+        if matches!(opened, Err(StoreFault::OutOfMemory)) {
             self.refusals = self.refusals.saturating_add(1);
             opened = self.base.begin(self.alloc);
         }
@@ -165,7 +165,7 @@ impl Session {
     /// `reopen`: opens a store over what the tables hold now. Where memory was refused, once more, if the connection is left.
     pub fn reopen(&mut self) -> Result<String, LineFault> {
         let mut opened = self.base.open(self.alloc);
-        if matches!(opened, Err(Fault::OutOfMemory)) {
+        if matches!(opened, Err(StoreFault::OutOfMemory)) {
             if self.base.is_gone() {
                 return Err(LineFault::OutOfMemory);
             }

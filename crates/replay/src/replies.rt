@@ -8,7 +8,7 @@ use machine::Denial;
 use metadata::digest_of;
 use std::alloc::{AllocError, Global};
 use std::fmt::Write;
-use store::{Fault, Reply};
+use store::{StoreFault, Reply};
 
 /// A fixed text.
 pub fn told(alloc: Global, text: &str) -> Result<String, AllocError> {
@@ -16,11 +16,11 @@ pub fn told(alloc: Global, text: &str) -> Result<String, AllocError> {
 }
 
 /// A fault of the store.
-pub fn fault_text(fault: Fault) -> &'static str {
+pub fn fault_text(fault: StoreFault) -> &'static str {
     match fault {
-        Fault::Damaged => "damaged",
-        Fault::Database => "database",
-        Fault::OutOfMemory => "memory",
+        StoreFault::Damaged => "damaged",
+        StoreFault::Database => "database",
+        StoreFault::OutOfMemory => "memory",
     }
 }
 
@@ -28,7 +28,7 @@ pub fn fault_text(fault: Fault) -> &'static str {
 pub fn reply_text(
     alloc: Global,
     files: &[File],
-    answer: Result<Reply, Fault>,
+    answer: Result<Reply, StoreFault>,
 ) -> Result<String, AllocError> {
     match answer {
         Ok(reply) => done_text(alloc, files, reply),

@@ -25,8 +25,8 @@ use Rattle.tables.specs.Tables.{HoldsTables}
 use Rattle.store.specs.Applies.{Applies, IsBatchRefusal, IsCopied, copied, wanting, IsRefusal}
 use Rattle.store.specs.Kept.{rows_of}
 use Rattle.store.specs.Views.{reply_view}
-use Rattle.store.specs.declared.command.Fault.{Fault}
-use Rattle.store.specs.declared.command.Fault.TheVariants.{Damaged, OutOfMemory}
+use Rattle.store.specs.declared.command.StoreFault.{StoreFault}
+use Rattle.store.specs.declared.command.StoreFault.TheVariants.{Damaged, OutOfMemory}
 use Rattle.store.specs.declared.command.Reply.{Reply as Answer}
 use Rattle.store.specs.declared.command.Reply.TheVariants as answers
 
@@ -42,7 +42,7 @@ abbrev Left : State → database.State → Type 0
 Left S old = HasCleanDisk old → IsTrue old.is_open → (trees : Trees) → old.may_leave trees → HoldsTables trees (rows_of S)
 
 -- nothing was written
-pub still : (S : State) (old : database.State) (c : Command) (now : ℕ) (r : Result Answer Fault) → Left S old
+pub still : (S : State) (old : database.State) (c : Command) (now : ℕ) (r : Result Answer StoreFault) → Left S old
     → IfOk r (λ reply. Steps S c now (S, reply_view reply)) → (r ≡ Err Damaged → ⊥) → Applies S S old old c now r
 still S old c now r left step sound = record {
   step = step;
@@ -63,39 +63,39 @@ pub made : (S T : State) (old new : database.State) (c : Command) (now : ℕ) (e
 made S T old new c now e reply is step tidy live crash = record {
   step = subst (λ (U : State). Steps S c now (U, reply_view reply)) (sym is) step;
   kept = tt;
-  sound = λ same. let k : ◌≡◌ {A = Result Answer Fault} (Ok reply) (Err Damaged) = same in cc;
+  sound = λ same. let k : ◌≡◌ {A = Result Answer StoreFault} (Ok reply) (Err Damaged) = same in cc;
   clean = tidy;
   live = live;
   crash = λ clean there trees may. elim (crash clean there trees may) [ inl b ↦ inl b | inr a ↦ inr (applied S (effects_view e), reply_view reply, step, a) ];
 }
 
 -- a fault came in between
-pub unmade : (S T : State) (old new : database.State) (c : Command) (now : ℕ) (e : Effects) (reply : Reply) (fault : Fault) → T ≡ S
+pub unmade : (S T : State) (old new : database.State) (c : Command) (now : ℕ) (e : Effects) (reply : Reply) (fault : StoreFault) → T ≡ S
     → Steps S c now (applied S (effects_view e), reply) → (fault ≡ Damaged → ⊥) → (HasCleanDisk new → HasCleanDisk old)
     → Crash S (applied S (effects_view e)) old new → Applies S T old new c now (Err fault)
 unmade S T old new c now e reply fault is step sound tidy crash = record {
   step = tt;
   kept = is;
-  sound = λ same. sound (let k : ◌≡◌ {A = Result Answer Fault} (Err fault) (Err Damaged) = same in cc);
+  sound = λ same. sound (let k : ◌≡◌ {A = Result Answer StoreFault} (Err fault) (Err Damaged) = same in cc);
   clean = tidy;
   live = λ clean there. tt;
   crash = λ clean there trees may. elim (crash clean there trees may) [ inl b ↦ inl b | inr a ↦ inr (applied S (effects_view e), reply, step, a) ];
 }
 
 -- the database was asked in vain
-pub failed : (S T : State) (old new : database.State) (c : Command) (now : ℕ) (fault : Fault) → T ≡ S → Left S old → Survives old new (λ _. ⊥)
-    → (◌≡◌ {A = Result (Unit {0}) Fault} (Err fault) (Err Damaged) → ⊥) → Applies S T old new c now (Err fault)
+pub failed : (S T : State) (old new : database.State) (c : Command) (now : ℕ) (fault : StoreFault) → T ≡ S → Left S old → Survives old new (λ _. ⊥)
+    → (◌≡◌ {A = Result (Unit {0}) StoreFault} (Err fault) (Err Damaged) → ⊥) → Applies S T old new c now (Err fault)
 failed S T old new c now fault is left survives sound = record {
   step = tt;
   kept = is;
-  sound = λ same. sound (let k : ◌≡◌ {A = Result Answer Fault} (Err fault) (Err Damaged) = same in cc);
+  sound = λ same. sound (let k : ◌≡◌ {A = Result Answer StoreFault} (Err fault) (Err Damaged) = same in cc);
   clean = λ clean. omega (arith, clean, survives.clean);
   live = λ clean there. tt;
   crash = λ clean there trees may. elim (survives.crash clean trees may) [ inl b ↦ inl (left (omega (arith, clean, survives.clean)) there trees b) | inr none ↦ absurd none ];
 }
 
 -- the database answered, and then the command was made
-pub relayed : (S R T : State) (old mid new : database.State) (c : Command) (now : ℕ) (r : Result Answer Fault) → R ≡ S → Survives old mid (λ _. ⊥)
+pub relayed : (S R T : State) (old mid new : database.State) (c : Command) (now : ℕ) (r : Result Answer StoreFault) → R ≡ S → Survives old mid (λ _. ⊥)
     → (HasCleanDisk mid → IsTrue old.is_open × IsTrue mid.is_open) → Applies R T mid new c now r → Applies S T old new c now r
 relayed S R T old mid new c now r is survives there made = subst (λ (U : State). Applies U T old new c now r) is (record {
   step = made.step;
@@ -106,7 +106,7 @@ relayed S R T old mid new c now r is survives there made = subst (λ (U : State)
   crash = λ clean was trees may. made.crash clean (there (made.clean clean)).1 trees may;
 })
 
-pub was_there : (S T : State) (mid new : database.State) (c : Command) (now : ℕ) (r : Result Answer Fault) (P Q : Type 0) → Applies S T mid new c now r
+pub was_there : (S T : State) (mid new : database.State) (c : Command) (now : ℕ) (r : Result Answer StoreFault) (P Q : Type 0) → Applies S T mid new c now r
     → (HasCleanDisk mid → P × Q) → HasCleanDisk new → OnOk r P
 was_there S T mid new c now r P Q made there clean = on_ok P r (there (made.clean clean)).0
 
@@ -121,20 +121,20 @@ begins S b now e (changes h valid) = leads (Ok (applied S (effects_view e))) h
 pub begins_same : (S : State) (b : Bytes) (now : ℕ) → Answers S (commands.init S b) (Ok outcomes.Same) → Steps S (Init b) now (S, Begun)
 begins_same S b now (unchanged h) = leads (Err Same) h
 
-pub begin_refused : (S : State) (b : Bytes) (now : ℕ) (refusal : Refusal) (r : Result Answer Fault) → Answers S (commands.init S b) (Err refusal) → IsRefusal refusal r
+pub begin_refused : (S : State) (b : Bytes) (now : ℕ) (refusal : Refusal) (r : Result Answer StoreFault) → Answers S (commands.init S b) (Err refusal) → IsRefusal refusal r
     → IfOk r (λ reply. Steps S (Init b) now (S, reply_view reply))
 begin_refused S b now (refusals.Denied d) r (refused h) is =
-    subst (λ (x : Result Answer Fault). IfOk x (λ reply. Steps S (Init b) now (S, reply_view reply))) (sym is) (leads (Err (orders.Denied (denial_view d))) h)
-begin_refused S b now refusals.OutOfMemory r h is = subst (λ (x : Result Answer Fault). IfOk x (λ reply. Steps S (Init b) now (S, reply_view reply))) (sym is) tt
+    subst (λ (x : Result Answer StoreFault). IfOk x (λ reply. Steps S (Init b) now (S, reply_view reply))) (sym is) (leads (Err (orders.Denied (denial_view d))) h)
+begin_refused S b now refusals.OutOfMemory r h is = subst (λ (x : Result Answer StoreFault). IfOk x (λ reply. Steps S (Init b) now (S, reply_view reply))) (sym is) tt
 
-pub refusal_sound : (refusal : Refusal) (r : Result Answer Fault) → IsRefusal refusal r → r ≡ Err Damaged → ⊥
-refusal_sound (refusals.Denied d) r is same = let k : ◌≡◌ {A = Result Answer Fault} (Ok (answers.Denied d None)) (Err Damaged) = sym is ∙ same in cc
-refusal_sound refusals.OutOfMemory r is same = let k : ◌≡◌ {A = Result Answer Fault} (Err OutOfMemory) (Err Damaged) = sym is ∙ same in cc
+pub refusal_sound : (refusal : Refusal) (r : Result Answer StoreFault) → IsRefusal refusal r → r ≡ Err Damaged → ⊥
+refusal_sound (refusals.Denied d) r is same = let k : ◌≡◌ {A = Result Answer StoreFault} (Ok (answers.Denied d None)) (Err Damaged) = sym is ∙ same in cc
+refusal_sound refusals.OutOfMemory r is same = let k : ◌≡◌ {A = Result Answer StoreFault} (Err OutOfMemory) (Err Damaged) = sym is ∙ same in cc
 
-abbrev Answered : State → Command → ℕ → Result Answer Fault → Type 0
+abbrev Answered : State → Command → ℕ → Result Answer StoreFault → Type 0
 Answered S c now r = IfOk r (λ reply. Steps S c now (S, reply_view reply))
 
-answered_as : (S : State) (c : Command) (now : ℕ) (r q : Result Answer Fault) → r ≡ q → Answered S c now q → Answered S c now r
+answered_as : (S : State) (c : Command) (now : ℕ) (r q : Result Answer StoreFault) → r ≡ q → Answered S c now q → Answered S c now r
 answered_as S c now r q is h = subst (Answered S c now) (sym is) h
 
 -- ---- a blob
@@ -146,7 +146,7 @@ puts S digest b now e (changes h valid) = leads (Ok (applied S (effects_view e))
 pub puts_same : (S : State) (digest b : Bytes) (now : ℕ) → Answers S (commands.put_blob S digest b) (Ok outcomes.Same) → Steps S (PutBlob digest b) now (S, Stored false)
 puts_same S digest b now (unchanged h) = leads (Err Same) h
 
-pub put_refused : (S : State) (digest b : Bytes) (now : ℕ) (refusal : Refusal) (r : Result Answer Fault) → Answers S (commands.put_blob S digest b) (Err refusal)
+pub put_refused : (S : State) (digest b : Bytes) (now : ℕ) (refusal : Refusal) (r : Result Answer StoreFault) → Answers S (commands.put_blob S digest b) (Err refusal)
     → IsRefusal refusal r → Answered S (PutBlob digest b) now r
 put_refused S digest b now (refusals.Denied d) r (refused h) is = answered_as S (PutBlob digest b) now r _ is (leads (Err (orders.Denied (denial_view d))) h)
 put_refused S digest b now refusals.OutOfMemory r h is = answered_as S (PutBlob digest b) now r _ is tt
@@ -168,7 +168,7 @@ offers_one S o b now e (changes h valid) =
 pub offers_same : (S : State) (o : commands.Offer) (b : Bytes) (now : ℕ) → Answers S (offers S o b now) (Ok outcomes.Same) → Steps S (OfferOne o b) now (S, Offered true)
 offers_same S o b now (unchanged h) = leads (Err Same) h
 
-pub offer_refused : (S : State) (o : commands.Offer) (b : Bytes) (now : ℕ) (refusal : Refusal) (r : Result Answer Fault) → Answers S (offers S o b now) (Err refusal)
+pub offer_refused : (S : State) (o : commands.Offer) (b : Bytes) (now : ℕ) (refusal : Refusal) (r : Result Answer StoreFault) → Answers S (offers S o b now) (Err refusal)
     → IsRefusal refusal r → Answered S (OfferOne o b) now r
 offer_refused S o b now (refusals.Denied d) r (refused h) is = answered_as S (OfferOne o b) now r _ is (leads (Err (orders.Denied (denial_view d))) h)
 offer_refused S o b now refusals.OutOfMemory r h is = answered_as S (OfferOne o b) now r _ is tt
@@ -184,35 +184,35 @@ batches_all S os now b (done h same valid) =
     subst (λ (T : State). Steps S (Batch os) now (T, BatchDone b.accepted b.same)) (sym same)
     (leads (Ok (record { trusted = brought S.trusted (effects_view b.effects); accepted = b.accepted; same = b.same })) h)
 
-pub batch_refused : (S : State) (os : List (commands.Offer × Bytes)) (now : ℕ) (refusal : BatchRefusal) (r : Result Answer Fault)
+pub batch_refused : (S : State) (os : List (commands.Offer × Bytes)) (now : ℕ) (refusal : BatchRefusal) (r : Result Answer StoreFault)
     → AnswersBatch S (commands.batch S.trusted os now) (Err refusal) → IsBatchRefusal refusal r → Answered S (Batch os) now r
 batch_refused S os now (batches.Denied d i) r (denied h) is = answered_as S (Batch os) now r _ is (leads (Err (denial_view d, i)) h)
 batch_refused S os now batches.OutOfMemory r h is = answered_as S (Batch os) now r _ is tt
 
-pub batch_refusal_sound : (refusal : BatchRefusal) (r : Result Answer Fault) → IsBatchRefusal refusal r → r ≡ Err Damaged → ⊥
-batch_refusal_sound (batches.Denied d i) r is same = let k : ◌≡◌ {A = Result Answer Fault} (Ok (answers.Denied d (Some i))) (Err Damaged) = sym is ∙ same in cc
-batch_refusal_sound batches.OutOfMemory r is same = let k : ◌≡◌ {A = Result Answer Fault} (Err OutOfMemory) (Err Damaged) = sym is ∙ same in cc
+pub batch_refusal_sound : (refusal : BatchRefusal) (r : Result Answer StoreFault) → IsBatchRefusal refusal r → r ≡ Err Damaged → ⊥
+batch_refusal_sound (batches.Denied d i) r is same = let k : ◌≡◌ {A = Result Answer StoreFault} (Ok (answers.Denied d (Some i))) (Err Damaged) = sym is ∙ same in cc
+batch_refusal_sound batches.OutOfMemory r is same = let k : ◌≡◌ {A = Result Answer StoreFault} (Err OutOfMemory) (Err Damaged) = sym is ∙ same in cc
 
 -- ---- files
 
-pub copy_sound : (b : Bytes) (r : Result Answer Fault) → IsCopied b r → r ≡ Err Damaged → ⊥
-copy_sound b r (copied {copy = copy} is) same = let k : ◌≡◌ {A = Result Answer Fault} (Ok (answers.Bytes copy)) (Err Damaged) = same in cc
-copy_sound b r wanting same = let k : ◌≡◌ {A = Result Answer Fault} (Err OutOfMemory) (Err Damaged) = same in cc
+pub copy_sound : (b : Bytes) (r : Result Answer StoreFault) → IsCopied b r → r ≡ Err Damaged → ⊥
+copy_sound b r (copied {copy = copy} is) same = let k : ◌≡◌ {A = Result Answer StoreFault} (Ok (answers.Bytes copy)) (Err Damaged) = same in cc
+copy_sound b r wanting same = let k : ◌≡◌ {A = Result Answer StoreFault} (Err OutOfMemory) (Err Damaged) = same in cc
 
-pub file_found : (S : State) (name : Bytes) (now : ℕ) (b : Bytes) (r : Result Answer Fault) → metadata_of S.trusted name ≡ Some b → IsCopied b r → Answered S (Metadata name) now r
+pub file_found : (S : State) (name : Bytes) (now : ℕ) (b : Bytes) (r : Result Answer StoreFault) → metadata_of S.trusted name ≡ Some b → IsCopied b r → Answered S (Metadata name) now r
 file_found S name now b r found (copied is) = rw (found, is) refl
 file_found S name now b r found wanting = tt
 
 pub file_absent : (S : State) (name : Bytes) (now : ℕ) → metadata_of S.trusted name ≡ None → Steps S (Metadata name) now (S, Absent)
 file_absent S name now none = rw none refl
 
-pub target_found : (S : State) (path : Bytes) (asked : Option Bytes) (now : ℕ) (b : Bor (List ℕ)) (r : Result Answer Fault)
+pub target_found : (S : State) (path : Bytes) (asked : Option Bytes) (now : ℕ) (b : Bor (List ℕ)) (r : Result Answer StoreFault)
     → Gives {A = Bor (List ℕ)} (commands.grants S path asked now) (λ x. x.now) (Ok b) → IsCopied b.now r → Answered S (Target path asked) now r
 target_found S path asked now b r (gives h) (copied is) =
     subst (λ (z : Bytes). Steps S (Target path asked) now (S, FileBytes z)) (sym is) (leads (Ok b.now) h)
 target_found S path asked now b r h wanting = tt
 
-pub target_refused : (S : State) (path : Bytes) (asked : Option Bytes) (now : ℕ) (refusal : Refusal) (r : Result Answer Fault)
+pub target_refused : (S : State) (path : Bytes) (asked : Option Bytes) (now : ℕ) (refusal : Refusal) (r : Result Answer StoreFault)
     → Gives {A = Bor (List ℕ)} (commands.grants S path asked now) (λ x. x.now) (Err refusal) → IsRefusal refusal r → Answered S (Target path asked) now r
 target_refused S path asked now (refusals.Denied d) r (denies h) is = answered_as S (Target path asked) now r _ is (leads (Err (orders.Denied (denial_view d))) h)
 target_refused S path asked now refusals.OutOfMemory r h is = answered_as S (Target path asked) now r _ is tt

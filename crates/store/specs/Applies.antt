@@ -8,8 +8,8 @@ use Rattle.machine.specs.Steps.{Command, Reply, Steps}
 use Rattle.tables.specs.Tables.{HoldsTables}
 use Rattle.store.specs.Kept.{rows_of}
 use Rattle.store.specs.Views.{reply_view}
-use Rattle.store.specs.declared.command.Fault.{Fault}
-use Rattle.store.specs.declared.command.Fault.TheVariants.{Damaged, OutOfMemory}
+use Rattle.store.specs.declared.command.StoreFault.{StoreFault}
+use Rattle.store.specs.declared.command.StoreFault.TheVariants.{Damaged, OutOfMemory}
 use Rattle.store.specs.declared.command.Reply.{Reply as Answer}
 use Rattle.store.specs.declared.command.Reply.TheVariants as answers
 use Rattle.metadata.specs.File.{Bytes}
@@ -29,7 +29,7 @@ HoldsReply S command now reply trees = (U : State) × Steps S command now (U, re
 
 -- The command is the machine's step, or a fault that leaves the state as it was. A crash leaves the rows from before the
 -- command or those from after it.
-pub record Applies (S T : State) (old new : database.State) (command : Command) (now : ℕ) (r : Result Answer Fault) : Type 0 where
+pub record Applies (S T : State) (old new : database.State) (command : Command) (now : ℕ) (r : Result Answer StoreFault) : Type 0 where
   pub step : IfOk r (λ reply. Steps S command now (T, reply_view reply))
   pub kept : OnErr r (T ≡ S)
   pub sound : r ≡ Err Damaged → ⊥
@@ -38,15 +38,15 @@ pub record Applies (S T : State) (old new : database.State) (command : Command) 
   pub crash : HasCleanDisk new → IsTrue old.is_open → (trees : Trees) → new.may_leave trees → HoldsTables trees (rows_of S) ⊎ HoldsStep S command now trees
 
 -- a refusal of the machine as an answer
-abbrev pub IsRefusal : Refusal → Result Answer Fault → Type 0
+abbrev pub IsRefusal : Refusal → Result Answer StoreFault → Type 0
 IsRefusal (refusals.Denied denial) r = r ≡ Ok (answers.Denied denial None)
 IsRefusal refusals.OutOfMemory r = r ≡ Err OutOfMemory
 
-abbrev pub IsBatchRefusal : BatchRefusal → Result Answer Fault → Type 0
+abbrev pub IsBatchRefusal : BatchRefusal → Result Answer StoreFault → Type 0
 IsBatchRefusal (batches.Denied denial index) r = r ≡ Ok (answers.Denied denial (Some index))
 IsBatchRefusal batches.OutOfMemory r = r ≡ Err OutOfMemory
 
 -- these bytes as an answer, or want of memory
-pub data IsCopied (bytes : Bytes) : Result Answer Fault → Type 0 where
+pub data IsCopied (bytes : Bytes) : Result Answer StoreFault → Type 0 where
   copied : {copy : Vec ℕ Global} → copy.items ≡ bytes → IsCopied bytes (Ok (answers.Bytes copy))
   wanting : IsCopied bytes (Err OutOfMemory)

@@ -12,7 +12,7 @@ ghost use Rattle.tables.specs.Tables.{HoldsTables, IsStore, Tables, after_all};
 ghost use Rattle.tables.specs.declared.contents.Fault.TheVariants as tables;
 ghost use Rattle.store.specs.Kept.{changed, emptied_if, last_version, more_blobs, more_roots, more_rows, new_roots, new_snapshot, new_timestamp, rows_of};
 
-use crate::command::Fault;
+use crate::command::StoreFault;
 use delegations::Row;
 use machine::{Blob, Effects, State, rows_stay};
 use metadata::{File, Root, Snapshot, Timestamp};
@@ -135,7 +135,7 @@ pub(crate) fn write<S: Alter>(
     conn: &mut Connection<S>,
     held: &State,
     effects: &Effects,
-) -> Result<(), Fault>
+) -> Result<(), StoreFault>
     requires autocommit { conn.old.in_transaction ≡ false }
     requires valid { IsState (applied held.now.state (effects_view effects.now)) }
     ensures autocommit { conn.new.in_transaction ≡ false }
@@ -144,13 +144,13 @@ pub(crate) fn write<S: Alter>(
     ensures was_open { HasCleanDisk (state S.Store conn.new) → IsTrue (state S.Store conn.new).is_open → IsTrue (state S.Store conn.old).is_open }
     ensures crash { Survives (state S.Store conn.old) (state S.Store conn.new)
         (λ trees. IsStore (state S.Store conn.old) (rows_of held.now.state) → HoldsTables trees (rows_of (applied held.now.state (effects_view effects.now)))) }
-    ensures fault { result ≢ Err Fault.Damaged }
+    ensures fault { result ≢ Err StoreFault.Damaged }
 {
     held.is_valid();
     rows_stay();
     let changes = match changes_of(alloc, effects) {
         Ok(changes) => changes,
-        Err(_) => return Err(Fault::OutOfMemory),
+        Err(_) => return Err(StoreFault::OutOfMemory),
     };
     match write_all(conn, &changes) {
         Ok(()) => Ok(()),
@@ -159,12 +159,12 @@ pub(crate) fn write<S: Alter>(
 }
 
 // A fault of the tables as one of the store.
-pub(crate) fn fault_of(fault: tables::Fault) -> Fault
-    ensures { result ≡ Fault.Damaged → fault ≡ tables.Damaged }
+pub(crate) fn fault_of(fault: tables::Fault) -> StoreFault
+    ensures { result ≡ StoreFault.Damaged → fault ≡ tables.Damaged }
 {
     match fault {
-        tables::Fault::Damaged => Fault::Damaged,
-        tables::Fault::Database => Fault::Database,
-        tables::Fault::OutOfMemory => Fault::OutOfMemory,
+        tables::Fault::Damaged => StoreFault::Damaged,
+        tables::Fault::Database => StoreFault::Database,
+        tables::Fault::OutOfMemory => StoreFault::OutOfMemory,
     }
 }

@@ -12,7 +12,7 @@ ghost use Rattle.store.specs.Kept.{rows_of};
 ghost use Rattle.store.specs.Next.{IsFound};
 ghost use Rattle.store.specs.Views.{command_view, reply_view};
 
-use crate::command::{Command, Fault, Reply};
+use crate::command::{Command, Reply, StoreFault};
 use crate::store::Store;
 use metadata::Moment;
 use sqlite::{Connection, FileStore, Files};
@@ -37,7 +37,7 @@ pub fn apply_and_close<D: Disk + Drop>(
     mut store: Store<FileStore<D>>,
     command: Command<'_>,
     now: Moment,
-) -> (Result<Reply, Fault>, Files<D>)
+) -> (Result<Reply, StoreFault>, Files<D>)
     ensures before_or_after { AreClean D.Disk result.1.log result.1.db → IsTrue (file_state store.conn).is_open
         → (left : Image) → outcomes D.Disk result.1.log result.1.db left → (found : Trees) → IsFound left found
         → ∥ HoldsTables found (rows_of store.state) ⊎ HoldsStep store.state (command_view command.entry) now found ∥₁ }

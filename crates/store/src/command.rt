@@ -42,7 +42,7 @@ pub enum Reply {
 
 /// Why a command was not made, or a store not opened.
 #[derive(Debug, Clone, Copy, PartialEq, Eq, Error)]
-pub enum Fault {
+pub enum StoreFault {
     /// The rows are those of no state. It is answered by `open` alone.
     #[error("damaged")]
     Damaged,
@@ -54,13 +54,13 @@ pub enum Fault {
     OutOfMemory,
 }
 
-impl From<AllocError> for Fault {
+impl From<AllocError> for StoreFault {
     ghost use Rattle.std.specs.Prelude.{◌≡◌};
-    ghost use Rattle.store.specs.declared.command.Fault.TheVariants.{OutOfMemory};
+    ghost use Rattle.store.specs.declared.command.StoreFault.TheVariants.{OutOfMemory};
 
     ghost from_gives = { λ _ e. e ≡ OutOfMemory };
 
     fn from(_: AllocError) -> Self {
-        Fault::OutOfMemory
+        StoreFault::OutOfMemory
     }
 }

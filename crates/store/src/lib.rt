@@ -8,6 +8,7 @@ mod opening;
 mod store;
 
 pub use closing::apply_and_close;
-pub use command::{Command, Fault, Reply};
+pub use command::{Command, Reply, StoreFault};
+pub use machine::{Denial, Digest, Moment, Offer, RoleName, State, TargetPath, get, metadata_file};
 pub use opening::Unopened;
 pub use store::Store;

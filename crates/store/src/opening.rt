@@ -11,7 +11,7 @@ ghost use Rattle.machine.specs.State as trust;
 ghost use Rattle.machine.specs.State.{IsState};
 
 use crate::changes::fault_of;
-use crate::command::Fault;
+use crate::command::StoreFault;
 use crate::store::Store;
 use machine::{Contents, State};
 use metadata::{one_document, one_shape};
@@ -22,7 +22,7 @@ use tables::{Tables, one_contents, prepare, renew};
 /// Why no store was opened, and the connection, where there still is one.
 #[derive(Drop)]
 pub struct Unopened<S: Alter> {
-    pub fault: Fault,
+    pub fault: StoreFault,
     pub conn: Option<Connection<S>>,
 }
 
@@ -35,7 +35,7 @@ impl<S: Alter + Drop> Store<S> {
     /// - `Database`: a call of the database answered a fault, or its tables are other than the first of the five of a store, or
     ///   all, in the order in which they are made.
     /// - `OutOfMemory`: memory was refused.
-    pub fn open(alloc: Global, conn: Connection<S>) -> Result<Store<S>, Fault>
+    pub fn open(alloc: Global, conn: Connection<S>) -> Result<Store<S>, StoreFault>
         ensures opened { IfOk result (λ s. HasCleanDisk (state S.Store s.conn) → TreesStand (state S.Store conn).committed.trees (rows_of s.state)) }
         ensures rows { IfOk result (λ s. HasCleanDisk (state S.Store s.conn) → IsStore (state S.Store s.conn) (rows_of s.state)) }
     {
@@ -49,7 +49,7 @@ impl<S: Alter + Drop> Store<S> {
     pub fn open_over(alloc: Global, conn: Connection<S>) -> Result<Store<S>, Unopened<S>>
         ensures opened { IfOk result (λ s. HasCleanDisk (state S.Store s.conn) → TreesStand (state S.Store conn).committed.trees (rows_of s.state)) }
         ensures rows { IfOk result (λ s. HasCleanDisk (state S.Store s.conn) → IsStore (state S.Store s.conn) (rows_of s.state)) }
-        ensures damaged { IfErr result (λ u. u.fault ≡ Fault.Damaged → IsSomeAnd u.conn (λ c. HasCleanDisk (state S.Store c) → HoldsNoState (state S.Store conn).committed.trees)) }
+        ensures damaged { IfErr result (λ u. u.fault ≡ StoreFault.Damaged → IsSomeAnd u.conn (λ c. HasCleanDisk (state S.Store c) → HoldsNoState (state S.Store conn).committed.trees)) }
     {
         let mut conn = match renew(alloc, conn) {
             Ok(conn) => conn,
@@ -71,7 +71,7 @@ impl<S: Alter + Drop> Store<S> {
 }
 
 // The state that stands in the tables. Where they have no row, those that are absent are made.
-fn read_state<S: Alter>(alloc: Global, conn: &mut Connection<S>) -> Result<State, Fault>
+fn read_state<S: Alter>(alloc: Global, conn: &mut Connection<S>) -> Result<State, StoreFault>
     requires { conn.old.in_transaction ≡ false }
     ensures autocommit { conn.new.in_transaction ≡ false }
     ensures schema { IfOk result (λ _. IsBeginning conn.old.schema) }
@@ -80,7 +80,7 @@ fn read_state<S: Alter>(alloc: Global, conn: &mut Connection<S>) -> Result<State
     ensures loaded { HasCleanDisk (state S.Store conn.new) → Opens (state S.Store conn.old) → AreNumbered conn.old.schema (state S.Store conn.old).now.trees
         → IfOk result (λ s. Stands (state S.Store conn.old).now (rows_of s.state) × IsStore (state S.Store conn.new) (rows_of s.state)) }
     ensures damaged { HasCleanDisk (state S.Store conn.new) → Opens (state S.Store conn.old) → AreNumbered (state S.Store conn.old).now.schema (state S.Store conn.old).now.trees
-        → result ≡ Err Fault.Damaged → (U : trust.State) → IsState U → Stands (state S.Store conn.old).now (rows_of U) → ⊥ }
+        → result ≡ Err StoreFault.Damaged → (U : trust.State) → IsState U → Stands (state S.Store conn.old).now (rows_of U) → ⊥ }
     ensures crash { Survives (state S.Store conn.old) (state S.Store conn.new) (λ trees. IsTrue (state S.Store conn.old).is_open → StandsEmpty (state S.Store conn.old) × HoldsTables trees no_rows) }
 {
     one_document();
@@ -92,8 +92,8 @@ fn read_state<S: Alter>(alloc: Global, conn: &mut Connection<S>) -> Result<State
     };
     match State::load(alloc, contents_of(tables)) {
         Ok(Some(held)) => Ok(held),
-        Ok(None) => Err(Fault::Damaged),
-        Err(_) => Err(Fault::OutOfMemory),
+        Ok(None) => Err(StoreFault::Damaged),
+        Err(_) => Err(StoreFault::OutOfMemory),
     }
 }
 

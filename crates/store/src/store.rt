@@ -13,7 +13,7 @@ ghost use Rattle.store.specs.Kept.{rows_of};
 ghost use Rattle.store.specs.Views.{command_view};
 
 use crate::changes::{fault_of, write};
-use crate::command::{Command, Fault, Reply};
+use crate::command::{Command, Reply, StoreFault};
 use machine::{
     BatchRefusal, Batched, Effects, Offer, Outcome, Refusal, State, batch, init, metadata_file,
     offer, put_blob, root_version, snapshot_due, target,
@@ -57,7 +57,7 @@ impl<S: Alter> Store<S> {
     ///
     /// - `Database`: a call of the database answered a fault.
     /// - `OutOfMemory`: memory was refused. Nothing takes memory once the rows are committed.
-    pub fn apply(&mut self, command: Command<'_>, now: Moment) -> Result<Reply, Fault>
+    pub fn apply(&mut self, command: Command<'_>, now: Moment) -> Result<Reply, StoreFault>
         ensures applies { Applies self.old.state self.new.state (state S.Store self.old.conn) (state S.Store self.new.conn) (command_view command.entry) now result }
         ensures open { HasCleanDisk (state S.Store self.new.conn) → OnOk result (IsTrue (state S.Store self.old.conn).is_open) }
         ensures rows { HasCleanDisk (state S.Store self.new.conn) → IsTrue (state S.Store self.new.conn).is_open → IsStore (state S.Store self.new.conn) (rows_of self.new.state) }
@@ -108,7 +108,7 @@ impl<S: Alter> Store<S> {
     }
 
     // Makes a command, over a connection that is open.
-    fn make(&mut self, command: Command<'_>, now: Moment) -> Result<Reply, Fault>
+    fn make(&mut self, command: Command<'_>, now: Moment) -> Result<Reply, StoreFault>
         ensures { Applies self.old.state self.new.state (state S.Store self.old.conn) (state S.Store self.new.conn) (command_view command.entry) now result }
     {
         match command {
@@ -121,7 +121,7 @@ impl<S: Alter> Store<S> {
         }
     }
 
-    fn begin(&mut self, bytes: &[u8], now: Moment) -> Result<Reply, Fault>
+    fn begin(&mut self, bytes: &[u8], now: Moment) -> Result<Reply, StoreFault>
         ensures { Applies self.old.state self.new.state (state S.Store self.old.conn) (state S.Store self.new.conn) (steps.Init bytes.now) now result }
     {
         self.rests();
@@ -136,7 +136,12 @@ impl<S: Alter> Store<S> {
         }
     }
 
-    fn take_offer(&mut self, offered: &Offer, bytes: &[u8], now: Moment) -> Result<Reply, Fault>
+    fn take_offer(
+        &mut self,
+        offered: &Offer,
+        bytes: &[u8],
+        now: Moment,
+    ) -> Result<Reply, StoreFault>
         ensures { Applies self.old.state self.new.state (state S.Store self.old.conn) (state S.Store self.new.conn) (steps.OfferOne (offer_view offered.now) bytes.now) now result }
     {
         self.rests();
@@ -151,7 +156,7 @@ impl<S: Alter> Store<S> {
         }
     }
 
-    fn take_batch(&mut self, documents: &[(Offer, &[u8])], now: Moment) -> Result<Reply, Fault>
+    fn take_batch(&mut self, documents: &[(Offer, &[u8])], now: Moment) -> Result<Reply, StoreFault>
         ensures { Applies self.old.state self.new.state (state S.Store self.old.conn) (state S.Store self.new.conn) (steps.Batch (documents_view documents.now)) now result }
     {
         self.rests();
@@ -169,7 +174,7 @@ impl<S: Alter> Store<S> {
         }
     }
 
-    fn put(&mut self, digest: Digest, bytes: &[u8], now: Moment) -> Result<Reply, Fault>
+    fn put(&mut self, digest: Digest, bytes: &[u8], now: Moment) -> Result<Reply, StoreFault>
         ensures { Applies self.old.state self.new.state (state S.Store self.old.conn) (state S.Store self.new.conn) (steps.PutBlob digest.0 bytes.now) now result }
     {
         self.rests();
@@ -184,7 +189,7 @@ impl<S: Alter> Store<S> {
         }
     }
 
-    fn metadata(&mut self, name: &str, now: Moment) -> Result<Reply, Fault>
+    fn metadata(&mut self, name: &str, now: Moment) -> Result<Reply, StoreFault>
         ensures { Applies self.old.state self.new.state (state S.Store self.old.conn) (state S.Store self.new.conn) (steps.Metadata name.now) now result }
     {
         self.rests();
@@ -194,7 +199,12 @@ impl<S: Alter> Store<S> {
         }
     }
 
-    fn target(&mut self, path: &str, asked: Option<Digest>, now: Moment) -> Result<Reply, Fault>
+    fn target(
+        &mut self,
+        path: &str,
+        asked: Option<Digest>,
+        now: Moment,
+    ) -> Result<Reply, StoreFault>
         ensures { Applies self.old.state self.new.state (state S.Store self.old.conn) (state S.Store self.new.conn) (steps.Target path.now (option_map (λ d. d.0) asked)) now result }
     {
         self.rests();
@@ -215,11 +225,11 @@ impl<S: Alter> Store<S> {
     }
 
     // Asks the database for one row, so that nothing is answered from memory where the connection is shut.
-    fn touch(&mut self) -> Result<(), Fault>
+    fn touch(&mut self) -> Result<(), StoreFault>
         ensures same { self.new.state ≡ self.old.state }
         ensures open { HasCleanDisk (state S.Store self.new.conn) → OnOk result (IsTrue (state S.Store self.old.conn).is_open × IsTrue (state S.Store self.new.conn).is_open) }
         ensures survives { Survives (state S.Store self.old.conn) (state S.Store self.new.conn) (λ _. ⊥) }
-        ensures sound { result ≢ Err Fault.Damaged }
+        ensures sound { result ≢ Err StoreFault.Damaged }
     {
         match check_open(&mut self.conn) {
             Ok(()) => Ok(()),
@@ -247,14 +257,14 @@ impl<S: Alter> Store<S> {
     }
 
     // Makes these changes: all memory first, then the rows and their commit, then the state with no memory.
-    fn keep(&mut self, effects: Effects) -> Result<(), Fault>
+    fn keep(&mut self, effects: Effects) -> Result<(), StoreFault>
         requires { IsState (applied self.old.state (effects_view effects)) }
         ensures done { OnOk result (self.new.state ≡ applied self.old.state (effects_view effects)) }
         ensures kept { OnErr result (self.new.state ≡ self.old.state) }
         ensures live { HasCleanDisk (state S.Store self.new.conn) → IsTrue (state S.Store self.old.conn).is_open → OnOk result (IsTrue (state S.Store self.new.conn).is_open) }
         ensures crash { HasCleanDisk (state S.Store self.new.conn) → IsTrue (state S.Store self.old.conn).is_open → (trees : Trees) → (state S.Store self.new.conn).may_leave trees
             → HoldsTables trees (rows_of self.old.state) ⊎ HoldsTables trees (rows_of (applied self.old.state (effects_view effects))) }
-        ensures sound { result ≢ Err Fault.Damaged }
+        ensures sound { result ≢ Err StoreFault.Damaged }
         ensures clean { HasCleanDisk (state S.Store self.new.conn) → HasCleanDisk (state S.Store self.old.conn) }
     {
         self.held.room(&effects)?;
@@ -265,31 +275,31 @@ impl<S: Alter> Store<S> {
 }
 
 // A refusal of the machine: a reply, or want of memory.
-fn refused(refusal: Refusal) -> Result<Reply, Fault>
+fn refused(refusal: Refusal) -> Result<Reply, StoreFault>
     ensures { IsRefusal refusal result }
 {
     match refusal {
         Refusal::Denied(denial) => Ok(Reply::Denied(denial, None)),
-        Refusal::OutOfMemory => Err(Fault::OutOfMemory),
+        Refusal::OutOfMemory => Err(StoreFault::OutOfMemory),
     }
 }
 
 // A refusal of a batch: a reply with the index of its document, or want of memory.
-fn refused_batch(refusal: BatchRefusal) -> Result<Reply, Fault>
+fn refused_batch(refusal: BatchRefusal) -> Result<Reply, StoreFault>
     ensures { IsBatchRefusal refusal result }
 {
     match refusal {
         BatchRefusal::Denied(denial, index) => Ok(Reply::Denied(denial, Some(index))),
-        BatchRefusal::OutOfMemory => Err(Fault::OutOfMemory),
+        BatchRefusal::OutOfMemory => Err(StoreFault::OutOfMemory),
     }
 }
 
 // A file's bytes as a reply of their own.
-fn copied(alloc: Global, bytes: &[u8]) -> Result<Reply, Fault>
+fn copied(alloc: Global, bytes: &[u8]) -> Result<Reply, StoreFault>
     ensures { IsCopied bytes.now result }
 {
     match Vec::from_slice(alloc, bytes) {
         Ok(bytes) => Ok(Reply::Bytes(bytes)),
-        Err(_) => Err(Fault::OutOfMemory),
+        Err(_) => Err(StoreFault::OutOfMemory),
     }
 }

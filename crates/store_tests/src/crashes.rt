@@ -8,7 +8,7 @@ use sqlite_pager::Options;
 use std::alloc::Global;
 use std::process::Abort;
 use std::test::Fail;
-use store::{Command, Fault, Reply, Store, apply_and_close};
+use store::{Command, StoreFault, Reply, Store, apply_and_close};
 
 type Disks = FileStore<Fuse<Memory>>;
 
@@ -51,13 +51,13 @@ fn root_file(alloc: Global) -> Result<Vec<u8>, Fail> {
 }
 
 // Whether the root begins the trust.
-fn begins(store: &mut Store<Disks>, root: &[u8], now: Moment) -> Result<bool, Fault> {
+fn begins(store: &mut Store<Disks>, root: &[u8], now: Moment) -> Result<bool, StoreFault> {
     let reply = store.apply(Command::Init(root), now)?;
     Ok(matches!(reply, Reply::Begun))
 }
 
 // Whether the blob is there already.
-fn holds(store: &mut Store<Disks>, now: Moment) -> Result<bool, Fault> {
+fn holds(store: &mut Store<Disks>, now: Moment) -> Result<bool, StoreFault> {
     let reply = store.apply(Command::PutBlob(digest_of(b"abc"), b"abc"), now)?;
     Ok(matches!(reply, Reply::Stored(false)))
 }

@@ -1,0 +1,56 @@
+//! Which of what is held is live at a moment, and named by what is above it.
+ghost use Rattle.metadata.specs.Kept.{root_file, timestamp_file, snapshot_file};
+ghost use Rattle.machine.specs.Answers.{Gives};
+ghost use Rattle.machine.specs.Commands as commands;
+ghost use Rattle.std.specs.Option.{option_map};
+
+use crate::checks::names_snapshot;
+use crate::denial::Denial;
+use crate::refusal::Refusal;
+use metadata::{File, Moment, Root, Snapshot, Timestamp, live};
+
+// The held timestamp, where root and timestamp are live.
+pub(crate) fn live_timestamp<'a>(
+    timestamp: Option<&'a File<Timestamp>>,
+    root: &File<Root>,
+    now: Moment,
+) -> Result<&'a File<Timestamp>, Refusal>
+    ensures { Gives (commands.live_timestamp (option_map (λ f. timestamp_file f.now) timestamp.entry) (root_file root.now) now) (λ f. timestamp_file f.now) result }
+{
+    if !live(root.body.expires, now) {
+        return Err(Refusal::Denied(Denial::RootExpired));
+    }
+    let Some(timestamp) = timestamp else {
+        return Err(Refusal::Denied(Denial::NoTimestamp));
+    };
+    if !live(timestamp.body.expires, now) {
+        return Err(Refusal::Denied(Denial::TimestampExpired));
+    }
+    Ok(timestamp)
+}
+
+// The held snapshot, where the live timestamp names it and it is live.
+pub(crate) fn live_snapshot<'a>(
+    timestamp: Option<&File<Timestamp>>,
+    snapshot: Option<&'a File<Snapshot>>,
+    root: &File<Root>,
+    now: Moment,
+) -> Result<&'a File<Snapshot>, Refusal>
+    ensures { Gives (commands.live_snapshot (option_map (λ f. timestamp_file f.now) timestamp.entry) (option_map (λ f. snapshot_file f.now) snapshot.entry) (root_file root.now) now)
+        (λ f. snapshot_file f.now) result }
+{
+    let timestamp = match live_timestamp(timestamp, root, now) {
+        Ok(timestamp) => timestamp,
+        Err(refusal) => return Err(refusal),
+    };
+    let Some(snapshot) = snapshot else {
+        return Err(Refusal::Denied(Denial::NoSnapshot));
+    };
+    if !names_snapshot(timestamp, snapshot) {
+        return Err(Refusal::Denied(Denial::SnapshotStale));
+    }
+    if !live(snapshot.body.expires, now) {
+        return Err(Refusal::Denied(Denial::SnapshotExpired));
+    }
+    Ok(snapshot)
+}

@@ -1,0 +1,65 @@
+//! Roots: the order of their checks.
+ghost use Rattle.std.specs.Prelude.{◌≡◌, cond};
+ghost use Rattle.metadata.specs.Kept.{root_file};
+ghost use Rattle.machine.specs.Answers.{Gives, Ends};
+ghost use Rattle.machine.specs.Commands as commands;
+ghost use Rattle.machine.specs.Commands.{with_root, emptied};
+ghost use Rattle.machine.specs.Views.{draft_view};
+
+use crate::checks::{are_same, is_next, is_signed};
+use crate::compared::keeps_roles;
+use crate::denial::Denial;
+use crate::draft::Draft;
+use crate::files::new_root;
+use crate::refusal::Refusal;
+use metadata::{File, Root};
+use std::alloc::Global;
+
+// Whether a new root keeps the rules of the timestamp and the snapshot role, where it may follow the trusted one.
+fn judge_root(draft: &Draft<'_>, old: &File<Root>, new: &File<Root>) -> Result<bool, Refusal>
+    ensures { Gives (commands.renew_root (draft_view draft.now) (root_file old.now) (root_file new.now))
+        (λ keeps. cond keeps (with_root (draft_view draft.now) (root_file new.now)) (emptied (with_root (draft_view draft.now) (root_file new.now)))) result }
+{
+    if !is_next(old.body.version, new.body.version) {
+        return Err(Refusal::Denied(Denial::RootVersion));
+    }
+    if !is_signed(&old.body.root, &old.body.keys, &new.source) {
+        return Err(Refusal::Denied(Denial::OldThreshold));
+    }
+    if !is_signed(&new.body.root, &new.body.keys, &new.source) {
+        return Err(Refusal::Denied(Denial::NewThreshold));
+    }
+    if !draft.has_room_for_root() {
+        return Err(Refusal::Denied(Denial::Full));
+    }
+    Ok(keeps_roles(&old.body, &new.body))
+}
+
+// Offers a root. The answer is whether it was taken.
+pub(crate) fn offer_root(
+    alloc: Global,
+    draft: &mut Draft<'_>,
+    bytes: &[u8],
+) -> Result<bool, Refusal>
+    ensures ends { Ends (commands.offer_root (draft_view draft.old) bytes.now) (draft_view draft.old) (draft_view draft.new) result }
+    ensures rest { (draft.new.base.now ≡ draft.old.base.now) × (draft.new.effects.blobs ≡ draft.old.effects.blobs) }
+{
+    let Some(old) = draft.root() else {
+        return Err(Refusal::Denied(Denial::NoRoot));
+    };
+    if are_same(bytes, old.source.bytes()) {
+        return Ok(false);
+    }
+    let new = match new_root(alloc, bytes) {
+        Ok(new) => new,
+        Err(refusal) => return Err(refusal),
+    };
+    let keeps = match judge_root(draft, old, &new) {
+        Ok(keeps) => keeps,
+        Err(refusal) => return Err(refusal),
+    };
+    match draft.put_root(new, keeps) {
+        Ok(()) => Ok(true),
+        Err(_) => Err(Refusal::OutOfMemory),
+    }
+}

@@ -1,0 +1,115 @@
+//! Snapshots: the order of their checks.
+ghost use Rattle.std.specs.Prelude.{◌≡◌, Some};
+ghost use Rattle.metadata.specs.Kept.{root_file, timestamp_file, snapshot_file};
+ghost use Rattle.machine.specs.Answers.{Gives, Judges, Ends};
+ghost use Rattle.machine.specs.Commands as commands;
+ghost use Rattle.machine.specs.Views.{draft_view};
+ghost use Rattle.std.specs.Option.{option_map};
+
+use crate::checks::{has_bytes, is_signed};
+use crate::compared::{has_no_drop, has_no_rollback};
+use crate::denial::Denial;
+use crate::draft::Draft;
+use crate::files::new_snapshot;
+use crate::liveness::live_timestamp;
+use crate::refusal::Refusal;
+use delegations::{has_hash, has_length};
+use metadata::{File, Moment, Root, Snapshot, Timestamp, live};
+use std::alloc::Global;
+
+// Whether a new snapshot may follow the held one.
+fn after_snapshot(held: Option<&File<Snapshot>>, new: &File<Snapshot>) -> Result<(), Refusal>
+    ensures { Gives (commands.after_snapshot (option_map (λ f. snapshot_file f.now) held.entry) (snapshot_file new.now)) (λ u. u) result }
+{
+    let Some(old) = held else {
+        return Ok(());
+    };
+    if !has_no_rollback(&old.body, &new.body) {
+        return Err(Refusal::Denied(Denial::SnapshotRollback));
+    }
+    if !has_no_drop(&old.body, &new.body) {
+        return Err(Refusal::Denied(Denial::RoleDropped));
+    }
+    Ok(())
+}
+
+// Whether the timestamp names a new snapshot, which is signed.
+fn named_snapshot(
+    timestamp: &File<Timestamp>,
+    root: &File<Root>,
+    new: &File<Snapshot>,
+) -> Result<(), Refusal>
+    ensures { Gives (commands.named_snapshot (timestamp_file timestamp.now) (root_file root.now) (snapshot_file new.now)) (λ u. u) result }
+{
+    if !has_length(&timestamp.body.snapshot, &new.source) {
+        return Err(Refusal::Denied(Denial::SnapshotLength));
+    }
+    if !has_hash(&timestamp.body.snapshot, &new.source) {
+        return Err(Refusal::Denied(Denial::SnapshotHash));
+    }
+    if !is_signed(&root.body.snapshot, &root.body.keys, &new.source) {
+        return Err(Refusal::Denied(Denial::SnapshotThreshold));
+    }
+    if new.body.version != timestamp.body.snapshot.version {
+        return Err(Refusal::Denied(Denial::SnapshotVersion));
+    }
+    Ok(())
+}
+
+// Whether a new snapshot is taken, or is the held one.
+fn judge_snapshot(
+    draft: &Draft<'_>,
+    root: &File<Root>,
+    new: &File<Snapshot>,
+    now: Moment,
+) -> Result<bool, Refusal>
+    ensures { Judges (commands.renew_snapshot (draft_view draft.now) (root_file root.now) (snapshot_file new.now) now)
+        (record (draft_view draft.now) { snapshot = Some (snapshot_file new.now) }) result }
+{
+    let timestamp = match live_timestamp(draft.timestamp(), root, now) {
+        Ok(timestamp) => timestamp,
+        Err(refusal) => return Err(refusal),
+    };
+    match named_snapshot(timestamp, root, new) {
+        Ok(()) => {}
+        Err(refusal) => return Err(refusal),
+    }
+    match after_snapshot(draft.snapshot(), new) {
+        Ok(()) => {}
+        Err(refusal) => return Err(refusal),
+    }
+    if !live(new.body.expires, now) {
+        return Err(Refusal::Denied(Denial::SnapshotExpired));
+    }
+    if has_bytes(draft.snapshot(), new.source.bytes()) {
+        return Ok(false);
+    }
+    Ok(true)
+}
+
+// Offers a snapshot. The answer is whether it was taken.
+pub(crate) fn offer_snapshot(
+    alloc: Global,
+    draft: &mut Draft<'_>,
+    bytes: &[u8],
+    now: Moment,
+) -> Result<bool, Refusal>
+    ensures ends { Ends (commands.offer_snapshot (draft_view draft.old) bytes.now now) (draft_view draft.old) (draft_view draft.new) result }
+    ensures rest { (draft.new.base.now ≡ draft.old.base.now) × (draft.new.effects.blobs ≡ draft.old.effects.blobs) }
+{
+    let Some(root) = draft.root() else {
+        return Err(Refusal::Denied(Denial::NoRoot));
+    };
+    let new = match new_snapshot(alloc, bytes) {
+        Ok(new) => new,
+        Err(refusal) => return Err(refusal),
+    };
+    match judge_snapshot(draft, root, &new, now) {
+        Ok(true) => {
+            draft.put_snapshot(new);
+            Ok(true)
+        }
+        Ok(false) => Ok(false),
+        Err(refusal) => Err(refusal),
+    }
+}

@@ -1,0 +1,137 @@
+//! Targets metadata: the order of its checks.
+ghost use Rattle.std.specs.Prelude.{◌≡◌, IfOk};
+ghost use Rattle.std.specs.Option.{option_map};
+ghost use Rattle.metadata.specs.Kept.{root_file, targets_file};
+ghost use Rattle.metadata.specs.Views.{meta_view};
+ghost use Rattle.delegations.specs.Shelf.{with_row, place_before};
+ghost use Rattle.machine.specs.Answers.{Gives, Judges, Ends};
+ghost use Rattle.machine.specs.Commands as commands;
+ghost use Rattle.machine.specs.Views.{draft_view};
+
+use crate::checks::are_same;
+use crate::denial::Denial;
+use crate::draft::Draft;
+use crate::files::new_targets;
+use crate::liveness::live_snapshot;
+use crate::refusal::Refusal;
+use delegations::{Row, Shelf, has_hash, has_length, vouched};
+use metadata::{File, Meta, Moment, Root, Targets, live};
+use path_patterns::RoleName;
+use std::alloc::{AllocError, Global};
+
+// Whether the snapshot's entry names a new targets document.
+fn named_targets(entry: &Meta, new: &File<Targets>) -> Result<(), Refusal>
+    ensures { Gives (commands.named_targets (meta_view entry.now) (targets_file new.now)) (λ u. u) result }
+{
+    if !has_length(entry, &new.source) {
+        return Err(Refusal::Denied(Denial::RoleLength));
+    }
+    if !has_hash(entry, &new.source) {
+        return Err(Refusal::Denied(Denial::RoleHash));
+    }
+    if new.body.version != entry.version {
+        return Err(Refusal::Denied(Denial::RoleVersion));
+    }
+    Ok(())
+}
+
+// Whether there is a place on the shelf for a new targets document, or it stands there.
+fn placed(
+    draft: &Draft<'_>,
+    role: &RoleName,
+    version: u32,
+    new: &File<Targets>,
+) -> Result<bool, Refusal>
+    ensures { Judges (commands.placed (draft_view draft.now) role.now version (targets_file new.now))
+        (record (draft_view draft.now) { shelf = with_row place_before (draft_view draft.now).shelf (role.now, version) (targets_file new.now) }) result }
+{
+    if let Some(old) = draft.row_at(role.as_str(), version) {
+        if are_same(old.source.bytes(), new.source.bytes()) {
+            return Ok(false);
+        }
+        return Err(Refusal::Denied(Denial::VersionTaken));
+    }
+    if !draft.has_room_for_row() {
+        return Err(Refusal::Denied(Denial::Full));
+    }
+    Ok(true)
+}
+
+// Whether a new targets document of a role is taken, or stands on the shelf.
+fn judge_targets(
+    draft: &Draft<'_>,
+    root: &File<Root>,
+    role: &RoleName,
+    new: &File<Targets>,
+    now: Moment,
+) -> Result<bool, Refusal>
+    ensures { Judges (commands.renew_targets (draft_view draft.now) (root_file root.now) role.now (targets_file new.now) now)
+        (record (draft_view draft.now) { shelf = with_row place_before (draft_view draft.now).shelf (role.now, new.now.body.version) (targets_file new.now) }) result }
+{
+    let snapshot = match live_snapshot(draft.timestamp(), draft.snapshot(), root, now) {
+        Ok(snapshot) => snapshot,
+        Err(refusal) => return Err(refusal),
+    };
+    let Some(entry) = snapshot.body.entry(role.as_str()) else {
+        return Err(Refusal::Denied(Denial::RoleUnlisted));
+    };
+    match named_targets(entry, new) {
+        Ok(()) => {}
+        Err(refusal) => return Err(refusal),
+    }
+    let shelf = Shelf::new(&root.body, &snapshot.body, draft.rows());
+    if !vouched(&shelf, role, new, now) {
+        return Err(Refusal::Denied(Denial::RoleThreshold));
+    }
+    if !live(new.body.expires, now) {
+        return Err(Refusal::Denied(Denial::RoleExpired));
+    }
+    placed(draft, role, new.body.version, new)
+}
+
+// Puts a new targets document on the shelf.
+fn put_targets(
+    draft: &mut Draft<'_>,
+    role: &RoleName,
+    file: File<Targets>,
+) -> Result<(), AllocError>
+    ensures view { IfOk result (λ _. draft_view draft.new
+        ≡ record (draft_view draft.old) { shelf = with_row place_before (draft_view draft.old).shelf (role.now, file.body.version) (targets_file file) }) }
+    ensures rest { (draft.new.base.now ≡ draft.old.base.now) × (draft.new.effects.blobs ≡ draft.old.effects.blobs) }
+{
+    let role = role.clone()?;
+    let version = file.body.version;
+    draft.put_row(Row {
+        role,
+        version,
+        file,
+    })
+}
+
+// Offers a targets document of a role. The answer is whether it was taken.
+pub(crate) fn offer_targets(
+    alloc: Global,
+    draft: &mut Draft<'_>,
+    role: &RoleName,
+    bytes: &[u8],
+    now: Moment,
+) -> Result<bool, Refusal>
+    ensures ends { Ends (commands.offer_targets (draft_view draft.old) role.now bytes.now now) (draft_view draft.old) (draft_view draft.new) result }
+    ensures rest { (draft.new.base.now ≡ draft.old.base.now) × (draft.new.effects.blobs ≡ draft.old.effects.blobs) }
+{
+    let Some(root) = draft.root() else {
+        return Err(Refusal::Denied(Denial::NoRoot));
+    };
+    let new = match new_targets(alloc, bytes) {
+        Ok(new) => new,
+        Err(refusal) => return Err(refusal),
+    };
+    match judge_targets(draft, root, role, &new, now) {
+        Ok(true) => match put_targets(draft, role, new) {
+            Ok(()) => Ok(true),
+            Err(_) => Err(Refusal::OutOfMemory),
+        },
+        Ok(false) => Ok(false),
+        Err(refusal) => Err(refusal),
+    }
+}
