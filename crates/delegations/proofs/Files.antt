@@ -4,7 +4,7 @@ use Rattle.std.proofs.lemmas.List.{length-map}
 use Rattle.std.specs.Prelude.{IfSome}
 use Rattle.metadata.specs.Documents.{Targets}
 use Rattle.metadata.specs.File.{File}
-use Rattle.delegations.specs.Shelf.{Place, same_place, place_before, value_at, with_row, with_rows, Rows, AllFiles}
+use Rattle.delegations.specs.Rows.{Place, same_place, place_before, value_at, with_row, with_rows, Rows, AllFiles}
 use Rattle.delegations.specs.Views.{row_views, rows_view}
 use Rattle.delegations.specs.declared.rows.Rows.{Rows as CodeRows}
 

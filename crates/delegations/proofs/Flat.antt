@@ -6,15 +6,15 @@ use Rattle.std.specs.Option.{option_flatten}
 use Rattle.std.proofs.lemmas.Slice.Eq.{bytes_eq-Decides}
 use Rattle.metadata.specs.Documents.{Targets, MetaFile, Delegation, Listing}
 use Rattle.metadata.specs.File.{Bytes, Name, File}
-use Rattle.metadata.specs.Numbers as no
-use Rattle.metadata.specs.Orders.{pass, decide, given, stopped, Judged, Stop, Denied, Plain, denied}
+use Rattle.denials.specs.Numbers as no
+use Rattle.denials.specs.Orders.{pass, decide, given, stopped, Judged, Stop, Denied, Plain, denied}
 use Rattle.metadata.specs.Covers.{covers}
 use Rattle.delegations.specs.Delegation.{Edge, Hops, Graph, hops_in, unmet, leads, chain_end, before, index_lists, all_index_lists, longest, places_from, chains, firsts, visits, is_chain, is_first, same_end, cuts, cut}
 use Rattle.delegations.specs.Search.{Shelf, Found, graph_of, hops_of, visit, search, find_in, found_or, visited, listing_of, most_visits, Vouches, Vouched, MeetsEdge}
 use Rattle.delegations.specs.Views.{row_views, shelf_view}
 use Rattle.delegations.specs.declared.rows.Row.{Row}
 use Rattle.delegations.specs.declared.shelf.Shelf.{Shelf as CodeShelf}
-use Rattle.delegations.specs.Shelf.{Rows, row_at, has_length, has_hash, named_row, AllFiles}
+use Rattle.delegations.specs.Rows.{Rows, row_at, has_length, has_hash, named_row, AllFiles}
 use Rattle.delegations.proofs.Files.{all_rows, all_at}
 
 -- no document of the rows has delegations

@@ -14,8 +14,8 @@ use Rattle.std.proofs.lemmas.Slice.Eq.{bytes_eq-Decides}
 use Rattle.metadata.specs.Documents.{Targets}
 use Rattle.metadata.specs.File.{File, Name}
 use Rattle.delegations.specs.Delegation.{before}
-use Rattle.delegations.specs.Places.{from_place, begins_at}
-use Rattle.delegations.specs.Shelf.{Place, same_place, place_before, value_at, with_row, with_rows, Rows, row_at}
+use Rattle.delegations.specs.steps.Places.{from_place, begins_at}
+use Rattle.delegations.specs.Rows.{Place, same_place, place_before, value_at, with_row, with_rows, Rows, row_at}
 use Rattle.delegations.proofs.PutIn.{found_with, found_alone, found_put}
 
 -- dictionary order is that of texts

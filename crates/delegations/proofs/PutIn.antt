@@ -1,7 +1,7 @@
 -- What stands at a key after rows were put in, whatever the order of the rows before.
 use Rattle.std.proofs.Common.{◌≡◌, Bool, true, false, cond, List, [], ◌∷◌, Option, Some, None, refl, ap, subst}
 use Rattle.std.specs.Option.{option_or}
-use Rattle.delegations.specs.Shelf.{value_at, with_row}
+use Rattle.delegations.specs.Rows.{value_at, with_row}
 
 -- the value at the key, where `later` is the value among the rows that are put in
 abbrev pub found_with : {K A : Type 0} → (K → K → Bool) → (K → K → Bool) → List (K × A) → Option A → K → Option A

@@ -3,11 +3,11 @@ use Rattle.std.proofs.Common.{◌≡◌, ◌↔◌, ℕ, ◌<◌, IsTrue, Bool, 
 use Rattle.keys_roles.specs.Plain.{look_up}
 use Rattle.metadata.specs.Documents.{Targets, MetaFile}
 use Rattle.metadata.specs.File.{File}
-use Rattle.metadata.specs.Numbers as no
-use Rattle.metadata.specs.Orders.{pass, decide, holds, fails, given, stopped, Denial, Denied, Plain, RoleMissing, need_or}
+use Rattle.denials.specs.Numbers as no
+use Rattle.denials.specs.Orders.{pass, decide, holds, fails, given, stopped, Denial, Denied, Plain, RoleMissing, need_or}
 use Rattle.delegations.specs.Delegation.{Edge}
 use Rattle.delegations.specs.Search.{Shelf, visit, MeetsEdge}
-use Rattle.delegations.specs.Shelf.{row_at, HasLength, HasHash}
+use Rattle.delegations.specs.Rows.{row_at, HasLength, HasHash}
 
 there : {A : Type 0} (d : Denial) (a : A) (o : Option A) → Some a ≡ o → need_or d o (Ok a)
 there {A} d a o h = subst (λ (p : Option A). need_or d p (Ok a)) h given

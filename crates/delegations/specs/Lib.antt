@@ -1,5 +1,5 @@
 pub mod Delegation
-pub mod Places
+pub mod Rows
 pub mod Search
-pub mod Shelf
 pub mod Views
+pub mod steps

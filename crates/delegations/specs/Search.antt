@@ -4,12 +4,12 @@ use Rattle.std.specs.List.{filter_map}
 use Rattle.keys_roles.specs.Plain.{Table, look_up}
 use Rattle.metadata.specs.Documents.{Root, Snapshot, Targets, MetaFile, Delegation, Delegations, Listing}
 use Rattle.metadata.specs.File.{Bytes, Name, File}
-use Rattle.metadata.specs.Numbers as no
-use Rattle.metadata.specs.Orders.{Order, RoleMissing, ◌>>=◌, ◌>>◌, give, denied, check, need, need_or}
+use Rattle.denials.specs.Numbers as no
+use Rattle.denials.specs.Orders.{Order, RoleMissing, ◌>>=◌, ◌>>◌, give, denied, check, need, need_or}
 use Rattle.metadata.specs.Covers.{covers}
 use Rattle.keys_roles.specs.Rules.{Meets}
 use Rattle.delegations.specs.Delegation.{Edge, Hops, Graph, chain_end, visits}
-use Rattle.delegations.specs.Shelf.{Rows, row_at, HasLength, HasHash, named_row}
+use Rattle.delegations.specs.Rows.{Rows, row_at, HasLength, HasHash, named_row}
 
 -- what a search reads: the edge into the top role, the snapshot's listing, and the rows on the shelf
 pub record Shelf : Type 0 where

@@ -1,14 +1,14 @@
 -- What the code's shelf and answers stand for.
 use Rattle.std.specs.Prelude.{false, map, List, Result, Ok, Err}
 use Rattle.keys_roles.specs.Views.{rule_view, table_view}
-use Rattle.metadata.specs.Kept.{targets_file}
-use Rattle.metadata.specs.Numbers as no
-use Rattle.metadata.specs.Orders.{Denial, Plain, RoleMissing, Denied, Judged}
+use Rattle.metadata.specs.FileViews.{targets_file}
+use Rattle.denials.specs.Numbers as no
+use Rattle.denials.specs.Orders.{Denial, Plain, RoleMissing, Denied, Judged}
 use Rattle.metadata.specs.Views.{snapshot_view, listing_view}
 use Rattle.delegations.specs.Delegation as graph
 use Rattle.delegations.specs.Search as plain
 use Rattle.delegations.specs.Search.{top_name}
-use Rattle.delegations.specs.Shelf as shelves
+use Rattle.delegations.specs.Rows as shelves
 use Rattle.delegations.specs.declared.rows.Row.{Row}
 use Rattle.delegations.specs.declared.rows.Rows.{Rows}
 use Rattle.delegations.specs.declared.shelf.Shelf.{Shelf}

@@ -1,9 +1,9 @@
 //! The shelf of targets documents.
 ghost use Rattle.std.specs.Prelude.{◌≡◌, ◌<◌, ◌^◌, length, option_map};
-ghost use Rattle.metadata.specs.Kept.{targets_file};
+ghost use Rattle.metadata.specs.FileViews.{targets_file};
 ghost use Rattle.delegations.specs.Delegation.{before};
-ghost use Rattle.delegations.specs.Places.{from_place, begins_at};
-ghost use Rattle.delegations.specs.Shelf.{row_at, same_place, place_before};
+ghost use Rattle.delegations.specs.steps.Places.{from_place, begins_at};
+ghost use Rattle.delegations.specs.Rows.{row_at, same_place, place_before};
 ghost use Rattle.delegations.specs.Views.{row_views, rows_view};
 
 use metadata::{File, Targets};

@@ -1,10 +1,10 @@
 //! The visit of a role, the search for a target, and which new documents are vouched for (TUF 1.0, section 5.6.7).
 ghost use Rattle.std.specs.Prelude.{◌≡◌, ◌↔◌, ◌+◌, ◌<◌, ◌≤◌, ◌^◌, ℕ, length, IsTrue};
 ghost use Rattle.keys_roles.specs.Rules.{Meets};
-ghost use Rattle.metadata.specs.Kept.{targets_file};
+ghost use Rattle.metadata.specs.FileViews.{targets_file};
 ghost use Rattle.metadata.specs.Views.{meta_view};
 ghost use Rattle.delegations.specs.Search.{visit, search, Vouched};
-ghost use Rattle.delegations.specs.Shelf.{AllFiles, HasLength, HasHash};
+ghost use Rattle.delegations.specs.Rows.{AllFiles, HasLength, HasHash};
 ghost use Rattle.delegations.specs.Views.{shelf_view, edge_view, found_view, answer_view};
 
 use crate::shelf::{Edge, Found, SearchDenial, Shelf};

@@ -23,7 +23,7 @@ use Rattle.http_messages.specs.declared.line.Cut.{Cut}
 use Rattle.http_serve.specs.Response.{IsCommand, offers, offer_of}
 use Rattle.http_serve.specs.Standing.{Standing, Keeps}
 use Rattle.http_serve.specs.Serving.{Answered, at_fault, by_command, unread, Ended, Line, Wrote}
-use Rattle.http_serve.specs.Views.{AreNamed, HasEnded, offers_of, Performed, Responded}
+use Rattle.http_serve.specs.steps.Views.{AreNamed, HasEnded, offers_of, Performed, Responded}
 use Rattle.http_serve.specs.declared.serve.ServeFault.{ServeFault}
 use Rattle.http_serve.specs.declared.serve.ServeFault.TheVariants.{Write}
 use Rattle.http_serve.proofs.Asked.{IsSomething, asks-named, has-wanted}

@@ -8,8 +8,8 @@ use Rattle.tables.specs.Tables.{IsStore}
 use Rattle.machine.specs.State.{State}
 use Rattle.machine.specs.Commands.{grants, batch, put_blob}
 use Rattle.machine.specs.Steps.{Command, Batch, PutBlob, Metadata, Target, Init, OfferOne, Reply, Begun, Offered, Refused, Steps, leads, Leads, settled, batch_outcome, Outcome, metadata_reply}
-use Rattle.metadata.specs.Orders as orders
-use Rattle.store.specs.Kept.{rows_of}
+use Rattle.denials.specs.Orders as orders
+use Rattle.store.specs.StateRows.{rows_of}
 use Rattle.store.specs.Applies.{Applies}
 use Rattle.store.specs.declared.command.StoreFault.{StoreFault}
 use Rattle.store.specs.declared.command.StoreFault.TheVariants.{OutOfMemory, Database, Damaged}
@@ -23,7 +23,7 @@ use Rattle.http_messages.specs.declared.line.Cut.{Cut}
 use Rattle.http_serve.specs.Standing.{seen, Standing, HoldsRows, Keeps, Holds}
 use Rattle.http_serve.specs.Response.{kind_of}
 use Rattle.http_serve.specs.Serving.{Made, by_step, no_memory, no_database, Wrote}
-use Rattle.http_serve.specs.Views.{IsDenial, IsServed, IsSaid, IsUnmade, Told, Performed}
+use Rattle.http_serve.specs.steps.Views.{IsDenial, IsServed, IsSaid, IsUnmade, Told, Performed}
 
 abbrev Rows : State → database.State → Type 0
 Rows S db = HasCleanDisk db → IsTrue db.is_open → IsStore db (rows_of S)

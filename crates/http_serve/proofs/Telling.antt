@@ -1,6 +1,6 @@
 -- The bytes that say a reply.
 use Rattle.std.proofs.Common.{◌≡◌, ◌⊎◌, inl, inr, ℕ, List, Option, None, Result, refl, sym, ap, subst, ◌∙◌}
-use Rattle.metadata.specs.Orders as orders
+use Rattle.denials.specs.Orders as orders
 use Rattle.machine.specs.Steps.{Reply, BatchDone, Stored, FileBytes, Refused}
 use Rattle.http_messages.specs.Bodies.{denial_status, denial_text}
 use Rattle.http_messages.specs.Text.{response}
@@ -10,7 +10,7 @@ use Rattle.http_messages.specs.declared.reply.Kind.TheVariants.{Json}
 use Rattle.http_messages.specs.declared.reply.Status.{Status}
 use Rattle.http_messages.specs.declared.reply.Status.TheVariants.{Ok as Fine}
 use Rattle.http_serve.specs.Response.{Says, done, stored, file, absent, denied, denial_response}
-use Rattle.http_serve.specs.Views.{IsDenial, Told}
+use Rattle.http_serve.specs.steps.Views.{IsDenial, Told}
 
 any-kind : (k m : Kind) (reply : Reply) (text : List ℕ) → IsDenial reply → Says k reply text → Says m reply text
 any-kind k m reply text is (done a s) = absurd is

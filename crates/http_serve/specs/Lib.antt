@@ -1,4 +1,4 @@
 pub mod Response
 pub mod Serving
 pub mod Standing
-pub mod Views
+pub mod steps

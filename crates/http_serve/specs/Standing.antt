@@ -5,7 +5,7 @@ use Rattle.sqlite.specs.Effect.{Database}
 use Rattle.sqlite_trees.specs.View.{doubt}
 use Rattle.tables.specs.Schema.{the_schema}
 use Rattle.tables.specs.Tables.{HoldsTables}
-use Rattle.store.specs.Kept.{rows_of}
+use Rattle.store.specs.StateRows.{rows_of}
 use Rattle.machine.specs.State.{State}
 
 pub record Standing : Type 0 where

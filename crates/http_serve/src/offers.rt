@@ -4,7 +4,7 @@ ghost use Rattle.std.specs.Prelude.{◌≡◌, IfOk, IfSome, IfNone};
 ghost use Rattle.path_patterns.specs.Grammar.{IsName};
 ghost use Rattle.machine.specs.Views.{documents_view, offer_view};
 ghost use Rattle.http_serve.specs.Response.{offer_of};
-ghost use Rattle.http_serve.specs.Views.{AreNamed, offers_of as offers_of_lem};
+ghost use Rattle.http_serve.specs.steps.Views.{AreNamed, offers_of as offers_of_lem};
 
 use machine::Offer;
 use path_patterns::RoleName;

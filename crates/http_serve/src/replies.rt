@@ -1,13 +1,13 @@
 // Replies of the machine as the bytes of a response.
 
 ghost use Rattle.std.specs.Prelude.{◌≡◌};
-ghost use Rattle.machine.specs.Views.{denial_view};
+ghost use Rattle.denials.specs.Views.{denial_view};
 ghost use Rattle.machine.specs.Steps.{Refused};
 ghost use Rattle.store.specs.Views.{command_view, reply_view};
 ghost use Rattle.http_messages.specs.Sound.{StaysSound};
 ghost use Rattle.http_serve.specs.Response.{kind_of as kind_of_lem};
 ghost use Rattle.http_serve.specs.Serving.{Wrote};
-ghost use Rattle.http_serve.specs.Views.{IsSaid, Told};
+ghost use Rattle.http_serve.specs.steps.Views.{IsSaid, Told};
 
 use http_messages::{
     Cut, Fault, Kind, Status, Transmit, accepted_body, denial_body, denial_status, stored_body,

@@ -9,7 +9,7 @@ ghost use Rattle.http_messages.specs.Received.{request_of};
 ghost use Rattle.http_messages.specs.Request.{batch, target};
 ghost use Rattle.http_messages.specs.Sound.{StaysSound};
 ghost use Rattle.http_serve.specs.Standing.{seen};
-ghost use Rattle.http_serve.specs.Views.{IsUnmade, IsServed, Performed, Responded};
+ghost use Rattle.http_serve.specs.steps.Views.{IsUnmade, IsServed, Performed, Responded};
 
 use crate::offers::offers_of;
 use crate::replies::{kind_of, write_reply};

@@ -4,7 +4,7 @@ ghost use Rattle.std.specs.Prelude.{◌≡◌, map};
 ghost use Rattle.sqlite.specs.Held.{state};
 ghost use Rattle.http_serve.specs.Serving.{Ended, Serves};
 ghost use Rattle.http_serve.specs.Standing.{seen};
-ghost use Rattle.http_serve.specs.Views.{HasEnded};
+ghost use Rattle.http_serve.specs.steps.Views.{HasEnded};
 
 use crate::respond::respond;
 use http_messages::{

@@ -4,10 +4,11 @@ use Rattle.keys_roles.specs.Plain.{Signature}
 use Rattle.metadata.specs.Documents.{Document}
 use Rattle.metadata.specs.Shape.{IsDocument, IsShapeFault}
 use Rattle.metadata.specs.File.{Bytes, File, Form, IsFileOf, document_of, fault_number, root_form, timestamp_form, snapshot_form, targets_form}
-use Rattle.metadata.specs.Orders.{Denied, Plain, Order, ◌>>=◌, reads, faulty, shaped}
+use Rattle.denials.specs.Orders.{Denied, Plain, Order, ◌>>=◌}
+use Rattle.metadata.specs.Shaped.{reads, faulty, shaped}
 use Rattle.metadata.specs.declared.documents.Kind.{Kind}
 use Rattle.metadata.specs.declared.documents.ShapeFault.{ShapeFault}
-use Rattle.machine.proofs.OrderLaws.{Definite, then-definite}
+use Rattle.machine.proofs.DefiniteOrders.{Definite, then-definite}
 
 -- a file is one document of a kind at most, or has one fault of shape, and not both
 pub record Shapes : Type 0 where

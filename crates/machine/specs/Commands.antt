@@ -1,5 +1,5 @@
 -- The trust machine: what each command is judged by, and what it leaves.
-use Rattle.std.specs.Prelude.{◌≡◌, ℕ, suc, ◌+◌, ◌<◌, ◌≤◌, List, [], ◌∷◌, ◌++◌, length, Option, Some, None, Result, Ok, Err, IfSome, IsNone, IsSome, option_map}
+use Rattle.std.specs.Prelude.{◌≡◌, ℕ, suc, ◌+◌, ◌<◌, ◌≤◌, List, [], ◌∷◌, ◌++◌, length, Option, Some, None, Result, Ok, Err, IfSome, IsNone, IsSome, option_map, bytes_eq, codes, if◌then◌else◌}
 use Rattle.std.specs.List.{AllByRecursion}
 use Rattle.keys_roles.specs.Plain.{look_up}
 use Rattle.keys_roles.specs.Rules.{SameRule}
@@ -7,10 +7,11 @@ use Rattle.metadata.specs.Documents.{Root, Timestamp, Snapshot, Targets, Listing
 use Rattle.sha2.specs.Sha256.{sha256}
 use Rattle.path_patterns.specs.Grammar.{IsTargetPath}
 use Rattle.metadata.specs.File.{Bytes, Name, File, root_form, timestamp_form, snapshot_form, targets_form}
-use Rattle.metadata.specs.Numbers as no
-use Rattle.metadata.specs.Orders.{Denial, Plain, BlobMissing, Denied, Same, Judged, Order, ◌>>=◌, ◌>>◌, give, check, need, need_or, shaped, same_if, judged}
+use Rattle.denials.specs.Numbers as no
+use Rattle.denials.specs.Orders.{Denial, Plain, BlobMissing, Denied, Same, Judged, Order, ◌>>=◌, ◌>>◌, give, check, need, need_or, same_if, judged}
+use Rattle.metadata.specs.Shaped.{shaped}
 use Rattle.delegations.specs.Delegation.{before}
-use Rattle.delegations.specs.Shelf.{row_at, with_row, place_before, entry_of, HasLength, HasHash}
+use Rattle.delegations.specs.Rows.{row_at, with_row, place_before, entry_of, HasLength, HasHash}
 use Rattle.machine.specs.State.{Trusted, State, nothing_trusted, most_held, blob_limit, blob_at, NamesSnapshot, MeetsTop, IsCoherent}
 use Rattle.delegations.specs.Search.{shelf_of, search, Vouched}
 
@@ -37,6 +38,14 @@ pub data Offer : Type 0 where
   TimestampOffer : Offer
   SnapshotOffer : Offer
   TargetsOffer : Name → Offer
+
+-- what is offered under a role's name: three roles have documents of their own, and every other has targets metadata
+abbrev pub offer_of : Name → Offer
+offer_of role =
+    if bytes_eq role (codes "root") then RootOffer
+    else if bytes_eq role (codes "timestamp") then TimestampOffer
+    else if bytes_eq role (codes "snapshot") then SnapshotOffer
+    else TargetsOffer role
 
 -- no name that both list has a lower version in the new one, and the new one lists each name of the old one
 abbrev pub NoRollback : Snapshot → Snapshot → Type 0

@@ -2,9 +2,9 @@
 use Rattle.std.specs.Prelude.{◌≡◌, Bool, false, List, [], ◌∷◌, ◌++◌, map, cond, Option, Some, None, Ok, Err}
 use Rattle.metadata.specs.Documents.{Root, Timestamp, Snapshot}
 use Rattle.metadata.specs.File.{Bytes, File}
-use Rattle.metadata.specs.Orders.{Order}
+use Rattle.denials.specs.Orders.{Order}
 use Rattle.delegations.specs.Delegation.{before}
-use Rattle.delegations.specs.Shelf.{Rows, with_row, with_rows}
+use Rattle.delegations.specs.Rows.{Rows, with_row, with_rows}
 use Rattle.machine.specs.State.{Trusted, State}
 
 -- new roots in order; whether a rotation empties timestamp, snapshot and shelf; what is put there after that; new blobs

@@ -2,7 +2,8 @@ pub mod Answers
 pub mod Commands
 pub mod Contents
 pub mod Effects
-pub mod Kept
+pub mod Room
 pub mod State
 pub mod Steps
 pub mod Views
+pub mod steps

@@ -2,10 +2,11 @@
 use Rattle.std.specs.Prelude.{◌≡◌, ℕ, suc, ◌+◌, ◌-◌, ◌≤◌, false, List, [], ◌∷◌, ◌++◌, map, length, Option, Some, None, bytes_eq, option_map, unwrap_or, codes, decimal, All, IsTrue, IfSome, IfNone, IsSomeAnd, is_some}
 use Rattle.std.specs.List.{AllByRecursion}
 use Rattle.keys_roles.specs.Plain.{RoleRule, look_up}
+use Rattle.metadata.specs.Bodies.{IsListable}
 use Rattle.metadata.specs.Documents.{Root, Timestamp, Snapshot, Targets, MetaFile}
-use Rattle.metadata.specs.File.{IsFileOf, root_form, timestamp_form, snapshot_form, targets_form, Bytes, Name, File, has_name, encode_lower}
+use Rattle.metadata.specs.File.{IsFileOf, root_form, timestamp_form, snapshot_form, targets_form, Bytes, Name, File}
 use Rattle.delegations.specs.Delegation.{before}
-use Rattle.delegations.specs.Shelf.{Place, place_before, value_at, Rises, Rows, HasLength, HasHash, named_row}
+use Rattle.delegations.specs.Rows.{Place, place_before, value_at, Rises, Rows, HasLength, HasHash, named_row}
 use Rattle.sha2.specs.Sha256.{sha256}
 use Rattle.keys_roles.specs.Rules.{Meets}
 use Rattle.path_patterns.specs.Grammar.{IsName}
@@ -64,14 +65,11 @@ pub data IsRootChain : List Bytes → File Root → Type 0 where
   first : {b : Bytes} {root : File Root} → IsFileOf root_form root → root.bytes ≡ b → MeetsTop root root.body.root root → IsRootChain (b ∷ []) root
   then : {bs : List Bytes} {old new : File Root} → IsRootChain bs old → IsFileOf root_form new → FollowsRoot old new → IsRootChain (bs ++ new.bytes ∷ []) new
 
-abbrev pub top_names : List Name
-top_names = codes "root" ∷ codes "timestamp" ∷ codes "snapshot" ∷ []
-
 pub record IsShelfRow (row : Place × File Targets) : Type 0 where
   pub document : IsFileOf targets_form row.1
   pub version : row.1.body.version ≡ row.0.1
   pub role : IsName row.0.0
-  pub below_top : has_name top_names row.0.0 ≡ false
+  pub listable : IsListable row.0.0
 
 pub record IsBlob (row : Bytes × Bytes) : Type 0 where
   pub digest : sha256 row.1 ≡ row.0

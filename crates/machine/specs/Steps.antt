@@ -1,7 +1,7 @@
 -- Commands, replies, and runs of commands.
 use Rattle.std.specs.Prelude.{◌≡◌, ℕ, Bool, true, false, List, [], ◌∷◌, Option, Some, None, Result, Ok, Err}
 use Rattle.metadata.specs.File.{Bytes}
-use Rattle.metadata.specs.Orders.{Denial, Denied, Same, Judged}
+use Rattle.denials.specs.Orders.{Denial, Denied, Same, Judged}
 use Rattle.machine.specs.State.{Trusted, State, IsCoherent, metadata_of}
 use Rattle.machine.specs.Commands.{Offer, Batched, init, offer, batch, put_blob, grants}
 

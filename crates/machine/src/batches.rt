@@ -1,7 +1,8 @@
 //! Batches: documents that are judged in order, each against what the earlier ones made, and taken together or not at all.
 ghost use Rattle.std.specs.Prelude.{◌≡◌, ◌↔◌, cond, ℕ, Result, IsTrue, IfOk, IfErr, length};
-ghost use Rattle.metadata.specs.Orders as orders;
-ghost use Rattle.machine.specs.Answers.{AnswersBatch, IsDeniedAt, IsRefusedAt};
+ghost use Rattle.denials.specs.Orders as orders;
+ghost use Rattle.machine.specs.Answers.{AnswersBatch};
+ghost use Rattle.machine.specs.steps.Judging.{IsDeniedAt, IsRefusedAt};
 ghost use Rattle.machine.specs.Commands as commands;
 ghost use Rattle.machine.specs.Commands.{Ended};
 ghost use Rattle.machine.specs.State.{IsCoherent};
@@ -9,7 +10,7 @@ ghost use Rattle.machine.specs.Views.{documents_view, draft_view};
 
 use crate::calls::offer_one;
 use crate::compared::are_coherent;
-use crate::denial::Denial;
+use denials::Denial;
 use crate::draft::Draft;
 use crate::laws::stays_valid;
 use crate::outcome::{Batched, Offer};

@@ -2,15 +2,16 @@
 ghost use Rattle.std.specs.Prelude.{◌≡◌, ◌↔◌, ◌<◌, ◌≤◌, ◌∷◌, [], IfOk, IsSome, IsTrue, bytes_eq, length, option_map};
 ghost use Rattle.sha2.specs.Sha256.{sha256};
 ghost use Rattle.delegations.specs.Delegation.{before};
-ghost use Rattle.delegations.specs.Shelf.{with_row};
-ghost use Rattle.machine.specs.Answers.{Answers, Judges};
+ghost use Rattle.delegations.specs.Rows.{with_row};
+ghost use Rattle.machine.specs.Answers.{Answers};
+ghost use Rattle.machine.specs.steps.Judging.{Judges};
 ghost use Rattle.machine.specs.Commands as commands;
 ghost use Rattle.machine.specs.Effects.{no_effects};
 ghost use Rattle.machine.specs.State.{blob_at, blob_limit, most_held};
 ghost use Rattle.machine.specs.Views.{blob_views, effects_view, parts_view};
 
 use crate::checks::are_same;
-use crate::denial::Denial;
+use denials::Denial;
 use crate::effects::{Blob, Effects};
 use crate::laws::stays_valid;
 use crate::outcome::Outcome;

@@ -1,13 +1,14 @@
 //! The commands: each is judged on a state that is borrowed, and answers what it changes, or the first rule that fails.
 ghost use Rattle.std.specs.Prelude.{◌≡◌, ◌∷◌, [], IfOk};
-ghost use Rattle.metadata.specs.Kept.{root_file};
-ghost use Rattle.machine.specs.Answers.{Answers, Ends};
+ghost use Rattle.metadata.specs.FileViews.{root_file};
+ghost use Rattle.machine.specs.Answers.{Answers};
+ghost use Rattle.machine.specs.steps.Judging.{Ends};
 ghost use Rattle.machine.specs.Commands as commands;
 ghost use Rattle.machine.specs.Effects.{no_effects, on_state};
 ghost use Rattle.machine.specs.Views.{draft_view, effects_view, offer_view};
 
 use crate::checks::is_signed;
-use crate::denial::Denial;
+use denials::Denial;
 use crate::draft::Draft;
 use crate::effects::Effects;
 use crate::files::new_root;

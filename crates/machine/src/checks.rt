@@ -3,7 +3,7 @@ ghost use Rattle.std.specs.Prelude.{◌↔◌, ◌≡◌, ◌+◌, IsTrue, Some}
 ghost use Rattle.std.specs.Option.{option_map};
 ghost use Rattle.keys_roles.specs.Rules.{Meets};
 ghost use Rattle.keys_roles.specs.Views.{rule_view, table_view};
-ghost use Rattle.metadata.specs.Kept.{timestamp_file, snapshot_file};
+ghost use Rattle.metadata.specs.FileViews.{timestamp_file, snapshot_file};
 ghost use Rattle.machine.specs.State.{NamesSnapshot};
 
 use delegations::{has_hash, has_length};

@@ -1,9 +1,9 @@
 // What follows what: rules of roots, entries of snapshots, and what belongs together.
 ghost use Rattle.std.specs.Prelude.{◌≡◌, ◌↔◌, IsTrue, is_some};
 ghost use Rattle.std.specs.Option.{option_map};
-ghost use Rattle.metadata.specs.Kept.{timestamp_file, snapshot_file};
+ghost use Rattle.metadata.specs.FileViews.{timestamp_file, snapshot_file};
 ghost use Rattle.metadata.specs.Views.{meta_view, root_view, snapshot_view};
-ghost use Rattle.delegations.specs.Shelf.{named_row};
+ghost use Rattle.delegations.specs.Rows.{named_row};
 ghost use Rattle.delegations.specs.Views.{rows_view};
 ghost use Rattle.machine.specs.Commands.{KeepsRoles, NoRollback, NoDrop};
 ghost use Rattle.machine.specs.State.{AreCoherent, HoldsAll};

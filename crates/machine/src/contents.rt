@@ -4,10 +4,11 @@ ghost use Rattle.std.specs.List.{AllZip};
 ghost use Rattle.metadata.specs.Documents as plain;
 ghost use Rattle.metadata.specs.File as files;
 ghost use Rattle.metadata.specs.File.{root_form, timestamp_form, snapshot_form};
-ghost use Rattle.metadata.specs.Kept.{root_file, timestamp_file, snapshot_file, targets_file};
+ghost use Rattle.metadata.specs.FileViews.{root_file, timestamp_file, snapshot_file, targets_file};
 ghost use Rattle.delegations.specs.Views.{row_views};
 ghost use Rattle.machine.specs.State as trust;
-ghost use Rattle.machine.specs.Contents.{AreStored, IsShelved, IsStored, Together, contents_of};
+ghost use Rattle.machine.specs.Contents.{contents_of};
+ghost use Rattle.machine.specs.steps.Stored.{AreStored, IsShelved, IsStored, Together};
 ghost use Rattle.machine.specs.Effects as changes;
 ghost use Rattle.machine.specs.Views.{blob_views, contents_view, effects_view};
 

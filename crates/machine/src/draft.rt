@@ -1,8 +1,8 @@
 // What is trusted after the changes that a command has made so far.
 ghost use Rattle.std.specs.Prelude.{◌≡◌, ◌↔◌, ◌<◌, ◌+◌, ◌^◌, None, Some, MatchOption, IfOk, IsTrue, length, cond};
 ghost use Rattle.std.specs.Option.{option_map};
-ghost use Rattle.metadata.specs.Kept.{root_file, timestamp_file, snapshot_file, targets_file};
-ghost use Rattle.delegations.specs.Shelf.{row_at, with_row, place_before};
+ghost use Rattle.metadata.specs.FileViews.{root_file, timestamp_file, snapshot_file, targets_file};
+ghost use Rattle.delegations.specs.Rows.{row_at, with_row, place_before};
 ghost use Rattle.delegations.specs.Views.{rows_view};
 ghost use Rattle.machine.specs.State.{most_held};
 ghost use Rattle.machine.specs.Commands.{with_root, emptied};

@@ -1,8 +1,8 @@
 // The files that are offered, as documents of their kinds.
 ghost use Rattle.std.specs.Prelude.{◌≡◌, IfOk};
 ghost use Rattle.metadata.specs.File.{root_form, timestamp_form, snapshot_form, targets_form};
-ghost use Rattle.metadata.specs.Kept.{root_file, timestamp_file, snapshot_file, targets_file};
-ghost use Rattle.metadata.specs.Orders.{shaped};
+ghost use Rattle.metadata.specs.FileViews.{root_file, timestamp_file, snapshot_file, targets_file};
+ghost use Rattle.metadata.specs.Shaped.{shaped};
 ghost use Rattle.machine.specs.Answers.{Gives};
 
 use crate::refusal::{Refusal, refused_shape};

@@ -2,8 +2,8 @@
 ghost use Rattle.std.specs.Prelude.{◌≡◌, ◌↔◌, None, Err, IfSome, IsTrue, length, option_map};
 ghost use Rattle.delegations.specs.Search.{search, shelf_of};
 ghost use Rattle.delegations.specs.Views as searches;
-ghost use Rattle.metadata.specs.Kept.{root_file, snapshot_file};
-ghost use Rattle.metadata.specs.Orders as orders;
+ghost use Rattle.metadata.specs.FileViews.{root_file, snapshot_file};
+ghost use Rattle.denials.specs.Orders as orders;
 ghost use Rattle.metadata.specs.Views.{listing_view};
 ghost use Rattle.path_patterns.specs.Grammar.{IsTargetPath};
 ghost use Rattle.machine.specs.Answers.{Gives};
@@ -12,7 +12,7 @@ ghost use Rattle.machine.specs.Views.{parts_view};
 
 use crate::blobs::blob_of;
 use crate::checks::are_same;
-use crate::denial::Denial;
+use denials::Denial;
 use crate::effects::Blob;
 use crate::liveness::live_snapshot;
 use crate::parts::Parts;

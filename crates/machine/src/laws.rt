@@ -1,7 +1,7 @@
 //! Laws of the trust machine, in functions that do nothing.
 ghost use Rattle.std.specs.Prelude.{◌≡◌, ◌++◌, ℕ, List, Option, Result, Ok, IsSome, length, map};
 ghost use Rattle.metadata.specs.File.{Bytes};
-ghost use Rattle.metadata.specs.Orders.{Denial, Judged};
+ghost use Rattle.denials.specs.Orders.{Denial, Judged};
 ghost use Rattle.machine.specs.State.{Trusted, State, IsTrusted, IsState, nothing};
 ghost use Rattle.machine.specs.Commands.{Offer, Batched, init, offer, batch, put_blob, grants};
 ghost use Rattle.machine.specs.Contents.{contents_of, root_rows};

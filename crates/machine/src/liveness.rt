@@ -1,11 +1,11 @@
 //! Which of what is held is live at a moment, and named by what is above it.
-ghost use Rattle.metadata.specs.Kept.{root_file, timestamp_file, snapshot_file};
+ghost use Rattle.metadata.specs.FileViews.{root_file, timestamp_file, snapshot_file};
 ghost use Rattle.machine.specs.Answers.{Gives};
 ghost use Rattle.machine.specs.Commands as commands;
 ghost use Rattle.std.specs.Option.{option_map};
 
 use crate::checks::names_snapshot;
-use crate::denial::Denial;
+use denials::Denial;
 use crate::refusal::Refusal;
 use metadata::{File, Moment, Root, Snapshot, Timestamp, live};
 

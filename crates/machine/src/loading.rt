@@ -1,13 +1,13 @@
 // What the rows of a database have to be, to be those of a state.
 ghost use Rattle.std.specs.Prelude.{◌≡◌, ◌↔◌, map, None, Some, All, IfOk, IfSome, IfNone, IsTrue, option_map};
-ghost use Rattle.metadata.specs.File.{IsFileOf, root_form, targets_form, has_name};
-ghost use Rattle.metadata.specs.Kept.{root_file, timestamp_file, snapshot_file, targets_file};
+ghost use Rattle.metadata.specs.File.{IsFileOf, root_form, targets_form};
+ghost use Rattle.metadata.specs.FileViews.{root_file, timestamp_file, snapshot_file, targets_file};
 ghost use Rattle.delegations.specs.Delegation.{before};
-ghost use Rattle.delegations.specs.Shelf.{place_before};
+ghost use Rattle.delegations.specs.Rows.{place_before};
 ghost use Rattle.delegations.specs.Views.{row_views};
-ghost use Rattle.machine.specs.State.{FollowsRoot, IsBlob, IsHeldUnder, IsRootChain, IsShelfRow, IsState, MeetsTop, top_names};
+ghost use Rattle.machine.specs.State.{FollowsRoot, IsBlob, IsHeldUnder, IsRootChain, IsShelfRow, IsState, MeetsTop};
 ghost use Rattle.machine.specs.Effects.{last_or};
-ghost use Rattle.machine.specs.Kept.{AreBlobs, AreRead, RowsAreRead, FollowOn, IsBare, IsChain, IsShelf, laid, comes_first, rises};
+ghost use Rattle.machine.specs.steps.Loading.{AreBlobs, AreRead, RowsAreRead, FollowOn, IsBare, IsChain, AreShelfRows, laid, comes_first, rises};
 ghost use Rattle.machine.specs.Views.{blob_views, effects_view};
 
 use crate::blobs::{is_digest_of, is_short};
@@ -16,7 +16,7 @@ use crate::effects::{Blob, Effects};
 use crate::state::State;
 use crate::taking::{is_before, is_place_before};
 use delegations::Row;
-use metadata::{File, Root, Snapshot, Timestamp, one_document, one_shape};
+use metadata::{File, Root, Snapshot, Timestamp, is_listable, one_document, one_shape};
 use std::alloc::{AllocError, Global};
 
 const MOST_HELD: usize = 4096;
@@ -95,26 +95,12 @@ pub(crate) fn are_blobs(blobs: &[Blob]) -> bool
     each_is_blob(blobs)
 }
 
-// Whether a role of this name is one of a root's.
-fn is_top_name(role: &str) -> bool
-    ensures { result ≡ has_name top_names role.now }
-{
-    if "root" == role {
-        return true;
-    }
-    if "timestamp" == role {
-        return true;
-    }
-    "snapshot" == role
-}
-
 // Whether a document stands at its place of the shelf.
 fn is_row(row: &Row) -> bool
     requires { IsFileOf targets_form (targets_file row.now.file) }
     ensures { IsTrue result ↔ (IsShelfRow ((row.now.role, row.now.version), targets_file row.now.file)) }
 {
-    let role = row.role.as_str();
-    row.file.body.version == row.version && !is_top_name(role)
+    row.file.body.version == row.version && is_listable(row.role.as_str())
 }
 
 // Whether each document stands at its place of the shelf.
@@ -159,7 +145,7 @@ fn rows_rise(rows: &[Row]) -> bool
 // Whether these may be the shelf of a state.
 pub(crate) fn is_shelf(rows: &[Row]) -> bool
     requires { RowsAreRead (row_views rows.now) }
-    ensures { IsTrue result ↔ (IsShelf (row_views rows.now)) }
+    ensures { IsTrue result ↔ (AreShelfRows (row_views rows.now)) }
 {
     if rows.len() > MOST_HELD {
         return false;

@@ -3,7 +3,7 @@ ghost use Rattle.std.specs.Prelude.{◌≡◌, ℕ, List, ◌++◌, false, map, 
 ghost use Rattle.delegations.specs.Views.{row_views};
 ghost use Rattle.keys_roles.specs.Plain.{look_up};
 ghost use Rattle.machine.specs.State.{IsState, dotted, metadata_of, root_files};
-ghost use Rattle.machine.specs.Kept.{earlier_files, shelf_files, timestamp_files, snapshot_files};
+ghost use Rattle.machine.specs.steps.NamedFiles.{earlier_files, shelf_files, timestamp_files, snapshot_files};
 ghost use Rattle.machine.specs.Views.{parts_view};
 
 use crate::parts::Parts;

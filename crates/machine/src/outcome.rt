@@ -1,4 +1,8 @@
 //! What is offered, and what comes of it.
+ghost use Rattle.std.specs.Prelude.{◌≡◌};
+ghost use Rattle.machine.specs.Commands.{offer_of};
+ghost use Rattle.machine.specs.Views.{offer_view};
+
 use crate::effects::Effects;
 use path_patterns::RoleName;
 
@@ -10,6 +14,21 @@ pub enum Offer {
     Snapshot,
     /// The targets document of a role.
     Targets(RoleName),
+}
+
+impl Offer {
+    /// What a document of this role is offered as: `root`, `timestamp` and `snapshot` have documents of their own, and every other
+    /// role has targets metadata. It takes no memory.
+    pub fn of(role: RoleName) -> Offer
+        ensures { offer_view result ≡ offer_of role }
+    {
+        match role.as_str() {
+            "root" => Offer::Root,
+            "timestamp" => Offer::Timestamp,
+            "snapshot" => Offer::Snapshot,
+            _ => Offer::Targets(role),
+        }
+    }
 }
 
 /// What a command does where no rule denies it.

@@ -1,8 +1,8 @@
 //! Why a call changes nothing.
 ghost use Rattle.std.specs.Prelude.{◌≡◌};
-ghost use Rattle.machine.specs.Answers.{IsRefusedShape};
+ghost use Rattle.machine.specs.steps.Judging.{IsRefusedShape};
 
-use crate::denial::Denial;
+use denials::Denial;
 use metadata::ShapeFault;
 use std::alloc::{AllocError, AllocFailed};
 use thiserror::Error;

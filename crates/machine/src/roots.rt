@@ -1,14 +1,15 @@
 //! Roots: the order of their checks.
 ghost use Rattle.std.specs.Prelude.{◌≡◌, cond};
-ghost use Rattle.metadata.specs.Kept.{root_file};
-ghost use Rattle.machine.specs.Answers.{Gives, Ends};
+ghost use Rattle.metadata.specs.FileViews.{root_file};
+ghost use Rattle.machine.specs.Answers.{Gives};
+ghost use Rattle.machine.specs.steps.Judging.{Ends};
 ghost use Rattle.machine.specs.Commands as commands;
 ghost use Rattle.machine.specs.Commands.{with_root, emptied};
 ghost use Rattle.machine.specs.Views.{draft_view};
 
 use crate::checks::{are_same, is_next, is_signed};
 use crate::compared::keeps_roles;
-use crate::denial::Denial;
+use denials::Denial;
 use crate::draft::Draft;
 use crate::files::new_root;
 use crate::refusal::Refusal;

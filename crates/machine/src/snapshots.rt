@@ -1,14 +1,15 @@
 //! Snapshots: the order of their checks.
 ghost use Rattle.std.specs.Prelude.{◌≡◌, Some};
-ghost use Rattle.metadata.specs.Kept.{root_file, timestamp_file, snapshot_file};
-ghost use Rattle.machine.specs.Answers.{Gives, Judges, Ends};
+ghost use Rattle.metadata.specs.FileViews.{root_file, timestamp_file, snapshot_file};
+ghost use Rattle.machine.specs.Answers.{Gives};
+ghost use Rattle.machine.specs.steps.Judging.{Judges, Ends};
 ghost use Rattle.machine.specs.Commands as commands;
 ghost use Rattle.machine.specs.Views.{draft_view};
 ghost use Rattle.std.specs.Option.{option_map};
 
 use crate::checks::{has_bytes, is_signed};
 use crate::compared::{has_no_drop, has_no_rollback};
-use crate::denial::Denial;
+use denials::Denial;
 use crate::draft::Draft;
 use crate::files::new_snapshot;
 use crate::liveness::live_timestamp;

@@ -3,7 +3,7 @@ ghost use Rattle.std.specs.Prelude.{◌≡◌, ◌≤◌, ◌<◌, IfOk, OnOk};
 ghost use Rattle.machine.specs.State.{IsState, nothing};
 ghost use Rattle.machine.specs.Effects.{applied};
 ghost use Rattle.machine.specs.Views.{parts_view, effects_view};
-ghost use Rattle.machine.specs.Kept.{places, room_of};
+ghost use Rattle.machine.specs.Room.{places, room_of};
 
 use crate::effects::Effects;
 use crate::laws::nothing_is_valid;
@@ -21,11 +21,11 @@ pub struct State {
 impl Model for State {
     ghost use Rattle.machine.specs.State.{IsState};
     ghost use Rattle.machine.specs.Views.{parts_view};
-    ghost use Rattle.machine.specs.Kept.{Kept, kept};
+    ghost use Rattle.machine.specs.Room.{WithRoom, with_room};
 
-    ghost Value = { Kept };
+    ghost Value = { WithRoom };
 
-    ghost view = { λ s. kept s.parts };
+    ghost view = { λ s. with_room s.parts };
 
     ghost invariant = { λ s. IsState (parts_view s.parts) };
 }

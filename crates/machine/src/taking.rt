@@ -1,13 +1,13 @@
 // Putting changes into what a state keeps. It takes no memory.
 ghost use Rattle.std.specs.Prelude.{◌≡◌, ◌≤◌, ◌<◌, ◌-◌, ◌+◌, ◌++◌, [], ◌∷◌, ℕ, List, Option, Some, cond, map, length, vec_len, vec_capacity};
 ghost use Rattle.std.specs.List.{insert, position_or_len, position};
-ghost use Rattle.metadata.specs.Kept.{targets_file};
+ghost use Rattle.metadata.specs.FileViews.{targets_file};
 ghost use Rattle.delegations.specs.Delegation.{before};
-ghost use Rattle.delegations.specs.Shelf.{with_row, with_rows, place_before};
+ghost use Rattle.delegations.specs.Rows.{with_row, with_rows, place_before};
 ghost use Rattle.delegations.specs.Views.{row_views};
 ghost use Rattle.machine.specs.Effects.{applied, last_or, renewed, with_blobs};
 ghost use Rattle.machine.specs.Views.{parts_view, effects_view, blob_views, last_bytes};
-ghost use Rattle.machine.specs.Kept.{places, room_of};
+ghost use Rattle.machine.specs.Room.{places, room_of};
 
 use crate::effects::{Blob, Effects};
 use crate::parts::Parts;

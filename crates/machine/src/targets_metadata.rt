@@ -1,15 +1,16 @@
 //! Targets metadata: the order of its checks.
 ghost use Rattle.std.specs.Prelude.{◌≡◌, IfOk};
 ghost use Rattle.std.specs.Option.{option_map};
-ghost use Rattle.metadata.specs.Kept.{root_file, targets_file};
+ghost use Rattle.metadata.specs.FileViews.{root_file, targets_file};
 ghost use Rattle.metadata.specs.Views.{meta_view};
-ghost use Rattle.delegations.specs.Shelf.{with_row, place_before};
-ghost use Rattle.machine.specs.Answers.{Gives, Judges, Ends};
+ghost use Rattle.delegations.specs.Rows.{with_row, place_before};
+ghost use Rattle.machine.specs.Answers.{Gives};
+ghost use Rattle.machine.specs.steps.Judging.{Judges, Ends};
 ghost use Rattle.machine.specs.Commands as commands;
 ghost use Rattle.machine.specs.Views.{draft_view};
 
 use crate::checks::are_same;
-use crate::denial::Denial;
+use denials::Denial;
 use crate::draft::Draft;
 use crate::files::new_targets;
 use crate::liveness::live_snapshot;

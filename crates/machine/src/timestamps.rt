@@ -1,13 +1,13 @@
 //! Timestamps: the order of their checks.
 ghost use Rattle.std.specs.Prelude.{◌≡◌, Some};
-ghost use Rattle.metadata.specs.Kept.{root_file, timestamp_file};
-ghost use Rattle.machine.specs.Answers.{Judges, Ends};
+ghost use Rattle.metadata.specs.FileViews.{root_file, timestamp_file};
+ghost use Rattle.machine.specs.steps.Judging.{Judges, Ends};
 ghost use Rattle.machine.specs.Commands as commands;
 ghost use Rattle.machine.specs.Views.{draft_view};
 ghost use Rattle.std.specs.Option.{option_map};
 
 use crate::checks::is_signed;
-use crate::denial::Denial;
+use denials::Denial;
 use crate::draft::Draft;
 use crate::files::new_timestamp;
 use crate::refusal::Refusal;

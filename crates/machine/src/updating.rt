@@ -1,6 +1,6 @@
 //! What a client's update goes by (TUF 1.0, sections 5.3 and 5.5).
 ghost use Rattle.std.specs.Prelude.{◌≡◌, ◌↔◌, option_map, IsSomeAnd, IsTrue};
-ghost use Rattle.metadata.specs.Kept.{snapshot_file, timestamp_file};
+ghost use Rattle.metadata.specs.FileViews.{snapshot_file, timestamp_file};
 ghost use Rattle.machine.specs.State.{IsSnapshotDue, NamesSnapshot};
 ghost use Rattle.machine.specs.Views.{parts_view};
 

@@ -1,6 +1,6 @@
 -- What a call's answer says of the state that its changes make.
 use Rattle.std.proofs.Common.{◌≡◌, Ok, sym, subst}
-use Rattle.metadata.specs.Orders.{Order}
+use Rattle.denials.specs.Orders.{Order}
 use Rattle.machine.specs.Answers.{Answers, changes, AnswersBatch, done}
 use Rattle.machine.specs.Commands.{BatchOrder}
 use Rattle.machine.specs.Effects.{applied}

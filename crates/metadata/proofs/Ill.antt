@@ -1,6 +1,6 @@
 -- What a fault of a part says of the whole.
 use Rattle.std.proofs.Common.{inl, inr}
-use Rattle.metadata.specs.Faults.{IsIll}
+use Rattle.metadata.specs.steps.Faults.{IsIll}
 use Rattle.metadata.specs.declared.documents.ShapeFault.{ShapeFault}
 
 pub ill_again : {P Q : Type 0} (e : ShapeFault) → IsIll P e → (Q → P) → IsIll Q e

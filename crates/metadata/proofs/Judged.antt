@@ -6,11 +6,11 @@ use Rattle.canonical_json.specs.Json.{Json, HasMember}
 use Rattle.canonical_json.specs.Spelling.{spelling, IsProper}
 use Rattle.keys_roles.specs.Plain.{Signature}
 use Rattle.metadata.specs.Documents.{Body, root, timestamp, snapshot, targets, Root, Timestamp, Snapshot, Targets}
-use Rattle.metadata.specs.Faults.{IsIll, IsFaulty}
+use Rattle.metadata.specs.steps.Faults.{IsIll, IsFaulty}
 use Rattle.metadata.specs.Parts.{IsEnvelope, NamesAreIds}
 use Rattle.metadata.specs.Bodies.{IsRoot, IsTimestamp, IsSnapshot, IsTargets}
 use Rattle.metadata.specs.Shape.{kind_name, tables, reference_tables, IsBody, IsShapeFault}
-use Rattle.metadata.specs.Reads.{IsSignedAs, IsFaultOf}
+use Rattle.metadata.specs.steps.Reads.{IsSignedAs, IsFaultOf}
 use Rattle.metadata.specs.Views.{listing_view}
 use Rattle.metadata.specs.declared.documents.Listing.{Listing}
 use Rattle.metadata.specs.declared.documents.Kind.{Kind}

@@ -12,7 +12,6 @@ pub mod Instants
 pub mod Judged
 pub mod KeyObjects
 pub mod Named
-pub mod NumberRows
 pub mod Once
 pub mod OneDocument
 pub mod PartsOnce

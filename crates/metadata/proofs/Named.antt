@@ -7,7 +7,7 @@ use Rattle.path_patterns.specs.Grammar.{IsHex}
 use Rattle.canonical_json.specs.Json.{Json}
 use Rattle.canonical_json.specs.Spelling.{IsProper}
 use Rattle.metadata.specs.Documents.{Root}
-use Rattle.metadata.specs.Faults.{IsMisnamed, IsFaulty}
+use Rattle.metadata.specs.steps.Faults.{IsMisnamed, IsFaulty}
 use Rattle.metadata.specs.Members.{Has}
 use Rattle.metadata.specs.Parts.{IsTable, NamesAreIds, NamesAreHex, IsRuleOver}
 use Rattle.metadata.specs.Bodies.{IsRoot, AreRoles, roles_of}

@@ -64,7 +64,7 @@ pub record IsTimestamp (signed : Json) (t : Timestamp) : Type 0 where
 abbrev pub IsMetaRow : List ℕ → Json → List ℕ × MetaFile → Type 0
 IsMetaRow name v e = (name ≡ e.0 ++ codes ".json") × IsName e.0 × IsMetaFile v e.1
 
--- the roles whose documents no snapshot lists
+-- the names of the roles whose documents a snapshot lists: all but three
 abbrev pub IsListable : List ℕ → Type 0
 IsListable role = (role ≢ codes "root") × (role ≢ codes "timestamp") × (role ≢ codes "snapshot")
 

@@ -6,7 +6,7 @@ pub use Rattle.keys_roles.specs.Plain.{look_up}
 pub use Rattle.hex.specs.Hex.{encode_lower}
 use Rattle.metadata.specs.Documents.{Root, Timestamp, Snapshot, Targets, Body, root, timestamp, snapshot, targets, Document}
 use Rattle.metadata.specs.Shape.{IsDocument, IsShapeFault}
-use Rattle.metadata.specs.Numbers as no
+use Rattle.denials.specs.Numbers as no
 use Rattle.metadata.specs.declared.documents.Kind.{Kind}
 use Rattle.metadata.specs.declared.documents.Kind.TheVariants as kinds
 use Rattle.metadata.specs.declared.documents.ShapeFault.{ShapeFault}

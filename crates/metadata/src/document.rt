@@ -4,10 +4,10 @@ ghost use Rattle.std.specs.List.{AllByRecursion};
 ghost use Rattle.canonical_json.specs.Spelling.{IsProper};
 ghost use Rattle.canonical_json.specs.View.{view};
 ghost use Rattle.keys_roles.specs.Views.{entries_view};
-ghost use Rattle.metadata.specs.Faults.{IsFaulty};
+ghost use Rattle.metadata.specs.steps.Faults.{IsFaulty};
 ghost use Rattle.metadata.specs.Parts.{NamesAreIds};
 ghost use Rattle.metadata.specs.Shape.{kind_name, tables, IsBody, IsFile, IsDocument, IsShapeFault};
-ghost use Rattle.metadata.specs.Reads.{IsSignedAs, IsFaultOf};
+ghost use Rattle.metadata.specs.steps.Reads.{IsSignedAs, IsFaultOf};
 ghost use Rattle.metadata.specs.Views.{body_view, document_view};
 
 use crate::documents::{Body, Document, Kind, ShapeFault};

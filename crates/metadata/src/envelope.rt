@@ -7,7 +7,7 @@ ghost use Rattle.keys_roles.specs.Plain as plain;
 ghost use Rattle.keys_roles.specs.Rules.{AreDistinct};
 ghost use Rattle.keys_roles.specs.Counting.{IsIn};
 ghost use Rattle.keys_roles.specs.Views.{id_text, entry_view, entries_view};
-ghost use Rattle.metadata.specs.Faults.{IsIll};
+ghost use Rattle.metadata.specs.steps.Faults.{IsIll};
 ghost use Rattle.metadata.specs.Members.{Has, IsText, ItemsAre};
 ghost use Rattle.metadata.specs.Parts.{signature_object, ids_of, IsEntry, AreSignatures, AreSignatureDigits, IsEnvelope};
 ghost use Rattle.path_patterns.specs.Bytes.{is_hex};

@@ -10,10 +10,10 @@ ghost use Rattle.keys_roles.specs.Counting.{IsIn};
 ghost use Rattle.keys_roles.specs.Keys.{id_of};
 ghost use Rattle.keys_roles.specs.Views.{id_text, ids_view, key_view, rows_view, rule_view, table_view};
 ghost use Rattle.path_patterns.specs.Grammar.{IsHex};
-ghost use Rattle.metadata.specs.Faults.{IsIll, IsMisnamed};
+ghost use Rattle.metadata.specs.steps.Faults.{IsIll, IsMisnamed};
 ghost use Rattle.metadata.specs.Members.{Has, IsArray, IsText, IsNumber, ItemsAre, MembersAre};
 ghost use Rattle.metadata.specs.Parts.{IsKey, IsKeyval, AreBytes, IsRow, IsTable, NamesAreIds, NamesAreHex, IsRuleOver, HasRule};
-ghost use Rattle.metadata.specs.Spelled.{texts_view, spelled_rows, spelled_table, spelled_rule};
+ghost use Rattle.metadata.specs.steps.Spelled.{texts_view, spelled_rows, spelled_table, spelled_rule};
 
 use crate::documents::ShapeFault;
 use crate::members::{

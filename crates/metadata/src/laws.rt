@@ -1,24 +1,19 @@
 //! Laws of documents, in functions that do nothing.
-ghost use Rattle.std.specs.Prelude.{◌≡◌, ◌↔◌, ◌≤◌, ℕ, length, map, Err};
+ghost use Rattle.std.specs.Prelude.{◌↔◌, ℕ, map, Err};
 ghost use Rattle.std.specs.List.{AllByRecursion};
 ghost use Rattle.path_patterns.specs.Grammar.{IsName};
 ghost use Rattle.keys_roles.specs.Rules.{AreDistinct};
 ghost use Rattle.metadata.specs.Documents.{Snapshot};
 ghost use Rattle.metadata.specs.Bodies.{IsListable};
 ghost use Rattle.metadata.specs.File.{Bytes, File, IsFileOf, IsDeniedShape, root_form, timestamp_form, snapshot_form, targets_form};
-ghost use Rattle.metadata.specs.Numbers.{names, name_of};
-ghost use Rattle.metadata.specs.Orders.{Denied, Plain, shaped};
+ghost use Rattle.denials.specs.Orders.{Denied, Plain};
+ghost use Rattle.metadata.specs.Shaped.{shaped};
 ghost use Rattle.metadata.specs.declared.documents.Kind.TheVariants as kinds;
 
 /// A law, which does nothing: a snapshot lists roles by their names, each once, and none whose document no snapshot lists.
 pub fn snapshot_names()
     ensures names { (f : File Snapshot) → IsFileOf snapshot_form f → AllByRecursion (λ e. IsName e.0 × IsListable e.0) f.body.meta }
     ensures distinct { (f : File Snapshot) → IsFileOf snapshot_form f → AreDistinct (map (λ e. e.0) f.body.meta) }
-{}
-
-/// A law, which does nothing: no two numbers of denials have one name.
-pub fn one_number()
-    ensures { (m n : ℕ) → (1 ≤ m) × (m ≤ length names) → (1 ≤ n) × (n ≤ length names) → name_of m ≡ name_of n → m ≡ n }
 {}
 
 /// A law, which does nothing: a file of another shape is denied with just the number of the first check that fails.

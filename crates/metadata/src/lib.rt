@@ -36,9 +36,10 @@ pub use documents::{
 };
 pub use file::{File, read_root_file, read_snapshot_file, read_targets_file, read_timestamp_file};
 pub use keys_roles::{Key, KeyId, KeyTable, RoleRule, Signature};
-pub use laws::{denied_shapes, one_number, snapshot_names};
+pub use laws::{denied_shapes, snapshot_names};
 pub use moment::{Moment, live};
 pub use path_patterns::{Digest, RoleName, TargetPath};
+pub use snapshot::is_listable;
 pub use source::{Source, digest_of};
 
 /// A law, which does nothing: a file spells at most one document of a kind.

@@ -5,10 +5,10 @@ ghost use Rattle.canonical_json.specs.View.{view};
 ghost use Rattle.keys_roles.specs.Plain as plain;
 ghost use Rattle.keys_roles.specs.Views.{table_view};
 ghost use Rattle.metadata.specs.Bodies.{Roles, AreRoles, IsRoot};
-ghost use Rattle.metadata.specs.Faults.{IsIll, IsMisnamed, IsFaulty};
+ghost use Rattle.metadata.specs.steps.Faults.{IsIll, IsMisnamed, IsFaulty};
 ghost use Rattle.metadata.specs.Members.{Has};
 ghost use Rattle.metadata.specs.Parts.{IsTable, NamesAreIds};
-ghost use Rattle.metadata.specs.Spelled.{spelled_table, spelled_roles, keyed_view, AreOver};
+ghost use Rattle.metadata.specs.steps.Spelled.{spelled_table, spelled_roles, keyed_view, AreOver};
 ghost use Rattle.metadata.specs.Views.{root_view};
 
 use crate::documents::{Root, ShapeFault};

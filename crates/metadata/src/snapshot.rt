@@ -7,9 +7,9 @@ ghost use Rattle.canonical_json.specs.View.{view, members_view};
 ghost use Rattle.keys_roles.specs.Counting.{IsIn};
 ghost use Rattle.metadata.specs.Bodies.{IsMetaRow, AreMetaRows, IsListable, IsSnapshot};
 ghost use Rattle.metadata.specs.Documents as plain;
-ghost use Rattle.metadata.specs.Faults.{IsIll};
+ghost use Rattle.metadata.specs.steps.Faults.{IsIll};
 ghost use Rattle.metadata.specs.Members.{Has, MembersAre};
-ghost use Rattle.metadata.specs.Rows.{rows_view};
+ghost use Rattle.metadata.specs.steps.Entries.{rows_view};
 ghost use Rattle.metadata.specs.Views.{meta_view, snapshot_view};
 
 use crate::documents::{Meta, ShapeFault, Snapshot};
@@ -150,8 +150,9 @@ fn are_listable(rows: &[(RoleName, Meta)]) -> bool
     true
 }
 
-// Whether a snapshot may list the role.
-fn is_listable(role: &str) -> bool
+/// Whether a snapshot lists the document of a role of this name, which has targets metadata: every name but `root`, `timestamp` and
+/// `snapshot`. It takes no memory.
+pub fn is_listable(role: &str) -> bool
     ensures { IsTrue result ↔ (IsListable role.now) }
 {
     role != "root" && role != "timestamp" && role != "snapshot"

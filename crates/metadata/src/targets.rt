@@ -5,9 +5,9 @@ ghost use Rattle.canonical_json.specs.Spelling.{IsProper, IsSound};
 ghost use Rattle.canonical_json.specs.View.{view, members_view};
 ghost use Rattle.metadata.specs.Bodies.{NoMember, HasLayoutReference, IsListing, IsTargets};
 ghost use Rattle.metadata.specs.Documents as plain;
-ghost use Rattle.metadata.specs.Faults.{IsIll};
+ghost use Rattle.metadata.specs.steps.Faults.{IsIll};
 ghost use Rattle.metadata.specs.Members.{Has, MembersAre, IsObject};
-ghost use Rattle.metadata.specs.Rows.{listings_view, IsCustom};
+ghost use Rattle.metadata.specs.steps.Entries.{listings_view, IsCustom};
 ghost use Rattle.metadata.specs.Views.{listing_view, targets_view};
 
 use crate::documents::{Listing, ShapeFault, Targets};

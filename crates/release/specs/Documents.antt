@@ -3,7 +3,7 @@ use Rattle.std.specs.Prelude.{◌≡◌, ℕ, ◌<◌, List, [], ◌∷◌, ◌+
 use Rattle.std.specs.Str.{bytes_eq}
 use Rattle.path_patterns.specs.Grammar.{IsName}
 use Rattle.machine.specs.Commands.{Offer, RootOffer, SnapshotOffer, TargetsOffer, TimestampOffer}
-use Rattle.machine.specs.declared.denial.Denial.TheVariants as denials
+use Rattle.denials.specs.declared.denial.Denial.TheVariants as denials
 use Rattle.release.specs.declared.fault.Fault.{Fault}
 use Rattle.release.specs.declared.fault.Fault.TheVariants.{Denied, Memory}
 

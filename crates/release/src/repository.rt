@@ -1,6 +1,6 @@
 //! The repository in a database file.
 ghost use Rattle.std.specs.Prelude.{◌≡◌, ℕ, Option};
-ghost use Rattle.machine.specs.declared.denial.Denial.{Denial as Denials};
+ghost use Rattle.denials.specs.declared.denial.Denial.{Denial as Denials};
 
 use crate::fault::Fault;
 use metadata::Moment;

@@ -4,11 +4,11 @@ use Rattle.std.specs.Prelude.{slice_index_or}
 use Rattle.machine.specs.Effects.{last_or}
 use Rattle.std.proofs.lemmas.List.{append-nil}
 use Rattle.std.proofs.Math.Seq.{append_snoc}
-use Rattle.delegations.specs.Shelf.{Place}
+use Rattle.delegations.specs.Rows.{Place}
 use Rattle.metadata.specs.File.{Bytes}
 use Rattle.tables.specs.Tables.{Tables, after, after_all}
 use Rattle.tables.specs.declared.contents.Change.{Change}
-use Rattle.store.specs.Kept.{more_blobs, more_roots, more_rows}
+use Rattle.store.specs.steps.Changed.{more_blobs, more_roots, more_rows}
 
 pub after_more : (cs : List Change) (c : Change) (t : Tables) → after_all (cs ++ c ∷ []) t ≡ after c (after_all cs t)
 after_more [] c t = refl

@@ -5,14 +5,15 @@ use Rattle.sqlite.specs.State as database
 use Rattle.sqlite.specs.State.{HasCleanDisk, Survives}
 use Rattle.sqlite_trees.specs.Tree.{Trees}
 use Rattle.metadata.specs.File.{Bytes}
-use Rattle.metadata.specs.Orders as orders
-use Rattle.metadata.specs.Orders.{Order, Same}
+use Rattle.denials.specs.Orders as orders
+use Rattle.denials.specs.Orders.{Order, Same}
 use Rattle.machine.specs.State.{State, IsState, metadata_of}
 use Rattle.machine.specs.Commands as commands
 use Rattle.machine.specs.Effects.{applied, brought, on_state}
 use Rattle.machine.specs.Steps.{Command, Reply, Steps, leads, Init, Batch, OfferOne, PutBlob, Metadata, Target, Begun, BatchDone, Offered, Stored, FileBytes, Absent}
 use Rattle.machine.specs.Answers.{Answers, changes, unchanged, refused, AnswersBatch, done, denied, Gives, gives, denies}
-use Rattle.machine.specs.Views.{denial_view, effects_view}
+use Rattle.denials.specs.Views.{denial_view}
+use Rattle.machine.specs.Views.{effects_view}
 use Rattle.machine.specs.declared.effects.Effects.{Effects}
 use Rattle.machine.specs.declared.outcome.Outcome.TheVariants.{Changed}
 use Rattle.machine.specs.declared.outcome.Outcome.TheVariants as outcomes
@@ -22,8 +23,9 @@ use Rattle.machine.specs.declared.refusal.Refusal.TheVariants as refusals
 use Rattle.machine.specs.declared.refusal.BatchRefusal.{BatchRefusal}
 use Rattle.machine.specs.declared.refusal.BatchRefusal.TheVariants as batches
 use Rattle.tables.specs.Tables.{HoldsTables}
-use Rattle.store.specs.Applies.{Applies, IsBatchRefusal, IsCopied, copied, wanting, IsRefusal}
-use Rattle.store.specs.Kept.{rows_of}
+use Rattle.store.specs.Applies.{Applies}
+use Rattle.store.specs.steps.Replies.{IsBatchRefusal, IsCopied, copied, wanting, IsRefusal}
+use Rattle.store.specs.StateRows.{rows_of}
 use Rattle.store.specs.Views.{reply_view}
 use Rattle.store.specs.declared.command.StoreFault.{StoreFault}
 use Rattle.store.specs.declared.command.StoreFault.TheVariants.{Damaged, OutOfMemory}

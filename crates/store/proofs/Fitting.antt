@@ -23,19 +23,20 @@ use Rattle.path_patterns.specs.Grammar.{IsName}
 use Rattle.metadata.specs.Documents.{Root, Timestamp, Snapshot, Targets}
 use Rattle.metadata.specs.File.{Bytes, File, Form, IsFileOf, root_form, timestamp_form, snapshot_form, targets_form}
 use Rattle.delegations.specs.Delegation.{before}
-use Rattle.delegations.specs.Shelf.{Place, Rises, Rows, place_before}
+use Rattle.delegations.specs.Rows.{Place, Rises, Rows, place_before}
 use Rattle.machine.specs.State.{State, IsBlob, IsHeldUnder, IsRootChain, IsShelfRow, IsState}
 use Rattle.machine.specs.Effects.{last_or}
-use Rattle.machine.specs.Kept.{FollowOn, IsChain, laid}
-use Rattle.machine.specs.Contents.{Contents, IsStored, Together, contents_of, numbered, shelf_rows}
-use Rattle.machine.proofs.Chains.{chain_tells}
+use Rattle.machine.specs.steps.Loading.{FollowOn, IsChain, laid}
+use Rattle.machine.specs.Contents.{Contents, contents_of, numbered, shelf_rows}
+use Rattle.machine.specs.steps.Stored.{IsStored, Together}
+use Rattle.machine.proofs.RootChains.{chain_tells}
 use Rattle.machine.proofs.ShapedOnce.{Shapes}
-use Rattle.machine.proofs.Standing.{FilesOf, files_of, stored_read, stored_rows}
+use Rattle.machine.proofs.RowsOfOneState.{FilesOf, files_of, stored_read, stored_rows}
 use Rattle.tables.proofs.Orders.{row_cmp_total}
 use Rattle.sqlite.specs.Order.{Row}
 use Rattle.sqlite_trees.specs.Tree.{Trees}
 use Rattle.tables.specs.Tables.{AreKeyed, AreRising, AreSame, HoldsTables, IsDigest, StandsFor, Tables, version_row, IsFit, IsVersion, row_cmp}
-use Rattle.store.specs.Kept.{as_tables, rows_of}
+use Rattle.store.specs.StateRows.{as_tables, rows_of}
 
 -- ---- digests
 

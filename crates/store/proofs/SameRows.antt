@@ -8,13 +8,14 @@ use Rattle.sqlite_rules.proofs.ListLemmas.{has_left, has_right, has_either}
 use Rattle.metadata.specs.Documents.{Root}
 use Rattle.metadata.specs.File.{Bytes, File}
 use Rattle.delegations.specs.Delegation.{before}
-use Rattle.delegations.specs.Shelf.{Place, Rows, place_before, with_row, with_rows}
+use Rattle.delegations.specs.Rows.{Place, Rows, place_before, with_row, with_rows}
 use Rattle.machine.specs.State.{State, Trusted, IsState}
 use Rattle.machine.specs.Effects.{Effects, applied, last_or, renewed, with_blobs}
 use Rattle.machine.specs.Contents.{contents_of, numbered, root_rows, shelf_rows}
 use Rattle.tables.specs.Tables.{AreSame, Tables}
 use Rattle.tables.proofs.RowLemmas.{has_map, map_has}
-use Rattle.store.specs.Kept.{changed, emptied_if, last_version, more_blobs, more_roots, more_rows, new_roots, new_snapshot, new_timestamp, rows_of}
+use Rattle.store.specs.StateRows.{rows_of}
+use Rattle.store.specs.steps.Changed.{changed, emptied_if, last_version, more_blobs, more_roots, more_rows, new_roots, new_snapshot, new_timestamp}
 
 abbrev pub SameItems : {A : Type 0} → List A → List A → Type 0
 SameItems {A} xs ys = (x : A) → (Has xs x → Has ys x) × (Has ys x → Has xs x)

@@ -6,7 +6,7 @@ use Rattle.sqlite_trees.specs.Tree.{Trees}
 use Rattle.machine.specs.State.{State}
 use Rattle.machine.specs.Steps.{Command, Reply, Steps}
 use Rattle.tables.specs.Tables.{HoldsTables}
-use Rattle.store.specs.Kept.{rows_of}
+use Rattle.store.specs.StateRows.{rows_of}
 use Rattle.store.specs.Views.{reply_view}
 use Rattle.store.specs.declared.command.StoreFault.{StoreFault}
 use Rattle.store.specs.declared.command.StoreFault.TheVariants.{Damaged, OutOfMemory}
@@ -36,17 +36,3 @@ pub record Applies (S T : State) (old new : database.State) (command : Command) 
   pub clean : HasCleanDisk new → HasCleanDisk old
   pub live : HasCleanDisk new → IsTrue old.is_open → OnOk r (IsTrue new.is_open)
   pub crash : HasCleanDisk new → IsTrue old.is_open → (trees : Trees) → new.may_leave trees → HoldsTables trees (rows_of S) ⊎ HoldsStep S command now trees
-
--- a refusal of the machine as an answer
-abbrev pub IsRefusal : Refusal → Result Answer StoreFault → Type 0
-IsRefusal (refusals.Denied denial) r = r ≡ Ok (answers.Denied denial None)
-IsRefusal refusals.OutOfMemory r = r ≡ Err OutOfMemory
-
-abbrev pub IsBatchRefusal : BatchRefusal → Result Answer StoreFault → Type 0
-IsBatchRefusal (batches.Denied denial index) r = r ≡ Ok (answers.Denied denial (Some index))
-IsBatchRefusal batches.OutOfMemory r = r ≡ Err OutOfMemory
-
--- these bytes as an answer, or want of memory
-pub data IsCopied (bytes : Bytes) : Result Answer StoreFault → Type 0 where
-  copied : {copy : Vec ℕ Global} → copy.items ≡ bytes → IsCopied bytes (Ok (answers.Bytes copy))
-  wanting : IsCopied bytes (Err OutOfMemory)

@@ -1,4 +1,5 @@
 pub mod Applies
-pub mod Kept
 pub mod Next
+pub mod StateRows
 pub mod Views
+pub mod steps

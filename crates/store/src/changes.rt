@@ -2,7 +2,7 @@
 ghost use Rattle.std.specs.Prelude.{◌≡◌, ◌≢◌, ◌≤◌, false, map, length, option_map, Err, IfOk, IsTrue, OnErr, OnOk};
 ghost use Rattle.sqlite.specs.Held.{state};
 ghost use Rattle.sqlite.specs.State.{HasCleanDisk, Survives};
-ghost use Rattle.metadata.specs.Kept.{root_file, snapshot_file, timestamp_file};
+ghost use Rattle.metadata.specs.FileViews.{root_file, snapshot_file, timestamp_file};
 ghost use Rattle.delegations.specs.Views.{row_views};
 ghost use Rattle.machine.specs.Contents.{numbered, shelf_rows};
 ghost use Rattle.machine.specs.Views.{blob_views, effects_view};
@@ -10,7 +10,8 @@ ghost use Rattle.machine.specs.State.{IsState};
 ghost use Rattle.machine.specs.Effects.{applied};
 ghost use Rattle.tables.specs.Tables.{HoldsTables, IsStore, Tables, after_all};
 ghost use Rattle.tables.specs.declared.contents.Fault.TheVariants as tables;
-ghost use Rattle.store.specs.Kept.{changed, emptied_if, last_version, more_blobs, more_roots, more_rows, new_roots, new_snapshot, new_timestamp, rows_of};
+ghost use Rattle.store.specs.StateRows.{rows_of};
+ghost use Rattle.store.specs.steps.Changed.{changed, emptied_if, last_version, more_blobs, more_roots, more_rows, new_roots, new_snapshot, new_timestamp};
 
 use crate::command::StoreFault;
 use delegations::Row;

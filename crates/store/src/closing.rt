@@ -8,7 +8,7 @@ ghost use Rattle.sqlite_wal.specs.Reads.{AreClean};
 ghost use Rattle.sqlite_wal.specs.Recovery.{Image};
 ghost use Rattle.tables.specs.Tables.{HoldsTables};
 ghost use Rattle.store.specs.Applies.{HoldsReply, HoldsStep};
-ghost use Rattle.store.specs.Kept.{rows_of};
+ghost use Rattle.store.specs.StateRows.{rows_of};
 ghost use Rattle.store.specs.Next.{IsFound};
 ghost use Rattle.store.specs.Views.{command_view, reply_view};
 

@@ -6,7 +6,7 @@ ghost use Rattle.tables.specs.Making.{AreNumbered, StandsEmpty};
 ghost use Rattle.tables.specs.Schema.{IsBeginning, beginning};
 ghost use Rattle.tables.specs.Tables.{HoldsTables, IsStore, Stands, no_rows, tables_view};
 ghost use Rattle.machine.specs.Views.{contents_view};
-ghost use Rattle.store.specs.Kept.{HoldsNoState, TreesStand, as_tables, rows_of};
+ghost use Rattle.store.specs.StateRows.{HoldsNoState, TreesStand, as_tables, rows_of};
 ghost use Rattle.machine.specs.State as trust;
 ghost use Rattle.machine.specs.State.{IsState};
 

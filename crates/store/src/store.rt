@@ -8,8 +8,9 @@ ghost use Rattle.machine.specs.State.{IsSnapshotDue, IsState};
 ghost use Rattle.machine.specs.Effects.{applied};
 ghost use Rattle.machine.specs.Views.{documents_view, effects_view, offer_view};
 ghost use Rattle.machine.specs.Steps as steps;
-ghost use Rattle.store.specs.Applies.{Applies, IsBatchRefusal, IsCopied, IsRefusal};
-ghost use Rattle.store.specs.Kept.{rows_of};
+ghost use Rattle.store.specs.Applies.{Applies};
+ghost use Rattle.store.specs.steps.Replies.{IsBatchRefusal, IsCopied, IsRefusal};
+ghost use Rattle.store.specs.StateRows.{rows_of};
 ghost use Rattle.store.specs.Views.{command_view};
 
 use crate::changes::{fault_of, write};
@@ -40,7 +41,7 @@ impl<S: Alter> Model for Store<S> {
     ghost use Rattle.sqlite.specs.State.{HasCleanDisk};
     ghost use Rattle.tables.specs.Tables.{IsStore};
     ghost use Rattle.machine.specs.contracts.state.State as machine;
-    ghost use Rattle.store.specs.Kept.{Shown, shown_code, rows_of};
+    ghost use Rattle.store.specs.StateRows.{Shown, shown_code, rows_of};
 
     ghost Value = { Shown S };
 

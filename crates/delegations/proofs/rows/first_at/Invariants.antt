@@ -1,5 +1,5 @@
 use Rattle.std.proofs.Common.{◌≡◌, length}
-use Rattle.delegations.specs.Shelf.{row_at}
+use Rattle.delegations.specs.Rows.{row_at}
 use Rattle.delegations.specs.Views.{row_views}
 use Rattle.delegations.proofs.rows.first_at.Given as goal
 

@@ -1,5 +1,5 @@
 use Rattle.std.proofs.Common.{◌≡◌, length}
-use Rattle.delegations.specs.Places.{from_place}
+use Rattle.delegations.specs.steps.Places.{from_place}
 use Rattle.delegations.specs.Views.{row_views}
 use Rattle.delegations.proofs.rows.rows_from.Given as goal
 

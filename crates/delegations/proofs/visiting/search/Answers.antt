@@ -1,7 +1,7 @@
 use Rattle.std.proofs.Common.{◌≡◌, List, ℕ, Some, None, Ok, Err, subst, sym, ap}
 use Rattle.metadata.specs.File.{Name}
-use Rattle.metadata.specs.Kept.{targets_file}
-use Rattle.metadata.specs.Orders.{Denied}
+use Rattle.metadata.specs.FileViews.{targets_file}
+use Rattle.denials.specs.Orders.{Denied}
 use Rattle.metadata.specs.Views.{listing_view}
 use Rattle.delegations.specs.Delegation.{Edge}
 use Rattle.delegations.specs.Search.{visit, search, listing_of}

@@ -1,5 +1,5 @@
 use Rattle.std.proofs.Common.{◌≤◌, length, arith}
-use Rattle.metadata.specs.Kept.{targets_file}
+use Rattle.metadata.specs.FileViews.{targets_file}
 use Rattle.metadata.specs.Views.{meta_view}
 use Rattle.delegations.proofs.Files.{all_found}
 use Rattle.delegations.proofs.Visits.{unlisted, missing, other_length, other_hash, unmet, expired, good, refuted}

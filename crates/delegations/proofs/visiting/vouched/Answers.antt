@@ -1,5 +1,5 @@
 use Rattle.std.proofs.Common.{sym, ◌∙◌}
-use Rattle.metadata.specs.Kept.{targets_file}
+use Rattle.metadata.specs.FileViews.{targets_file}
 use Rattle.delegations.specs.Views.{shelf_view, edge_view}
 use Rattle.delegations.proofs.Flat.{flat_shelf, at_top, elsewhere}
 use Rattle.delegations.proofs.visiting.vouched.Goals as goal

@@ -1,6 +1,6 @@
 use Rattle.std.proofs.Common.{◌∙◌, ap, arith}
 use Rattle.std.proofs.lemmas.List.{take_all}
-use Rattle.http_serve.specs.Views.{offers_of}
+use Rattle.http_serve.specs.steps.Views.{offers_of}
 use Rattle.http_serve.proofs.Responding.{offered-next}
 use Rattle.http_serve.proofs.offers.offers_of.Goals as goal
 

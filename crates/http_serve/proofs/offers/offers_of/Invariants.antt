@@ -1,6 +1,6 @@
 use Rattle.std.proofs.Common.{◌≡◌, take}
 use Rattle.machine.specs.Views.{documents_view}
-use Rattle.http_serve.specs.Views.{offers_of}
+use Rattle.http_serve.specs.steps.Views.{offers_of}
 use Rattle.http_serve.proofs.offers.offers_of.Given as goal
 
 -- those before the index are offers

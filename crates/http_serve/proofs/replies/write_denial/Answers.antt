@@ -1,5 +1,5 @@
 use Rattle.std.proofs.Common.{inl, inr, refl, ◌∙◌}
-use Rattle.machine.specs.Views.{denial_view}
+use Rattle.denials.specs.Views.{denial_view}
 use Rattle.http_messages.specs.declared.reply.Kind.TheVariants.{Json}
 use Rattle.http_serve.proofs.Standings.{wrote}
 use Rattle.http_serve.proofs.Telling.{says-denied}

@@ -1,5 +1,5 @@
 use Rattle.std.proofs.Common.{inl, ◌∙◌}
-use Rattle.machine.specs.Views.{denial_view}
+use Rattle.denials.specs.Views.{denial_view}
 use Rattle.http_messages.specs.declared.reply.Kind.TheVariants.{Json}
 use Rattle.http_serve.specs.Response.{done, stored, absent}
 use Rattle.http_serve.proofs.Standings.{wrote}

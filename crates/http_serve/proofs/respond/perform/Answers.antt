@@ -1,7 +1,7 @@
 use Rattle.std.proofs.Common.{ap, Err, subst}
 use Rattle.sqlite.specs.Held.{state}
 use Rattle.store.specs.Views.{command_view, reply_view}
-use Rattle.http_serve.specs.Views.{Told}
+use Rattle.http_serve.specs.steps.Views.{Told}
 use Rattle.http_serve.proofs.Standings.{said, told, untold, wrote}
 use Rattle.http_serve.proofs.respond.perform.Goals as goal
 

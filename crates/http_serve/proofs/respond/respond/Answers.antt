@@ -4,7 +4,7 @@ use Rattle.http_messages.specs.Framing.{Document}
 use Rattle.http_messages.specs.Request.{batch, metadata, put_blob, target}
 use Rattle.http_serve.specs.Response.{names, puts}
 use Rattle.http_serve.specs.Standing.{seen}
-use Rattle.http_serve.specs.Views.{Responded}
+use Rattle.http_serve.specs.steps.Views.{Responded}
 use Rattle.http_serve.proofs.Responding.{faulty, served}
 use Rattle.http_serve.proofs.Standings.{wrote}
 use Rattle.http_serve.proofs.respond.respond.Goals as goal

@@ -5,7 +5,7 @@ use Rattle.machine.specs.Views.{documents_view}
 use Rattle.http_messages.specs.Faults.{fault_response}
 use Rattle.http_messages.specs.declared.faults.Fault.TheVariants.{Batch as Ill}
 use Rattle.http_serve.specs.Standing.{seen}
-use Rattle.http_serve.specs.Views.{Performed}
+use Rattle.http_serve.specs.steps.Views.{Performed}
 use Rattle.http_serve.proofs.Responding.{offered, served, unnamed, wanting}
 use Rattle.http_serve.proofs.Standings.{rests, wrote}
 use Rattle.http_serve.proofs.respond.respond_batch.Goals as goal

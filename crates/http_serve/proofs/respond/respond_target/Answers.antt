@@ -4,7 +4,7 @@ use Rattle.sqlite.specs.Held.{state}
 use Rattle.machine.specs.Steps.{Target}
 use Rattle.http_serve.specs.Response.{asks}
 use Rattle.http_serve.specs.Standing.{seen}
-use Rattle.http_serve.specs.Views.{Performed}
+use Rattle.http_serve.specs.steps.Views.{Performed}
 use Rattle.http_serve.proofs.Responding.{served, wanting}
 use Rattle.http_serve.proofs.Standings.{rests, wrote}
 use Rattle.http_serve.proofs.respond.respond_target.Goals as goal

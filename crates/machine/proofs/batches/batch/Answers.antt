@@ -1,16 +1,17 @@
 use Rattle.std.proofs.Common.{◌≡◌, [], Ok, Err, length, sym, ap, ◌∙◌, subst}
-use Rattle.metadata.specs.Orders.{Plain}
-use Rattle.metadata.specs.Numbers as no
-use Rattle.machine.specs.Answers.{IsDeniedAt, done, denied}
+use Rattle.denials.specs.Orders.{Plain}
+use Rattle.denials.specs.Numbers as no
+use Rattle.machine.specs.Answers.{done, denied}
+use Rattle.machine.specs.steps.Judging.{IsDeniedAt}
 use Rattle.machine.specs.Commands as commands
 use Rattle.machine.specs.Commands.{coherent, incoherent}
 use Rattle.machine.specs.Effects as spec
 use Rattle.machine.specs.Effects.{applied, brought}
 use Rattle.machine.specs.State.{State, Trusted, IsState}
 use Rattle.machine.specs.Views.{effects_view, documents_view, parts_view, draft_view, blob_views}
-use Rattle.machine.proofs.Batching.{so_far, batch_refused}
-use Rattle.machine.proofs.Judging.{yes, no as not_so}
-use Rattle.machine.proofs.Making.{trusted_alone}
+use Rattle.machine.proofs.BatchOneByOne.{so_far, batch_refused}
+use Rattle.machine.proofs.OrderSteps.{yes, no as not_so}
+use Rattle.machine.proofs.ChangesMake.{trusted_alone}
 use Rattle.machine.proofs.batches.batch.Goals as goal
 
 pub returns-in-Err : goal.returns-in-Err

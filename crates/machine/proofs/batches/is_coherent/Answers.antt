@@ -1,4 +1,4 @@
-use Rattle.machine.proofs.Making.{coherent_as}
+use Rattle.machine.proofs.ChangesMake.{coherent_as}
 use Rattle.machine.proofs.batches.is_coherent.Goals as goal
 
 pub returns : goal.returns

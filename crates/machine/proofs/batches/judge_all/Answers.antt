@@ -1,7 +1,7 @@
 use Rattle.std.proofs.Common.{◌≡◌, ◌∷◌, ◌+◌, ℕ, length, drop, not, refl, sym, ap, ◌∙◌, subst, arith}
 use Rattle.machine.specs.Commands.{batch_from, batch}
 use Rattle.machine.specs.Views.{documents_view, draft_view, offer_view}
-use Rattle.machine.proofs.Batching.{so_far, counted_on, denied_here, from_here, at_most_one_more, ended_there}
+use Rattle.machine.proofs.BatchOneByOne.{so_far, counted_on, denied_here, from_here, at_most_one_more, ended_there}
 use Rattle.machine.proofs.batches.judge_all.Goals as goal
 
 pub returns-in-Err-clause-err : goal.returns-in-Err-clause-err

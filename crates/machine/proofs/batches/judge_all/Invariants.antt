@@ -1,6 +1,6 @@
 use Rattle.std.proofs.Common.{◌≡◌, ℕ, ◌-◌, ◌≤◌, length, drop}
 use Rattle.std.specs.Prelude.{Result}
-use Rattle.metadata.specs.Orders as orders
+use Rattle.denials.specs.Orders as orders
 use Rattle.machine.specs.Commands as commands
 use Rattle.machine.specs.Views.{documents_view, draft_view}
 use Rattle.machine.proofs.batches.judge_all.Given as goal

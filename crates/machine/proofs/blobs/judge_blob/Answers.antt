@@ -1,8 +1,8 @@
-use Rattle.metadata.specs.Kept.{root_file}
-use Rattle.metadata.specs.Orders.{pass, decide, holds, fails, differs, same, given}
-use Rattle.machine.specs.Answers.{accepts, keeps, rejects}
-use Rattle.machine.proofs.Judging.{yes, no}
-use Rattle.machine.proofs.Storing.{there, not_there}
+use Rattle.metadata.specs.FileViews.{root_file}
+use Rattle.denials.specs.Orders.{pass, decide, holds, fails, differs, same, given}
+use Rattle.machine.specs.steps.Judging.{accepts, keeps, rejects}
+use Rattle.machine.proofs.OrderSteps.{yes, no}
+use Rattle.machine.proofs.OneMoreBlob.{there, not_there}
 use Rattle.machine.proofs.blobs.judge_blob.Goals as goal
 
 pub returns-then-is_none : goal.returns-then-is_none

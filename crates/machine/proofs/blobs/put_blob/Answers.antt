@@ -1,11 +1,11 @@
 use Rattle.std.proofs.Common.{Ok, subst}
 use Rattle.delegations.specs.Delegation.{before}
-use Rattle.delegations.specs.Shelf.{with_row}
+use Rattle.delegations.specs.Rows.{with_row}
 use Rattle.machine.specs.Answers.{unchanged, unanswered}
 use Rattle.machine.specs.Commands.{put_blob}
 use Rattle.machine.specs.State.{State}
-use Rattle.machine.proofs.Judging.{accepted, kept_same}
-use Rattle.machine.proofs.Storing.{with_one, as_judged, answers_rejected}
+use Rattle.machine.proofs.OrderSteps.{accepted, kept_same}
+use Rattle.machine.proofs.OneMoreBlob.{with_one, as_judged, answers_rejected}
 use Rattle.machine.proofs.blobs.put_blob.Goals as goal
 
 pub returns-in-Ok-false : goal.returns-in-Ok-false

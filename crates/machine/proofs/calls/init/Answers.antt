@@ -1,15 +1,15 @@
 use Rattle.std.proofs.Common.{◌≡◌, [], Ok, ap}
 use Rattle.std.specs.Prelude.{IsNone}
-use Rattle.metadata.specs.Kept.{root_file}
-use Rattle.metadata.specs.Orders.{pass, decide, holds, fails, given}
+use Rattle.metadata.specs.FileViews.{root_file}
+use Rattle.denials.specs.Orders.{pass, decide, holds, fails, given}
 use Rattle.machine.specs.Answers.{changes, refused, unanswered}
 use Rattle.machine.specs.Commands as commands
 use Rattle.machine.specs.Commands.{with_root}
 use Rattle.machine.specs.Effects.{applied}
 use Rattle.machine.specs.State.{nothing_trusted}
 use Rattle.machine.specs.Views.{effects_view}
-use Rattle.machine.proofs.Judging.{yes, no, given_by}
-use Rattle.machine.proofs.Making.{root_there, no_root, if_none, answered_in, answered_behind, began}
+use Rattle.machine.proofs.OrderSteps.{yes, no, given_by}
+use Rattle.machine.proofs.ChangesMake.{root_there, no_root, if_none, answered_in, answered_behind, began}
 use Rattle.machine.proofs.calls.init.Goals as goal
 
 pub returns-then-is_some : goal.returns-then-is_some

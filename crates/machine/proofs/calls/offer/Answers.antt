@@ -5,7 +5,7 @@ use Rattle.machine.specs.Effects as spec
 use Rattle.machine.specs.Effects.{applied, brought}
 use Rattle.machine.specs.State.{State, IsState}
 use Rattle.machine.specs.Views.{effects_view, offer_view, parts_view, draft_view, blob_views}
-use Rattle.machine.proofs.Making.{offered, offered_same, offered_refused, on_whole, trusted_alone}
+use Rattle.machine.proofs.ChangesMake.{offered, offered_same, offered_refused, on_whole, trusted_alone}
 use Rattle.machine.proofs.calls.offer.Goals as goal
 
 pub returns-in-Ok-true : goal.returns-in-Ok-true

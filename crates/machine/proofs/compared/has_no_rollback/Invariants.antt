@@ -2,7 +2,7 @@ use Rattle.std.proofs.Common.{length, ◌≤◌}
 use Rattle.std.specs.Prelude.{IfSome}
 use Rattle.std.specs.List.{AllByRecursion}
 use Rattle.keys_roles.specs.Plain.{look_up}
-use Rattle.metadata.specs.Rows as rows
+use Rattle.metadata.specs.steps.Entries as rows
 use Rattle.metadata.specs.Views.{snapshot_view}
 use Rattle.machine.proofs.compared.has_no_rollback.Given as goal
 

@@ -1,8 +1,8 @@
 use Rattle.std.proofs.Common.{length}
 use Rattle.std.specs.Prelude.{IsTrue, is_some}
 use Rattle.std.specs.List.{AllByRecursion}
-use Rattle.metadata.specs.Rows as rows
-use Rattle.delegations.specs.Shelf.{named_row}
+use Rattle.metadata.specs.steps.Entries as rows
+use Rattle.delegations.specs.Rows.{named_row}
 use Rattle.delegations.specs.Views.{rows_view}
 use Rattle.machine.proofs.compared.holds_all.Given as goal
 

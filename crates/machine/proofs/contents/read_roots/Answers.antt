@@ -1,9 +1,9 @@
 use Rattle.std.proofs.Common.{map, ap}
 use Rattle.std.proofs.lemmas.List.{length-map, map-append}
 use Rattle.metadata.specs.File.{root_form}
-use Rattle.metadata.specs.Kept.{root_file}
-use Rattle.machine.specs.Contents.{IsStored}
-use Rattle.machine.proofs.Zips.{reading_goes, reading_fails, reading_ends}
+use Rattle.metadata.specs.FileViews.{root_file}
+use Rattle.machine.specs.steps.Stored.{IsStored}
+use Rattle.machine.proofs.ItemByItem.{reading_goes, reading_fails, reading_ends}
 use Rattle.machine.proofs.contents.read_roots.Goals as goal
 
 pub returns-in-Ok-None-clause-none : goal.returns-in-Ok-None-clause-none

@@ -1,8 +1,8 @@
 use Rattle.std.proofs.Common.{map, length}
 use Rattle.metadata.specs.File.{root_form}
-use Rattle.metadata.specs.Kept.{root_file}
-use Rattle.machine.specs.Contents.{IsStored}
-use Rattle.machine.proofs.Zips.{Reading}
+use Rattle.metadata.specs.FileViews.{root_file}
+use Rattle.machine.specs.steps.Stored.{IsStored}
+use Rattle.machine.proofs.ItemByItem.{Reading}
 use Rattle.machine.proofs.contents.read_roots.Given as goal
 
 abbrev pub invariant-rows : goal.invariant-rows

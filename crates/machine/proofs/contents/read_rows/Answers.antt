@@ -1,9 +1,9 @@
 use Rattle.std.proofs.Common.{map, ap, string_bytes}
 use Rattle.std.proofs.lemmas.List.{length-map, map-append}
-use Rattle.metadata.specs.Kept.{targets_file}
+use Rattle.metadata.specs.FileViews.{targets_file}
 use Rattle.delegations.specs.Views.{row_views}
-use Rattle.machine.specs.Contents.{IsShelved}
-use Rattle.machine.proofs.Zips.{reading_goes, reading_fails, reading_ends}
+use Rattle.machine.specs.steps.Stored.{IsShelved}
+use Rattle.machine.proofs.ItemByItem.{reading_goes, reading_fails, reading_ends}
 use Rattle.machine.proofs.contents.read_rows.Goals as goal
 
 pub returns-in-Ok-None-clause-none : goal.returns-in-Ok-None-clause-none

@@ -1,7 +1,7 @@
 use Rattle.std.proofs.Common.{map, length, string_bytes}
 use Rattle.delegations.specs.Views.{row_views}
-use Rattle.machine.specs.Contents.{IsShelved}
-use Rattle.machine.proofs.Zips.{Reading}
+use Rattle.machine.specs.steps.Stored.{IsShelved}
+use Rattle.machine.proofs.ItemByItem.{Reading}
 use Rattle.machine.proofs.contents.read_rows.Given as goal
 
 abbrev pub invariant-rows : goal.invariant-rows

@@ -1,6 +1,6 @@
 use Rattle.metadata.specs.File.{timestamp_form}
-use Rattle.machine.specs.Contents.{IsStored}
-use Rattle.machine.proofs.Standing.{nothing_together}
+use Rattle.machine.specs.steps.Stored.{IsStored}
+use Rattle.machine.proofs.RowsOfOneState.{nothing_together}
 use Rattle.machine.proofs.contents.read_timestamp.Goals as goal
 
 pub returns-in-Ok-None-clause-none : goal.returns-in-Ok-None-clause-none

@@ -1,9 +1,9 @@
 use Rattle.std.proofs.Common.{sym}
 use Rattle.std.proofs.lemmas.Bool.{true≢false}
 use Rattle.metadata.specs.File.{snapshot_form}
-use Rattle.metadata.specs.Kept.{snapshot_file}
+use Rattle.metadata.specs.FileViews.{snapshot_file}
 use Rattle.machine.proofs.ShapedOnce.{Shapes, snapshot-tells}
-use Rattle.machine.proofs.Standing.{not_stored, other_version, real_fault}
+use Rattle.machine.proofs.RowsOfOneState.{not_stored, other_version, real_fault}
 use Rattle.machine.proofs.contents.stored_snapshot.Goals as goal
 
 pub returns-then-file-version-clause-none : goal.returns-then-file-version-clause-none

@@ -1,9 +1,9 @@
 use Rattle.std.proofs.Common.{sym}
 use Rattle.std.proofs.lemmas.Bool.{true≢false}
 use Rattle.metadata.specs.File.{timestamp_form}
-use Rattle.metadata.specs.Kept.{timestamp_file}
+use Rattle.metadata.specs.FileViews.{timestamp_file}
 use Rattle.machine.proofs.ShapedOnce.{Shapes, timestamp-tells}
-use Rattle.machine.proofs.Standing.{not_stored, other_version, real_fault}
+use Rattle.machine.proofs.RowsOfOneState.{not_stored, other_version, real_fault}
 use Rattle.machine.proofs.contents.stored_timestamp.Goals as goal
 
 pub returns-then-file-version-clause-none : goal.returns-then-file-version-clause-none

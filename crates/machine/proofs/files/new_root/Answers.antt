@@ -1,8 +1,8 @@
 use Rattle.metadata.specs.File.{root_form}
-use Rattle.metadata.specs.Kept.{root_file}
-use Rattle.metadata.specs.Orders.{reads}
+use Rattle.metadata.specs.FileViews.{root_file}
+use Rattle.metadata.specs.Shaped.{reads}
 use Rattle.machine.specs.Answers.{gives}
-use Rattle.machine.proofs.Judging.{of_another_shape}
+use Rattle.machine.proofs.OrderSteps.{of_another_shape}
 use Rattle.machine.proofs.files.new_root.Goals as goal
 
 pub returns-in-Ok-clause-shape : goal.returns-in-Ok-clause-shape

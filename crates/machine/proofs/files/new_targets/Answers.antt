@@ -1,8 +1,8 @@
 use Rattle.metadata.specs.File.{targets_form}
-use Rattle.metadata.specs.Kept.{targets_file}
-use Rattle.metadata.specs.Orders.{reads}
+use Rattle.metadata.specs.FileViews.{targets_file}
+use Rattle.metadata.specs.Shaped.{reads}
 use Rattle.machine.specs.Answers.{gives}
-use Rattle.machine.proofs.Judging.{of_another_shape}
+use Rattle.machine.proofs.OrderSteps.{of_another_shape}
 use Rattle.machine.proofs.files.new_targets.Goals as goal
 
 pub returns-in-Ok-clause-shape : goal.returns-in-Ok-clause-shape

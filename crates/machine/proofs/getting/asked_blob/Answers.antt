@@ -1,6 +1,6 @@
-use Rattle.metadata.specs.Orders.{pass, decide, holds, fails, given}
+use Rattle.denials.specs.Orders.{pass, decide, holds, fails, given}
 use Rattle.machine.specs.Answers.{gives, denies}
-use Rattle.machine.proofs.Judging.{yes, no, denied_in, given_by}
+use Rattle.machine.proofs.OrderSteps.{yes, no, denied_in, given_by}
 use Rattle.machine.proofs.getting.asked_blob.Goals as goal
 
 pub returns-in-Err : goal.returns-in-Err

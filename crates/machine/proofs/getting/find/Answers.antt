@@ -1,11 +1,11 @@
 use Rattle.std.proofs.Common.{Ok, Err, ap, ◌∙◌, subst}
-use Rattle.metadata.specs.Kept.{root_file, snapshot_file}
-use Rattle.metadata.specs.Orders as orders
+use Rattle.metadata.specs.FileViews.{root_file, snapshot_file}
+use Rattle.denials.specs.Orders as orders
 use Rattle.delegations.specs.Search.{Shelf, search, shelf_of}
-use Rattle.delegations.specs.Shelf as shelves
+use Rattle.delegations.specs.Rows as shelves
 use Rattle.delegations.specs.Views as searches
 use Rattle.machine.specs.Answers.{gives}
-use Rattle.machine.proofs.Granting.{refused_as}
+use Rattle.machine.proofs.TargetFiles.{refused_as}
 use Rattle.machine.proofs.getting.find.Goals as goal
 
 pub returns-in-Ok : goal.returns-in-Ok

@@ -1,15 +1,15 @@
 use Rattle.std.proofs.Common.{ℕ, List, Err, Bor, sym, ap, subst}
 use Rattle.std.specs.Prelude.{option_map}
-use Rattle.metadata.specs.Kept.{root_file, timestamp_file, snapshot_file}
-use Rattle.metadata.specs.Orders.{pass, decide, holds}
+use Rattle.metadata.specs.FileViews.{root_file, timestamp_file, snapshot_file}
+use Rattle.denials.specs.Orders.{pass, decide, holds}
 use Rattle.delegations.specs.Views.{found_view}
 use Rattle.machine.specs.Answers.{Gives, denies}
 use Rattle.machine.specs.Commands.{grants}
 use Rattle.machine.specs.State.{State}
 use Rattle.machine.specs.Views.{parts_view}
-use Rattle.machine.proofs.Judging.{needed, lacking, given_by, denied_in, denied_behind}
-use Rattle.machine.proofs.OnShelf.{live_as}
-use Rattle.machine.proofs.Granting.{denied_by_search, found_by_search, seen}
+use Rattle.machine.proofs.OrderSteps.{needed, lacking, given_by, denied_in, denied_behind}
+use Rattle.machine.proofs.ShelfPlaces.{live_as}
+use Rattle.machine.proofs.TargetFiles.{denied_by_search, found_by_search, seen}
 use Rattle.machine.proofs.getting.granted.Goals as goal
 
 pub returns-in_default : goal.returns-in_default

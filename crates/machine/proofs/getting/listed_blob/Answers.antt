@@ -1,8 +1,8 @@
 use Rattle.std.proofs.Common.{sym}
-use Rattle.metadata.specs.Orders.{pass, decide, holds, fails, given}
+use Rattle.denials.specs.Orders.{pass, decide, holds, fails, given}
 use Rattle.machine.specs.Answers.{gives, denies}
-use Rattle.machine.proofs.Judging.{yes, no, needed, lacking}
-use Rattle.machine.proofs.Granting.{refused_as}
+use Rattle.machine.proofs.OrderSteps.{yes, no, needed, lacking}
+use Rattle.machine.proofs.TargetFiles.{refused_as}
 use Rattle.machine.proofs.getting.listed_blob.Goals as goal
 
 pub returns-in_default : goal.returns-in_default

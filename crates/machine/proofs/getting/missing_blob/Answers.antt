@@ -1,7 +1,7 @@
 use Rattle.std.proofs.Common.{List, ℕ, ap, sym}
-use Rattle.metadata.specs.Orders as orders
+use Rattle.denials.specs.Orders as orders
 use Rattle.machine.specs.Answers.{forgoes}
-use Rattle.machine.proofs.Granting.{says}
+use Rattle.machine.proofs.TargetFiles.{says}
 use Rattle.machine.proofs.getting.missing_blob.Goals as goal
 
 pub returns-in-Ok : goal.returns-in-Ok

@@ -1,4 +1,4 @@
-use Rattle.metadata.specs.Orders.{stopped}
+use Rattle.denials.specs.Orders.{stopped}
 use Rattle.machine.specs.Answers.{denies}
 use Rattle.machine.proofs.getting.search_refusal.Goals as goal
 

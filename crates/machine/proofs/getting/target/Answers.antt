@@ -1,4 +1,4 @@
-use Rattle.metadata.specs.Orders.{decide, fails}
+use Rattle.denials.specs.Orders.{decide, fails}
 use Rattle.machine.specs.Answers.{denies, forgoes}
 use Rattle.machine.proofs.getting.target.Goals as goal
 

@@ -1,4 +1,4 @@
-use Rattle.machine.proofs.Valid.{nothing_valid}
+use Rattle.machine.proofs.ValidSteps.{nothing_valid}
 use Rattle.machine.proofs.laws.nothing_is_valid.Goals as goal
 
 pub returns : goal.returns

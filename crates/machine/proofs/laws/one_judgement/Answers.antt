@@ -1,4 +1,4 @@
-use Rattle.machine.proofs.Definite.{init-definite, offer-definite, batch-definite, blob-definite, grants-definite, steps-definite}
+use Rattle.machine.proofs.OneJudgement.{init-definite, offer-definite, batch-definite, blob-definite, grants-definite, steps-definite}
 use Rattle.machine.proofs.ShapedOnce.{Shapes}
 use Rattle.machine.proofs.laws.one_judgement.Goals as goal
 

@@ -1,5 +1,5 @@
 use Rattle.machine.proofs.ShapedOnce.{Shapes}
-use Rattle.machine.proofs.Standing as standing
+use Rattle.machine.proofs.RowsOfOneState as standing
 use Rattle.machine.proofs.laws.rows_stay.Goals as goal
 
 pub returns : goal.returns

@@ -1,4 +1,4 @@
-use Rattle.machine.proofs.Coherent.{stays_coherent}
+use Rattle.machine.proofs.CoherentSteps.{stays_coherent}
 use Rattle.machine.proofs.laws.stays_coherent.Goals as goal
 
 pub returns : goal.returns

@@ -1,4 +1,4 @@
-use Rattle.machine.proofs.Valid.{init_valid, offer_valid, offer_roots, batch_valid, batch_roots, put_valid, state_valid, steps_valid, runs_valid}
+use Rattle.machine.proofs.ValidSteps.{init_valid, offer_valid, offer_roots, batch_valid, batch_roots, put_valid, state_valid, steps_valid, runs_valid}
 use Rattle.machine.proofs.laws.stays_valid.Goals as goal
 
 pub returns-clause-begins : goal.returns-clause-begins

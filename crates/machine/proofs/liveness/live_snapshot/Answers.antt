@@ -1,6 +1,6 @@
-use Rattle.metadata.specs.Orders.{pass, decide, holds, fails, given, stopped}
+use Rattle.denials.specs.Orders.{pass, decide, holds, fails, given, stopped}
 use Rattle.machine.specs.Answers.{gives, denies}
-use Rattle.machine.proofs.Judging.{denied_in, given_by, yes, no}
+use Rattle.machine.proofs.OrderSteps.{denied_in, given_by, yes, no}
 use Rattle.machine.proofs.liveness.live_snapshot.Goals as goal
 
 pub returns-in-Err : goal.returns-in-Err

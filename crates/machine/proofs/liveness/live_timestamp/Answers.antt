@@ -1,6 +1,6 @@
-use Rattle.metadata.specs.Orders.{pass, decide, holds, fails, given, stopped}
+use Rattle.denials.specs.Orders.{pass, decide, holds, fails, given, stopped}
 use Rattle.machine.specs.Answers.{gives, denies}
-use Rattle.machine.proofs.Judging.{yes, no}
+use Rattle.machine.proofs.OrderSteps.{yes, no}
 use Rattle.machine.proofs.liveness.live_timestamp.Goals as goal
 
 pub returns-then-not-live : goal.returns-then-not-live

@@ -1,10 +1,10 @@
 use Rattle.std.proofs.Common.{sym, None}
-use Rattle.metadata.specs.Kept.{root_file}
+use Rattle.metadata.specs.FileViews.{root_file}
 use Rattle.machine.specs.State.{IsHeldUnder}
 use Rattle.machine.specs.Effects.{last_or}
-use Rattle.machine.specs.Kept.{IsBare, laid}
+use Rattle.machine.specs.steps.Loading.{IsBare, laid}
 use Rattle.machine.specs.Views.{effects_view}
-use Rattle.machine.proofs.Chains.{some_if, if_some, if_none}
+use Rattle.machine.proofs.RootChains.{some_if, if_some, if_none}
 use Rattle.machine.proofs.loading.are_under_root.Goals as goal
 
 pub is_held-requires-clause-last : goal.is_held-requires-clause-last

@@ -3,7 +3,7 @@ use Rattle.std.proofs.lemmas.List.{length-map}
 use Rattle.std.proofs.lemmas.Bool.{true≢false}
 use Rattle.machine.specs.State.{IsBlob}
 use Rattle.machine.specs.Views.{blob_views}
-use Rattle.machine.proofs.Rising.{all_fails, all_goes, all_ends}
+use Rattle.machine.proofs.RisingRows.{all_fails, all_goes, all_ends}
 use Rattle.machine.proofs.loading.each_is_blob.Goals as goal
 
 pub returns-then-not-is_blob : goal.returns-then-not-is_blob

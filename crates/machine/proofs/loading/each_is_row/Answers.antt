@@ -2,10 +2,10 @@ use Rattle.std.proofs.Common.{ap, sym}
 use Rattle.std.proofs.lemmas.List.{length-map}
 use Rattle.std.proofs.lemmas.Bool.{true≢false}
 use Rattle.metadata.specs.File.{IsFileOf, targets_form}
-use Rattle.metadata.specs.Kept.{targets_file}
+use Rattle.metadata.specs.FileViews.{targets_file}
 use Rattle.delegations.specs.Views.{row_views}
 use Rattle.machine.specs.State.{IsShelfRow}
-use Rattle.machine.proofs.Rising.{all_fails, all_goes, all_ends, first_holds, later_hold}
+use Rattle.machine.proofs.RisingRows.{all_fails, all_goes, all_ends, first_holds, later_hold}
 use Rattle.machine.proofs.loading.each_is_row.Goals as goal
 
 pub is_row-requires : goal.is_row-requires

@@ -2,7 +2,7 @@ use Rattle.std.proofs.Common.{length}
 use Rattle.std.specs.Prelude.{◌↔◌, All}
 use Rattle.delegations.specs.Views.{row_views}
 use Rattle.machine.specs.State.{IsShelfRow}
-use Rattle.machine.specs.Kept.{RowsAreRead}
+use Rattle.machine.specs.steps.Loading.{RowsAreRead}
 use Rattle.machine.proofs.loading.each_is_row.Given as goal
 
 abbrev pub invariant-rows : goal.invariant-rows

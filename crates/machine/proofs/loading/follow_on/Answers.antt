@@ -1,8 +1,8 @@
 use Rattle.std.proofs.Common.{ap, sym, map}
 use Rattle.std.proofs.lemmas.Bool.{true≢false}
 use Rattle.std.proofs.lemmas.List.{length-map}
-use Rattle.metadata.specs.Kept.{root_file}
-use Rattle.machine.proofs.Chains.{follow_fails, follow_goes, follow_ends}
+use Rattle.metadata.specs.FileViews.{root_file}
+use Rattle.machine.proofs.RootChains.{follow_fails, follow_goes, follow_ends}
 use Rattle.machine.proofs.loading.follow_on.Goals as goal
 
 pub returns-then-not-follows_root : goal.returns-then-not-follows_root

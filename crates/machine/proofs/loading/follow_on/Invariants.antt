@@ -1,7 +1,7 @@
 use Rattle.std.proofs.Common.{length, map}
 use Rattle.std.specs.Prelude.{◌↔◌}
-use Rattle.metadata.specs.Kept.{root_file}
-use Rattle.machine.specs.Kept.{FollowOn}
+use Rattle.metadata.specs.FileViews.{root_file}
+use Rattle.machine.specs.steps.Loading.{FollowOn}
 use Rattle.machine.proofs.loading.follow_on.Given as goal
 
 abbrev pub invariant-roots : goal.invariant-roots

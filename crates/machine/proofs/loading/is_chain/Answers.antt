@@ -1,6 +1,6 @@
 use Rattle.std.proofs.Common.{map}
-use Rattle.metadata.specs.Kept.{root_file}
-use Rattle.machine.proofs.Chains.{chain_tells}
+use Rattle.metadata.specs.FileViews.{root_file}
+use Rattle.machine.proofs.RootChains.{chain_tells}
 use Rattle.machine.proofs.ShapedOnce.{Shapes}
 use Rattle.machine.proofs.loading.is_chain.Goals as goal
 

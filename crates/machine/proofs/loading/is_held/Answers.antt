@@ -1,8 +1,8 @@
 use Rattle.std.proofs.Common.{sym}
 use Rattle.std.proofs.lemmas.Bool.{true≢false}
-use Rattle.metadata.specs.Kept.{root_file}
+use Rattle.metadata.specs.FileViews.{root_file}
 use Rattle.machine.specs.Views.{effects_view}
-use Rattle.machine.proofs.Chains.{holds_under, chain_under, timestamp_under, snapshot_under}
+use Rattle.machine.proofs.RootChains.{holds_under, chain_under, timestamp_under, snapshot_under}
 use Rattle.machine.proofs.loading.is_held.Goals as goal
 
 pub returns-then-not-is_chain : goal.returns-then-not-is_chain

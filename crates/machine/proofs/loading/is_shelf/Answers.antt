@@ -1,11 +1,11 @@
 use Rattle.std.proofs.Common.{sym, ◌∙◌}
 use Rattle.std.proofs.lemmas.Bool.{true≢false, both_ways}
 use Rattle.std.proofs.lemmas.List.{length-map}
-use Rattle.delegations.specs.Shelf.{place_before, same_place}
+use Rattle.delegations.specs.Rows.{place_before, same_place}
 use Rattle.delegations.specs.Views.{row_views}
-use Rattle.machine.specs.Kept.{rises}
-use Rattle.machine.proofs.Placing.{orders_places}
-use Rattle.machine.proofs.Rising.{rises_tells}
+use Rattle.machine.specs.steps.Loading.{rises}
+use Rattle.machine.proofs.RowsInOrder.{orders_places}
+use Rattle.machine.proofs.RisingRows.{rises_tells}
 use Rattle.machine.proofs.loading.is_shelf.Goals as goal
 
 pub returns-then-not-rows_rise : goal.returns-then-not-rows_rise

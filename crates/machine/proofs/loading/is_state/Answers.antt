@@ -2,7 +2,7 @@ use Rattle.std.proofs.Common.{sym, arith}
 use Rattle.std.proofs.lemmas.Bool.{true≢false}
 use Rattle.std.proofs.lemmas.List.{length-map}
 use Rattle.machine.specs.Views.{effects_view}
-use Rattle.machine.proofs.Laid.{is_laid, laid_shelf, laid_bare}
+use Rattle.machine.proofs.FilesMakeStates.{is_laid, laid_shelf, laid_bare}
 use Rattle.machine.proofs.loading.is_state.Goals as goal
 
 pub returns-then-not-is_shelf : goal.returns-then-not-is_shelf

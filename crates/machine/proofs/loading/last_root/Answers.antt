@@ -1,6 +1,6 @@
 use Rattle.std.proofs.Common.{arith, length, ◌-◌, sym, None}
-use Rattle.metadata.specs.Kept.{root_file}
-use Rattle.machine.proofs.Changes.{last_at}
+use Rattle.metadata.specs.FileViews.{root_file}
+use Rattle.machine.proofs.MoreRootsAndRows.{last_at}
 use Rattle.machine.proofs.loading.last_root.Goals as goal
 
 pub returns-in-Some : goal.returns-in-Some

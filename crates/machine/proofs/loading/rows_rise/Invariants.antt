@@ -1,7 +1,7 @@
 use Rattle.std.proofs.Common.{◌≡◌, length}
-use Rattle.delegations.specs.Shelf.{place_before}
+use Rattle.delegations.specs.Rows.{place_before}
 use Rattle.delegations.specs.Views.{row_views}
-use Rattle.machine.specs.Kept.{rises}
+use Rattle.machine.specs.steps.Loading.{rises}
 use Rattle.machine.proofs.loading.rows_rise.Given as goal
 
 abbrev pub invariant-rows : goal.invariant-rows

@@ -2,7 +2,7 @@ use Rattle.std.proofs.Common.{sym, ◌∙◌, ap, subst}
 use Rattle.machine.specs.State.{State, IsState}
 use Rattle.machine.specs.Effects.{applied}
 use Rattle.machine.specs.Views.{effects_view}
-use Rattle.machine.proofs.Laid.{applied_to_nothing}
+use Rattle.machine.proofs.FilesMakeStates.{applied_to_nothing}
 use Rattle.machine.proofs.loading.settle.Goals as goal
 
 pub take-requires-clause-valid : goal.take-requires-clause-valid

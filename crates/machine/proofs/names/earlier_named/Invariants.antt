@@ -1,6 +1,6 @@
 use Rattle.std.proofs.Common.{◌≡◌, map, length}
 use Rattle.keys_roles.specs.Plain.{look_up}
-use Rattle.machine.specs.Kept.{earlier_files}
+use Rattle.machine.specs.steps.NamedFiles.{earlier_files}
 use Rattle.machine.proofs.names.earlier_named.Given as goal
 
 abbrev pub invariant-roots : goal.invariant-roots

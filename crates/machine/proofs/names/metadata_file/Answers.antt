@@ -1,6 +1,6 @@
 use Rattle.std.proofs.Common.{sym, ◌∙◌}
 use Rattle.machine.specs.Views.{parts_view}
-use Rattle.machine.proofs.Named.{at_root, at_snapshot, past_snapshot, same_name}
+use Rattle.machine.proofs.MetadataNames.{at_root, at_snapshot, past_snapshot, same_name}
 use Rattle.machine.proofs.names.metadata_file.Goals as goal
 
 pub returns-in-Some-root_named : goal.returns-in-Some-root_named

@@ -1,8 +1,8 @@
 use Rattle.std.proofs.Common.{◌≡◌, ap, sym, ◌∙◌, map, true, false, Some}
 use Rattle.std.specs.Prelude.{bytes_eq, codes}
 use Rattle.machine.specs.State.{dotted}
-use Rattle.machine.specs.Kept.{earlier_files}
-use Rattle.machine.proofs.Named.{found_first, found_later, one_found, one_missed, roots_kept}
+use Rattle.machine.specs.steps.NamedFiles.{earlier_files}
+use Rattle.machine.proofs.MetadataNames.{found_first, found_later, one_found, one_missed, roots_kept}
 use Rattle.machine.proofs.names.root_named.Goals as goal
 
 pub returns-in-Some-earlier_named : goal.returns-in-Some-earlier_named

@@ -1,7 +1,7 @@
 use Rattle.std.proofs.Common.{◌≡◌, length}
 use Rattle.keys_roles.specs.Plain.{look_up}
 use Rattle.delegations.specs.Views.{row_views}
-use Rattle.machine.specs.Kept.{shelf_files}
+use Rattle.machine.specs.steps.NamedFiles.{shelf_files}
 use Rattle.machine.proofs.names.row_named.Given as goal
 
 abbrev pub invariant-rows : goal.invariant-rows

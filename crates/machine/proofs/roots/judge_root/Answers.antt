@@ -1,6 +1,6 @@
-use Rattle.metadata.specs.Orders.{pass, decide, holds, fails}
+use Rattle.denials.specs.Orders.{pass, decide, holds, fails}
 use Rattle.machine.specs.Answers.{gives, denies}
-use Rattle.machine.proofs.Judging.{by_rotation, yes, no}
+use Rattle.machine.proofs.OrderSteps.{by_rotation, yes, no}
 use Rattle.machine.proofs.roots.judge_root.Goals as goal
 
 pub returns-then-not-is_next : goal.returns-then-not-is_next

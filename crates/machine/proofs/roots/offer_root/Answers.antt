@@ -1,8 +1,8 @@
 use Rattle.std.proofs.Common.{refl}
-use Rattle.metadata.specs.Kept.{root_file}
-use Rattle.metadata.specs.Orders.{pass, decide, differs, same}
-use Rattle.machine.specs.Answers.{takes, stays, ends, gives_up}
-use Rattle.machine.proofs.Judging.{yes, no, needed, lacking, given_by, ends_in, ends_behind, ends_given}
+use Rattle.metadata.specs.FileViews.{root_file}
+use Rattle.denials.specs.Orders.{pass, decide, differs, same}
+use Rattle.machine.specs.steps.Judging.{takes, stays, ends, gives_up}
+use Rattle.machine.proofs.OrderSteps.{yes, no, needed, lacking, given_by, ends_in, ends_behind, ends_given}
 use Rattle.machine.proofs.roots.offer_root.Goals as goal
 
 pub returns-in_default-clause-ends : goal.returns-in_default-clause-ends

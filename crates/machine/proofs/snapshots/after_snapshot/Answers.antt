@@ -1,6 +1,6 @@
-use Rattle.metadata.specs.Orders.{pass, decide, holds, fails, given}
+use Rattle.denials.specs.Orders.{pass, decide, holds, fails, given}
 use Rattle.machine.specs.Answers.{gives, denies}
-use Rattle.machine.proofs.Judging.{yes, no}
+use Rattle.machine.proofs.OrderSteps.{yes, no}
 use Rattle.machine.proofs.snapshots.after_snapshot.Goals as goal
 
 pub returns-in_default : goal.returns-in_default

@@ -3,11 +3,12 @@ use Rattle.std.proofs.Common.{Bor}
 use Rattle.std.specs.Option.{option_map}
 use Rattle.metadata.specs.declared.file.File.{File}
 use Rattle.metadata.specs.declared.documents.Timestamp.{Timestamp}
-use Rattle.metadata.specs.Kept.{root_file, timestamp_file, snapshot_file}
-use Rattle.metadata.specs.Orders.{pass, decide, holds, fails, differs, same, given}
-use Rattle.machine.specs.Answers.{Gives, accepts, keeps, rejects}
+use Rattle.metadata.specs.FileViews.{root_file, timestamp_file, snapshot_file}
+use Rattle.denials.specs.Orders.{pass, decide, holds, fails, differs, same, given}
+use Rattle.machine.specs.Answers.{Gives}
+use Rattle.machine.specs.steps.Judging.{accepts, keeps, rejects}
 use Rattle.machine.specs.Commands.{after_snapshot, live_timestamp}
-use Rattle.machine.proofs.Judging.{yes, no, given_by, rejected_in, rejected_behind}
+use Rattle.machine.proofs.OrderSteps.{yes, no, given_by, rejected_in, rejected_behind}
 use Rattle.machine.proofs.snapshots.judge_snapshot.Goals as goal
 
 pub returns-in-Err : goal.returns-in-Err

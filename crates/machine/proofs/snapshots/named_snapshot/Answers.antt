@@ -1,7 +1,7 @@
 use Rattle.std.proofs.Common.{sym}
-use Rattle.metadata.specs.Orders.{pass, decide, holds, fails}
+use Rattle.denials.specs.Orders.{pass, decide, holds, fails}
 use Rattle.machine.specs.Answers.{gives, denies}
-use Rattle.machine.proofs.Judging.{yes, no}
+use Rattle.machine.proofs.OrderSteps.{yes, no}
 use Rattle.machine.proofs.snapshots.named_snapshot.Goals as goal
 
 pub returns-then-not-has_length : goal.returns-then-not-has_length

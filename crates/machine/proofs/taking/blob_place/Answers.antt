@@ -1,7 +1,7 @@
 use Rattle.std.proofs.Common.{sym}
 use Rattle.delegations.specs.Delegation.{before}
 use Rattle.machine.specs.declared.effects.Blob.{Blob}
-use Rattle.machine.proofs.InOrder.{at_first, at_none}
+use Rattle.machine.proofs.PutInRoom.{at_first, at_none}
 use Rattle.machine.proofs.taking.blob_place.Goals as goal
 
 pub returns-in-Some-clause-place : goal.returns-in-Some-clause-place

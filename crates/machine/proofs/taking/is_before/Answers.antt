@@ -1,5 +1,5 @@
 use Rattle.std.proofs.Common.{sym, ◌∙◌}
-use Rattle.machine.proofs.InOrder.{none_before}
+use Rattle.machine.proofs.PutInRoom.{none_before}
 use Rattle.machine.proofs.taking.is_before.Goals as goal
 
 pub returns : goal.returns

@@ -1,5 +1,5 @@
 use Rattle.delegations.specs.Delegation.{before}
-use Rattle.machine.proofs.InOrder.{put_in_order}
+use Rattle.machine.proofs.PutInRoom.{put_in_order}
 use Rattle.machine.proofs.taking.put_blob.Goals as goal
 
 pub returns-clause-rows : goal.returns-clause-rows

@@ -1,6 +1,6 @@
-use Rattle.metadata.specs.Kept.{targets_file}
-use Rattle.delegations.specs.Shelf.{place_before}
-use Rattle.machine.proofs.InOrder.{put_in_order}
+use Rattle.metadata.specs.FileViews.{targets_file}
+use Rattle.delegations.specs.Rows.{place_before}
+use Rattle.machine.proofs.PutInRoom.{put_in_order}
 use Rattle.machine.proofs.taking.put_row.Goals as goal
 
 pub returns-clause-rows : goal.returns-clause-rows

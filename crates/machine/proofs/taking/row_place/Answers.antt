@@ -1,7 +1,7 @@
 use Rattle.std.proofs.Common.{sym}
-use Rattle.delegations.specs.Shelf.{place_before}
+use Rattle.delegations.specs.Rows.{place_before}
 use Rattle.delegations.specs.declared.rows.Row.{Row}
-use Rattle.machine.proofs.InOrder.{at_first, at_none}
+use Rattle.machine.proofs.PutInRoom.{at_first, at_none}
 use Rattle.machine.proofs.taking.row_place.Goals as goal
 
 pub returns-in-Some-clause-place : goal.returns-in-Some-clause-place

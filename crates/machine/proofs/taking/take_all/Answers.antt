@@ -1,10 +1,10 @@
 use Rattle.std.proofs.Common.{ap, ◌∙◌, ◌++◌, List, map, option_map}
 use Rattle.metadata.specs.File.{Bytes}
-use Rattle.metadata.specs.Kept.{root_file, timestamp_file, snapshot_file, targets_file}
-use Rattle.delegations.specs.Shelf.{Rows, with_rows}
+use Rattle.metadata.specs.FileViews.{root_file, timestamp_file, snapshot_file, targets_file}
+use Rattle.delegations.specs.Rows.{Rows, with_rows}
 use Rattle.delegations.specs.Views.{row_views}
 use Rattle.machine.specs.Views.{last_bytes}
-use Rattle.machine.proofs.InOrder.{map_twice, map_emptied, last_seen, renewed_seen, same_state}
+use Rattle.machine.proofs.PutInRoom.{map_twice, map_emptied, last_seen, renewed_seen, same_state}
 use Rattle.machine.proofs.taking.take_all.Goals as goal
 
 pub returns : goal.returns

@@ -1,7 +1,7 @@
 use Rattle.std.proofs.Common.{sym}
 use Rattle.std.proofs.lemmas.List.{map-append}
 use Rattle.machine.specs.Views.{blob_views}
-use Rattle.machine.proofs.InOrder.{room_left, blobs_more}
+use Rattle.machine.proofs.PutInRoom.{room_left, blobs_more}
 use Rattle.machine.proofs.taking.take_blobs.Goals as goal
 
 pub loop-blob-preserved : goal.loop-blob-preserved

@@ -1,8 +1,8 @@
 use Rattle.std.proofs.Common.{sym, ◌∙◌}
 use Rattle.std.proofs.lemmas.List.{map-append}
 use Rattle.std.proofs.Common.{append_assoc}
-use Rattle.machine.proofs.Changes.{last_of}
-use Rattle.machine.proofs.InOrder.{room_left}
+use Rattle.machine.proofs.MoreRootsAndRows.{last_of}
+use Rattle.machine.proofs.PutInRoom.{room_left}
 use Rattle.machine.proofs.taking.take_roots.Goals as goal
 
 pub loop-root-preserved : goal.loop-root-preserved

@@ -1,9 +1,9 @@
 use Rattle.std.proofs.Common.{sym}
 use Rattle.std.proofs.lemmas.List.{map-append}
-use Rattle.metadata.specs.Kept.{targets_file}
+use Rattle.metadata.specs.FileViews.{targets_file}
 use Rattle.delegations.specs.Views.{row_views}
-use Rattle.machine.proofs.Changes.{rows_more}
-use Rattle.machine.proofs.InOrder.{room_left}
+use Rattle.machine.proofs.MoreRootsAndRows.{rows_more}
+use Rattle.machine.proofs.PutInRoom.{room_left}
 use Rattle.machine.proofs.taking.take_rows.Goals as goal
 
 pub loop-row-preserved : goal.loop-row-preserved

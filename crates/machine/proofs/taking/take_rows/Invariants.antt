@@ -1,5 +1,5 @@
 use Rattle.std.proofs.Common.{◌≡◌, ◌≤◌, ◌-◌, ◌+◌, length, vec_len, vec_capacity}
-use Rattle.delegations.specs.Shelf.{with_rows}
+use Rattle.delegations.specs.Rows.{with_rows}
 use Rattle.delegations.specs.Views.{row_views}
 use Rattle.machine.proofs.taking.take_rows.Given as goal
 

@@ -1,15 +1,15 @@
 use Rattle.std.proofs.Common.{ℕ, sym, ap, ◌∙◌, subst}
-use Rattle.metadata.specs.Kept.{root_file, snapshot_file, targets_file}
-use Rattle.metadata.specs.Orders.{pass, decide, holds, fails}
+use Rattle.metadata.specs.FileViews.{root_file, snapshot_file, targets_file}
+use Rattle.denials.specs.Orders.{pass, decide, holds, fails}
 use Rattle.metadata.specs.Views.{meta_view}
 use Rattle.delegations.specs.Search.{Shelf, Vouched, shelf_of}
-use Rattle.delegations.specs.Shelf as shelves
-use Rattle.delegations.specs.Shelf.{with_row, place_before}
-use Rattle.machine.specs.Answers.{Judges, rejects}
+use Rattle.delegations.specs.Rows as shelves
+use Rattle.delegations.specs.Rows.{with_row, place_before}
+use Rattle.machine.specs.steps.Judging.{Judges, rejects}
 use Rattle.machine.specs.Commands.{placed}
 use Rattle.machine.specs.Views.{draft_view}
-use Rattle.machine.proofs.Judging.{yes, no, needed, lacking, given_by, rejected_in, rejected_behind}
-use Rattle.machine.proofs.OnShelf.{live_as, named_version, judged_behind}
+use Rattle.machine.proofs.OrderSteps.{yes, no, needed, lacking, given_by, rejected_in, rejected_behind}
+use Rattle.machine.proofs.ShelfPlaces.{live_as, named_version, judged_behind}
 use Rattle.machine.proofs.targets_metadata.judge_targets.Goals as goal
 
 pub returns-in-Err : goal.returns-in-Err

@@ -1,7 +1,7 @@
-use Rattle.metadata.specs.Kept.{targets_file}
-use Rattle.machine.specs.Answers.{accepts, keeps, rejects}
-use Rattle.machine.proofs.Judging.{yes, no}
-use Rattle.machine.proofs.OnShelf.{stands_there, taken_already, no_place, a_place}
+use Rattle.metadata.specs.FileViews.{targets_file}
+use Rattle.machine.specs.steps.Judging.{accepts, keeps, rejects}
+use Rattle.machine.proofs.OrderSteps.{yes, no}
+use Rattle.machine.proofs.ShelfPlaces.{stands_there, taken_already, no_place, a_place}
 use Rattle.machine.proofs.targets_metadata.placed.Goals as goal
 
 pub returns-then-are_same : goal.returns-then-are_same

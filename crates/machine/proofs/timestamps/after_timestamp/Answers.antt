@@ -1,6 +1,6 @@
 use Rattle.std.proofs.Common.{arith, sym}
-use Rattle.metadata.specs.Orders.{pass, decide, holds, fails, differs, same, given}
-use Rattle.machine.specs.Answers.{accepts, keeps, rejects}
+use Rattle.denials.specs.Orders.{pass, decide, holds, fails, differs, same, given}
+use Rattle.machine.specs.steps.Judging.{accepts, keeps, rejects}
 use Rattle.machine.proofs.timestamps.after_timestamp.Goals as goal
 
 pub returns-in_default : goal.returns-in_default

@@ -1,9 +1,9 @@
 use Rattle.std.proofs.Common.{Ok, Err, subst}
-use Rattle.metadata.specs.Kept.{timestamp_file}
-use Rattle.metadata.specs.Orders.{pass, decide, holds, fails, given, Same}
-use Rattle.machine.specs.Answers.{Judges, accepts, keeps, rejects}
+use Rattle.metadata.specs.FileViews.{timestamp_file}
+use Rattle.denials.specs.Orders.{pass, decide, holds, fails, given, Same}
+use Rattle.machine.specs.steps.Judging.{Judges, accepts, keeps, rejects}
 use Rattle.machine.specs.Commands.{after_timestamp}
-use Rattle.machine.proofs.Judging.{yes, no, accepted, kept_same, rejected_here, rejected_behind}
+use Rattle.machine.proofs.OrderSteps.{yes, no, accepted, kept_same, rejected_here, rejected_behind}
 use Rattle.machine.proofs.timestamps.judge_timestamp.Goals as goal
 
 pub returns-then-not-live : goal.returns-then-not-live

@@ -2,9 +2,9 @@ use Rattle.std.proofs.Common.{◌≡◌, Option, Some, None, refl, ap, subst}
 use Rattle.std.specs.Prelude.{IfSome, IsSomeAnd, option_map}
 use Rattle.metadata.specs.Documents.{Timestamp}
 use Rattle.metadata.specs.File.{File}
-use Rattle.metadata.specs.Kept.{timestamp_file, snapshot_file}
+use Rattle.metadata.specs.FileViews.{timestamp_file, snapshot_file}
 use Rattle.machine.specs.State.{IsSnapshotDue, NamesSnapshot, State}
-use Rattle.machine.proofs.Judging.{no}
+use Rattle.machine.proofs.OrderSteps.{no}
 use Rattle.machine.proofs.updating.snapshot_due.Goals as goal
 
 not_some : {A : Type 0} (P : A → Type 0) (o : Option A) → (IsSomeAnd o P → ⊥) → IfSome o (λ x. P x → ⊥)

@@ -2,7 +2,7 @@ use Rattle.std.proofs.Common.{sym, subst}
 use Rattle.std.specs.List.{AllByRecursion}
 use Rattle.canonical_json.specs.View.{view}
 use Rattle.metadata.specs.Documents.{targets}
-use Rattle.metadata.specs.Faults.{IsFaulty}
+use Rattle.metadata.specs.steps.Faults.{IsFaulty}
 use Rattle.metadata.specs.Parts.{NamesAreIds}
 use Rattle.metadata.specs.Shape.{tables, IsBody}
 use Rattle.metadata.specs.Views.{targets_view}

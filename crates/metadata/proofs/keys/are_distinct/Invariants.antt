@@ -1,6 +1,6 @@
 use Rattle.std.proofs.Common.{length}
 use Rattle.keys_roles.specs.Rules.{AreDistinct}
-use Rattle.metadata.specs.Spelled.{texts_view}
+use Rattle.metadata.specs.steps.Spelled.{texts_view}
 use Rattle.metadata.proofs.keys.are_distinct.Given as goal
 
 abbrev pub invariant-texts : goal.invariant-texts

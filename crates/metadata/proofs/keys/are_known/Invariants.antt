@@ -1,6 +1,6 @@
 use Rattle.std.proofs.Common.{length, map}
 use Rattle.std.specs.List.{AllByRecursion, Contains}
-use Rattle.metadata.specs.Spelled.{texts_view, spelled_rows}
+use Rattle.metadata.specs.steps.Spelled.{texts_view, spelled_rows}
 use Rattle.metadata.proofs.keys.are_known.Given as goal
 
 abbrev pub invariant-ids : goal.invariant-ids

@@ -2,7 +2,7 @@ use Rattle.std.proofs.Common.{◌≡◌, ◌++◌, length}
 use Rattle.std.specs.List.{AllByRecursion}
 use Rattle.keys_roles.specs.Views.{ids_view}
 use Rattle.path_patterns.specs.Grammar.{IsHex}
-use Rattle.metadata.specs.Spelled.{texts_view}
+use Rattle.metadata.specs.steps.Spelled.{texts_view}
 use Rattle.metadata.proofs.keys.name_ids.Given as goal
 
 abbrev pub invariant-ids : goal.invariant-ids

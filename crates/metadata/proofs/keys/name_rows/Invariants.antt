@@ -1,7 +1,7 @@
 use Rattle.std.proofs.Common.{◌≡◌, ◌++◌, length}
 use Rattle.keys_roles.specs.Views.{rows_view}
 use Rattle.metadata.specs.Parts.{NamesAreIds, NamesAreHex}
-use Rattle.metadata.specs.Spelled.{spelled_rows}
+use Rattle.metadata.specs.steps.Spelled.{spelled_rows}
 use Rattle.metadata.proofs.keys.name_rows.Given as goal
 
 abbrev pub invariant-rows : goal.invariant-rows

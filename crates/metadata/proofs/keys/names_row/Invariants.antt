@@ -1,6 +1,6 @@
 use Rattle.std.proofs.Common.{length, map}
 use Rattle.keys_roles.specs.Counting.{IsIn}
-use Rattle.metadata.specs.Spelled.{spelled_rows}
+use Rattle.metadata.specs.steps.Spelled.{spelled_rows}
 use Rattle.metadata.proofs.keys.names_row.Given as goal
 
 abbrev pub invariant-rows : goal.invariant-rows

@@ -2,7 +2,7 @@ use Rattle.metadata.proofs.Elements.{none_left}
 use Rattle.std.proofs.Common.{refl, ap, inr, string_bytes}
 use Rattle.canonical_json.specs.View.{view, members_view}
 use Rattle.metadata.specs.Parts.{IsRow}
-use Rattle.metadata.specs.Spelled.{spelled_rows}
+use Rattle.metadata.specs.steps.Spelled.{spelled_rows}
 use Rattle.metadata.proofs.Growing.{members_fail, members_done}
 use Rattle.metadata.proofs.keys.read_rows.Goals as goal
 

@@ -1,7 +1,7 @@
 use Rattle.std.proofs.Common.{length}
 use Rattle.canonical_json.specs.View.{members_view}
 use Rattle.metadata.specs.Parts.{IsRow}
-use Rattle.metadata.specs.Spelled.{spelled_rows}
+use Rattle.metadata.specs.steps.Spelled.{spelled_rows}
 use Rattle.metadata.proofs.Growing.{MembersGrow, MembersLeft}
 use Rattle.metadata.proofs.keys.read_rows.Given as goal
 

@@ -1,6 +1,6 @@
 use Rattle.std.proofs.Common.{◌≡◌, false, true, refl, inr, sym, ◌∙◌}
 use Rattle.canonical_json.specs.View.{view}
-use Rattle.metadata.specs.Spelled.{texts_view, spelled_table}
+use Rattle.metadata.specs.steps.Spelled.{texts_view, spelled_table}
 use Rattle.metadata.proofs.PartsOnce.{over_same}
 use Rattle.metadata.proofs.keys.read_rule.Goals as goal
 

@@ -2,7 +2,7 @@ use Rattle.std.proofs.Common.{refl, inr, subst, arith}
 use Rattle.canonical_json.specs.View.{view, members_view}
 use Rattle.metadata.specs.Members.{MembersAre}
 use Rattle.metadata.specs.Parts.{IsRow}
-use Rattle.metadata.specs.Spelled.{spelled_rows}
+use Rattle.metadata.specs.steps.Spelled.{spelled_rows}
 use Rattle.metadata.proofs.Growing.{members_len, same_members}
 use Rattle.metadata.proofs.keys.read_table.Goals as goal
 

@@ -2,7 +2,7 @@ use Rattle.metadata.proofs.Elements.{none_left}
 use Rattle.std.proofs.Common.{refl, ap, inr}
 use Rattle.canonical_json.specs.View.{view, items_view}
 use Rattle.metadata.specs.Members.{IsText}
-use Rattle.metadata.specs.Spelled.{texts_view}
+use Rattle.metadata.specs.steps.Spelled.{texts_view}
 use Rattle.metadata.proofs.Growing.{items_fail, items_done}
 use Rattle.metadata.proofs.keys.texts_of.Goals as goal
 

@@ -1,7 +1,7 @@
 use Rattle.std.proofs.Common.{length}
 use Rattle.canonical_json.specs.View.{items_view}
 use Rattle.metadata.specs.Members.{IsText}
-use Rattle.metadata.specs.Spelled.{texts_view}
+use Rattle.metadata.specs.steps.Spelled.{texts_view}
 use Rattle.metadata.proofs.Growing.{ItemsGrow, ItemsLeft}
 use Rattle.metadata.proofs.keys.texts_of.Given as goal
 

@@ -1,4 +1,4 @@
-use Rattle.metadata.specs.Spelled.{spelled_table, spelled_rule}
+use Rattle.metadata.specs.steps.Spelled.{spelled_table, spelled_rule}
 use Rattle.metadata.proofs.Named.{only_memory, ids_hex}
 use Rattle.metadata.proofs.root.named.Goals as goal
 

@@ -1,6 +1,6 @@
 use Rattle.std.proofs.Common.{refl, inr}
 use Rattle.canonical_json.specs.View.{view}
-use Rattle.metadata.specs.Spelled.{spelled_table}
+use Rattle.metadata.specs.steps.Spelled.{spelled_table}
 use Rattle.metadata.proofs.Ill.{ill_again}
 use Rattle.metadata.proofs.RootRoles.{just_four, snapshot_rule, targets_rule, timestamp_rule}
 use Rattle.metadata.proofs.root.read_roles.Goals as goal

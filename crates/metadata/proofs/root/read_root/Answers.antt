@@ -3,7 +3,7 @@ use Rattle.canonical_json.specs.View.{view}
 use Rattle.keys_roles.specs.Plain.{Table}
 use Rattle.metadata.specs.Bodies.{IsRoot, IsConsistent, Roles, roles_of}
 use Rattle.metadata.specs.Parts.{NamesAreIds}
-use Rattle.metadata.specs.Spelled.{spelled_table, spelled_roles, keyed_view, plain_root}
+use Rattle.metadata.specs.steps.Spelled.{spelled_table, spelled_roles, keyed_view, plain_root}
 use Rattle.metadata.proofs.Ill.{ill_again}
 use Rattle.metadata.proofs.Named.{misnamed_root, same_roles}
 use Rattle.metadata.proofs.root.read_root.Goals as goal

@@ -1,7 +1,7 @@
 use Rattle.std.proofs.Common.{length}
 use Rattle.std.specs.List.{AllByRecursion}
 use Rattle.metadata.specs.Bodies.{IsListable}
-use Rattle.metadata.specs.Rows.{rows_view}
+use Rattle.metadata.specs.steps.Entries.{rows_view}
 use Rattle.metadata.proofs.snapshot.are_listable.Given as goal
 
 abbrev pub invariant-rows : goal.invariant-rows

@@ -1,6 +1,6 @@
 use Rattle.std.proofs.Common.{length, map}
 use Rattle.keys_roles.specs.Counting.{IsIn}
-use Rattle.metadata.specs.Rows.{rows_view}
+use Rattle.metadata.specs.steps.Entries.{rows_view}
 use Rattle.metadata.proofs.snapshot.names_row.Given as goal
 
 abbrev pub invariant-rows : goal.invariant-rows

@@ -3,7 +3,7 @@ use Rattle.std.proofs.lemmas.List.{map-append}
 use Rattle.canonical_json.specs.View.{view, members_view}
 use Rattle.metadata.specs.Bodies.{IsMetaRow}
 use Rattle.metadata.specs.Documents.{MetaFile}
-use Rattle.metadata.specs.Rows.{rows_view}
+use Rattle.metadata.specs.steps.Entries.{rows_view}
 use Rattle.metadata.specs.Views.{meta_view}
 use Rattle.metadata.proofs.Elements.{none_left}
 use Rattle.metadata.proofs.Found.{each_proper}

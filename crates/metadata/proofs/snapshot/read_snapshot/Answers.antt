@@ -2,7 +2,7 @@ use Rattle.std.proofs.Common.{ℕ, List, ◌++◌, codes, refl, inr}
 use Rattle.canonical_json.specs.View.{view}
 use Rattle.metadata.specs.Bodies.{IsMetaRow}
 use Rattle.metadata.specs.Documents.{MetaFile}
-use Rattle.metadata.specs.Rows.{rows_view}
+use Rattle.metadata.specs.steps.Entries.{rows_view}
 use Rattle.metadata.specs.Views.{meta_view}
 use Rattle.metadata.specs.declared.documents.Meta.{Meta}
 use Rattle.metadata.proofs.Halving.{members_in_order, seen_in_order}

@@ -4,7 +4,7 @@ use Rattle.canonical_json.specs.View.{view, members_view}
 use Rattle.metadata.specs.Bodies.{IsMetaRow, IsListable}
 use Rattle.metadata.specs.Documents.{MetaFile}
 use Rattle.metadata.specs.Members.{MembersAre}
-use Rattle.metadata.specs.Rows.{rows_view}
+use Rattle.metadata.specs.steps.Entries.{rows_view}
 use Rattle.metadata.proofs.Found.{meta-row-once}
 use Rattle.metadata.proofs.Growing.{members_len, same_members}
 use Rattle.metadata.proofs.Once.{object-once}

@@ -3,7 +3,7 @@ use Rattle.std.proofs.lemmas.List.{map-append}
 use Rattle.canonical_json.specs.View.{view, members_view}
 use Rattle.metadata.specs.Bodies.{IsListing}
 use Rattle.metadata.specs.Documents as plain
-use Rattle.metadata.specs.Rows.{listings_view}
+use Rattle.metadata.specs.steps.Entries.{listings_view}
 use Rattle.metadata.specs.Views.{listing_view}
 use Rattle.metadata.proofs.Elements.{none_left}
 use Rattle.metadata.proofs.Found.{each_proper}

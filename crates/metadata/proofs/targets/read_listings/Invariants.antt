@@ -3,7 +3,7 @@ use Rattle.canonical_json.specs.Json.{EachMember}
 use Rattle.canonical_json.specs.Spelling.{IsSound}
 use Rattle.canonical_json.specs.View.{members_view}
 use Rattle.metadata.specs.Bodies.{IsListing}
-use Rattle.metadata.specs.Rows.{listings_view}
+use Rattle.metadata.specs.steps.Entries.{listings_view}
 use Rattle.metadata.proofs.Growing.{MembersGrow, MembersLeft}
 use Rattle.metadata.proofs.targets.read_listings.Given as goal
 

@@ -2,7 +2,7 @@ use Rattle.std.proofs.Common.{rules, refl, inr}
 use Rattle.canonical_json.specs.View.{view}
 use Rattle.metadata.specs.Bodies.{IsListing}
 use Rattle.metadata.specs.Documents as plain
-use Rattle.metadata.specs.Rows.{listings_view}
+use Rattle.metadata.specs.steps.Entries.{listings_view}
 use Rattle.metadata.specs.Views.{listing_view}
 use Rattle.metadata.proofs.Halving.{members_in_order, seen_in_order}
 use Rattle.metadata.proofs.targets.read_targets.Goals as goal

@@ -1,7 +1,7 @@
 use Rattle.std.proofs.Common.{◌≡◌, length}
 use Rattle.machine.specs.Views.{blob_views}
 use Rattle.tables.specs.Tables.{Tables, after_all}
-use Rattle.store.specs.Kept.{more_blobs}
+use Rattle.store.specs.steps.Changed.{more_blobs}
 use Rattle.store.proofs.changes.put_blobs.Given as goal
 
 abbrev pub invariant-blobs : goal.invariant-blobs

@@ -2,8 +2,8 @@ use Rattle.std.proofs.Common.{◌≡◌, ◌-◌, length, map, None, Option, ap,
 use Rattle.std.specs.Prelude.{option_map, unwrap_or}
 use Rattle.metadata.specs.Documents.{Root}
 use Rattle.metadata.specs.File.{File}
-use Rattle.metadata.specs.Kept.{root_file}
-use Rattle.store.specs.Kept.{last_version}
+use Rattle.metadata.specs.FileViews.{root_file}
+use Rattle.store.specs.steps.Changed.{last_version}
 use Rattle.store.proofs.Appending.{last_at}
 use Rattle.store.proofs.changes.put_roots.Goals as goal
 

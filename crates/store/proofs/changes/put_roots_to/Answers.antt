@@ -1,9 +1,9 @@
 use Rattle.std.proofs.Common.{◌≡◌, ◌∙◌, ◌-◌, suc, length, List, ℕ, ap, map, subst, arith}
 use Rattle.std.proofs.lemmas.List.{length-map}
 use Rattle.metadata.specs.File.{Bytes}
-use Rattle.metadata.specs.Kept.{root_file}
+use Rattle.metadata.specs.FileViews.{root_file}
 use Rattle.tables.specs.Tables.{after_all}
-use Rattle.store.specs.Kept.{more_roots, new_roots}
+use Rattle.store.specs.steps.Changed.{more_roots, new_roots}
 use Rattle.store.proofs.Appending.{after_more, roots_then}
 use Rattle.store.proofs.changes.put_roots_to.Goals as goal
 

@@ -1,7 +1,7 @@
 use Rattle.std.proofs.Common.{◌≡◌, ◌≤◌, map, length}
-use Rattle.metadata.specs.Kept.{root_file}
+use Rattle.metadata.specs.FileViews.{root_file}
 use Rattle.tables.specs.Tables.{Tables, after_all}
-use Rattle.store.specs.Kept.{more_roots, new_roots}
+use Rattle.store.specs.steps.Changed.{more_roots, new_roots}
 use Rattle.store.proofs.changes.put_roots_to.Given as goal
 
 abbrev pub invariant-roots : goal.invariant-roots

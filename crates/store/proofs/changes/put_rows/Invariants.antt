@@ -2,7 +2,7 @@ use Rattle.std.proofs.Common.{◌≡◌, length}
 use Rattle.delegations.specs.Views.{row_views}
 use Rattle.machine.specs.Contents.{shelf_rows}
 use Rattle.tables.specs.Tables.{Tables, after_all}
-use Rattle.store.specs.Kept.{more_rows}
+use Rattle.store.specs.steps.Changed.{more_rows}
 use Rattle.store.proofs.changes.put_rows.Given as goal
 
 abbrev pub invariant-rows : goal.invariant-rows

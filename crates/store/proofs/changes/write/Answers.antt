@@ -3,7 +3,8 @@ use Rattle.sqlite.proofs.StateLemmas.{survives_weaker}
 use Rattle.machine.specs.Effects.{applied}
 use Rattle.machine.specs.Views.{effects_view}
 use Rattle.tables.specs.Tables.{AreSame, after_all}
-use Rattle.store.specs.Kept.{changed, rows_of}
+use Rattle.store.specs.StateRows.{rows_of}
+use Rattle.store.specs.steps.Changed.{changed}
 use Rattle.store.proofs.Holding.{holds_as, store_as}
 use Rattle.store.proofs.SameRows.{changed_is}
 use Rattle.store.proofs.changes.write.Goals as goal

@@ -1,13 +1,13 @@
 use Rattle.std.proofs.Common.{◌≡◌, ◌∙◌, Err, Result, ap, sym, subst}
 use Rattle.machine.specs.Contents.{contents_of}
-use Rattle.machine.specs.Kept.{Kept}
+use Rattle.machine.specs.Room.{WithRoom}
 use Rattle.machine.specs.Views.{contents_view}
 use Rattle.machine.proofs.ShapedOnce.{Shapes}
 use Rattle.store.specs.declared.command.StoreFault.{StoreFault}
 use Rattle.store.specs.declared.command.StoreFault.TheVariants.{Damaged}
 use Rattle.sqlite.specs.Held.{state}
 use Rattle.tables.specs.Tables.{IsStore, Stands, Tables, counted, tables_view}
-use Rattle.store.specs.Kept.{as_tables, rows_of}
+use Rattle.store.specs.StateRows.{as_tables, rows_of}
 use Rattle.store.proofs.Fitting.{contents_from, one_stands, state_fits, state_rises}
 use Rattle.store.proofs.opening.read_state.Goals as goal
 
@@ -28,7 +28,7 @@ returns-in-Ok-Some-clause-loaded g c clean opens numbered =
 pub returns-in-Err-clause-damaged : goal.returns-in-Err-clause-damaged
 returns-in-Err-clause-damaged g c clean opens numbered same U valid stands =
     let law : Shapes = record { document = c.one_document.ensures; none = c.one_shape.ensures.none; one = c.one_shape.ensures.one } in
-    let is : c.fault_of.result ≡ Damaged = (let k : ◌≡◌ {A = Result Kept StoreFault} (Err c.fault_of.result) (Err Damaged) = same in cc) in
+    let is : c.fault_of.result ≡ Damaged = (let k : ◌≡◌ {A = Result WithRoom StoreFault} (Err c.fault_of.result) (Err Damaged) = same in cc) in
     (c.in-Err.ensures.damaged clean (ap Err (c.fault_of.ensures is))).1 (rows_of U) (state_fits law U valid) stands
 
 pub returns-in-Ok-None-clause-damaged : goal.returns-in-Ok-None-clause-damaged

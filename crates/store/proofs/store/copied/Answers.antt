@@ -1,4 +1,4 @@
-use Rattle.store.specs.Applies.{copied, wanting}
+use Rattle.store.specs.steps.Replies.{copied, wanting}
 use Rattle.store.proofs.store.copied.Goals as goal
 
 pub returns-in-Ok : goal.returns-in-Ok

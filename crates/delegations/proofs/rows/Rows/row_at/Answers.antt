@@ -1,5 +1,5 @@
 use Rattle.std.proofs.Common.{sym, ◌∙◌, option_map}
-use Rattle.metadata.specs.Kept.{targets_file}
+use Rattle.metadata.specs.FileViews.{targets_file}
 use Rattle.delegations.proofs.Places.{at_first, at_added, at_later}
 use Rattle.delegations.specs.Views.{row_views}
 use Rattle.delegations.proofs.rows.Rows.row_at.Goals as goal

@@ -1,5 +1,5 @@
-use Rattle.metadata.specs.Kept.{root_file}
-use Rattle.machine.proofs.Changes.{one_more_root}
+use Rattle.metadata.specs.FileViews.{root_file}
+use Rattle.machine.proofs.MoreRootsAndRows.{one_more_root}
 use Rattle.machine.proofs.draft.Draft.put_root.Goals as goal
 
 pub returns-then-not-keeps-clause-view : goal.returns-then-not-keeps-clause-view

@@ -1,5 +1,5 @@
-use Rattle.metadata.specs.Kept.{targets_file}
-use Rattle.machine.proofs.Changes.{one_more_row}
+use Rattle.metadata.specs.FileViews.{targets_file}
+use Rattle.machine.proofs.MoreRootsAndRows.{one_more_row}
 use Rattle.machine.proofs.draft.Draft.put_row.Goals as goal
 
 pub returns-clause-view : goal.returns-clause-view

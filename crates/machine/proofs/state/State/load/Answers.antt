@@ -1,9 +1,10 @@
 use Rattle.std.proofs.Common.{◌≡◌, ap, ◌∙◌, subst}
 use Rattle.machine.specs.State.{IsState}
-use Rattle.machine.specs.Contents.{AreStored, contents_of}
+use Rattle.machine.specs.Contents.{contents_of}
+use Rattle.machine.specs.steps.Stored.{AreStored}
 use Rattle.machine.specs.Views.{contents_view, effects_view}
 use Rattle.machine.proofs.ShapedOnce.{Shapes}
-use Rattle.machine.proofs.Standing.{laid_once, loaded_is, no_state, ok_none, ok_some, stored_read}
+use Rattle.machine.proofs.RowsOfOneState.{laid_once, loaded_is, no_state, ok_none, ok_some, stored_read}
 use Rattle.machine.proofs.state.State.load.Goals as goal
 
 pub returns-in-Ok-None-clause-none : goal.returns-in-Ok-None-clause-none

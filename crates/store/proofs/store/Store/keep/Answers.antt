@@ -8,7 +8,7 @@ use Rattle.tables.specs.Tables.{HoldsTables, IsStore}
 use Rattle.machine.specs.State.{State}
 use Rattle.machine.specs.Effects.{applied}
 use Rattle.machine.specs.Views.{effects_view}
-use Rattle.store.specs.Kept.{rows_of}
+use Rattle.store.specs.StateRows.{rows_of}
 use Rattle.store.proofs.store.Store.keep.Goals as goal
 
 pub returns-in_err-write-clause-crash : goal.returns-in_err-write-clause-crash

@@ -4,7 +4,7 @@ use Rattle.sqlite.specs.Held.{state}
 use Rattle.sqlite.specs.State.{HasCleanDisk}
 use Rattle.machine.specs.State.{State}
 use Rattle.tables.specs.Tables.{Stands}
-use Rattle.store.specs.Kept.{rows_of}
+use Rattle.store.specs.StateRows.{rows_of}
 use Rattle.store.proofs.store.Store.open_over.Goals as goal
 
 pub returns-in-Ok-read_state-clause-opened : goal.returns-in-Ok-read_state-clause-opened

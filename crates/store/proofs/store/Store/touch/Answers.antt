@@ -1,5 +1,5 @@
 use Rattle.std.proofs.Common.{arith}
-use Rattle.store.specs.Kept.{rows_of}
+use Rattle.store.specs.StateRows.{rows_of}
 use Rattle.store.proofs.store.Store.touch.Goals as goal
 
 pub invariant_of-self : goal.invariant_of-self

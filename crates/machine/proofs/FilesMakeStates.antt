@@ -1,0 +1,136 @@
+-- A state of which all the files are at hand.
+use Rattle.std.proofs.Common.{◌≡◌, suc, ◌≤◌, Bool, true, false, cond, List, [], ◌∷◌, map, length, Option, Some, None, refl, sym, ap, ◌∙◌, arith}
+use Rattle.std.specs.Prelude.{All, IfSome, IfNone, ◌&&◌, bytes_eq, nat_eq}
+use Rattle.std.proofs.lemmas.Bool.{both_ways, false_from_ne_true, le-ltb}
+use Rattle.std.proofs.lemmas.List.{length-map}
+use Rattle.std.proofs.lemmas.List.Elements.{All-head, All-tail}
+use Rattle.metadata.specs.Documents.{Root}
+use Rattle.metadata.specs.File.{Bytes, File}
+use Rattle.delegations.specs.Delegation.{before}
+use Rattle.delegations.specs.Rows.{Place, Rises, Rows, place_before, same_place, with_row, with_rows}
+use Rattle.machine.specs.State.{Trusted, IsHeldUnder, IsState, nothing, nothing_trusted, most_held}
+use Rattle.machine.specs.Effects.{Effects, applied, last_or, renewed, with_blobs}
+use Rattle.machine.specs.steps.Loading.{AreBlobs, IsBare, AreShelfRows, laid}
+use Rattle.machine.proofs.PutInRoom.{same_state}
+use Rattle.machine.proofs.RowsInOrder.{Orders, orders_bytes, orders_places}
+
+-- what holds where there is nothing, from what else does
+pub if_none_both : {A : Type 0} (P Q R : Type 0) (o : Option A) → (P → Q → R) → IfNone o P → IfNone o Q → IfNone o R
+if_none_both P Q R None f p q = f p q
+if_none_both P Q R (Some x) f p q = tt
+
+not_none : {A : Type 0} (W : Type 0) (x : A) (xs : List A) → IfNone (last_or (Some x) xs) W
+not_none W x [] = tt
+not_none W x (y ∷ ys) = not_none W y ys
+
+abbrev trusted_with : List (File Root) → Effects → Trusted
+trusted_with roots E = record {
+  roots = map (λ r. r.bytes) roots;
+  root = last_or None roots;
+  timestamp = E.timestamp;
+  snapshot = E.snapshot;
+  shelf = E.rows;
+}
+
+none_trusted : (roots : List (File Root)) (E : Effects) → IfNone (last_or None roots) (IsBare E)
+    → IfNone (last_or None roots) (trusted_with roots E ≡ nothing_trusted)
+none_trusted [] E bare =
+    ap (λ t. record { roots = []; root = None; timestamp = t; snapshot = E.snapshot; shelf = E.rows }) bare.timestamp
+    ∙ (ap (λ s. record { roots = []; root = None; timestamp = None; snapshot = s; shelf = E.rows }) bare.snapshot
+    ∙ ap (λ r. record { roots = []; root = None; timestamp = None; snapshot = None; shelf = r }) bare.rows)
+none_trusted (r ∷ rs) E bare = not_none _ r rs
+
+none_blobs : (roots : List (File Root)) (E : Effects) → IfNone (last_or None roots) (IsBare E) → IfNone (last_or None roots) (E.blobs ≡ [])
+none_blobs [] E bare = bare.blobs
+none_blobs (r ∷ rs) E bare = not_none (E.blobs ≡ []) r rs
+
+pub is_laid : (E : Effects) → length E.roots ≤ most_held → AreShelfRows E.rows → AreBlobs E.blobs
+    → IfSome (last_or None E.roots) (IsHeldUnder (laid E).trusted) → IfNone (last_or None E.roots) (IsBare E) → IsState (laid E)
+is_laid E few shelf blobs held bare = record {
+  trusted = record {
+    held = held;
+    none = none_trusted E.roots E bare;
+    rows = shelf.each;
+    in_order = shelf.in_order;
+    few_roots = simp length-map few;
+    few_rows = shelf.few;
+  };
+  none = none_blobs E.roots E bare;
+  blobs = blobs.each;
+  in_order = blobs.in_order;
+  few_blobs = blobs.few;
+}
+
+pub laid_shelf : (E : Effects) → IsState (laid E) → AreShelfRows E.rows
+laid_shelf E s = record { each = s.trusted.rows; in_order = s.trusted.in_order; few = s.trusted.few_rows }
+
+pub laid_blobs : (E : Effects) → IsState (laid E) → AreBlobs E.blobs
+laid_blobs E s = record { each = s.blobs; in_order = s.in_order; few = s.few_blobs }
+
+pub laid_few : (E : Effects) → IsState (laid E) → length E.roots ≤ most_held
+laid_few E s = simp length-map at s.trusted.few_roots
+
+pub laid_bare : (E : Effects) → IsState (laid E) → IfNone (last_or None E.roots) (IsBare E)
+laid_bare E s =
+    if_none_both ((laid E).trusted ≡ nothing_trusted) (E.blobs ≡ []) (IsBare E) (last_or None E.roots)
+    (λ e b. record {
+      timestamp = ap (λ (t : Trusted). t.timestamp) e;
+      snapshot = ap (λ (t : Trusted). t.snapshot) e;
+      rows = ap (λ (t : Trusted). t.shelf) e;
+      blobs = b;
+    }) s.trusted.none s.none
+
+-- ---- rows that rise, put one after the other, stay as they are
+
+before_itself : (a : Bytes) → before a a ≡ false
+before_itself [] = refl
+before_itself (i ∷ a) = rw (le-ltb i i (omega arith), before_itself a) (and_false (nat_eq i i))
+  where
+    and_false : (b : Bool) → (b && false) ≡ false
+    and_false true = refl
+    and_false false = refl
+
+place_itself : (p : Place) → place_before p p ≡ false
+place_itself p = rw (before_itself p.0, le-ltb p.1 p.1 (omega arith)) (and_false (bytes_eq p.0 p.0))
+  where
+    and_false : (b : Bool) → (b && false) ≡ false
+    and_false true = refl
+    and_false false = refl
+
+module _ {K A : Type 0} (below same : K → K → Bool) (o : Orders below same) (itself : (k : K) → below k k ≡ false)
+    (put : List (K × A) → List (K × A) → List (K × A)) (none : (xs : List (K × A)) → put xs [] ≡ xs)
+    (more : (xs : List (K × A)) (r : K × A) (rs : List (K × A)) → put xs (r ∷ rs) ≡ put (with_row below xs r.0 r.1) rs) where
+  below_not : (a b : K) → below a b ≡ true → below b a ≡ false
+  below_not a b h = false_from_ne_true (below b a) (λ k. both_ways (below a a) (itself a) (o.through a b a h k))
+
+  under_first : (x : K × A) (done rows : List (K × A)) → All (λ r. below r.0 x.0 ≡ false) rows → put (x ∷ done) rows ≡ x ∷ put done rows
+  under_first x done [] h = none (x ∷ done) ∙ ap (λ (l : List (K × A)). x ∷ l) (sym (none done))
+  under_first x done (r ∷ rs) h =
+      let here : below r.0 x.0 ≡ false = All-head (λ r. below r.0 x.0 ≡ false) r rs h in
+      more (x ∷ done) r rs
+      ∙ (rw here (under_first x (with_row below done r.0 r.1) rs (All-tail (λ r. below r.0 x.0 ≡ false) r rs h))
+      ∙ ap (λ (l : List (K × A)). x ∷ l) (sym (more done r rs)))
+
+  stays : (rows : List (K × A)) → Rises below rows → put [] rows ≡ rows
+  stays [] r = none []
+  stays (row ∷ rows) r =
+      more [] row rows
+      ∙ (under_first row [] rows (λ k d h. below_not row.0 _ (r 0 (suc k) d (omega arith) (omega arith)))
+      ∙ ap (λ (l : List (K × A)). row ∷ l) (stays rows (λ i j d h k. r (suc i) (suc j) d (omega arith) (omega arith))))
+
+renewed_none : {A : Type 0} (emptied : Bool) (new : Option A) → renewed emptied None new ≡ new
+renewed_none emptied (Some x) = refl
+renewed_none true None = refl
+renewed_none false None = refl
+
+empty_rows : (emptied : Bool) (rows : Rows) → with_rows (cond emptied [] []) rows ≡ with_rows [] rows
+empty_rows true rows = refl
+empty_rows false rows = refl
+
+-- what is put into an empty state is all that it holds
+pub applied_to_nothing : (E : Effects) → IsState (laid E) → applied nothing E ≡ laid E
+applied_to_nothing E s =
+    same_state _ _ _ _ _ _ _ _ _ _ _ _ refl refl (renewed_none E.emptied E.timestamp) (renewed_none E.emptied E.snapshot)
+    (empty_rows E.emptied E.rows
+    ∙ stays place_before same_place orders_places place_itself with_rows (λ xs. refl) (λ xs r rs. refl) E.rows s.trusted.in_order)
+    (stays before bytes_eq orders_bytes before_itself with_blobs (λ xs. refl) (λ xs r rs. refl) E.blobs s.in_order)

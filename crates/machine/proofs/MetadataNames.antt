@@ -1,0 +1,86 @@
+-- Looking a metadata file up by its name.
+use Rattle.std.proofs.Common.{◌≡◌, ℕ, suc, ◌+◌, ◌-◌, List, [], ◌∷◌, ◌++◌, map, length, Option, Some, None, refl, ap, ◌∙◌, true, false, arith, length-append}
+use Rattle.std.specs.Prelude.{bytes_eq, codes, option_map}
+use Rattle.keys_roles.specs.Plain.{look_up}
+use Rattle.metadata.specs.Documents.{Root}
+use Rattle.metadata.specs.File.{Bytes, File}
+use Rattle.metadata.specs.FileViews.{root_file}
+use Rattle.metadata.specs.declared.file.File.{File as KeptFile}
+use Rattle.metadata.specs.declared.documents.Root.{Root as KeptRoot}
+use Rattle.machine.specs.Views.{parts_view, last_bytes}
+use Rattle.machine.specs.declared.parts.Parts.{Parts}
+use Rattle.machine.specs.State.{State, Trusted, dotted, root_version, root_files, metadata_of}
+use Rattle.machine.specs.steps.NamedFiles.{earlier_files, shelf_files, timestamp_files, snapshot_files}
+use Rattle.machine.proofs.RowsInOrder.{by_test}
+
+pub found_first : {A : Type 0} (xs ys : List (Bytes × A)) (name : Bytes) (a : A) → look_up xs name ≡ Some a → look_up (xs ++ ys) name ≡ Some a
+found_first [] ys name a h = let none : None ≡ Some a = h in cc
+found_first (x ∷ xs) ys name a h = by_test (bytes_eq x.0 name)
+    (λ t. rw t (rw t at h))
+    (λ f. rw f (found_first xs ys name a (rw f at h)))
+
+pub found_later : {A : Type 0} (xs ys : List (Bytes × A)) (name : Bytes) → look_up xs name ≡ None → look_up (xs ++ ys) name ≡ look_up ys name
+found_later [] ys name h = refl
+found_later {A} (x ∷ xs) ys name h = by_test (bytes_eq x.0 name)
+    (λ t. let some : Some x.1 ≡ None = rw t at h in cc)
+    (λ f. rw f (found_later xs ys name (rw f at h)))
+
+module _ (T : Trusted) (name : Bytes) where
+  pub at_timestamp : (b : Bytes) → look_up (timestamp_files T.timestamp) name ≡ Some b → metadata_of T name ≡ Some b
+  at_timestamp b h = found_first (timestamp_files T.timestamp) _ name b h
+
+  pub past_timestamp : look_up (timestamp_files T.timestamp) name ≡ None
+      → metadata_of T name ≡ look_up (root_files T 0 T.roots ++ (snapshot_files T.snapshot ++ shelf_files T.shelf)) name
+  past_timestamp h = found_later (timestamp_files T.timestamp) _ name h
+
+  pub at_root : (b : Bytes) → look_up (timestamp_files T.timestamp) name ≡ None → look_up (root_files T 0 T.roots) name ≡ Some b → metadata_of T name ≡ Some b
+  at_root b h k = past_timestamp h ∙ found_first (root_files T 0 T.roots) _ name b k
+
+  pub past_roots : look_up (timestamp_files T.timestamp) name ≡ None → look_up (root_files T 0 T.roots) name ≡ None
+      → metadata_of T name ≡ look_up (snapshot_files T.snapshot ++ shelf_files T.shelf) name
+  past_roots h k = past_timestamp h ∙ found_later (root_files T 0 T.roots) _ name k
+
+  pub at_snapshot : (b : Bytes) → look_up (timestamp_files T.timestamp) name ≡ None → look_up (root_files T 0 T.roots) name ≡ None
+      → look_up (snapshot_files T.snapshot) name ≡ Some b → metadata_of T name ≡ Some b
+  at_snapshot b h k l = past_roots h k ∙ found_first (snapshot_files T.snapshot) _ name b l
+
+  pub past_snapshot : look_up (timestamp_files T.timestamp) name ≡ None → look_up (root_files T 0 T.roots) name ≡ None
+      → look_up (snapshot_files T.snapshot) name ≡ None → metadata_of T name ≡ look_up (shelf_files T.shelf) name
+  past_snapshot h k l = past_roots h k ∙ found_later (snapshot_files T.snapshot) _ name l
+
+module _ (T : Trusted) (root : File Root) (known : T.root ≡ Some root) where
+  version_at : (k n : ℕ) → length T.roots ≡ k + n + 1 → root_version T k ≡ root.body.version - n
+  version_at k n h = rw (known, h) (omega arith)
+
+  files_from : (bs : List Bytes) (b : Bytes) (k : ℕ) → length T.roots ≡ k + length bs + 1
+      → root_files T k (bs ++ b ∷ []) ≡ earlier_files root.body.version bs ++ (dotted root.body.version (codes "root"), b) ∷ []
+  files_from [] b k h =
+      ap (λ (n : ℕ). (dotted n (codes "root"), b) ∷ []) (version_at k 0 h ∙ omega arith)
+  files_from (c ∷ bs) b k h =
+      ap (λ (n : ℕ). (dotted n (codes "root"), c) ∷ root_files T (suc k) (bs ++ b ∷ [])) (version_at k (suc (length bs)) h)
+      ∙ ap (λ (l : List (Bytes × Bytes)). (dotted (root.body.version - suc (length bs)) (codes "root"), c) ∷ l) (files_from bs b (suc k) (omega arith))
+
+  pub roots_named : (bs : List Bytes) (b : Bytes) (name : Bytes) → T.roots ≡ bs ++ b ∷ []
+      → look_up (root_files T 0 T.roots) name
+      ≡ look_up (earlier_files root.body.version bs ++ (dotted root.body.version (codes "root"), b) ∷ []) name
+  roots_named bs b name e =
+      ap (λ (l : List Bytes). look_up (root_files T 0 l) name) e
+      ∙ ap (λ (l : List (Bytes × Bytes)). look_up l name) (files_from bs b 0 (ap length e ∙ simp length-append (omega arith)))
+
+pub one_found : (d b name : Bytes) → bytes_eq d name ≡ true → look_up ((d, b) ∷ []) name ≡ Some b
+one_found d b name t = rw t refl
+
+pub one_missed : (d b name : Bytes) → bytes_eq d name ≡ false → look_up ((d, b) ∷ []) name ≡ None
+one_missed d b name f = rw f refl
+
+-- the files of the roots that are kept, the last of them apart
+pub roots_kept : (p : Parts) (last : KeptFile KeptRoot) (name : Bytes) → p.root ≡ Some last
+    → look_up (root_files (parts_view p).trusted 0 (parts_view p).trusted.roots) name
+    ≡ look_up (earlier_files last.body.version (map (λ b. b.items) p.earlier.items)
+    ++ (dotted last.body.version (codes "root"), last.source.bytes) ∷ []) name
+roots_kept p last name e =
+    roots_named (parts_view p).trusted (root_file last) (ap (option_map root_file) e) (map (λ b. b.items) p.earlier.items) last.source.bytes name
+    (ap (λ (o : Option (KeptFile KeptRoot)). map (λ b. b.items) p.earlier.items ++ last_bytes o) e)
+
+pub same_name : (S T : State) (n m : Bytes) → S ≡ T → n ≡ m → metadata_of S.trusted n ≡ metadata_of T.trusted m
+same_name S T n m e f = ap (λ (R : State). metadata_of R.trusted n) e ∙ ap (λ (k : Bytes). metadata_of T.trusted k) f

@@ -1,0 +1,27 @@
+-- What a state is to its callers: what it trusts and holds, and how much more can be put there without memory.
+use Rattle.std.specs.Prelude.{◌≡◌, ℕ, ◌-◌, ◌≤◌, max, min, Bool, true, ◌&&◌, List, [], ◌∷◌, map, length, Option, None, codes, All, IfSome, vec_len, vec_capacity}
+use Rattle.metadata.specs.Documents.{Root, Timestamp, Snapshot}
+use Rattle.metadata.specs.File.{Bytes, File, IsFileOf, root_form, timestamp_form, snapshot_form, targets_form}
+use Rattle.delegations.specs.Delegation.{before}
+use Rattle.delegations.specs.Rows.{Rows, Rises, place_before}
+use Rattle.machine.specs.State.{State, FollowsRoot, MeetsTop, IsBlob, IsShelfRow, most_held, dotted, one_file}
+use Rattle.machine.specs.Effects as changes
+use Rattle.machine.specs.Views.{parts_view}
+use Rattle.machine.specs.declared.parts.Parts.{Parts}
+
+pub record WithRoom : Type 0 where
+  pub state : State
+  pub room : ℕ
+
+-- the least number of free places: for roots, for shelf rows, for blobs
+abbrev pub room_of : Parts → ℕ
+room_of p =
+    min (vec_capacity p.earlier - vec_len p.earlier)
+    (min (vec_capacity p.shelf - vec_len p.shelf) (vec_capacity p.blobs - vec_len p.blobs))
+
+abbrev pub with_room : Parts → WithRoom
+with_room p = record { state = parts_view p; room = room_of p }
+
+-- the most places that changes need: for roots, for shelf rows, for blobs
+abbrev pub places : changes.Effects → ℕ
+places E = max (length E.roots) (max (length E.rows) (length E.blobs))

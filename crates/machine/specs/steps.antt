@@ -1,0 +1,5 @@
+-- Definitions that contracts of private functions cite.
+pub mod Judging
+pub mod Loading
+pub mod NamedFiles
+pub mod Stored

@@ -1,0 +1,70 @@
+-- What the files of all rows have to be, to be those of a state.
+use Rattle.std.specs.Prelude.{◌≡◌, ℕ, ◌-◌, ◌≤◌, max, min, Bool, true, ◌&&◌, List, [], ◌∷◌, map, length, Option, None, codes, All, IfSome, vec_len, vec_capacity}
+use Rattle.metadata.specs.Documents.{Root, Timestamp, Snapshot}
+use Rattle.metadata.specs.File.{Bytes, File, IsFileOf, root_form, timestamp_form, snapshot_form, targets_form}
+use Rattle.delegations.specs.Delegation.{before}
+use Rattle.delegations.specs.Rows.{Rows, Rises, place_before}
+use Rattle.machine.specs.State.{State, FollowsRoot, MeetsTop, IsBlob, IsShelfRow, most_held, dotted, one_file}
+use Rattle.machine.specs.Effects as changes
+use Rattle.machine.specs.Views.{parts_view}
+use Rattle.machine.specs.declared.parts.Parts.{Parts}
+
+-- the keys rise, each from one row to the next
+abbrev pub comes_first : {K A : Type 0} → (K → K → Bool) → K → List (K × A) → Bool
+comes_first below key [] = true
+comes_first below key (row ∷ rows) = below key row.0
+
+abbrev pub rises : {K A : Type 0} → (K → K → Bool) → List (K × A) → Bool
+rises below [] = true
+rises below (row ∷ rows) = comes_first below row.0 rows && rises below rows
+
+-- what a state says of its blobs alone
+pub record AreBlobs (blobs : List (Bytes × Bytes)) : Type 0 where
+  pub each : All IsBlob blobs
+  pub in_order : Rises before blobs
+  pub few : length blobs ≤ most_held
+
+-- what a state says of its shelf alone
+pub record AreShelfRows (rows : Rows) : Type 0 where
+  pub each : All IsShelfRow rows
+  pub in_order : Rises place_before rows
+  pub few : length rows ≤ most_held
+
+abbrev pub RowsAreRead : Rows → Type 0
+RowsAreRead rows = All (λ row. IsFileOf targets_form row.1) rows
+
+-- each root after the first follows the one before it
+abbrev pub FollowOn : File Root → List (File Root) → Type 0
+FollowOn old [] = Unit {0}
+FollowOn old (new ∷ more) = FollowsRoot old new × FollowOn new more
+
+abbrev pub IsChain : List (File Root) → Type 0
+IsChain [] = Unit {0}
+IsChain (root ∷ more) = MeetsTop root root.body.root root × FollowOn root more
+
+-- the state of which these are all the files: the roots, the timestamp, the snapshot, the shelf, the blobs
+abbrev pub laid : changes.Effects → State
+laid E = record {
+  trusted = record {
+    roots = map (λ r. r.bytes) E.roots;
+    root = changes.last_or None E.roots;
+    timestamp = E.timestamp;
+    snapshot = E.snapshot;
+    shelf = E.rows;
+  };
+  blobs = E.blobs;
+}
+
+-- each document is that of its file
+pub record AreRead (E : changes.Effects) : Type 0 where
+  pub roots : All (IsFileOf root_form) E.roots
+  pub timestamp : IfSome E.timestamp (IsFileOf timestamp_form)
+  pub snapshot : IfSome E.snapshot (IsFileOf snapshot_form)
+  pub rows : RowsAreRead E.rows
+
+-- no file but roots
+pub record IsBare (E : changes.Effects) : Type 0 where
+  pub timestamp : E.timestamp ≡ None
+  pub snapshot : E.snapshot ≡ None
+  pub rows : E.rows ≡ []
+  pub blobs : E.blobs ≡ []

@@ -1,0 +1,5 @@
+-- Definitions that contracts of private functions cite.
+pub mod Entries
+pub mod Faults
+pub mod Reads
+pub mod Spelled

@@ -1,0 +1,47 @@
+-- What changes of a state make of its rows.
+use Rattle.std.specs.Prelude.{◌≡◌, ℕ, ◌-◌, Bool, List, [], ◌∷◌, ◌++◌, cond, length, Option, Some, None, option_map, unwrap_or, refl}
+use Rattle.std.specs.Coded.{Coded, code_by, coded×}
+use Rattle.sqlite.specs.Held.{Held as Connection, held_code}
+use Rattle.metadata.specs.File.{Bytes, File}
+use Rattle.metadata.specs.Documents.{Root}
+use Rattle.machine.specs.State.{State, IsState}
+use Rattle.machine.specs.Contents.{Contents, contents_of, numbered, shelf_rows}
+use Rattle.delegations.specs.Rows.{Place}
+use Rattle.machine.specs.Effects.{Effects, last_or}
+use Rattle.sqlite.specs.Effect.{Database, IsDatabase}
+use Rattle.sqlite_trees.specs.Tree.{Trees}
+use Rattle.tables.specs.Tables.{Stands, Tables, emptied}
+
+-- the rows of new roots: the last has its own version, and they rise by one
+abbrev pub new_roots : ℕ → List (File Root) → List (ℕ × Bytes)
+new_roots last [] = []
+new_roots last (root ∷ roots) = (last - length roots, root.bytes) ∷ new_roots last roots
+
+abbrev pub last_version : List (File Root) → ℕ
+last_version roots = unwrap_or (option_map (λ root. root.body.version) (last_or None roots)) 0
+
+-- what changes make of rows: new ones stand behind those that are there
+abbrev pub more_roots : List (ℕ × Bytes) → Tables → Tables
+more_roots new t = record t { roots = t.roots ++ new }
+
+abbrev pub emptied_if : Bool → Tables → Tables
+emptied_if gone t = cond gone (emptied t) t
+
+abbrev pub new_timestamp : Option (ℕ × Bytes) → Tables → Tables
+new_timestamp None t = t
+new_timestamp (Some new) t = record t { timestamp = Some new }
+
+abbrev pub new_snapshot : Option (ℕ × Bytes) → Tables → Tables
+new_snapshot None t = t
+new_snapshot (Some new) t = record t { snapshot = Some new }
+
+abbrev pub more_rows : List (Place × Bytes) → Tables → Tables
+more_rows new t = record t { shelf = t.shelf ++ new }
+
+abbrev pub more_blobs : List (Bytes × Bytes) → Tables → Tables
+more_blobs new t = record t { blobs = t.blobs ++ new }
+
+abbrev pub changed : Effects → Tables → Tables
+changed E t =
+    more_blobs E.blobs (more_rows (shelf_rows E.rows) (new_snapshot (option_map (numbered (λ b. b.version)) E.snapshot)
+    (new_timestamp (option_map (numbered (λ b. b.version)) E.timestamp) (emptied_if E.emptied (more_roots (new_roots (last_version E.roots) E.roots) t)))))

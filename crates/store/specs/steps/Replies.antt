@@ -1,0 +1,34 @@
+-- What the machine answers, as a reply of the store.
+use Rattle.std.specs.Prelude.{◌≡◌, ◌⊎◌, ℕ, None, Some, Result, Ok, Err, IfOk, IsTrue, OnErr, OnOk}
+use Rattle.sqlite.specs.State as database
+use Rattle.sqlite.specs.State.{HasCleanDisk}
+use Rattle.sqlite_trees.specs.Tree.{Trees}
+use Rattle.machine.specs.State.{State}
+use Rattle.machine.specs.Steps.{Command, Reply, Steps}
+use Rattle.tables.specs.Tables.{HoldsTables}
+use Rattle.store.specs.StateRows.{rows_of}
+use Rattle.store.specs.Views.{reply_view}
+use Rattle.store.specs.declared.command.StoreFault.{StoreFault}
+use Rattle.store.specs.declared.command.StoreFault.TheVariants.{Damaged, OutOfMemory}
+use Rattle.store.specs.declared.command.Reply.{Reply as Answer}
+use Rattle.store.specs.declared.command.Reply.TheVariants as answers
+use Rattle.metadata.specs.File.{Bytes}
+use Rattle.std.proofs.Common.{Vec, Global}
+use Rattle.machine.specs.declared.refusal.BatchRefusal.{BatchRefusal}
+use Rattle.machine.specs.declared.refusal.BatchRefusal.TheVariants as batches
+use Rattle.machine.specs.declared.refusal.Refusal.{Refusal}
+use Rattle.machine.specs.declared.refusal.Refusal.TheVariants as refusals
+
+-- a refusal of the machine as an answer
+abbrev pub IsRefusal : Refusal → Result Answer StoreFault → Type 0
+IsRefusal (refusals.Denied denial) r = r ≡ Ok (answers.Denied denial None)
+IsRefusal refusals.OutOfMemory r = r ≡ Err OutOfMemory
+
+abbrev pub IsBatchRefusal : BatchRefusal → Result Answer StoreFault → Type 0
+IsBatchRefusal (batches.Denied denial index) r = r ≡ Ok (answers.Denied denial (Some index))
+IsBatchRefusal batches.OutOfMemory r = r ≡ Err OutOfMemory
+
+-- these bytes as an answer, or want of memory
+pub data IsCopied (bytes : Bytes) : Result Answer StoreFault → Type 0 where
+  copied : {copy : Vec ℕ Global} → copy.items ≡ bytes → IsCopied bytes (Ok (answers.Bytes copy))
+  wanting : IsCopied bytes (Err OutOfMemory)
