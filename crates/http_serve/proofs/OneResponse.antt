@@ -14,7 +14,8 @@ use Rattle.http_messages.specs.declared.faults.Fault.TheVariants.{Name, Memory, 
 use Rattle.http_messages.specs.declared.reply.Kind.{Kind}
 use Rattle.http_messages.specs.declared.reply.Kind.TheVariants.{Json}
 use Rattle.http_messages.specs.declared.reply.Status.TheVariants.{Ok as Fine}
-use Rattle.http_serve.specs.Response.{IsCommand, offers, puts, names, asks, offer_of, kind_of, denial_response, Says, done, stored, file, absent, denied, Answers, at_fault, by_step, Responds}
+use Rattle.http_serve.specs.Response.{IsCommand, offers, puts, names, asks, kind_of, denial_response, Says, done, stored, file, absent, denied, Answers, at_fault, by_step, Responds}
+use Rattle.machine.specs.Commands.{offer_of}
 use Rattle.http_serve.specs.Serving as serving
 use Rattle.http_serve.specs.Serving.{Answered, Made, Ended, Line, Serves}
 use Rattle.http_serve.specs.Standing.{Standing}

@@ -6,8 +6,7 @@ use Rattle.std.specs.Io.KnownBytes.{Appends}
 use Rattle.sqlite.specs.State as database
 use Rattle.machine.specs.State.{State}
 use Rattle.machine.specs.Steps.{Command, Batch}
-use Rattle.path_patterns.specs.Grammar.{IsName}
-use Rattle.http_messages.specs.Framing.{Document, CanStand}
+use Rattle.http_messages.specs.Framing.{Document}
 use Rattle.http_messages.specs.Head.{IsInput}
 use Rattle.http_messages.specs.Request.{Request, fault, batch, Asks, HasWanted}
 use Rattle.http_messages.specs.Faults.{fault_response}
@@ -20,13 +19,14 @@ use Rattle.machine.specs.declared.outcome.Offer.{Offer}
 use Rattle.http_messages.specs.declared.faults.Fault.{Fault}
 use Rattle.http_messages.specs.declared.faults.Fault.TheVariants.{Memory}
 use Rattle.http_messages.specs.declared.line.Cut.{Cut}
-use Rattle.http_serve.specs.Response.{IsCommand, offers, offer_of}
+use Rattle.http_serve.specs.Response.{IsCommand, offers}
+use Rattle.machine.specs.Commands.{offer_of}
 use Rattle.http_serve.specs.Standing.{Standing, Keeps}
 use Rattle.http_serve.specs.Serving.{Answered, at_fault, by_command, unread, Ended, Line, Wrote}
-use Rattle.http_serve.specs.steps.Views.{AreNamed, HasEnded, offers_of, Performed, Responded}
+use Rattle.http_serve.specs.steps.Views.{HasEnded, offers_of, Performed, Responded}
 use Rattle.http_serve.specs.declared.serve.ServeFault.{ServeFault}
 use Rattle.http_serve.specs.declared.serve.ServeFault.TheVariants.{Write}
-use Rattle.http_serve.proofs.Asked.{IsSomething, asks-named, has-wanted}
+use Rattle.http_serve.proofs.Asked.{IsSomething, has-wanted}
 
 -- a fault is written
 pub faulty : (A : Standing) (why : Fault) (now : ℕ) (old new : Option (List ℕ)) (r : Result (Unit {0}) Cut) → Wrote old new (fault_response why) r → Responded A (fault why) now A old new r
@@ -42,33 +42,13 @@ pub wanting : (A B : Standing) (request : Request) (now : ℕ) (old new : Option
     → IsSomething request → Keeps A B → Wrote old new (fault_response Memory) r → Responded A request now B old new r
 wanting A B request now old new r some keeps w = (fault_response Memory, λ input asks. unread B (has-wanted input request some asks) keeps, w)
 
--- a batch has names of roles alone, so no other is answered
-pub unnamed : (A B : Standing) (documents : List (Bor (List ℕ) × Bor (List ℕ))) (now : ℕ) (text : List ℕ) (old new : Option (List ℕ)) (r : Result (Unit {0}) Cut)
-    → (AreNamed documents → ⊥) → Wrote old new text r → Responded A (batch (map {B = Document} (λ d. (d.0.now, d.1.now)) documents)) now B old new r
-unnamed A B documents now text old new r not w = (text, λ input asks. absurd (not (names documents (asks-named input _ asks))), w)
-  where
-    names : (documents : List (Bor (List ℕ) × Bor (List ℕ))) → AllByRecursion CanStand (map {B = Document} (λ d. (d.0.now, d.1.now)) documents) → AreNamed documents
-    names [] h = tt
-    names (d ∷ rest) h = (h.0.name, names rest h.1)
-
 -- the documents of a batch are its offers
-pub offered : (documents : List (Bor (List ℕ) × Bor (List ℕ))) → IsCommand (batch (map {B = Document} (λ d. (d.0.now, d.1.now)) documents)) (Batch (offers_of documents))
-offered documents = subst (λ os. IsCommand (batch (map {B = Document} (λ d. (d.0.now, d.1.now)) documents)) (Batch os)) (twice documents) (offers (map {B = Document} (λ d. (d.0.now, d.1.now)) documents))
+pub offered : (documents : List (List ℕ × Bor (List ℕ))) → IsCommand (batch (map {B = Document} (λ d. (d.0, d.1.now)) documents)) (Batch (offers_of documents))
+offered documents = subst (λ os. IsCommand (batch (map {B = Document} (λ d. (d.0, d.1.now)) documents)) (Batch os)) (twice documents) (offers (map {B = Document} (λ d. (d.0, d.1.now)) documents))
   where
-    twice : (documents : List (Bor (List ℕ) × Bor (List ℕ))) → map (λ (d : Document). (offer_of d.0, d.1)) (map {B = Document} (λ d. (d.0.now, d.1.now)) documents) ≡ offers_of documents
+    twice : (documents : List (List ℕ × Bor (List ℕ))) → map (λ (d : Document). (offer_of d.0, d.1)) (map {B = Document} (λ d. (d.0, d.1.now)) documents) ≡ offers_of documents
     twice [] = refl
-    twice (d ∷ rest) = ap (λ l. (offer_of d.0.now, d.1.now) ∷ l) (twice rest)
-
--- one more document is one more offer
-pub offered-next : (items : List (Offer × Bor (List ℕ))) (offer : Offer) (all : List (Bor (List ℕ) × Bor (List ℕ))) (i : ℕ) (d : Bor (List ℕ) × Bor (List ℕ))
-    → i < length all → offer_view offer ≡ offer_of (get_or all i d).0.now → documents_view items ≡ offers_of (take i all)
-    → documents_view (items ++ (offer, (get_or all i d).1) ∷ []) ≡ offers_of (take (i + 1) all)
-offered-next items offer all i d lt view so_far =
-    map-append (λ (x : Offer × Bor (List ℕ)). (offer_view x.0, x.1.now)) items ((offer, (get_or all i d).1) ∷ [])
-    ∙ ap (λ l. l ++ (offer_view offer, (get_or all i d).1.now) ∷ []) so_far
-    ∙ ap (λ o. offers_of (take i all) ++ (o, (get_or all i d).1.now) ∷ []) view
-    ∙ sym (map-append (λ (x : Bor (List ℕ) × Bor (List ℕ)). (offer_of x.0.now, x.1.now)) (take i all) (get_or all i d ∷ []))
-    ∙ ap offers_of (sym (take_more all i d lt))
+    twice (d ∷ rest) = ap (λ l. (offer_of d.0, d.1.now) ∷ l) (twice rest)
 
 -- what is said of a reader that failed, and of memory that was refused
 pub of-read : (why : ReceiveFault) (before after : Bool) → why ≡ Read → ReadsSoundly {T = Received} before (Err why) after → before ≡ true → ⊥

@@ -2,14 +2,14 @@
 use Rattle.std.proofs.Common.{◌≡◌, ◌⊎◌, inl, inr, ℕ, List, Option, None, Result, refl, sym, ap, subst, ◌∙◌}
 use Rattle.denials.specs.Orders as orders
 use Rattle.machine.specs.Steps.{Reply, BatchDone, Stored, FileBytes, Refused}
-use Rattle.http_messages.specs.Bodies.{denial_status, denial_text}
+use Rattle.http_messages.specs.Bodies.{denial_text}
 use Rattle.http_messages.specs.Text.{response}
 use Rattle.http_messages.specs.declared.line.Cut.{Cut}
 use Rattle.http_messages.specs.declared.reply.Kind.{Kind}
 use Rattle.http_messages.specs.declared.reply.Kind.TheVariants.{Json}
 use Rattle.http_messages.specs.declared.reply.Status.{Status}
 use Rattle.http_messages.specs.declared.reply.Status.TheVariants.{Ok as Fine}
-use Rattle.http_serve.specs.Response.{Says, done, stored, file, absent, denied, denial_response}
+use Rattle.http_serve.specs.Response.{Says, denial_status, done, stored, file, absent, denied, denial_response}
 use Rattle.http_serve.specs.steps.Views.{IsDenial, Told}
 
 any-kind : (k m : Kind) (reply : Reply) (text : List ℕ) → IsDenial reply → Says k reply text → Says m reply text
@@ -35,9 +35,8 @@ pub says-file : (k : Kind) (body bytes : List ℕ) → body ≡ bytes → Says k
 says-file k body bytes e = subst (λ b. Says k (FileBytes bytes) (response Fine k None b)) (sym e) (file bytes)
 
 pub says-denied : (k : Kind) (d : orders.Denial) (i : Option ℕ) (status : Status) (number : ℕ) (name body : List ℕ) → number ≡ orders.number d → name ≡ orders.name d
-    → status ≡ denial_status number → body ≡ denial_text number i name → Says k (Refused d i) (response status Json None body)
+    → status ≡ denial_status d → body ≡ denial_text number i name → Says k (Refused d i) (response status Json None body)
 says-denied k d i status number name body n m s b =
-    let same_status : status ≡ denial_status (orders.number d) = s ∙ ap denial_status n in
     let same_body : body ≡ denial_text (orders.number d) i (orders.name d) = b ∙ ap (λ x. denial_text x i name) n ∙ ap (λ x. denial_text (orders.number d) i x) m in
-    subst (λ x. Says k (Refused d i) (response x Json None body)) (sym same_status)
-    (subst (λ x. Says k (Refused d i) (response (denial_status (orders.number d)) Json None x)) (sym same_body) (denied d i))
+    subst (λ x. Says k (Refused d i) (response x Json None body)) (sym s)
+    (subst (λ x. Says k (Refused d i) (response (denial_status d) Json None x)) (sym same_body) (denied d i))

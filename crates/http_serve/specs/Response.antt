@@ -1,26 +1,20 @@
 -- The response of a release repository: from a state, a request and a moment to the bytes that are written and the state that is left.
-use Rattle.std.specs.Prelude.{◌≡◌, ℕ, List, Option, Some, None, map, cond, codes, bytes_eq}
+use Rattle.std.specs.Prelude.{◌≡◌, ℕ, List, Option, Some, None, map, cond}
 use Rattle.denials.specs.Orders as orders
 use Rattle.path_patterns.specs.Names.{Asks as AsksPath}
 use Rattle.machine.specs.State.{State}
-use Rattle.machine.specs.Commands.{Offer, RootOffer, TimestampOffer, SnapshotOffer, TargetsOffer}
+use Rattle.machine.specs.Commands.{offer_of}
 use Rattle.machine.specs.Steps.{Command, Batch, PutBlob, Metadata, Target, Init, OfferOne, Reply, BatchDone, Stored, FileBytes, Absent, Refused, Steps}
 use Rattle.http_messages.specs.Request.{Request, fault, batch, put_blob, metadata, target, Asks}
 use Rattle.http_messages.specs.Text.{response}
-use Rattle.http_messages.specs.Bodies.{accepted_text, stored_text, denial_text, denial_status}
+use Rattle.http_messages.specs.Bodies.{accepted_text, stored_text, denial_text}
 use Rattle.http_messages.specs.Faults.{fault_response}
 use Rattle.http_messages.specs.declared.faults.Fault.{Fault}
 use Rattle.http_messages.specs.declared.faults.Fault.TheVariants.{Name}
 use Rattle.http_messages.specs.declared.reply.Kind.{Kind}
 use Rattle.http_messages.specs.declared.reply.Kind.TheVariants.{Json, Octets}
-use Rattle.http_messages.specs.declared.reply.Status.TheVariants.{Ok}
-
--- what is offered under a name: root, timestamp and snapshot are those offers, and every other name is a role's targets
-abbrev pub offer_of : List ℕ → Offer
-offer_of name =
-    cond (bytes_eq name (codes "root")) RootOffer
-    (cond (bytes_eq name (codes "timestamp")) TimestampOffer
-    (cond (bytes_eq name (codes "snapshot")) SnapshotOffer (TargetsOffer name)))
+use Rattle.http_messages.specs.declared.reply.Status.{Status}
+use Rattle.http_messages.specs.declared.reply.Status.TheVariants.{Ok, Forbidden, NotFound}
 
 -- the command that a request is
 pub data IsCommand : Request → Command → Type 0 where
@@ -38,9 +32,13 @@ kind_of (PutBlob digest b) = Json
 kind_of (Metadata name) = Json
 kind_of (Target path asked) = Octets
 
+-- the status of a denial: what is missing is not found, and all else is forbidden
+abbrev pub denial_status : orders.Denial → Status
+denial_status d = cond (orders.is_missing d) NotFound Forbidden
+
 -- the whole response to a denial
 abbrev pub denial_response : orders.Denial → Option ℕ → List ℕ
-denial_response d index = response (denial_status (orders.number d)) Json None (denial_text (orders.number d) index (orders.name d))
+denial_response d index = response (denial_status d) Json None (denial_text (orders.number d) index (orders.name d))
 
 -- the bytes that say a reply, whose files are of this type
 pub data Says (kind : Kind) : Reply → List ℕ → Type 0 where

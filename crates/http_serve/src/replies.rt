@@ -5,12 +5,12 @@ ghost use Rattle.denials.specs.Views.{denial_view};
 ghost use Rattle.machine.specs.Steps.{Refused};
 ghost use Rattle.store.specs.Views.{command_view, reply_view};
 ghost use Rattle.http_messages.specs.Sound.{StaysSound};
-ghost use Rattle.http_serve.specs.Response.{kind_of as kind_of_lem};
+ghost use Rattle.http_serve.specs.Response.{denial_status, kind_of as kind_of_lem};
 ghost use Rattle.http_serve.specs.Serving.{Wrote};
 ghost use Rattle.http_serve.specs.steps.Views.{IsSaid, Told};
 
 use http_messages::{
-    Cut, Fault, Kind, Status, Transmit, accepted_body, denial_body, denial_status, stored_body,
+    Cut, Fault, Kind, Status, Transmit, accepted_body, denial_body, stored_body,
     write_fault, write_response,
 };
 use machine::Denial;
@@ -72,13 +72,25 @@ fn write_denial<W: Transmit>(
     ensures sound { StaysSound (W.sound writer.old) result (W.sound writer.new) }
     ensures told { Told Kind.Json (Refused (denial_view denial.now) index) (W.contents writer.old) (W.contents writer.new) result }
 {
-    let number = denial.number();
-    let name = denial.name();
-    match denial_body(alloc, number, index, name) {
-        Ok(body) => {
-            let status = denial_status(number);
-            write_response(writer, status, Kind::Json, None, body.as_bytes())
-        }
+    match denial_body(alloc, denial.number(), index, denial.name()) {
+        Ok(body) => write_response(
+            writer,
+            status_of(denial),
+            Kind::Json,
+            None,
+            body.as_bytes(),
+        ),
         Err(_) => write_fault(writer, Fault::Memory),
+    }
+}
+
+// The status of a denial: what is missing is not found, and all else is forbidden.
+fn status_of(denial: &Denial) -> Status
+    ensures { result ≡ denial_status (denial_view denial.now) }
+{
+    if denial.is_missing() {
+        Status::NotFound
+    } else {
+        Status::Forbidden
     }
 }

@@ -15,10 +15,10 @@ use crate::offers::offers_of;
 use crate::replies::{kind_of, write_reply};
 use http_messages::{Asked, Cut, Fault, Transmit, write_fault};
 use metadata::Moment;
-use path_patterns::read_asked;
+use path_patterns::{RoleName, read_asked};
 use sqlite::Alter;
 use std::alloc::Global;
-use store::{Command, Store};
+use store::{Command, Store, StoreFault};
 
 // Answers what a request asks.
 pub fn respond<W: Transmit, S: Alter>(
@@ -34,7 +34,7 @@ pub fn respond<W: Transmit, S: Alter>(
 {
     match asked {
         Asked::Fault(fault) => write_fault(writer, fault),
-        Asked::Batch(documents) => respond_batch(alloc, writer, store, &documents, now),
+        Asked::Batch(documents) => respond_batch(alloc, writer, store, documents, now),
         Asked::PutBlob(digest, bytes) => {
             perform(alloc, writer, store, Command::PutBlob(digest, bytes), now)
         }
@@ -48,16 +48,15 @@ fn respond_batch<W: Transmit, S: Alter>(
     alloc: Global,
     writer: &mut W,
     store: &mut Store<S>,
-    documents: &[(&str, &[u8])],
+    documents: Vec<(RoleName, &[u8])>,
     now: Moment,
 ) -> Result<(), Cut>
     ensures sound { StaysSound (W.sound writer.old) result (W.sound writer.new) }
-    ensures responded { Responded (seen store.old.state (state S.Store store.old.conn)) (batch (map {B = Document} (λ d. (d.0.now, d.1.now)) documents.now)) now
+    ensures responded { Responded (seen store.old.state (state S.Store store.old.conn)) (batch (map {B = Document} (λ d. (d.0, d.1.now)) documents.items)) now
         (seen store.new.state (state S.Store store.new.conn)) (W.contents writer.old) (W.contents writer.new) result }
 {
     match offers_of(alloc, documents) {
-        Ok(Some(offers)) => perform(alloc, writer, store, Command::Batch(&offers), now),
-        Ok(None) => write_fault(writer, Fault::Batch),
+        Ok(offers) => perform(alloc, writer, store, Command::Batch(&offers), now),
         Err(_) => {
             store.holds_rows();
             write_fault(writer, Fault::Memory)
@@ -112,13 +111,13 @@ fn perform<W: Transmit, S: Alter>(
 }
 
 // How it is said that a command was not made.
-fn unmade(fault: store::StoreFault) -> Fault
+fn unmade(fault: StoreFault) -> Fault
     requires { fault ≢ Damaged }
     ensures { IsUnmade fault result }
 {
     match fault {
-        store::StoreFault::OutOfMemory => Fault::Memory,
-        store::StoreFault::Database => Fault::Database,
-        store::StoreFault::Damaged => unreachable!(),
+        StoreFault::OutOfMemory => Fault::Memory,
+        StoreFault::Database => Fault::Database,
+        StoreFault::Damaged => unreachable!(),
     }
 }

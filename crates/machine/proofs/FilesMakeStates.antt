@@ -8,7 +8,8 @@ use Rattle.metadata.specs.Documents.{Root}
 use Rattle.metadata.specs.File.{Bytes, File}
 use Rattle.delegations.specs.Delegation.{before}
 use Rattle.delegations.specs.Rows.{Place, Rises, Rows, place_before, same_place, with_row, with_rows}
-use Rattle.machine.specs.State.{Trusted, IsHeldUnder, IsState, nothing, nothing_trusted, most_held}
+use Rattle.machine.specs.State.{Trusted, IsHeldUnder, IsState, nothing, nothing_trusted}
+use Rattle.limits.specs.Limits.{most_held}
 use Rattle.machine.specs.Effects.{Effects, applied, last_or, renewed, with_blobs}
 use Rattle.machine.specs.steps.Loading.{AreBlobs, IsBare, AreShelfRows, laid}
 use Rattle.machine.proofs.PutInRoom.{same_state}

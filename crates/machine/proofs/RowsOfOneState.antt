@@ -15,7 +15,8 @@ use Rattle.delegations.specs.Rows.{Place, Rows}
 use Rattle.machine.specs.State.{Trusted, State, IsRootChain, IsHeldUnder, IsShelfRow, IsState, MeetsTop, first, then, nothing, nothing_trusted, root_version}
 use Rattle.machine.specs.Effects.{Effects, applied, last_or, no_effects}
 use Rattle.machine.specs.steps.Loading.{AreRead, FollowOn, IsChain, RowsAreRead, laid}
-use Rattle.machine.specs.Contents.{Contents, contents_of, numbered, root_rows, shelf_rows}
+use Rattle.machine.specs.Contents.{contents_of, numbered, root_rows, shelf_rows}
+use Rattle.contents.specs.Contents.{Contents}
 use Rattle.machine.specs.steps.Stored.{AreStored, IsShelved, IsStored, Together}
 use Rattle.machine.proofs.RootChains.{back, chain_tells}
 use Rattle.machine.proofs.PutInRoom.{same_state}

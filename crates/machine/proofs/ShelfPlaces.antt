@@ -9,7 +9,8 @@ use Rattle.delegations.specs.Rows.{row_at, with_row, place_before}
 use Rattle.machine.specs.Answers.{Gives}
 use Rattle.machine.specs.steps.Judging.{Judges, accepts, keeps, rejects, stops}
 use Rattle.machine.specs.Commands.{placed, named_targets, live_snapshot}
-use Rattle.machine.specs.State.{Trusted, most_held}
+use Rattle.machine.specs.State.{Trusted}
+use Rattle.limits.specs.Limits.{most_held}
 use Rattle.machine.specs.declared.refusal.Refusal.{Refusal}
 
 abbrev Holds : Option (File Targets) → Bytes → Type 0

@@ -12,7 +12,8 @@ use Rattle.denials.specs.Orders.{Denial, Plain, BlobMissing, Denied, Same, Judge
 use Rattle.metadata.specs.Shaped.{shaped}
 use Rattle.delegations.specs.Delegation.{before}
 use Rattle.delegations.specs.Rows.{row_at, with_row, place_before, entry_of, HasLength, HasHash}
-use Rattle.machine.specs.State.{Trusted, State, nothing_trusted, most_held, blob_limit, blob_at, NamesSnapshot, MeetsTop, IsCoherent}
+use Rattle.machine.specs.State.{Trusted, State, nothing_trusted, blob_at, NamesSnapshot, MeetsTop, IsCoherent}
+use Rattle.limits.specs.Limits.{most_held, blob_limit}
 use Rattle.delegations.specs.Search.{shelf_of, search, Vouched}
 
 -- no rotation: timestamp and snapshot role both keep their rules

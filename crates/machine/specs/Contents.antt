@@ -1,21 +1,13 @@
 -- What the tables of a repository hold.
 use Rattle.std.specs.Prelude.{◌≡◌, ℕ, suc, List, [], ◌∷◌, map, Option, Some, None, option_map}
 use Rattle.std.specs.List.{AllZip}
+use Rattle.contents.specs.Contents.{Contents}
 use Rattle.path_patterns.specs.Grammar.{IsName}
 use Rattle.metadata.specs.Documents.{Root, Timestamp, Snapshot, Targets}
 use Rattle.metadata.specs.File.{Bytes, File, Form, IsFileOf, root_form, timestamp_form, snapshot_form, targets_form}
 use Rattle.delegations.specs.Rows.{Place, Rows}
 use Rattle.machine.specs.State.{Trusted, State, root_version}
 use Rattle.machine.specs.Effects.{Effects}
-
--- the rows of roots, of the timestamp and the snapshot, of the shelf, of blobs: each the version and the bytes of a file,
--- or the digest and the bytes of a blob
-pub record Contents : Type 0 where
-  pub roots : List (ℕ × Bytes)
-  pub timestamp : Option (ℕ × Bytes)
-  pub snapshot : Option (ℕ × Bytes)
-  pub shelf : List (Place × Bytes)
-  pub blobs : List (Bytes × Bytes)
 
 abbrev pub root_rows : Trusted → ℕ → List Bytes → List (ℕ × Bytes)
 root_rows T k [] = []

@@ -4,7 +4,8 @@ use Rattle.metadata.specs.Documents.{Root, Timestamp, Snapshot}
 use Rattle.metadata.specs.File.{Bytes, File, IsFileOf, root_form, timestamp_form, snapshot_form, targets_form}
 use Rattle.delegations.specs.Delegation.{before}
 use Rattle.delegations.specs.Rows.{Rows, Rises, place_before}
-use Rattle.machine.specs.State.{State, FollowsRoot, MeetsTop, IsBlob, IsShelfRow, most_held, dotted, one_file}
+use Rattle.machine.specs.State.{State, FollowsRoot, MeetsTop, IsBlob, IsShelfRow, dotted, one_file}
+use Rattle.limits.specs.Limits.{most_held}
 use Rattle.machine.specs.Effects as changes
 use Rattle.machine.specs.Views.{parts_view}
 use Rattle.machine.specs.declared.parts.Parts.{Parts}

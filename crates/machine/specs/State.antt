@@ -10,6 +10,7 @@ use Rattle.delegations.specs.Rows.{Place, place_before, value_at, Rises, Rows, H
 use Rattle.sha2.specs.Sha256.{sha256}
 use Rattle.keys_roles.specs.Rules.{Meets}
 use Rattle.path_patterns.specs.Grammar.{IsName}
+use Rattle.limits.specs.Limits.{blob_limit, most_held}
 
 -- the roots in order with the document of the last, the current timestamp and snapshot, targets documents by role and version
 pub record Trusted : Type 0 where
@@ -32,12 +33,6 @@ nothing = record { trusted = nothing_trusted; blobs = [] }
 
 abbrev pub blob_at : List (Bytes × Bytes) → Bytes → Option Bytes
 blob_at blobs digest = value_at bytes_eq blobs digest
-
-abbrev pub most_held : ℕ
-most_held = 4096
-
-abbrev pub blob_limit : ℕ
-blob_limit = 1048576
 
 -- the entry names this file of this version
 abbrev pub IsNamedBy : {A : Type 0} → MetaFile → ℕ → File A → Type 0

@@ -7,10 +7,8 @@ use Rattle.metadata.specs.declared.file.File.{File}
 use Rattle.metadata.specs.declared.documents.Root.{Root}
 use Rattle.delegations.specs.Views.{row_views}
 use Rattle.machine.specs.Commands as commands
-use Rattle.machine.specs.Contents as rows
 use Rattle.machine.specs.Effects as changes
 use Rattle.machine.specs.State as plain
-use Rattle.machine.specs.declared.contents.Contents.{Contents}
 use Rattle.machine.specs.declared.effects.Blob.{Blob}
 use Rattle.machine.specs.declared.effects.Effects.{Effects}
 use Rattle.machine.specs.declared.parts.Parts.{Parts}
@@ -58,12 +56,3 @@ offer_view (offers.Targets role) = commands.TargetsOffer role
 
 abbrev pub documents_view : List (Offer × Bor (List ℕ)) → List (commands.Offer × spec.Bytes)
 documents_view documents = map (λ d. (offer_view d.0, d.1.now)) documents
-
-abbrev pub contents_view : Contents → rows.Contents
-contents_view c = record {
-  roots = map (λ r. (r.0, r.1.items)) c.roots.items;
-  timestamp = option_map (λ r. (r.0, r.1.items)) c.timestamp;
-  snapshot = option_map (λ r. (r.0, r.1.items)) c.snapshot;
-  shelf = map (λ r. ((string_bytes r.0, r.1), r.2.items)) c.shelf.items;
-  blobs = map (λ b. (b.0, b.1.items)) c.blobs.items;
-}

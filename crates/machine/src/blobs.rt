@@ -7,7 +7,8 @@ ghost use Rattle.machine.specs.Answers.{Answers};
 ghost use Rattle.machine.specs.steps.Judging.{Judges};
 ghost use Rattle.machine.specs.Commands as commands;
 ghost use Rattle.machine.specs.Effects.{no_effects};
-ghost use Rattle.machine.specs.State.{blob_at, blob_limit, most_held};
+ghost use Rattle.machine.specs.State.{blob_at};
+ghost use Rattle.limits.specs.Limits.{blob_limit, most_held};
 ghost use Rattle.machine.specs.Views.{blob_views, effects_view, parts_view};
 
 use crate::checks::are_same;
@@ -18,15 +19,10 @@ use crate::outcome::Outcome;
 use crate::parts::Parts;
 use crate::refusal::Refusal;
 use crate::state::State;
+use limits::{BLOB_LIMIT, MOST_HELD};
 use metadata::digest_of;
 use path_patterns::Digest;
 use std::alloc::{AllocError, Global};
-
-// The most bytes of a blob.
-const MOST_BYTES: usize = 1_048_576;
-
-// The most blobs that are held.
-const MOST_HELD: usize = 4_096;
 
 /// Stores the file of a target under its digest: at most 1,048,576 bytes, and at most 4,096 blobs. Denials in their order: no
 /// root is trusted; the length; another digest than that of the bytes; where the blob is not held already, the number of blobs.
@@ -104,7 +100,7 @@ fn one_blob(alloc: Global, digest: &Digest, bytes: &[u8]) -> Result<Effects, All
 pub(crate) fn is_short(bytes: &[u8]) -> bool
     ensures { IsTrue result ↔ length bytes.now ≤ blob_limit }
 {
-    bytes.len() <= MOST_BYTES
+    bytes.len() <= BLOB_LIMIT
 }
 
 // Whether a blob with this digest is held.

@@ -4,7 +4,7 @@ ghost use Rattle.std.specs.Option.{option_map};
 ghost use Rattle.metadata.specs.FileViews.{root_file, timestamp_file, snapshot_file, targets_file};
 ghost use Rattle.delegations.specs.Rows.{row_at, with_row, place_before};
 ghost use Rattle.delegations.specs.Views.{rows_view};
-ghost use Rattle.machine.specs.State.{most_held};
+ghost use Rattle.limits.specs.Limits.{most_held};
 ghost use Rattle.machine.specs.Commands.{with_root, emptied};
 ghost use Rattle.machine.specs.Views.{draft_view, effects_view, parts_view};
 ghost use Rattle.machine.specs.Effects.{no_effects};
@@ -12,11 +12,9 @@ ghost use Rattle.machine.specs.Effects.{no_effects};
 use crate::effects::Effects;
 use crate::parts::Parts;
 use delegations::{Row, Rows};
+use limits::MOST_HELD;
 use metadata::{File, Root, Snapshot, Targets, Timestamp};
 use std::alloc::{AllocError, Global};
-
-// The most roots, rows or blobs that are held.
-const MOST_HELD: usize = 4_096;
 
 /// A state, and the changes made to it so far.
 #[derive(Drop)]

@@ -16,10 +16,9 @@ use crate::effects::{Blob, Effects};
 use crate::state::State;
 use crate::taking::{is_before, is_place_before};
 use delegations::Row;
+use limits::MOST_HELD;
 use metadata::{File, Root, Snapshot, Timestamp, is_listable, one_document, one_shape};
 use std::alloc::{AllocError, Global};
-
-const MOST_HELD: usize = 4096;
 
 // Whether a root meets its own rule.
 pub(crate) fn meets_itself(root: &File<Root>) -> bool

@@ -27,7 +27,8 @@ use Rattle.delegations.specs.Rows.{Place, Rises, Rows, place_before}
 use Rattle.machine.specs.State.{State, IsBlob, IsHeldUnder, IsRootChain, IsShelfRow, IsState}
 use Rattle.machine.specs.Effects.{last_or}
 use Rattle.machine.specs.steps.Loading.{FollowOn, IsChain, laid}
-use Rattle.machine.specs.Contents.{Contents, contents_of, numbered, shelf_rows}
+use Rattle.machine.specs.Contents.{contents_of, numbered, shelf_rows}
+use Rattle.contents.specs.Contents.{Contents}
 use Rattle.machine.specs.steps.Stored.{IsStored, Together}
 use Rattle.machine.proofs.RootChains.{chain_tells}
 use Rattle.machine.proofs.ShapedOnce.{Shapes}
@@ -35,8 +36,8 @@ use Rattle.machine.proofs.RowsOfOneState.{FilesOf, files_of, stored_read, stored
 use Rattle.tables.proofs.Orders.{row_cmp_total}
 use Rattle.sqlite.specs.Order.{Row}
 use Rattle.sqlite_trees.specs.Tree.{Trees}
-use Rattle.tables.specs.Tables.{AreKeyed, AreRising, AreSame, HoldsTables, IsDigest, StandsFor, Tables, version_row, IsFit, IsVersion, row_cmp}
-use Rattle.store.specs.StateRows.{as_tables, rows_of}
+use Rattle.tables.specs.Tables.{AreKeyed, AreRising, AreSame, HoldsTables, IsDigest, StandsFor, version_row, IsFit, IsVersion, row_cmp}
+use Rattle.store.specs.StateRows.{rows_of}
 
 -- ---- digests
 
@@ -261,7 +262,7 @@ module _ (law : Shapes) (S : State) (s : IsState S) where
       blob_fits (b ∷ bs) h = (subst IsDigest (All-head IsBlob b bs h).digest (digest_fits b.1), blob_fits bs (All-tail IsBlob b bs h))
 
 -- rows that rise, and are the same, are the same lists
-pub same_tables : (t u : Tables) → AreRising t → AreRising u → AreSame t u → t ≡ u
+pub same_tables : (t u : Contents) → AreRising t → AreRising u → AreSame t u → t ≡ u
 same_tables t u up up' same =
     let roots : t.roots ≡ u.roots = one_list nat_cmp nat_cmp_total t.roots u.roots up.roots up'.roots same.roots in
     let shelf : t.shelf ≡ u.shelf = one_list row_cmp row_cmp_total t.shelf u.shelf up.shelf up'.shelf same.shelf in
@@ -270,24 +271,18 @@ same_tables t u up up' same =
   where
     fields : {r r' : List (ℕ × Bytes)} {a a' b b' : Option (ℕ × Bytes)} {p p' : List (Place × Bytes)} {d d' : List (Bytes × Bytes)}
         → r ≡ r' → a ≡ a' → b ≡ b' → p ≡ p' → d ≡ d'
-        → ◌≡◌ {A = Tables} (record { roots = r; timestamp = a; snapshot = b; shelf = p; blobs = d })
+        → ◌≡◌ {A = Contents} (record { roots = r; timestamp = a; snapshot = b; shelf = p; blobs = d })
         (record { roots = r'; timestamp = a'; snapshot = b'; shelf = p'; blobs = d' })
     fields a b c d e = cc
 
 -- ---- what a database stands for
 
-abbrev rows_as_contents : Tables → Contents
-rows_as_contents t = record { roots = t.roots; timestamp = t.timestamp; snapshot = t.snapshot; shelf = t.shelf; blobs = t.blobs }
-
-pub contents_from : (C D : Contents) → as_tables C ≡ as_tables D → C ≡ D
-contents_from C D e = ap rows_as_contents e
-
-not_bare : (trees : Trees) (t : Tables) → HoldsTables trees t → trees 7 ≡ [] → ⊥
+not_bare : (trees : Trees) (t : Contents) → HoldsTables trees t → trees 7 ≡ [] → ⊥
 not_bare trees t h none =
     let row = h.version.complete version_row (inl refl) in
     subst (λ (rows : List Row). Has rows row.0) none row.1
 
-pub one_stands : (trees : Trees) (t u : Tables) → ((t u : Tables) → IsFit t → IsFit u → HoldsTables trees t → HoldsTables trees u → AreSame t u)
+pub one_stands : (trees : Trees) (t u : Contents) → ((t u : Contents) → IsFit t → IsFit u → HoldsTables trees t → HoldsTables trees u → AreSame t u)
     → IsFit t → IsFit u → AreRising t → AreRising u → StandsFor trees t → StandsFor trees u → t ≡ u
 one_stands trees t u law fit fit' up up' (inl h) (inl k) = same_tables t u up up' (law t u fit fit' h k)
 one_stands trees t u law fit fit' up up' (inl h) (inr k) = absurd (not_bare trees t h k.0.1.1.1.1.0)

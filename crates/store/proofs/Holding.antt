@@ -4,7 +4,8 @@ use Rattle.sqlite.specs.Order.{Row}
 use Rattle.sqlite.specs.State.{State}
 use Rattle.sqlite_trees.specs.Tree.{Trees}
 use Rattle.tables.specs.Rows.{AreRows, root_cells, current_cells, shelf_cells, blob_cells}
-use Rattle.tables.specs.Tables.{AreSame, HoldsTables, IsStore, Tables, root_row, current_rows, shelf_row, blob_row}
+use Rattle.tables.specs.Tables.{AreSame, HoldsTables, IsStore, root_row, current_rows, shelf_row, blob_row}
+use Rattle.contents.specs.Contents.{Contents}
 use Rattle.store.proofs.SameRows.{SameItems, same_map}
 
 rows_as : (shown : Row → Row) (rows cells others : List Row) → SameItems cells others → AreRows shown rows cells → AreRows shown rows others
@@ -15,7 +16,7 @@ rows_as shown rows cells others same are = record {
   complete = λ c h. are.complete c ((same c).1 h);
 }
 
-pub holds_as : (trees : Trees) (t u : Tables) → AreSame t u → HoldsTables trees t → HoldsTables trees u
+pub holds_as : (trees : Trees) (t u : Contents) → AreSame t u → HoldsTables trees t → HoldsTables trees u
 holds_as trees t u same holds = record {
   root = rows_as root_cells (trees 0) _ _ (same_map root_row t.roots u.roots same.roots) holds.root;
   current = subst₂ (λ a b. AreRows current_cells (trees 1) (current_rows a b)) same.timestamp same.snapshot holds.current;
@@ -24,5 +25,5 @@ holds_as trees t u same holds = record {
   version = holds.version;
 }
 
-pub store_as : (s : State) (t u : Tables) → AreSame t u → IsStore s t → IsStore s u
+pub store_as : (s : State) (t u : Contents) → AreSame t u → IsStore s t → IsStore s u
 store_as s t u same is = record { is_open = is.is_open; schema = is.schema; settled = is.settled; holds = holds_as s.now.trees t u same is.holds }

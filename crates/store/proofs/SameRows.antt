@@ -12,7 +12,8 @@ use Rattle.delegations.specs.Rows.{Place, Rows, place_before, with_row, with_row
 use Rattle.machine.specs.State.{State, Trusted, IsState}
 use Rattle.machine.specs.Effects.{Effects, applied, last_or, renewed, with_blobs}
 use Rattle.machine.specs.Contents.{contents_of, numbered, root_rows, shelf_rows}
-use Rattle.tables.specs.Tables.{AreSame, Tables}
+use Rattle.tables.specs.Tables.{AreSame}
+use Rattle.contents.specs.Contents.{Contents}
 use Rattle.tables.proofs.RowLemmas.{has_map, map_has}
 use Rattle.store.specs.StateRows.{rows_of}
 use Rattle.store.specs.steps.Changed.{changed, emptied_if, last_version, more_blobs, more_roots, more_rows, new_roots, new_snapshot, new_timestamp}
@@ -89,7 +90,7 @@ roots_same S E = of E.roots refl
         sym (new_same (applied S E).trusted (last_version (r ∷ rs)) (ap (λ l. unwrap_or (option_map (λ root. root.body.version) (last_or S.trusted.root l)) 0) e)
         (length S.trusted.roots) (r ∷ rs) (many ∙ ap (λ l. length S.trusted.roots + length l) e))
 
-as_fields : (gone : Bool) (t s : Option (ℕ × Bytes)) (roots : List (ℕ × Bytes)) (rows : List (Place × Bytes)) (blobs : List (Bytes × Bytes)) (T : Tables)
+as_fields : (gone : Bool) (t s : Option (ℕ × Bytes)) (roots : List (ℕ × Bytes)) (rows : List (Place × Bytes)) (blobs : List (Bytes × Bytes)) (T : Contents)
     → more_blobs blobs (more_rows rows (new_snapshot s (new_timestamp t (emptied_if gone (more_roots roots T)))))
     ≡ record { roots = T.roots ++ roots; timestamp = renewed gone T.timestamp t; snapshot = renewed gone T.snapshot s; shelf = cond gone [] T.shelf ++ rows; blobs = T.blobs ++ blobs }
 as_fields true None None roots rows blobs T = refl

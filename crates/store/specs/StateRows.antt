@@ -6,12 +6,13 @@ use Rattle.metadata.specs.File.{Bytes, File}
 use Rattle.metadata.specs.Documents.{Root}
 use Rattle.machine.specs.State.{State, IsState}
 use Rattle.machine.specs.Room.{WithRoom}
-use Rattle.machine.specs.Contents.{Contents, contents_of, numbered, shelf_rows}
+use Rattle.machine.specs.Contents.{contents_of, numbered, shelf_rows}
+use Rattle.contents.specs.Contents.{Contents}
 use Rattle.delegations.specs.Rows.{Place}
 use Rattle.machine.specs.Effects.{Effects, last_or}
 use Rattle.sqlite.specs.Effect.{Database, IsDatabase}
 use Rattle.sqlite_trees.specs.Tree.{Trees}
-use Rattle.tables.specs.Tables.{Stands, Tables, emptied}
+use Rattle.tables.specs.Tables.{Stands, emptied}
 
 -- what a caller sees of a store: its connection, and its state
 pub record Shown (S : Type 0) : Type 0 where
@@ -24,16 +25,14 @@ shown_code {S} store kept =
     (λ p. record { conn = p.0; state = p.1.state }) (λ _. refl)
 
 -- the rows of a state
-abbrev pub as_tables : Contents → Tables
-as_tables c = record { roots = c.roots; timestamp = c.timestamp; snapshot = c.snapshot; shelf = c.shelf; blobs = c.blobs }
-
-abbrev pub rows_of : State → Tables
-rows_of S = as_tables (contents_of S)
+abbrev pub rows_of : State → Contents
+rows_of S = contents_of S
 
 -- What the trees of a database stand for, whose schema is read from them. No table, or no row in any, is the empty state.
-abbrev pub TreesStand : Trees → Tables → Type 0
+abbrev pub TreesStand : Trees → Contents → Type 0
 TreesStand trees t = (db : Database) × (db.trees ≡ trees) × IsDatabase db × Stands db t
 
--- a database of these trees stands for the rows of no state
+-- The tables of a database of these trees are the first of the five, or all, and stand for the rows of no state.
 abbrev pub HoldsNoState : Trees → Type 0
-HoldsNoState trees = (db : Database) × (db.trees ≡ trees) × IsDatabase db × ((S : State) → IsState S → Stands db (rows_of S) → ⊥)
+HoldsNoState trees =
+    (db : Database) × (db.trees ≡ trees) × IsDatabase db × IsBeginning db.schema × ((S : State) → IsState S → Stands db (rows_of S) → ⊥)

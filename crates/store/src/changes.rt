@@ -8,8 +8,9 @@ ghost use Rattle.machine.specs.Contents.{numbered, shelf_rows};
 ghost use Rattle.machine.specs.Views.{blob_views, effects_view};
 ghost use Rattle.machine.specs.State.{IsState};
 ghost use Rattle.machine.specs.Effects.{applied};
-ghost use Rattle.tables.specs.Tables.{HoldsTables, IsStore, Tables, after_all};
-ghost use Rattle.tables.specs.declared.contents.Fault.TheVariants as tables;
+ghost use Rattle.tables.specs.Tables.{HoldsTables, IsStore, after_all};
+ghost use Rattle.contents.specs.Contents.{Contents};
+ghost use Rattle.store.specs.Views.{fault_view};
 ghost use Rattle.store.specs.StateRows.{rows_of};
 ghost use Rattle.store.specs.steps.Changed.{changed, emptied_if, last_version, more_blobs, more_roots, more_rows, new_roots, new_snapshot, new_timestamp};
 
@@ -24,7 +25,7 @@ use tables::{Change, write_all};
 /// The changes of the rows, in the order in which they are made.
 pub(crate) fn changes_of(alloc: Global, effects: &Effects) -> Result<Vec<Change<'_>>, AllocError>
     requires { length effects.now.roots.items ≤ 4096 }
-    ensures { IfOk result (λ changes. (t : Tables) → after_all changes.items t ≡ changed (effects_view effects.now) t) }
+    ensures { IfOk result (λ changes. (t : Contents) → after_all changes.items t ≡ changed (effects_view effects.now) t) }
 {
     let mut changes = Vec::new(alloc);
     put_roots(&mut changes, &effects.roots)?;
@@ -39,7 +40,7 @@ pub(crate) fn changes_of(alloc: Global, effects: &Effects) -> Result<Vec<Change<
 // The roots: the last has its own version, and they rise by one.
 fn put_roots<'a>(changes: &mut Vec<Change<'a>>, roots: &'a [File<Root>]) -> Result<(), AllocError>
     requires { length roots.now ≤ 4096 }
-    ensures { IfOk result (λ _. (t : Tables) → after_all changes.new.items t
+    ensures { IfOk result (λ _. (t : Contents) → after_all changes.new.items t
         ≡ more_roots (new_roots (last_version (map root_file roots.now)) (map root_file roots.now)) (after_all changes.old.items t)) }
 {
     let Some(last) = roots.last() else {
@@ -55,7 +56,7 @@ fn put_roots_to<'a>(
     roots: &'a [File<Root>],
 ) -> Result<(), AllocError>
     requires { length roots.now ≤ 4096 }
-    ensures { IfOk result (λ _. (t : Tables) → after_all changes.new.items t ≡ more_roots (new_roots last (map root_file roots.now)) (after_all changes.old.items t)) }
+    ensures { IfOk result (λ _. (t : Contents) → after_all changes.new.items t ≡ more_roots (new_roots last (map root_file roots.now)) (after_all changes.old.items t)) }
 {
     let mut rest = roots;
     'roots: while let Some((root, later)) = rest.split_first() {
@@ -68,7 +69,7 @@ fn put_roots_to<'a>(
 
 // That timestamp, snapshot and shelf are emptied, if they are.
 fn empty_if<'a>(changes: &mut Vec<Change<'a>>, emptied: bool) -> Result<(), AllocError>
-    ensures { IfOk result (λ _. (t : Tables) → after_all changes.new.items t ≡ emptied_if emptied (after_all changes.old.items t)) }
+    ensures { IfOk result (λ _. (t : Contents) → after_all changes.new.items t ≡ emptied_if emptied (after_all changes.old.items t)) }
 {
     if emptied {
         changes.push(Change::Emptied)?;
@@ -81,7 +82,7 @@ fn put_timestamp<'a>(
     changes: &mut Vec<Change<'a>>,
     file: &'a Option<File<Timestamp>>,
 ) -> Result<(), AllocError>
-    ensures { IfOk result (λ _. (t : Tables) → after_all changes.new.items t
+    ensures { IfOk result (λ _. (t : Contents) → after_all changes.new.items t
         ≡ new_timestamp (option_map (numbered (λ b. b.version)) (option_map timestamp_file file.now)) (after_all changes.old.items t)) }
 {
     let Some(file) = file else {
@@ -96,7 +97,7 @@ fn put_snapshot<'a>(
     changes: &mut Vec<Change<'a>>,
     file: &'a Option<File<Snapshot>>,
 ) -> Result<(), AllocError>
-    ensures { IfOk result (λ _. (t : Tables) → after_all changes.new.items t
+    ensures { IfOk result (λ _. (t : Contents) → after_all changes.new.items t
         ≡ new_snapshot (option_map (numbered (λ b. b.version)) (option_map snapshot_file file.now)) (after_all changes.old.items t)) }
 {
     let Some(file) = file else {
@@ -108,7 +109,7 @@ fn put_snapshot<'a>(
 
 // The targets documents.
 fn put_rows<'a>(changes: &mut Vec<Change<'a>>, rows: &'a [Row]) -> Result<(), AllocError>
-    ensures { IfOk result (λ _. (t : Tables) → after_all changes.new.items t ≡ more_rows (shelf_rows (row_views rows.now)) (after_all changes.old.items t)) }
+    ensures { IfOk result (λ _. (t : Contents) → after_all changes.new.items t ≡ more_rows (shelf_rows (row_views rows.now)) (after_all changes.old.items t)) }
 {
     let mut rest = rows;
     'rows: while let Some((row, later)) = rest.split_first() {
@@ -120,7 +121,7 @@ fn put_rows<'a>(changes: &mut Vec<Change<'a>>, rows: &'a [Row]) -> Result<(), Al
 
 // The target files.
 fn put_blobs<'a>(changes: &mut Vec<Change<'a>>, blobs: &'a [Blob]) -> Result<(), AllocError>
-    ensures { IfOk result (λ _. (t : Tables) → after_all changes.new.items t ≡ more_blobs (blob_views blobs.now) (after_all changes.old.items t)) }
+    ensures { IfOk result (λ _. (t : Contents) → after_all changes.new.items t ≡ more_blobs (blob_views blobs.now) (after_all changes.old.items t)) }
 {
     let mut rest = blobs;
     'blobs: while let Some((blob, later)) = rest.split_first() {
@@ -161,7 +162,7 @@ pub(crate) fn write<S: Alter>(
 
 // A fault of the tables as one of the store.
 pub(crate) fn fault_of(fault: tables::Fault) -> StoreFault
-    ensures { result ≡ StoreFault.Damaged → fault ≡ tables.Damaged }
+    ensures { result ≡ fault_view fault }
 {
     match fault {
         tables::Fault::Damaged => StoreFault::Damaged,

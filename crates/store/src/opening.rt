@@ -4,20 +4,20 @@ ghost use Rattle.sqlite.specs.Held.{state};
 ghost use Rattle.sqlite.specs.State.{HasCleanDisk, Opens, Survives};
 ghost use Rattle.tables.specs.Making.{AreNumbered, StandsEmpty};
 ghost use Rattle.tables.specs.Schema.{IsBeginning, beginning};
-ghost use Rattle.tables.specs.Tables.{HoldsTables, IsStore, Stands, no_rows, tables_view};
-ghost use Rattle.machine.specs.Views.{contents_view};
-ghost use Rattle.store.specs.StateRows.{HoldsNoState, TreesStand, as_tables, rows_of};
+ghost use Rattle.tables.specs.Tables.{HoldsTables, IsStore, Stands};
+ghost use Rattle.contents.specs.Contents.{no_rows};
+ghost use Rattle.store.specs.StateRows.{HoldsNoState, TreesStand, rows_of};
 ghost use Rattle.machine.specs.State as trust;
 ghost use Rattle.machine.specs.State.{IsState};
 
 use crate::changes::fault_of;
 use crate::command::StoreFault;
 use crate::store::Store;
-use machine::{Contents, State};
+use machine::State;
 use metadata::{one_document, one_shape};
 use sqlite::{Alter, Connection};
 use std::alloc::Global;
-use tables::{Tables, one_contents, prepare, renew};
+use tables::{one_contents, prepare, renew};
 
 /// Why no store was opened, and the connection, where there still is one.
 #[derive(Drop)]
@@ -31,13 +31,14 @@ impl<S: Alter + Drop> Store<S> {
     /// are empty, those that are absent are made, in one transaction. What was not committed over the connection is undone, and
     /// its clock and step limit are lost.
     ///
-    /// - `Damaged`: the rows are those of no state.
+    /// - `Damaged`: the tables are those of a store, or the first of them, and their rows are those of no state.
     /// - `Database`: a call of the database answered a fault, or its tables are other than the first of the five of a store, or
     ///   all, in the order in which they are made.
     /// - `OutOfMemory`: memory was refused.
     pub fn open(alloc: Global, conn: Connection<S>) -> Result<Store<S>, StoreFault>
         ensures opened { IfOk result (λ s. HasCleanDisk (state S.Store s.conn) → TreesStand (state S.Store conn).committed.trees (rows_of s.state)) }
         ensures rows { IfOk result (λ s. HasCleanDisk (state S.Store s.conn) → IsStore (state S.Store s.conn) (rows_of s.state)) }
+        ensures damaged { ((c : _) → HasCleanDisk (state S.Store c)) → result ≡ Err StoreFault.Damaged → HoldsNoState (state S.Store conn).committed.trees }
     {
         match Store::open_over(alloc, conn) {
             Ok(store) => Ok(store),
@@ -45,7 +46,8 @@ impl<S: Alter + Drop> Store<S> {
         }
     }
 
-    /// The same as `open`. Where the rows are those of no state, the connection is given back.
+    /// The same as `open`. Where the rows are those of no state, the connection is given back, so that it can be said of every kind
+    /// of disk; `open` says it of those that cannot give a wrong answer, such as one in memory.
     pub fn open_over(alloc: Global, conn: Connection<S>) -> Result<Store<S>, Unopened<S>>
         ensures opened { IfOk result (λ s. HasCleanDisk (state S.Store s.conn) → TreesStand (state S.Store conn).committed.trees (rows_of s.state)) }
         ensures rows { IfOk result (λ s. HasCleanDisk (state S.Store s.conn) → IsStore (state S.Store s.conn) (rows_of s.state)) }
@@ -80,39 +82,19 @@ fn read_state<S: Alter>(alloc: Global, conn: &mut Connection<S>) -> Result<State
     ensures loaded { HasCleanDisk (state S.Store conn.new) → Opens (state S.Store conn.old) → AreNumbered conn.old.schema (state S.Store conn.old).now.trees
         → IfOk result (λ s. Stands (state S.Store conn.old).now (rows_of s.state) × IsStore (state S.Store conn.new) (rows_of s.state)) }
     ensures damaged { HasCleanDisk (state S.Store conn.new) → Opens (state S.Store conn.old) → AreNumbered (state S.Store conn.old).now.schema (state S.Store conn.old).now.trees
-        → result ≡ Err StoreFault.Damaged → (U : trust.State) → IsState U → Stands (state S.Store conn.old).now (rows_of U) → ⊥ }
+        → result ≡ Err StoreFault.Damaged → IsBeginning conn.old.schema × ((U : trust.State) → IsState U → Stands (state S.Store conn.old).now (rows_of U) → ⊥) }
     ensures crash { Survives (state S.Store conn.old) (state S.Store conn.new) (λ trees. IsTrue (state S.Store conn.old).is_open → StandsEmpty (state S.Store conn.old) × HoldsTables trees no_rows) }
 {
     one_document();
     one_shape();
     one_contents();
-    let tables = match prepare(alloc, conn) {
-        Ok(tables) => tables,
+    let contents = match prepare(alloc, conn) {
+        Ok(contents) => contents,
         Err(fault) => return Err(fault_of(fault)),
     };
-    match State::load(alloc, contents_of(tables)) {
+    match State::load(alloc, contents) {
         Ok(Some(held)) => Ok(held),
         Ok(None) => Err(StoreFault::Damaged),
         Err(_) => Err(StoreFault::OutOfMemory),
-    }
-}
-
-// The rows, as the machine takes them.
-fn contents_of(tables: Tables) -> Contents
-    ensures { as_tables (contents_view result) ≡ tables_view tables }
-{
-    let Tables {
-        roots,
-        timestamp,
-        snapshot,
-        shelf,
-        blobs,
-    } = tables;
-    Contents {
-        roots,
-        timestamp,
-        snapshot,
-        shelf,
-        blobs,
     }
 }

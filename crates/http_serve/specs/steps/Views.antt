@@ -1,10 +1,8 @@
 -- What the code's values stand for, and what its parts are asked.
 use Rattle.std.specs.Prelude.{◌≡◌, ◌⊎◌, ℕ, List, Option, Result, Ok, Err, map, ⊤}
 use Rattle.std.specs.Borrow.{Bor}
-use Rattle.std.specs.List.{AllByRecursion}
-use Rattle.path_patterns.specs.Grammar.{IsName}
 use Rattle.machine.specs.Steps.{Command, Init, OfferOne, Batch, PutBlob, Metadata, Target, Reply, Begun, Offered, BatchDone, Stored, FileBytes, Absent, Refused}
-use Rattle.machine.specs.Commands.{Offer}
+use Rattle.machine.specs.Commands.{Offer, offer_of}
 use Rattle.http_messages.specs.Faults.{fault_response}
 use Rattle.http_messages.specs.Request.{Request, Asks}
 use Rattle.store.specs.declared.command.StoreFault.{StoreFault}
@@ -13,19 +11,15 @@ use Rattle.http_messages.specs.declared.faults.Fault.{Fault}
 use Rattle.http_messages.specs.declared.faults.Fault.TheVariants.{Memory, Database}
 use Rattle.http_messages.specs.declared.reply.Kind.{Kind}
 use Rattle.http_messages.specs.declared.line.Cut.{Cut}
-use Rattle.http_serve.specs.Response.{Says, offer_of}
+use Rattle.http_serve.specs.Response.{Says}
 use Rattle.http_serve.specs.Serving.{Answered, Made, Wrote}
 use Rattle.http_serve.specs.Standing.{Standing}
 use Rattle.http_serve.specs.declared.serve.ServeFault.{ServeFault}
 use Rattle.http_serve.specs.declared.serve.ServeFault.TheVariants.{Write}
 
 -- documents of a request, each with its name, as offers
-abbrev pub offers_of : List (Bor (List ℕ) × Bor (List ℕ)) → List (Offer × List ℕ)
-offers_of documents = map (λ d. (offer_of d.0.now, d.1.now)) documents
-
--- each name is one of a role
-abbrev pub AreNamed : List (Bor (List ℕ) × Bor (List ℕ)) → Type 0
-AreNamed documents = AllByRecursion (λ d. IsName d.0.now) documents
+abbrev pub offers_of : List (List ℕ × Bor (List ℕ)) → List (Offer × List ℕ)
+offers_of documents = map (λ d. (offer_of d.0, d.1.now)) documents
 
 -- a command that a request can be
 abbrev pub IsServed : Command → Type 0

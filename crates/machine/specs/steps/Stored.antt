@@ -7,7 +7,8 @@ use Rattle.metadata.specs.File.{Bytes, File, Form, IsFileOf, root_form, timestam
 use Rattle.delegations.specs.Rows.{Place, Rows}
 use Rattle.machine.specs.State.{Trusted, State, root_version}
 use Rattle.machine.specs.Effects.{Effects}
-use Rattle.machine.specs.Contents.{Contents, numbered}
+use Rattle.machine.specs.Contents.{numbered}
+use Rattle.contents.specs.Contents.{Contents}
 
 -- the file of a row: its version, its bytes
 pub record IsStored {A : Type 0} (form : Form A) (version : A → ℕ) (row : ℕ × Bytes) (file : File A) : Type 0 where

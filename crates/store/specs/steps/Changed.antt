@@ -5,12 +5,13 @@ use Rattle.sqlite.specs.Held.{Held as Connection, held_code}
 use Rattle.metadata.specs.File.{Bytes, File}
 use Rattle.metadata.specs.Documents.{Root}
 use Rattle.machine.specs.State.{State, IsState}
-use Rattle.machine.specs.Contents.{Contents, contents_of, numbered, shelf_rows}
+use Rattle.machine.specs.Contents.{contents_of, numbered, shelf_rows}
+use Rattle.contents.specs.Contents.{Contents}
 use Rattle.delegations.specs.Rows.{Place}
 use Rattle.machine.specs.Effects.{Effects, last_or}
 use Rattle.sqlite.specs.Effect.{Database, IsDatabase}
 use Rattle.sqlite_trees.specs.Tree.{Trees}
-use Rattle.tables.specs.Tables.{Stands, Tables, emptied}
+use Rattle.tables.specs.Tables.{Stands, emptied}
 
 -- the rows of new roots: the last has its own version, and they rise by one
 abbrev pub new_roots : ℕ → List (File Root) → List (ℕ × Bytes)
@@ -21,27 +22,27 @@ abbrev pub last_version : List (File Root) → ℕ
 last_version roots = unwrap_or (option_map (λ root. root.body.version) (last_or None roots)) 0
 
 -- what changes make of rows: new ones stand behind those that are there
-abbrev pub more_roots : List (ℕ × Bytes) → Tables → Tables
+abbrev pub more_roots : List (ℕ × Bytes) → Contents → Contents
 more_roots new t = record t { roots = t.roots ++ new }
 
-abbrev pub emptied_if : Bool → Tables → Tables
+abbrev pub emptied_if : Bool → Contents → Contents
 emptied_if gone t = cond gone (emptied t) t
 
-abbrev pub new_timestamp : Option (ℕ × Bytes) → Tables → Tables
+abbrev pub new_timestamp : Option (ℕ × Bytes) → Contents → Contents
 new_timestamp None t = t
 new_timestamp (Some new) t = record t { timestamp = Some new }
 
-abbrev pub new_snapshot : Option (ℕ × Bytes) → Tables → Tables
+abbrev pub new_snapshot : Option (ℕ × Bytes) → Contents → Contents
 new_snapshot None t = t
 new_snapshot (Some new) t = record t { snapshot = Some new }
 
-abbrev pub more_rows : List (Place × Bytes) → Tables → Tables
+abbrev pub more_rows : List (Place × Bytes) → Contents → Contents
 more_rows new t = record t { shelf = t.shelf ++ new }
 
-abbrev pub more_blobs : List (Bytes × Bytes) → Tables → Tables
+abbrev pub more_blobs : List (Bytes × Bytes) → Contents → Contents
 more_blobs new t = record t { blobs = t.blobs ++ new }
 
-abbrev pub changed : Effects → Tables → Tables
+abbrev pub changed : Effects → Contents → Contents
 changed E t =
     more_blobs E.blobs (more_rows (shelf_rows E.rows) (new_snapshot (option_map (numbered (λ b. b.version)) E.snapshot)
     (new_timestamp (option_map (numbered (λ b. b.version)) E.timestamp) (emptied_if E.emptied (more_roots (new_roots (last_version E.roots) E.roots) t)))))

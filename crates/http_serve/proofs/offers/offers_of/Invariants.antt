@@ -1,8 +1,8 @@
-use Rattle.std.proofs.Common.{◌≡◌, take}
+use Rattle.std.proofs.Common.{◌≡◌}
 use Rattle.machine.specs.Views.{documents_view}
 use Rattle.http_serve.specs.steps.Views.{offers_of}
 use Rattle.http_serve.proofs.offers.offers_of.Given as goal
 
--- those before the index are offers
-abbrev pub invariant-loop-name : goal.invariant-loop-name
-invariant-loop-name l = documents_view l.offers.items ≡ offers_of (take l.name-index l.fn.documents)
+-- those that were taken are offers
+abbrev pub invariant-documents : goal.invariant-documents
+invariant-documents l = documents_view l.offers.items ≡ offers_of l.yielded

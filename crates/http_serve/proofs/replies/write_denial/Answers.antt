@@ -8,8 +8,8 @@ use Rattle.http_serve.proofs.replies.write_denial.Goals as goal
 pub returns-in-Ok-clause-told : goal.returns-in-Ok-clause-told
 returns-in-Ok-clause-told g c = (
   _,
-  inl (says-denied Json (denial_view c.args.denial.now) c.args.index c.denial_status-status.result c.number-number.result c.name-name.result.now c.as_bytes.result.now
-      c.number-number.ensures c.name-name.ensures c.denial_status-status.ensures (c.as_bytes.ensures.value ∙ c.in-Ok.ensures)),
+  inl (says-denied Json (denial_view c.args.denial.now) c.args.index c.status_of.result c.number.result c.name.result.now c.as_bytes.result.now
+      c.number.ensures c.name.ensures c.status_of.ensures (c.as_bytes.ensures.value ∙ c.in-Ok.ensures)),
   wrote _ _ _ _ c.write_response.ensures.ok c.write_response.ensures.err,
 )
 

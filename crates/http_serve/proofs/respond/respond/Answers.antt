@@ -15,7 +15,7 @@ returns-in-Fault-clause-responded g c =
 
 pub returns-in-Batch-clause-responded : goal.returns-in-Batch-clause-responded
 returns-in-Batch-clause-responded g c =
-    rw c.in-Batch.is (subst (λ ds. Responded (seen c.args.store.now.state (state g.S.Store c.args.store.now.conn)) (batch (map {B = Document} (λ d. (d.0.now, d.1.now)) ds)) c.args.now
+    rw c.in-Batch.is (subst (λ ds. Responded (seen c.args.store.now.state (state g.S.Store c.args.store.now.conn)) (batch (map {B = Document} (λ d. (d.0, d.1.now)) ds)) c.args.now
     (seen c.respond_batch.new.store.state (state g.S.Store c.respond_batch.new.store.conn)) (g.W.Write.contents c.args.writer.now) (g.W.Write.contents c.respond_batch.new.writer) c.respond_batch.result)
     c.deref.ensures.value c.respond_batch.ensures.responded)
 

@@ -1,11 +1,12 @@
 use Rattle.std.proofs.Common.{◌≡◌, length}
 use Rattle.machine.specs.Views.{blob_views}
-use Rattle.tables.specs.Tables.{Tables, after_all}
+use Rattle.tables.specs.Tables.{after_all}
+use Rattle.contents.specs.Contents.{Contents}
 use Rattle.store.specs.steps.Changed.{more_blobs}
 use Rattle.store.proofs.changes.put_blobs.Given as goal
 
 abbrev pub invariant-blobs : goal.invariant-blobs
-invariant-blobs l = (t : Tables) → more_blobs (blob_views l.rest) (after_all l.changes.items t) ≡ more_blobs (blob_views l.fn.blobs) (after_all l.initial.changes.items t)
+invariant-blobs l = (t : Contents) → more_blobs (blob_views l.rest) (after_all l.changes.items t) ≡ more_blobs (blob_views l.fn.blobs) (after_all l.initial.changes.items t)
 
 abbrev pub decreases-blobs : goal.decreases-blobs
 decreases-blobs l = length l.rest

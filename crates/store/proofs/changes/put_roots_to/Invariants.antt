@@ -1,13 +1,14 @@
 use Rattle.std.proofs.Common.{◌≡◌, ◌≤◌, map, length}
 use Rattle.metadata.specs.FileViews.{root_file}
-use Rattle.tables.specs.Tables.{Tables, after_all}
+use Rattle.tables.specs.Tables.{after_all}
+use Rattle.contents.specs.Contents.{Contents}
 use Rattle.store.specs.steps.Changed.{more_roots, new_roots}
 use Rattle.store.proofs.changes.put_roots_to.Given as goal
 
 abbrev pub invariant-roots : goal.invariant-roots
 invariant-roots l = record {
   few : length l.rest ≤ 4096;
-  same : (t : Tables) → more_roots (new_roots l.fn.last (map root_file l.rest)) (after_all l.changes.items t)
+  same : (t : Contents) → more_roots (new_roots l.fn.last (map root_file l.rest)) (after_all l.changes.items t)
       ≡ more_roots (new_roots l.fn.last (map root_file l.fn.roots)) (after_all l.initial.changes.items t);
 }
 

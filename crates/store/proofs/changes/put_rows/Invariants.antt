@@ -1,12 +1,13 @@
 use Rattle.std.proofs.Common.{◌≡◌, length}
 use Rattle.delegations.specs.Views.{row_views}
 use Rattle.machine.specs.Contents.{shelf_rows}
-use Rattle.tables.specs.Tables.{Tables, after_all}
+use Rattle.tables.specs.Tables.{after_all}
+use Rattle.contents.specs.Contents.{Contents}
 use Rattle.store.specs.steps.Changed.{more_rows}
 use Rattle.store.proofs.changes.put_rows.Given as goal
 
 abbrev pub invariant-rows : goal.invariant-rows
-invariant-rows l = (t : Tables) → more_rows (shelf_rows (row_views l.rest)) (after_all l.changes.items t) ≡ more_rows (shelf_rows (row_views l.fn.rows)) (after_all l.initial.changes.items t)
+invariant-rows l = (t : Contents) → more_rows (shelf_rows (row_views l.rest)) (after_all l.changes.items t) ≡ more_rows (shelf_rows (row_views l.fn.rows)) (after_all l.initial.changes.items t)
 
 abbrev pub decreases-rows : goal.decreases-rows
 decreases-rows l = length l.rest

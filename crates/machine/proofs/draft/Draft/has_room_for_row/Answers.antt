@@ -1,6 +1,6 @@
 use Rattle.std.proofs.Common.{◌≡◌, ◌+◌, ◌<◌, ℕ, IsTrue, length, sym, ap, ◌∙◌, subst}
 use Rattle.delegations.specs.Views.{row_views}
-use Rattle.machine.specs.State.{most_held}
+use Rattle.limits.specs.Limits.{most_held}
 use Rattle.machine.specs.Views.{draft_view}
 use Rattle.machine.proofs.MoreRootsAndRows.{rows_long, views_long}
 use Rattle.machine.proofs.draft.Draft.has_room_for_row.Goals as goal

@@ -2,7 +2,8 @@ use Rattle.std.proofs.Common.{◌≡◌, ap, ◌∙◌, subst}
 use Rattle.machine.specs.State.{IsState}
 use Rattle.machine.specs.Contents.{contents_of}
 use Rattle.machine.specs.steps.Stored.{AreStored}
-use Rattle.machine.specs.Views.{contents_view, effects_view}
+use Rattle.machine.specs.Views.{effects_view}
+use Rattle.contents.specs.Contents.{contents_view}
 use Rattle.machine.proofs.ShapedOnce.{Shapes}
 use Rattle.machine.proofs.RowsOfOneState.{laid_once, loaded_is, no_state, ok_none, ok_some, stored_read}
 use Rattle.machine.proofs.state.State.load.Goals as goal

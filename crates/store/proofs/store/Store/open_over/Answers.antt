@@ -23,4 +23,5 @@ returns-in-Err-read_state-clause-damaged g c is clean =
     let early : HasCleanDisk (state g.S.Store c.in-Ok.conn) = omega (arith, clean, c.read_state.ensures.crash.clean) in
     let opened = c.in-Ok.ensures.opened early in
     let sound : IsDatabase db = (opened.1 opened.0.is_open).0 in
-    (db, c.in-Ok.ensures.same early, sound, c.in-Err-read_state.ensures.damaged clean opened.0 (c.in-Ok.ensures.numbered early) (ap Err is))
+    let told = c.in-Err-read_state.ensures.damaged clean opened.0 (c.in-Ok.ensures.numbered early) (ap Err is) in
+    (db, c.in-Ok.ensures.same early, sound, told.0, told.1)

@@ -2,7 +2,7 @@ use Rattle.std.proofs.Common.{sym}
 use Rattle.std.proofs.lemmas.Bool.{true≢false}
 use Rattle.machine.proofs.ShapedOnce.{Shapes}
 use Rattle.machine.proofs.RowsOfOneState.{not_shelved, real_fault}
-use Rattle.machine.proofs.contents.stored_row.Goals as goal
+use Rattle.machine.proofs.stored.stored_row.Goals as goal
 
 pub returns-else-is_want-clause-none : goal.returns-else-is_want-clause-none
 returns-else-is_want-clause-none c =

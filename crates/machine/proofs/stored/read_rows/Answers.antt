@@ -4,7 +4,7 @@ use Rattle.metadata.specs.FileViews.{targets_file}
 use Rattle.delegations.specs.Views.{row_views}
 use Rattle.machine.specs.steps.Stored.{IsShelved}
 use Rattle.machine.proofs.ItemByItem.{reading_goes, reading_fails, reading_ends}
-use Rattle.machine.proofs.contents.read_rows.Goals as goal
+use Rattle.machine.proofs.stored.read_rows.Goals as goal
 
 pub returns-in-Ok-None-clause-none : goal.returns-in-Ok-None-clause-none
 returns-in-Ok-None-clause-none c =

@@ -1,4 +1,4 @@
-use Rattle.machine.proofs.contents.read_files.Goals as goal
+use Rattle.machine.proofs.stored.read_files.Goals as goal
 
 pub returns-in-Ok-None-clause-none : goal.returns-in-Ok-None-clause-none
 returns-in-Ok-None-clause-none c E h = (rw (c.deref.ensures.value, c.in-Ok-None.field-0-is) at c.in-Ok-None.ensures.none) E.roots h.roots

@@ -4,7 +4,7 @@ use Rattle.metadata.specs.File.{root_form}
 use Rattle.metadata.specs.FileViews.{root_file}
 use Rattle.machine.proofs.ShapedOnce.{Shapes, root-tells}
 use Rattle.machine.proofs.RowsOfOneState.{not_stored, other_version, real_fault}
-use Rattle.machine.proofs.contents.stored_root.Goals as goal
+use Rattle.machine.proofs.stored.stored_root.Goals as goal
 
 pub returns-then-file-version-clause-none : goal.returns-then-file-version-clause-none
 returns-then-file-version-clause-none c =

@@ -1,7 +1,7 @@
 use Rattle.metadata.specs.File.{snapshot_form}
 use Rattle.machine.specs.steps.Stored.{IsStored}
 use Rattle.machine.proofs.RowsOfOneState.{nothing_together}
-use Rattle.machine.proofs.contents.read_snapshot.Goals as goal
+use Rattle.machine.proofs.stored.read_snapshot.Goals as goal
 
 pub returns-in-Ok-None-clause-none : goal.returns-in-Ok-None-clause-none
 returns-in-Ok-None-clause-none c o =

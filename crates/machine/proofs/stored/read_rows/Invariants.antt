@@ -2,7 +2,7 @@ use Rattle.std.proofs.Common.{map, length, string_bytes}
 use Rattle.delegations.specs.Views.{row_views}
 use Rattle.machine.specs.steps.Stored.{IsShelved}
 use Rattle.machine.proofs.ItemByItem.{Reading}
-use Rattle.machine.proofs.contents.read_rows.Given as goal
+use Rattle.machine.proofs.stored.read_rows.Given as goal
 
 abbrev pub invariant-rows : goal.invariant-rows
 invariant-rows l = Reading IsShelved (map (λ r. ((string_bytes r.0, r.1), r.2.items)) l.fn.rows) (map (λ r. ((string_bytes r.0, r.1), r.2.items)) l.rest) (row_views l.held.items)

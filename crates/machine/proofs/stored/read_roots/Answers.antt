@@ -4,7 +4,7 @@ use Rattle.metadata.specs.File.{root_form}
 use Rattle.metadata.specs.FileViews.{root_file}
 use Rattle.machine.specs.steps.Stored.{IsStored}
 use Rattle.machine.proofs.ItemByItem.{reading_goes, reading_fails, reading_ends}
-use Rattle.machine.proofs.contents.read_roots.Goals as goal
+use Rattle.machine.proofs.stored.read_roots.Goals as goal
 
 pub returns-in-Ok-None-clause-none : goal.returns-in-Ok-None-clause-none
 returns-in-Ok-None-clause-none c =

@@ -10,8 +10,10 @@ ghost use Rattle.machine.specs.State as trust;
 ghost use Rattle.machine.specs.Contents.{contents_of};
 ghost use Rattle.machine.specs.steps.Stored.{AreStored, IsShelved, IsStored, Together};
 ghost use Rattle.machine.specs.Effects as changes;
-ghost use Rattle.machine.specs.Views.{blob_views, contents_view, effects_view};
+ghost use Rattle.machine.specs.Views.{blob_views, effects_view};
+ghost use Rattle.contents.specs.Contents.{contents_view};
 
+use contents::Contents;
 use crate::effects::{Blob, Effects};
 use crate::loading::settle;
 use crate::state::State;
@@ -22,17 +24,6 @@ use metadata::{
 };
 use path_patterns::{Digest, RoleName};
 use std::alloc::{AllocError, Global};
-
-/// The rows of a repository's tables, each list in the order of its keys: version and bytes of the roots, of the timestamp and
-/// of the snapshot; role, version and bytes of the targets documents; digest and bytes of the blobs.
-#[derive(Drop)]
-pub struct Contents {
-    pub roots: Vec<(u32, Vec<u8>)>,
-    pub timestamp: Option<(u32, Vec<u8>)>,
-    pub snapshot: Option<(u32, Vec<u8>)>,
-    pub shelf: Vec<(String, u32, Vec<u8>)>,
-    pub blobs: Vec<([u8; 32], Vec<u8>)>,
-}
 
 impl State {
     /// The state of which these are all the rows, and `None` where no state has them.
