@@ -16,7 +16,7 @@ more_front a b c f g = (f.0 ++ g.0, g.1 ∙ ap (λ (xs : List ℕ). xs ++ g.0) f
 
 -- ---- lists
 
-none : {A : Type 0} (xs : List A) → length xs ≡ 0 → xs ≡ []
+pub none : {A : Type 0} (xs : List A) → length xs ≡ 0 → xs ≡ []
 none [] e = refl
 none (x ∷ xs) e = absurd (omega arith)
 
