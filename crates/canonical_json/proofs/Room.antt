@@ -1,5 +1,5 @@
 -- How long what is written is: where room is short of a part of a text, it is short of the whole.
-use Rattle.std.proofs.Common.{◌≡◌, ℕ, suc, ◌+◌, ◌/◌, ◌%◌, ◌<◌, ◌≤◌, ◌⊎◌, inl, inr, Bool, true, false, List, [], ◌∷◌, ◌++◌, length, flat_map, refl, sym, ◌∙◌, ap, arith, vec_len, String, string_bytes}
+use Rattle.std.proofs.Common.{◌≡◌, ℕ, ◌+◌, ◌/◌, ◌%◌, ◌<◌, ◌≤◌, ◌⊎◌, inl, inr, Bool, true, false, List, [], ◌∷◌, ◌++◌, length, flat_map, refl, sym, ◌∙◌, ap, arith, vec_len, String, string_bytes}
 use Rattle.std.proofs.lemmas.Bool.{cases_lt}
 use Rattle.std.proofs.lemmas.List.{length-append}
 use Rattle.std.specs.declared.alloc.Global.{Global}
@@ -7,8 +7,8 @@ use Rattle.std.specs.declared.vec.Vec.{Vec}
 use Rattle.canonical_json.specs.Json.{array, object}
 use Rattle.canonical_json.specs.Spelling.{byte_spelling, text_spelling, spelling, numeral}
 use Rattle.canonical_json.specs.View.{view, items_view, members_view}
-use Rattle.canonical_json.specs.Writing.{comma_before}
-use Rattle.canonical_json.specs.Texts.{closed_text}
+use Rattle.canonical_json.specs.steps.Writing.{comma_before}
+use Rattle.canonical_json.specs.steps.Texts.{closed_text}
 use Rattle.canonical_json.specs.declared.Value.{Value}
 use Rattle.canonical_json.proofs.Forms.{items_text, items_tail, items_text_is, member_text, members_text, members_tail, members_text_is}
 use Rattle.canonical_json.proofs.Sound.{numeral_digit}

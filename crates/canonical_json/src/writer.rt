@@ -3,7 +3,7 @@ ghost use Rattle.std.specs.Prelude.{◌≡◌, ◌++◌, ◌+◌, ◌≤◌, ◌
 ghost use Rattle.canonical_json.specs.Spelling.{spelling, numeral, integer_spelling, byte_spelling, text_spelling};
 ghost use Rattle.canonical_json.specs.Json.{array, object};
 ghost use Rattle.canonical_json.specs.View.{view, items_view, members_view};
-ghost use Rattle.canonical_json.specs.Writing.{GoesOn, comma_before};
+ghost use Rattle.canonical_json.specs.steps.Writing.{GoesOn, comma_before};
 
 use super::Value;
 use std::alloc::AllocError;

@@ -5,7 +5,7 @@ ghost use Rattle.sha2.specs.Sha256.{sha256};
 ghost use Rattle.hex.specs.Hex.{encode_lower};
 ghost use Rattle.keys_roles.specs.Plain.{look_up, lms};
 ghost use Rattle.keys_roles.specs.Keys.{key_bytes, id_of, top_key};
-ghost use Rattle.keys_roles.specs.Counting.{IsIn};
+ghost use Rattle.keys_roles.specs.steps.Counting.{IsIn};
 ghost use Rattle.keys_roles.specs.Views.{id_text, key_view, ids_view, rows_view};
 
 use crate::{Key, KeyId, NoMemory};

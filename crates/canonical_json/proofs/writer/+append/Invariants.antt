@@ -1,6 +1,6 @@
 use Rattle.std.proofs.Common.{◌≡◌, ◌∷◌, ◌++◌, length, ◌+◌, ◌*◌, ◌≤◌, vec_capacity}
 use Rattle.canonical_json.specs.Json.{depth, items_depth, members_depth}
-use Rattle.canonical_json.specs.Writing.{GoesOn}
+use Rattle.canonical_json.specs.steps.Writing.{GoesOn}
 use Rattle.canonical_json.specs.View.{view, items_view, members_view}
 use Rattle.canonical_json.proofs.Forms.{items_text, members_text}
 use Rattle.canonical_json.proofs.Appending.{items_left, members_left}

@@ -1,6 +1,6 @@
 use Rattle.std.proofs.Common.{◌≡◌, [], ◌∷◌, ◌++◌, ◌≤◌, length, vec_capacity}
-use Rattle.canonical_json.specs.Writing.{GoesOn}
-use Rattle.canonical_json.specs.Texts.{closed_text}
+use Rattle.canonical_json.specs.steps.Writing.{GoesOn}
+use Rattle.canonical_json.specs.steps.Texts.{closed_text}
 use Rattle.canonical_json.proofs.writer.text.Given as goal
 
 abbrev pub invariant-bytes : goal.invariant-bytes
