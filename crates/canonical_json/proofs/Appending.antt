@@ -4,7 +4,7 @@ use Rattle.std.specs.declared.alloc.Global.{Global}
 use Rattle.canonical_json.specs.Json.{array, object, depth, items_depth, members_depth}
 use Rattle.canonical_json.specs.Spelling.{spelling, text_spelling, numeral}
 use Rattle.canonical_json.specs.View.{view, items_view, members_view}
-use Rattle.canonical_json.specs.Writing.{GoesOn, comma_before}
+use Rattle.canonical_json.specs.steps.Writing.{GoesOn, comma_before}
 use Rattle.canonical_json.specs.declared.Value.{Value}
 use Rattle.canonical_json.proofs.Sound.{numeral_more, numeral_digit}
 use Rattle.canonical_json.proofs.Forms.{items_text, items_tail, items_text_is, members_text, members_tail, members_text_is}
@@ -16,7 +16,7 @@ more_front a b c f g = (f.0 ++ g.0, g.1 ∙ ap (λ (xs : List ℕ). xs ++ g.0) f
 
 -- ---- lists
 
-none : {A : Type 0} (xs : List A) → length xs ≡ 0 → xs ≡ []
+pub none : {A : Type 0} (xs : List A) → length xs ≡ 0 → xs ≡ []
 none [] e = refl
 none (x ∷ xs) e = absurd (omega arith)
 

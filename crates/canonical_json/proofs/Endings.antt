@@ -3,7 +3,7 @@ use Rattle.std.proofs.Common.{◌≡◌, ℕ, zero, suc, ◌+◌, ◌*◌, ◌<�
 use Rattle.std.proofs.lemmas.Bool.{cases_lt}
 use Rattle.canonical_json.specs.Json.{Json, null, boolean, integer, text, array, object, Items, no_items, item, Members, no_members, member, names}
 use Rattle.canonical_json.specs.Spelling.{byte_spelling, spelling, IsBefore}
-use Rattle.canonical_json.specs.Texts.{closed_text}
+use Rattle.canonical_json.specs.steps.Texts.{closed_text}
 use Rattle.canonical_json.proofs.Forms.{shorter_begins, items_tail, items_text, items_text_is, members_tail, members_text, members_text_is, member_text, text_closed_is, member_closed_is, full_tail, full_members_tail, member_front, member_front_is, Good, GoodItems, IsFull, HasMembers, GoodMembers, RisingBehind, rising_first, rising_more}
 use Rattle.canonical_json.proofs.TextEndings.{Bytes, bytes_append, bytes_behind, spelled_length, cut_text, cut_stands_behind, by_closing, integer_bytes, integer_length}
 

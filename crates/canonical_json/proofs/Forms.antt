@@ -5,8 +5,8 @@ use Rattle.std.specs.Cmp.Lexicographic.{slice_cmp}
 use Rattle.std.specs.List.{AllByRecursion, join_with_byte}
 use Rattle.canonical_json.specs.Json.{Json, Items, no_items, item, Members, no_members, member, Everywhere, EachItem, EachMember, depth, items_depth, members_depth, names}
 use Rattle.canonical_json.specs.Spelling.{byte_spelling, text_spelling, spelling, item_spellings, member_spellings, AreRising, IsSound, IntegerFits, IsProper, IsAllowed}
-use Rattle.canonical_json.specs.Texts.{closed_text}
-use Rattle.canonical_json.specs.Reading.{Outcome, got, bad, reading, as_read, is_behind, most}
+use Rattle.canonical_json.specs.steps.Texts.{closed_text}
+use Rattle.canonical_json.specs.steps.Reading.{Outcome, got, bad, reading, as_read, is_behind, most}
 use Rattle.canonical_json.specs.declared.ReadFault.{ReadFault}
 
 -- ---- the text of a list behind its bracket, and behind one of its values

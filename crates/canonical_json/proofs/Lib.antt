@@ -4,6 +4,7 @@ pub mod Complete
 pub mod Steps
 pub mod Turns
 pub mod Raised
+pub mod Room
 pub mod Limits
 pub mod LimitsInside
 pub mod Whole

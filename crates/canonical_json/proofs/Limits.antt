@@ -5,9 +5,9 @@ use Rattle.std.proofs.lemmas.Bool.{eqb-false}
 use Rattle.std.specs.Str.{is_utf8}
 use Rattle.canonical_json.specs.Json.{Json, null, boolean, integer, text}
 use Rattle.canonical_json.specs.Spelling.{spelling, numeral, IsProper}
-use Rattle.canonical_json.specs.Texts.{text_at}
+use Rattle.canonical_json.specs.steps.Texts.{text_at}
 use Rattle.canonical_json.specs.Faults.{IsOpening, IsDigit}
-use Rattle.canonical_json.specs.Reading.{Outcome, got, bad, reading, as_read, word_at, mark_at, checked_text, utf8_at, is_behind, name_at, is_digit, has_room, digits_at, signed, number_at, value_with}
+use Rattle.canonical_json.specs.steps.Reading.{Outcome, got, bad, reading, as_read, word_at, mark_at, checked_text, utf8_at, is_behind, name_at, is_digit, has_room, digits_at, signed, number_at, value_with}
 use Rattle.canonical_json.specs.declared.ReadFault.{ReadFault}
 use Rattle.canonical_json.specs.declared.ReadFault.TheVariants.{NotCanonical, TooDeep, IntegerRange, OutOfMemory}
 use Rattle.canonical_json.proofs.Forms.{Good, Room, by_test}

@@ -4,9 +4,9 @@ use Rattle.std.proofs.lemmas.Bool.{eqb-false}
 use Rattle.std.specs.List.{AllByRecursion}
 use Rattle.canonical_json.specs.Json.{Json, null, array, object, Items, no_items, item, Members, no_members, member, EachItem, EachMember, names}
 use Rattle.canonical_json.specs.Spelling.{spelling, IsSound, IsProper}
-use Rattle.canonical_json.specs.Texts.{closed_text}
+use Rattle.canonical_json.specs.steps.Texts.{closed_text}
 use Rattle.canonical_json.specs.Faults.{IsOpening}
-use Rattle.canonical_json.specs.Reading.{Outcome, got, bad, reading, as_read, mark_at, is_behind, name_at, value_with, more_items, items_at, list_at, more_members, members_at, object_at, value_at}
+use Rattle.canonical_json.specs.steps.Reading.{Outcome, got, bad, reading, as_read, mark_at, is_behind, name_at, value_with, more_items, items_at, list_at, more_members, members_at, object_at, value_at}
 use Rattle.canonical_json.specs.declared.ReadFault.{ReadFault}
 use Rattle.canonical_json.specs.declared.ReadFault.TheVariants.{NotCanonical, TooDeep, IntegerRange, OutOfMemory}
 use Rattle.canonical_json.proofs.Forms.{items_text, items_text_is, members_text, members_text_is, member_text, member_closed_is, full_tail, full_members_tail, member_front, member_front_is, Good, GoodItems, IsFull, HasMembers, GoodMembers, RisingBehind, rising_more, by_test}

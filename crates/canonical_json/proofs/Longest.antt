@@ -7,7 +7,7 @@ use Rattle.canonical_json.specs.Spelling.{spelling, IsAllowed, IsCanonical}
 use Rattle.canonical_json.specs.Faults.{Begins, IsLongestBeginning, IsReadFault}
 use Rattle.canonical_json.specs.declared.ReadFault.{ReadFault}
 use Rattle.canonical_json.specs.declared.ReadFault.TheVariants.{OutOfMemory}
-use Rattle.canonical_json.specs.Reading.{Outcome, got, bad, value_at, closed, whole_at, Stops}
+use Rattle.canonical_json.specs.steps.Reading.{Outcome, got, bad, value_at, closed, whole_at, Stops}
 use Rattle.canonical_json.proofs.Whole.{closed_got, whole_sound, whole_refused}
 use Rattle.canonical_json.proofs.WhichFault.{which_fault}
 use Rattle.canonical_json.proofs.Forms.{allowed, good}

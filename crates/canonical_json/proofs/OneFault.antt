@@ -7,7 +7,7 @@ use Rattle.canonical_json.proofs.Longest.{same_place, stops_at_fault}
 use Rattle.canonical_json.proofs.Whole.{whole_sound, closed_got}
 use Rattle.canonical_json.specs.Json.{Json}
 use Rattle.canonical_json.specs.Spelling.{IsCanonical}
-use Rattle.canonical_json.specs.Reading.{Outcome, got, bad, closed, value_at, whole_at}
+use Rattle.canonical_json.specs.steps.Reading.{Outcome, got, bad, closed, value_at, whole_at}
 
 opening_no_digit : (c : ℕ) → IsOpening c → IsDigit c → ⊥
 opening_no_digit c (inl e) d = omega arith

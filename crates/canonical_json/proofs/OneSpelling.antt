@@ -3,7 +3,7 @@ use Rattle.std.proofs.Common.{◌≡◌, ℕ, ◌⊎◌, inl, inr, Bool, true, f
 use Rattle.canonical_json.specs.Json.{Json, null, boolean, integer, text, array, object, IsInteger}
 use Rattle.canonical_json.specs.Spelling.{spelling, IsCanonical}
 use Rattle.canonical_json.specs.Faults.{IsDigit, GoesOnInDigits}
-use Rattle.canonical_json.specs.Reading.{got, value_at, is_digit}
+use Rattle.canonical_json.specs.steps.Reading.{got, value_at, is_digit}
 use Rattle.canonical_json.proofs.Forms.{got_parts}
 use Rattle.canonical_json.proofs.Sound.{digit_range}
 use Rattle.canonical_json.proofs.Complete.{Ends, value_again, value_alone}

@@ -3,7 +3,7 @@
 use Rattle.std.proofs.Common.{◌≡◌, ◌≢◌, ℕ, zero, suc, ◌+◌, ◌-◌, ◌*◌, ◌≤◌, ◌⊎◌, inl, inr, List, [], ◌∷◌, ◌++◌, Bool, true, false, ◌==◌, if◌then◌else◌, Option, Some, None, length, refl, subst, ap, arith}
 use Rattle.canonical_json.specs.Json.{Json, integer, array, object, Items, item, Members, member, depth}
 use Rattle.canonical_json.specs.Spelling.{spelling, IsProper}
-use Rattle.canonical_json.specs.Reading.{Outcome, got, bad, reading, as_read, mark_at, name_at, is_digit, has_room, digits_at, signed, number_at, value_with, more_items, items_at, list_at, more_members, members_at, object_at, value_at}
+use Rattle.canonical_json.specs.steps.Reading.{Outcome, got, bad, reading, as_read, mark_at, name_at, is_digit, has_room, digits_at, signed, number_at, value_with, more_items, items_at, list_at, more_members, members_at, object_at, value_at}
 use Rattle.canonical_json.specs.declared.ReadFault.{ReadFault}
 use Rattle.canonical_json.specs.declared.ReadFault.TheVariants.{NotCanonical, TooDeep, IntegerRange}
 use Rattle.canonical_json.proofs.Complete.{Ends, value_again}

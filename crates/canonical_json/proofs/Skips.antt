@@ -4,9 +4,9 @@ use Rattle.std.proofs.lemmas.Bool.{cases_lt}
 use Rattle.std.proofs.lemmas.List.{append_cancel_right}
 use Rattle.canonical_json.proofs.Sound.{numeral_more, numeral_digit}
 use Rattle.canonical_json.specs.Json.{Json, null, boolean, integer, text, array, object, Items, no_items, item, Members, no_members, member, HasMember, IsAmong}
-use Rattle.canonical_json.specs.Spelling.{spelling, byte_spelling, text_spelling, numeral, integer_spelling, IsCanonical}
-use Rattle.canonical_json.specs.Texts.{closed_text, text_at}
-use Rattle.canonical_json.specs.Skipping.{step_over, step_outside, or_behind, behind_value, member_front, EndsWith}
+use Rattle.canonical_json.specs.Spelling.{spelling, byte_spelling, member_front, text_spelling, numeral, integer_spelling, IsCanonical}
+use Rattle.canonical_json.specs.steps.Texts.{closed_text, text_at}
+use Rattle.canonical_json.specs.steps.Skipping.{step_over, step_outside, or_behind, behind_value, EndsWith}
 use Rattle.canonical_json.specs.declared.members.Place.{Place}
 use Rattle.canonical_json.specs.declared.members.Place.TheVariants.{Outside, InText, BehindSlash}
 use Rattle.canonical_json.proofs.TextLaws.{special, text_again, some_pair}

@@ -8,8 +8,8 @@ use Rattle.std.specs.Int.Digits.{digits_of}
 use Rattle.std.specs.Str.{is_utf8}
 use Rattle.canonical_json.specs.Json.{Json, null, boolean, integer, text, array, object, Items, no_items, item, Members, no_members, member}
 use Rattle.canonical_json.specs.Spelling.{spelling, numeral, integer_spelling}
-use Rattle.canonical_json.specs.Texts.{text_at, closed_text}
-use Rattle.canonical_json.specs.Reading.{Outcome, got, as_read, word_at, mark_at, checked_text, utf8_at, is_behind, name_at, is_digit, most, has_room, digits_at, signed, number_at, value_with, more_items, items_at, list_at, more_members, members_at, object_at, value_at}
+use Rattle.canonical_json.specs.steps.Texts.{text_at, closed_text}
+use Rattle.canonical_json.specs.steps.Reading.{Outcome, got, as_read, word_at, mark_at, checked_text, utf8_at, is_behind, name_at, is_digit, most, has_room, digits_at, signed, number_at, value_with, more_items, items_at, list_at, more_members, members_at, object_at, value_at}
 use Rattle.canonical_json.proofs.TextLaws.{text_takes}
 use Rattle.canonical_json.proofs.Forms.{items_tail, items_text, items_text_is, members_tail, members_text, members_text_is, member_text, text_closed_is, member_closed_is, Good, GoodItems, IsFull, HasMembers, GoodMembers, rising_more, Room, by_test, got_parts, bad_got, reading_got, as_read_got}
 

@@ -11,7 +11,7 @@ use Rattle.std.specs.Int.Digits.{digits_of}
 use Rattle.std.specs.List.{AllByRecursion}
 use Rattle.std.specs.Ordering.{nat_cmp, ordering_then}
 use Rattle.canonical_json.specs.Spelling.{byte_spelling, numeral, integer_spelling, IsBefore}
-use Rattle.canonical_json.specs.Texts.{closed_text}
+use Rattle.canonical_json.specs.steps.Texts.{closed_text}
 use Rattle.canonical_json.proofs.Forms.{shorter_begins}
 
 -- ---- bytes

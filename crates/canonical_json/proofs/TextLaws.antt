@@ -2,7 +2,7 @@
 use Rattle.std.proofs.Common.{◌≡◌, ◌≢◌, ℕ, List, [], ◌∷◌, true, false, ◌||◌, ◌==◌, ◌⊎◌, inl, inr, refl, sym, ap, ◌∙◌, Some, None}
 use Rattle.std.specs.Prelude.{Option}
 use Rattle.std.proofs.lemmas.Bool.Decides.{eqb_tells}
-use Rattle.canonical_json.specs.Texts.{text_at, with_byte, closed_text}
+use Rattle.canonical_json.specs.steps.Texts.{text_at, with_byte, closed_text}
 use Rattle.canonical_json.proofs.TextSteps.{text_closed, text_plain, text_escape, text_cut, text_bad, text_ended, quote_test, slash_test}
 
 pub special : (c : ℕ) → ((c == 34) || (c == 92) ≡ true) ⊎ (((c == 34) || (c == 92) ≡ false) × (c ≢ 34) × (c ≢ 92))

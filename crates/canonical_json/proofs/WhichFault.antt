@@ -6,7 +6,7 @@ use Rattle.std.proofs.Math.Seq.{take-append_seam, get_or-append_seam}
 use Rattle.canonical_json.specs.Json.{Json}
 use Rattle.canonical_json.specs.Spelling.{spelling, IsProper, IsAllowed}
 use Rattle.canonical_json.specs.Faults.{Begins, OnlyLimitForbids, FaultAt, IsLongestBeginning}
-use Rattle.canonical_json.specs.Reading.{Outcome, got, bad, value_at, closed, whole_at, Stops}
+use Rattle.canonical_json.specs.steps.Reading.{Outcome, got, bad, value_at, closed, whole_at, Stops}
 use Rattle.canonical_json.specs.declared.ReadFault.{ReadFault}
 use Rattle.canonical_json.specs.declared.ReadFault.TheVariants.{NotCanonical, TooDeep, IntegerRange, OutOfMemory}
 use Rattle.canonical_json.proofs.Forms.{shorter_begins, allowed, good}

@@ -2,7 +2,7 @@
 use Rattle.std.proofs.Common.{◌≡◌, ℕ, ◌⊎◌, inl, inr, List, [], ◌∷◌, true, length, refl, sym, ap, ◌∙◌, append-nil}
 use Rattle.canonical_json.specs.Json.{Json}
 use Rattle.canonical_json.specs.Spelling.{spelling, IsCanonical}
-use Rattle.canonical_json.specs.Reading.{Outcome, got, bad, value_at, closed, whole_at, Stops}
+use Rattle.canonical_json.specs.steps.Reading.{Outcome, got, bad, value_at, closed, whole_at, Stops}
 use Rattle.canonical_json.specs.declared.ReadFault.{ReadFault}
 use Rattle.canonical_json.specs.declared.ReadFault.TheVariants.{NotCanonical, OutOfMemory}
 use Rattle.canonical_json.proofs.Forms.{bad_got, got_parts}

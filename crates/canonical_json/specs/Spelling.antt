@@ -17,6 +17,10 @@ byte_spelling b = if (b == 34) || (b == 92) then 92 ∷ b ∷ [] else b ∷ []
 abbrev pub text_spelling : List ℕ → List ℕ
 text_spelling bytes = 34 ∷ flat_map byte_spelling bytes ++ 34 ∷ []
 
+-- what stands before the value of a member: its name with its marks, and a colon
+abbrev pub member_front : List ℕ → List ℕ
+member_front name = text_spelling name ++ 58 ∷ []
+
 -- the decimal digits of a number of any size, without a leading zero. (std's `decimal` is for numbers of at
 -- most 64 digits.)
 unfoldable pub numeral : ℕ → List ℕ

@@ -13,11 +13,10 @@
 //! Limits: an integer is one of 64 bits with a sign (`i64`), and at most 32 lists and objects stand inside one another.
 #![tactic(auto)]
 
-ghost use Rattle.std.specs.Prelude.{◌≡◌, ◌⊎◌, ◌≤◌, ◌++◌, ℕ, List, [], None, Some, Option, IfOk, IfErr, IfSome, IsSome, OnOk, OnErr};
+ghost use Rattle.std.specs.Prelude.{◌≡◌, ◌⊎◌, ◌+◌, ◌≤◌, ◌<◌, ◌++◌, ℕ, List, [], length, None, Some, Option, IfOk, IfErr, IfSome, IsSome, OnOk, OnErr, vec_len, vec_capacity};
 ghost use Rattle.canonical_json.specs.Json.{Json, HasMember, Everywhere, depth};
-ghost use Rattle.canonical_json.specs.Spelling.{spelling, max_depth, IsCanonical, IsProper, IsOfCode};
+ghost use Rattle.canonical_json.specs.Spelling.{spelling, member_front, max_depth, IsCanonical, IsProper, IsOfCode};
 ghost use Rattle.canonical_json.specs.Faults.{IsLongestBeginning, IsReadFault, GoesOnInDigits, write_fault};
-ghost use Rattle.canonical_json.specs.Skipping.{member_front};
 ghost use Rattle.canonical_json.specs.View.{view};
 ghost use Rattle.canonical_json.specs.declared.ReadFault.{ReadFault};
 
@@ -122,7 +121,8 @@ pub fn read(alloc: Global, bytes: &[u8]) -> Result<Value, ReadFault>
 pub fn write(value: &Value, out: &mut Vec<u8>) -> Result<(), WriteFault>
     ensures ok { OnOk result (IsCanonical (view value.now) (spelling (view value.now))
         × (out.new.items ≡ out.old.items ++ spelling (view value.now))) }
-    ensures fault { IfErr result (λ e. ((e ≡ WriteFault.OutOfMemory) × (write_fault (view value.now) ≡ None))
+    ensures fault { IfErr result (λ e. ((e ≡ WriteFault.OutOfMemory) × ((write_fault (view value.now) ≡ None)
+        × (vec_capacity out.old < vec_len out.old + length (spelling (view value.now)))))
         ⊎ (write_fault (view value.now) ≡ Some e)) }
     ensures unchanged { OnErr result (out.new.items ≡ out.old.items) }
 {

@@ -1,8 +1,8 @@
 // The member of a name, looked up in the text of an object without reading the values before it.
 ghost use Rattle.std.specs.Prelude.{◌≡◌, ◌+◌, ◌<◌, ◌≤◌, ◌^◌, ℕ, List, [], ◌∷◌, ◌++◌, Some, None, IfSome, IsSome, IsNone};
 ghost use Rattle.canonical_json.specs.Json.{Json, HasMember};
-ghost use Rattle.canonical_json.specs.Spelling.{spelling, byte_spelling, IsCanonical};
-ghost use Rattle.canonical_json.specs.Skipping.{step_over, step_outside, place_in_text, behind_value, EndsWith, member_front};
+ghost use Rattle.canonical_json.specs.Spelling.{spelling, byte_spelling, member_front, IsCanonical};
+ghost use Rattle.canonical_json.specs.steps.Skipping.{step_over, step_outside, place_in_text, behind_value, EndsWith};
 
 // Where the next byte of a canonical text stands.
 #[derive(Clone, Copy)]

@@ -1,9 +1,9 @@
 // The text of a value, put behind what is written already.
-ghost use Rattle.std.specs.Prelude.{◌≡◌, ◌++◌, ◌≤◌, ◌<◌, List, ℕ, OnOk};
-ghost use Rattle.canonical_json.specs.Spelling.{spelling, numeral, integer_spelling, text_spelling};
+ghost use Rattle.std.specs.Prelude.{◌≡◌, ◌++◌, ◌+◌, ◌≤◌, ◌<◌, List, ℕ, OnOk, OnErr, length, vec_len, vec_capacity};
+ghost use Rattle.canonical_json.specs.Spelling.{spelling, numeral, integer_spelling, byte_spelling, text_spelling};
 ghost use Rattle.canonical_json.specs.Json.{array, object};
 ghost use Rattle.canonical_json.specs.View.{view, items_view, members_view};
-ghost use Rattle.canonical_json.specs.Writing.{GoesOn, comma_before};
+ghost use Rattle.canonical_json.specs.steps.Writing.{GoesOn, comma_before};
 
 use super::Value;
 use std::alloc::AllocError;
@@ -13,6 +13,8 @@ use std::alloc::AllocError;
 pub(crate) fn value(value: &Value, out: &mut Vec<u8>) -> Result<(), AllocError>
     ensures ok { OnOk result (out.new.items ≡ out.old.items ++ spelling (view value.now)) }
     ensures front { GoesOn out.old.items out.new.items }
+    ensures room { vec_capacity out.old ≤ vec_capacity out.new }
+    ensures short { OnErr result (vec_capacity out.old < vec_len out.old + length (spelling (view value.now))) }
 {
     match value {
         Value::Null => out.extend_from_slice(b"null"),
@@ -29,6 +31,8 @@ pub(crate) fn value(value: &Value, out: &mut Vec<u8>) -> Result<(), AllocError>
 fn list(values: &[Value], out: &mut Vec<u8>) -> Result<(), AllocError>
     ensures ok { OnOk result (out.new.items ≡ out.old.items ++ spelling (array (items_view values.now))) }
     ensures front { GoesOn out.old.items out.new.items }
+    ensures room { vec_capacity out.old ≤ vec_capacity out.new }
+    ensures short { OnErr result (vec_capacity out.old < vec_len out.old + length (spelling (array (items_view values.now)))) }
 {
     out.push(b'[')?;
     let mut first = true;
@@ -47,6 +51,8 @@ fn list(values: &[Value], out: &mut Vec<u8>) -> Result<(), AllocError>
 fn object(members: &[(String, Value)], out: &mut Vec<u8>) -> Result<(), AllocError>
     ensures ok { OnOk result (out.new.items ≡ out.old.items ++ spelling (object (members_view members.now))) }
     ensures front { GoesOn out.old.items out.new.items }
+    ensures room { vec_capacity out.old ≤ vec_capacity out.new }
+    ensures short { OnErr result (vec_capacity out.old < vec_len out.old + length (spelling (object (members_view members.now)))) }
 {
     out.push(b'{')?;
     let mut first = true;
@@ -67,6 +73,8 @@ fn object(members: &[(String, Value)], out: &mut Vec<u8>) -> Result<(), AllocErr
 fn comma(first: bool, out: &mut Vec<u8>) -> Result<(), AllocError>
     ensures ok { OnOk result (out.new.items ≡ out.old.items ++ comma_before first) }
     ensures front { GoesOn out.old.items out.new.items }
+    ensures room { vec_capacity out.old ≤ vec_capacity out.new }
+    ensures short { OnErr result (vec_capacity out.old < vec_len out.old + length (comma_before first)) }
 {
     if !first {
         out.push(b',')?;
@@ -78,23 +86,38 @@ fn comma(first: bool, out: &mut Vec<u8>) -> Result<(), AllocError>
 fn text(text: &str, out: &mut Vec<u8>) -> Result<(), AllocError>
     ensures ok { OnOk result (out.new.items ≡ out.old.items ++ text_spelling text.now) }
     ensures front { GoesOn out.old.items out.new.items }
+    ensures room { vec_capacity out.old ≤ vec_capacity out.new }
+    ensures short { OnErr result (vec_capacity out.old < vec_len out.old + length (text_spelling text.now)) }
 {
     out.push(b'"')?;
     let mut rest = text.as_bytes();
     'bytes: while let Some((b, later)) = rest.split_first() {
-        if *b == b'"' || *b == b'\\' {
-            out.push(b'\\')?;
-        }
-        out.push(*b)?;
+        byte(*b, out)?;
         rest = later;
     }
     out.push(b'"')?;
     Ok(())
 }
 
+// A byte of a text, behind a backslash where it needs one.
+fn byte(b: u8, out: &mut Vec<u8>) -> Result<(), AllocError>
+    ensures ok { OnOk result (out.new.items ≡ out.old.items ++ byte_spelling b) }
+    ensures front { GoesOn out.old.items out.new.items }
+    ensures room { vec_capacity out.old ≤ vec_capacity out.new }
+    ensures short { OnErr result (vec_capacity out.old < vec_len out.old + length (byte_spelling b)) }
+{
+    if b == b'"' || b == b'\\' {
+        out.push(b'\\')?;
+    }
+    out.push(b)?;
+    Ok(())
+}
+
 fn integer(n: i64, out: &mut Vec<u8>) -> Result<(), AllocError>
     ensures ok { OnOk result (out.new.items ≡ out.old.items ++ integer_spelling n) }
     ensures front { GoesOn out.old.items out.new.items }
+    ensures room { vec_capacity out.old ≤ vec_capacity out.new }
+    ensures short { OnErr result (vec_capacity out.old < vec_len out.old + length (integer_spelling n)) }
 {
     if n < 0 {
         out.push(b'-')?;
@@ -106,6 +129,8 @@ fn integer(n: i64, out: &mut Vec<u8>) -> Result<(), AllocError>
 fn digits(n: u64, out: &mut Vec<u8>) -> Result<(), AllocError>
     ensures ok { OnOk result (out.new.items ≡ out.old.items ++ numeral n) }
     ensures front { GoesOn out.old.items out.new.items }
+    ensures room { vec_capacity out.old ≤ vec_capacity out.new }
+    ensures short { OnErr result (vec_capacity out.old < vec_len out.old + length (numeral n)) }
 {
     if n >= 10 {
         digits(n / 10, out)?;

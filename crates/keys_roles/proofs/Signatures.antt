@@ -15,7 +15,7 @@ use Rattle.lms.specs.Parts.{IsSignatureOf}
 use Rattle.keys_roles.specs.Plain.{Key, lms}
 use Rattle.keys_roles.specs.Keys.{VerifiesUnder}
 use Rattle.keys_roles.specs.Rules.{AreDigitsOf}
-use Rattle.keys_roles.specs.Counting.{SpellsSignature}
+use Rattle.keys_roles.specs.steps.Counting.{SpellsSignature}
 
 chains_most : (ots : OtsType) → chain_count ots ≤ 265
 chains_most W1 = omega arith

@@ -1,7 +1,7 @@
 -- A rule stays if each of its ids is kept, and no other id is there.
 use Rattle.std.proofs.Common.{◌≡◌}
 use Rattle.std.specs.List.{AllByRecursion}
-use Rattle.keys_roles.specs.Counting.{IsIn, IsKept}
+use Rattle.keys_roles.specs.steps.Counting.{IsIn, IsKept}
 use Rattle.keys_roles.specs.Plain.{RoleRule, Table}
 use Rattle.keys_roles.specs.Rules.{SameRule}
 use Rattle.keys_roles.proofs.Elements.{contains_in, in_contains, of_each, for_each}

@@ -3,7 +3,7 @@ use Rattle.std.proofs.Common.{◌≡◌, ℕ, ◌<◌, ◌≤◌, List, [], ◌�
 use Rattle.std.specs.List.{AllByRecursion}
 use Rattle.keys_roles.specs.Plain.{Table, RoleRule, Signature, look_up}
 use Rattle.keys_roles.specs.Rules.{AreDistinct, Counts, Meets}
-use Rattle.keys_roles.specs.Counting.{IsIn, CountsBy, IsTaken}
+use Rattle.keys_roles.specs.steps.Counting.{IsIn, CountsBy, IsTaken}
 use Rattle.keys_roles.proofs.Elements.{contains_in, in_contains, of_each, each_more, in_more, in_last, distinct_more, fewer, first_in, later_in, first_or_later, none_in}
 
 module _ (rule : RoleRule) (table : Table) (signed : List ℕ) where

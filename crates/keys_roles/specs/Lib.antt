@@ -1,5 +1,5 @@
 pub mod Plain
 pub mod Keys
 pub mod Rules
-pub mod Counting
 pub mod Views
+pub mod steps

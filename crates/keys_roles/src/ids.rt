@@ -1,20 +1,21 @@
 // Key ids, and keys by their ids (TUF 1.0, section 4.2).
-ghost use Rattle.std.specs.Prelude.{◌≡◌, ◌↔◌, ◌++◌, List, ℕ, Some, None, IsTrue, IfOk, MatchOption};
+ghost use Rattle.std.specs.Prelude.{◌≡◌, ◌↔◌, ◌++◌, List, ℕ, Some, None, IsTrue, IsOkAnd, MatchOption};
 ghost use Rattle.std.specs.Str.{bytes_eq};
 ghost use Rattle.sha2.specs.Sha256.{sha256};
 ghost use Rattle.hex.specs.Hex.{encode_lower};
 ghost use Rattle.keys_roles.specs.Plain.{look_up, lms};
 ghost use Rattle.keys_roles.specs.Keys.{key_bytes, id_of, top_key};
-ghost use Rattle.keys_roles.specs.Counting.{IsIn};
+ghost use Rattle.keys_roles.specs.steps.Counting.{IsIn};
 ghost use Rattle.keys_roles.specs.Views.{id_text, key_view, ids_view, rows_view};
 
 use crate::{Key, KeyId, NoMemory};
 use sha2::{Digest, Sha256};
 use std::alloc::Global;
 
-/// The id of a key: the SHA-256 of the canonical form of its key object (TUF 1.0, section 4.2). It takes no memory.
+/// The id of a key: the SHA-256 of the canonical form of its key object (TUF 1.0, section 4.2). It takes no memory, so it is
+/// always answered.
 pub fn key_id(alloc: Global, key: &Key) -> Result<KeyId, NoMemory>
-    ensures { IfOk result (λ id. id_text id ≡ id_of (key_view key.now)) }
+    ensures { IsOkAnd result (λ id. id_text id ≡ id_of (key_view key.now)) }
 {
     let _ = alloc;
     Ok(KeyId(object_digest(key)))

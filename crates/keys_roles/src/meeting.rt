@@ -1,7 +1,7 @@
 // When a rule of keys and a threshold is met (TUF 1.0, sections 4.2 and 5).
 ghost use Rattle.std.specs.Prelude.{◌≡◌, ◌↔◌, ◌⊎◌, ◌∷◌, [], ◌++◌, ◌+◌, ◌<◌, ◌≤◌, ◌^◌, List, ℕ, Some, length, take, IsTrue, IfSome};
 ghost use Rattle.keys_roles.specs.Rules.{Meets};
-ghost use Rattle.keys_roles.specs.Counting.{IsIn, CountsBy, IsTaken};
+ghost use Rattle.keys_roles.specs.steps.Counting.{IsIn, CountsBy, IsTaken};
 ghost use Rattle.keys_roles.specs.Views.{rule_view, table_view, entry_view, entries_view};
 
 use crate::digits::digits_verify;

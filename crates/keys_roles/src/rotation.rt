@@ -2,7 +2,7 @@
 ghost use Rattle.std.specs.Prelude.{◌≡◌, ◌↔◌, IsTrue};
 ghost use Rattle.keys_roles.specs.Rules.{SameRule};
 ghost use Rattle.std.specs.List.{AllByRecursion};
-ghost use Rattle.keys_roles.specs.Counting.{IsIn, IsKept};
+ghost use Rattle.keys_roles.specs.steps.Counting.{IsIn, IsKept};
 ghost use Rattle.keys_roles.specs.Plain.{look_up};
 ghost use Rattle.keys_roles.specs.Views.{id_text, ids_view, key_view, rule_view, table_view};
 

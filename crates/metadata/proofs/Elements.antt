@@ -3,7 +3,7 @@ use Rattle.std.proofs.Common.{◌≡◌, ◌≢◌, ℕ, zero, suc, ◌<◌, Lis
 use Rattle.std.specs.Prelude.{slice_index_or}
 use Rattle.std.specs.List.{AllByRecursion, Contains}
 use Rattle.keys_roles.specs.Rules.{AreDistinct}
-use Rattle.keys_roles.specs.Counting.{IsIn}
+use Rattle.keys_roles.specs.steps.Counting.{IsIn}
 
 pub contains_in : {X : Type 0} → (xs : List X) (x : X) → IsIn xs x → Contains xs x
 contains_in [] x h = absurd h

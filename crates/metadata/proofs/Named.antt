@@ -2,7 +2,7 @@
 use Rattle.std.proofs.Common.{◌≡◌, ℕ, List, [], ◌∷◌, map, codes, inl, inr, subst, refl, sym, Bool, true, false, not}
 use Rattle.std.specs.List.{AllByRecursion, Contains}
 use Rattle.keys_roles.specs.Plain.{Table, RoleRule}
-use Rattle.keys_roles.specs.Counting.{IsIn}
+use Rattle.keys_roles.specs.steps.Counting.{IsIn}
 use Rattle.path_patterns.specs.Grammar.{IsHex}
 use Rattle.canonical_json.specs.Json.{Json}
 use Rattle.canonical_json.specs.Spelling.{IsProper}

@@ -5,7 +5,7 @@ ghost use Rattle.canonical_json.specs.Spelling.{IsProper};
 ghost use Rattle.canonical_json.specs.View.{view, items_view};
 ghost use Rattle.keys_roles.specs.Plain as plain;
 ghost use Rattle.keys_roles.specs.Rules.{AreDistinct};
-ghost use Rattle.keys_roles.specs.Counting.{IsIn};
+ghost use Rattle.keys_roles.specs.steps.Counting.{IsIn};
 ghost use Rattle.keys_roles.specs.Views.{id_text, entry_view, entries_view};
 ghost use Rattle.metadata.specs.steps.Faults.{IsIll};
 ghost use Rattle.metadata.specs.Members.{Has, IsText, ItemsAre};

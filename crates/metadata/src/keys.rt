@@ -6,7 +6,7 @@ ghost use Rattle.canonical_json.specs.Spelling.{IsProper};
 ghost use Rattle.canonical_json.specs.View.{view, items_view, members_view};
 ghost use Rattle.keys_roles.specs.Plain as plain;
 ghost use Rattle.keys_roles.specs.Rules.{AreDistinct};
-ghost use Rattle.keys_roles.specs.Counting.{IsIn};
+ghost use Rattle.keys_roles.specs.steps.Counting.{IsIn};
 ghost use Rattle.keys_roles.specs.Keys.{id_of};
 ghost use Rattle.keys_roles.specs.Views.{id_text, ids_view, key_view, rows_view, rule_view, table_view};
 ghost use Rattle.path_patterns.specs.Grammar.{IsHex};

@@ -4,7 +4,7 @@ ghost use Rattle.std.specs.List.{AllByRecursion};
 ghost use Rattle.canonical_json.specs.Json.{EachMember};
 ghost use Rattle.canonical_json.specs.Spelling.{IsProper, IsSound};
 ghost use Rattle.canonical_json.specs.View.{view, members_view};
-ghost use Rattle.keys_roles.specs.Counting.{IsIn};
+ghost use Rattle.keys_roles.specs.steps.Counting.{IsIn};
 ghost use Rattle.metadata.specs.Bodies.{IsMetaRow, AreMetaRows, IsListable, IsSnapshot};
 ghost use Rattle.metadata.specs.Documents as plain;
 ghost use Rattle.metadata.specs.steps.Faults.{IsIll};

@@ -6,7 +6,7 @@ use Rattle.std.proofs.lemmas.List.Splits.{slice_split_none, slice_split_at, join
 use Rattle.std.specs.List.{join_with_byte, slice_split, list_all, All, AllByRecursion}
 use Rattle.path_patterns.specs.Bytes.{is_segment_byte}
 use Rattle.path_patterns.specs.Grammar.{IsSegment, IsTargetPath}
-use Rattle.path_patterns.specs.Tests.{is_segment, are_segments}
+use Rattle.path_patterns.specs.steps.Segments.{is_segment, are_segments}
 
 differ : (s t : List ℕ) → not (bytes_eq s t) ≡ true → s ≢ t
 differ s t h e = both_ways (bytes_eq s t) (not-true (bytes_eq s t) h) ((bytes_eq-Decides s t).1 e)

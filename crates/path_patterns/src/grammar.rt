@@ -3,7 +3,7 @@ ghost use Rattle.std.specs.Prelude.{◌≡◌, ◌↔◌, IsTrue};
 ghost use Rattle.std.specs.List.{list_all};
 ghost use Rattle.path_patterns.specs.Bytes as bytes;
 ghost use Rattle.path_patterns.specs.Grammar.{IsTargetPath, IsName};
-ghost use Rattle.path_patterns.specs.Tests as tests;
+ghost use Rattle.path_patterns.specs.steps.Segments as tests;
 
 // The bytes of the longest target path, and of the longest name.
 const LONGEST_PATH: usize = 200;

@@ -1,5 +1,5 @@
 use Rattle.std.proofs.Common.{◌≡◌, ℕ, List, ◌++◌, length}
-use Rattle.canonical_json.specs.Skipping.{member_front}
+use Rattle.canonical_json.specs.Spelling.{member_front}
 use Rattle.canonical_json.proofs.Skips.{front_left}
 use Rattle.canonical_json.proofs.members.behind_name.Given as goal
 

@@ -1,5 +1,6 @@
 use Rattle.std.proofs.Common.{ap, ◌∙◌, rules, ◌∷◌, [], ◌++◌}
-use Rattle.canonical_json.specs.Skipping.{behind_value, member_front}
+use Rattle.canonical_json.specs.Spelling.{member_front}
+use Rattle.canonical_json.specs.steps.Skipping.{behind_value}
 use Rattle.canonical_json.specs.declared.members.Place.TheVariants.{Outside}
 use Rattle.canonical_json.proofs.Skips.{all_left, next_left, more_behind, shorter_behind, none_behind, found_here}
 use Rattle.canonical_json.proofs.members.find.Goals as goal

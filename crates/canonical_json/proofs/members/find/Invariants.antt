@@ -1,7 +1,7 @@
 use Rattle.std.proofs.Common.{length}
 use Rattle.canonical_json.specs.Json.{Json}
 use Rattle.canonical_json.specs.Spelling.{IsCanonical}
-use Rattle.canonical_json.specs.Skipping.{EndsWith}
+use Rattle.canonical_json.specs.steps.Skipping.{EndsWith}
 use Rattle.canonical_json.proofs.Skips.{IsLeft}
 use Rattle.canonical_json.proofs.members.find.Given as goal
 

@@ -1,5 +1,5 @@
 use Rattle.std.proofs.Common.{sym, ap, ◌∙◌, rules, arith, length, ◌∷◌, [], ◌++◌, append_assoc}
-use Rattle.canonical_json.specs.Skipping.{behind_value}
+use Rattle.canonical_json.specs.steps.Skipping.{behind_value}
 use Rattle.canonical_json.proofs.Skips.{passed, stopped, none_left}
 use Rattle.canonical_json.proofs.members.skip.Goals as goal
 

@@ -1,5 +1,5 @@
 use Rattle.std.proofs.Common.{◌≡◌, ◌+◌, ◌≤◌, length}
-use Rattle.canonical_json.specs.Skipping.{behind_value, EndsWith}
+use Rattle.canonical_json.specs.steps.Skipping.{behind_value, EndsWith}
 use Rattle.canonical_json.specs.declared.members.Place.TheVariants.{Outside}
 use Rattle.canonical_json.proofs.members.skip.Given as goal
 

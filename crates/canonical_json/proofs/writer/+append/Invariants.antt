@@ -1,6 +1,6 @@
-use Rattle.std.proofs.Common.{◌≡◌, ◌∷◌, ◌++◌, length, ◌+◌, ◌*◌, ◌≤◌}
+use Rattle.std.proofs.Common.{◌≡◌, ◌∷◌, ◌++◌, length, ◌+◌, ◌*◌, ◌≤◌, vec_capacity}
 use Rattle.canonical_json.specs.Json.{depth, items_depth, members_depth}
-use Rattle.canonical_json.specs.Writing.{GoesOn}
+use Rattle.canonical_json.specs.steps.Writing.{GoesOn}
 use Rattle.canonical_json.specs.View.{view, items_view, members_view}
 use Rattle.canonical_json.proofs.Forms.{items_text, members_text}
 use Rattle.canonical_json.proofs.Appending.{items_left, members_left}
@@ -9,6 +9,7 @@ use Rattle.canonical_json.proofs.writer.+append.Given as goal
 abbrev pub invariant-list-items : goal.invariant-list-items
 invariant-list-items l = record {
   front : GoesOn l.fn.out.items l.out.items;
+  room : vec_capacity l.fn.out ≤ vec_capacity l.out;
   inside : items_depth (items_view l.rest) ≤ items_depth (items_view l.fn.values);
   text : l.out.items ++ items_left l.first l.rest ≡ l.fn.out.items ++ 91 ∷ items_text (items_view l.fn.values);
 }
@@ -19,6 +20,7 @@ decreases-list-items l = length l.rest
 abbrev pub invariant-object-members : goal.invariant-object-members
 invariant-object-members l = record {
   front : GoesOn l.fn.out.items l.out.items;
+  room : vec_capacity l.fn.out ≤ vec_capacity l.out;
   inside : members_depth (members_view l.rest) ≤ members_depth (members_view l.fn.members);
   text : l.out.items ++ members_left l.first l.rest ≡ l.fn.out.items ++ 123 ∷ members_text (members_view l.fn.members);
 }

@@ -1,5 +1,5 @@
 use Rattle.std.proofs.Common.{length}
-use Rattle.keys_roles.specs.Counting.{IsIn}
+use Rattle.keys_roles.specs.steps.Counting.{IsIn}
 use Rattle.keys_roles.specs.Views.{id_text, ids_view}
 use Rattle.keys_roles.proofs.ids.is_listed.Given as goal
 

@@ -1,5 +1,5 @@
 use Rattle.std.proofs.Common.{length}
-use Rattle.keys_roles.specs.Counting.{IsIn}
+use Rattle.keys_roles.specs.steps.Counting.{IsIn}
 use Rattle.keys_roles.proofs.meeting.is_among.Given as goal
 
 abbrev pub invariant-tops : goal.invariant-tops

@@ -1,6 +1,6 @@
 use Rattle.std.proofs.Common.{length}
 use Rattle.std.specs.List.{AllByRecursion}
-use Rattle.keys_roles.specs.Counting.{IsKept}
+use Rattle.keys_roles.specs.steps.Counting.{IsKept}
 use Rattle.keys_roles.specs.Views.{ids_view, table_view}
 use Rattle.keys_roles.proofs.rotation.are_kept.Given as goal
 

@@ -1,6 +1,6 @@
 use Rattle.std.proofs.Common.{length}
 use Rattle.std.specs.List.{AllByRecursion}
-use Rattle.keys_roles.specs.Counting.{IsIn}
+use Rattle.keys_roles.specs.steps.Counting.{IsIn}
 use Rattle.keys_roles.specs.Views.{ids_view}
 use Rattle.keys_roles.proofs.rotation.are_listed.Given as goal
 

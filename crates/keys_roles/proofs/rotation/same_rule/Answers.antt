@@ -1,6 +1,6 @@
 use Rattle.std.proofs.Common.{refl}
 use Rattle.std.specs.List.{AllByRecursion}
-use Rattle.keys_roles.specs.Counting.{IsIn, IsKept}
+use Rattle.keys_roles.specs.steps.Counting.{IsIn, IsKept}
 use Rattle.keys_roles.specs.Views.{ids_view, rule_view, table_view}
 use Rattle.keys_roles.proofs.Staying.{stays, all_kept, all_listed}
 use Rattle.keys_roles.proofs.rotation.same_rule.Goals as goal

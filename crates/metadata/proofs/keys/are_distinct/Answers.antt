@@ -1,5 +1,5 @@
 use Rattle.std.proofs.Common.{◌≡◌, false, true, string_bytes, sym, ap, subst, ◌∙◌}
-use Rattle.keys_roles.specs.Counting.{IsIn}
+use Rattle.keys_roles.specs.steps.Counting.{IsIn}
 use Rattle.metadata.specs.steps.Spelled.{texts_view}
 use Rattle.metadata.proofs.Elements.{first_alone, first_again}
 use Rattle.metadata.proofs.keys.are_distinct.Goals as goal

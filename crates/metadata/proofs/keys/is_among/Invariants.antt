@@ -1,5 +1,5 @@
 use Rattle.std.proofs.Common.{length}
-use Rattle.keys_roles.specs.Counting.{IsIn}
+use Rattle.keys_roles.specs.steps.Counting.{IsIn}
 use Rattle.metadata.specs.steps.Spelled.{texts_view}
 use Rattle.metadata.proofs.keys.is_among.Given as goal
 

@@ -1,5 +1,5 @@
 use Rattle.std.proofs.Common.{length, map}
-use Rattle.keys_roles.specs.Counting.{IsIn}
+use Rattle.keys_roles.specs.steps.Counting.{IsIn}
 use Rattle.metadata.specs.steps.Spelled.{spelled_rows}
 use Rattle.metadata.proofs.keys.names_row.Given as goal
 

@@ -1,5 +1,5 @@
 use Rattle.std.proofs.Common.{length, map}
-use Rattle.keys_roles.specs.Counting.{IsIn}
+use Rattle.keys_roles.specs.steps.Counting.{IsIn}
 use Rattle.metadata.specs.steps.Entries.{rows_view}
 use Rattle.metadata.proofs.snapshot.names_row.Given as goal
 

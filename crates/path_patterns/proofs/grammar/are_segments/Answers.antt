@@ -1,7 +1,7 @@
 use Rattle.std.proofs.Common.{rules, tests, arith}
 use Rattle.std.proofs.lemmas.Iterator.Search.{all_from_yields_List}
 use Rattle.std.proofs.lemmas.Iterator.Splits.{YieldsList-from_str_split}
-use Rattle.path_patterns.specs.Tests.{is_segment}
+use Rattle.path_patterns.specs.steps.Segments.{is_segment}
 use Rattle.path_patterns.proofs.grammar.are_segments.Goals as goal
 
 pub returns : goal.returns

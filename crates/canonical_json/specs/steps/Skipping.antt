@@ -1,7 +1,6 @@
 -- Passing over a value of a canonical text without reading it: a text ends at its closing mark, and a list or an object
 -- where as many brackets have closed as opened.
 use Rattle.std.specs.Prelude.{◌≡◌, ℕ, ◌+◌, ◌-◌, List, [], ◌∷◌, ◌++◌, ◌==◌, ◌&&◌, ◌||◌, if◌then◌else◌, Option, Some, None}
-use Rattle.canonical_json.specs.Spelling.{text_spelling}
 use Rattle.canonical_json.specs.declared.members.Place.{Place}
 use Rattle.canonical_json.specs.declared.members.Place.TheVariants.{Outside, InText, BehindSlash}
 
@@ -30,10 +29,6 @@ or_behind here go (Some s) = go s
 unfoldable pub behind_value : ℕ → Place → List ℕ → List ℕ
 behind_value inside place [] = []
 behind_value inside place (b ∷ bs) = or_behind (b ∷ bs) (λ s. behind_value s.1 s.0 bs) (step_over inside place b)
-
--- a name with its marks and its colon
-abbrev pub member_front : List ℕ → List ℕ
-member_front name = text_spelling name ++ 58 ∷ []
 
 -- the second bytes are the end of the first
 abbrev pub EndsWith : List ℕ → List ℕ → Type 0
