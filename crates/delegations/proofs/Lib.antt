@@ -3,6 +3,8 @@ pub mod Chains
 pub mod Complete
 pub mod Files
 pub mod Flat
+pub mod GoodVisits
 pub mod Places
 pub mod PutIn
+pub mod Rising
 pub mod Visits

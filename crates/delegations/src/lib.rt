@@ -6,7 +6,7 @@ mod rows;
 mod shelf;
 mod visiting;
 
-pub use laws::no_chain_left_out;
+pub use laws::{good_documents_are_visited, index_lists_rise, no_chain_left_out};
 pub use metadata::{
     File, KeyTable, Listing, Meta, Moment, RoleName, RoleRule, Root, Snapshot, Source, TargetPath,
     Targets,

@@ -1,7 +1,9 @@
 -- What stands in a list, by recursion on the list, and how many distinct elements a list has room for.
-use Rattle.std.proofs.Common.{◌≡◌, ◌≢◌, ℕ, zero, suc, ◌<◌, ◌≤◌, List, [], ◌∷◌, ◌++◌, length, refl, sym, ap, subst, ◌∙◌, arith, ◌⊎◌, inl, inr}
+use Rattle.std.proofs.Common.{IsTrue, ⊎_elim, bytes_eq, ◌↔◌, ◌≡◌, ◌≢◌, ℕ, zero, suc, ◌<◌, ◌≤◌, List, [], ◌∷◌, ◌++◌, length, refl, sym, ap, subst, ◌∙◌, arith, ◌⊎◌, inl, inr}
+use Rattle.std.proofs.lemmas.Bool.{or_cases, or_left, or_right}
+use Rattle.std.proofs.lemmas.Slice.Eq.{bytes_eq-Decides}
 use Rattle.std.specs.Prelude.{slice_index_or}
-use Rattle.std.specs.List.{AllByRecursion, Contains}
+use Rattle.std.specs.List.{AllByRecursion, Contains, list_any}
 use Rattle.keys_roles.specs.Rules.{AreDistinct}
 use Rattle.keys_roles.specs.steps.Counting.{IsIn}
 
@@ -17,6 +19,16 @@ in_at (y ∷ ys) x (suc k) below h = inr (in_at ys x k (omega arith) h)
 
 pub in_contains : {X : Type 0} → (xs : List X) (x : X) → Contains xs x → IsIn xs x
 in_contains xs x h = in_at xs x h.0 h.1 h.2
+
+-- the same as a test of byte lists
+pub any_in : (xs : List (List ℕ)) (x : List ℕ) → IsTrue (list_any (λ y. bytes_eq y x) xs) ↔ IsIn xs x
+any_in [] x = (λ e. cc, λ h. absurd h)
+any_in (y ∷ ys) x =
+    let same = bytes_eq-Decides y x in
+    let rest = any_in ys x in (
+      λ e. ⊎_elim (λ l. inl (same.0 l)) (λ r. inr (rest.0 r)) (or_cases (bytes_eq y x) (list_any (λ z. bytes_eq z x) ys) e),
+      λ h. ⊎_elim (λ l. or_left (bytes_eq y x) (list_any (λ z. bytes_eq z x) ys) (same.1 l)) (λ r. or_right (bytes_eq y x) (list_any (λ z. bytes_eq z x) ys) (rest.1 r)) h,
+    )
 
 -- what holds of each element holds of one
 pub of_each : {X : Type 0} → (P : X → Type 0) (xs : List X) (x : X) → AllByRecursion P xs → IsIn xs x → P x

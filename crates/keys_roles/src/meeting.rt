@@ -93,12 +93,5 @@ fn take_in(tops: &mut [[u8; 56]; MOST], count: usize, top: &[u8; 56]) -> usize
 fn is_among(tops: &[[u8; 56]], top: &[u8; 56]) -> bool
     ensures { IsTrue result ↔ (IsIn tops.now top.now) }
 {
-    let mut rest = tops;
-    'tops: while let Some((first, later)) = rest.split_first() {
-        if *first == *top {
-            return true;
-        }
-        rest = later;
-    }
-    false
+    tops.contains(top)
 }
