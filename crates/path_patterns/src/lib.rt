@@ -2,7 +2,7 @@
 //! snapshot (TUF 1.0, sections 4.5 and 6.2).
 #![tactic(auto)]
 
-ghost use Rattle.std.specs.Prelude.{◌≡◌, ◌↔◌, IfOk, IfSome, IfNone};
+ghost use Rattle.std.specs.Prelude.{◌≡◌, ◌↔◌, IfOk, IfSome, IfNone, OnErr};
 ghost use Rattle.path_patterns.specs.Grammar.{IsTargetPath, IsName};
 
 use std::alloc::{AllocError, Global};
@@ -64,10 +64,11 @@ impl Model for RoleName {
 pub struct Digest(pub [u8; 32]);
 
 impl TargetPath {
-    /// The text as a target path, and `None` where it is none.
+    /// The text as a target path, and `None` where it is none. Only a target path wants memory.
     pub fn read(alloc: Global, text: &str) -> Result<Option<TargetPath>, NoMemory>
         ensures some { IfOk result (λ o. IfSome o (λ p. (p ≡ text.now) × IsTargetPath text.now)) }
         ensures none { IfOk result (λ o. IfNone o (IsTargetPath text.now → ⊥)) }
+        ensures memory { OnErr result (IsTargetPath text.now) }
     {
         if !is_target_path(text) {
             return Ok(None);
@@ -86,10 +87,11 @@ impl TargetPath {
 }
 
 impl RoleName {
-    /// The text as a role's name, and `None` where it is none.
+    /// The text as a role's name, and `None` where it is none. Only a name wants memory.
     pub fn read(alloc: Global, text: &str) -> Result<Option<RoleName>, NoMemory>
         ensures some { IfOk result (λ o. IfSome o (λ n. (n ≡ text.now) × IsName text.now)) }
         ensures none { IfOk result (λ o. IfNone o (IsName text.now → ⊥)) }
+        ensures memory { OnErr result (IsName text.now) }
     {
         if !is_role_name(text) {
             return Ok(None);
