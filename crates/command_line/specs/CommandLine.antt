@@ -2,6 +2,7 @@
 use Rattle.std.specs.Prelude.{◌≡◌, ℕ, ◌≤◌, List, Option, Some, None, true, codes, length, map, string_bytes, String}
 use Rattle.std.specs.declared.alloc.Global.{Global}
 use Rattle.std.specs.Str.Parse.{digits_value, without_leading_plus}
+use Rattle.limits.specs.Limits.{most_documents}
 use Rattle.clap.specs.Words.{App, Rule, Row, Text, all_of, first_of, new_app, new_rule, subcommand_of, with_rule, with_subcommand}
 use Rattle.clap.specs.declared.builder.action.ArgAction.TheVariants.{Append, Set}
 use Rattle.clap.specs.declared.builder.value_parser.ValueParser.TheVariants.{Unsigned}
@@ -31,11 +32,7 @@ db_rule = record (option_rule (codes "db")) { required = true }
 abbrev pub operand_rule : Text → Rule
 operand_rule name = record (new_rule name) { value_names = 1; required = true; action = Some Set }
 
--- so many documents may be published at once
-abbrev pub most_documents : ℕ
-most_documents = 160
-
--- `ROLE:FILE ..`
+-- `ROLE:FILE ..`, as many as a batch has at most
 abbrev pub documents_rule : Rule
 documents_rule = record (operand_rule (codes "document")) {
   action = Some Append;

@@ -5,6 +5,7 @@ ghost use Rattle.clap.specs.declared.builder.command.Command.TheViews.{out-Comma
 ghost use Rattle.command_line.specs.CommandLine.{begun_line, canon_line, count_rule, db_rule, documents_rule, init_line, moment_rule, operand_rule, port_rule, publish_line, put_line, serve_line, stored_line};
 
 use clap::{Arg, ArgAction, Command, value_parser};
+use limits::MOST_DOCUMENTS;
 use std::alloc::{AllocError, Global};
 
 /// `canon [--at SECONDS] FILE`
@@ -158,5 +159,5 @@ fn documents<'a>(alloc: Global) -> Arg<'a>
         .help("A document's role and file: root, timestamp, snapshot, targets or a delegated role")
         .required(true)
         .action(ArgAction::Append)
-        .num_args(1..=160)
+        .num_args(1..=MOST_DOCUMENTS)
 }

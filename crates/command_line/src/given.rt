@@ -2,10 +2,12 @@
 ghost use Rattle.std.specs.Prelude.{◌≡◌, ◌≤◌, IfOk, Some, codes, map, string_bytes};
 ghost use Rattle.std.specs.Str.Parse.{digits_value, without_leading_plus};
 ghost use Rattle.clap.specs.Words.{found_of, rows_of};
-ghost use Rattle.command_line.specs.CommandLine.{HasNumber, HasText, HasTexts, MayHaveNumber, last_moment, last_port, most_connections, most_documents};
+ghost use Rattle.command_line.specs.CommandLine.{HasNumber, HasText, HasTexts, MayHaveNumber, last_moment, last_port, most_connections};
+ghost use Rattle.limits.specs.Limits.{most_documents};
 
-use crate::tasks::{LAST_MOMENT, LAST_PORT, MOST_CONNECTIONS, MOST_DOCUMENTS, Usage};
+use crate::tasks::{LAST_MOMENT, LAST_PORT, MOST_CONNECTIONS, Usage};
 use clap::ArgMatches;
+use limits::MOST_DOCUMENTS;
 use std::alloc::{AllocError, Global};
 
 /// The text that is given for an argument.
@@ -65,11 +67,10 @@ pub fn count_of(alloc: Global, given: &ArgMatches<'_>) -> Result<Option<u64>, Us
 pub fn port_of(alloc: Global, given: &ArgMatches<'_>) -> Result<u16, Usage>
     ensures { IfOk result (HasNumber (rows_of (found_of given.now)) (codes "port") 1 last_port) }
 {
-    match number_of(alloc, given, "port", 1, LAST_PORT) {
-        Ok(Some(port)) => Ok(port as u16),
-        Ok(None) => Err(fault(alloc, "error: no port\n")),
-        Err(usage) => Err(usage),
-    }
+    let Some(port) = number_of(alloc, given, "port", 1, LAST_PORT)? else {
+        return Err(fault(alloc, "error: no port\n"));
+    };
+    Ok(port as u16)
 }
 
 // The number that is given for an argument within its range, if there is one.

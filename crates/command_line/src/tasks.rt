@@ -5,9 +5,6 @@ use thiserror::Error;
 /// The last moment, 9999-12-31T23:59:59Z.
 pub const LAST_MOMENT: u64 = 253402300799;
 
-/// So many documents may be published at once.
-pub const MOST_DOCUMENTS: usize = 160;
-
 /// The last port.
 pub const LAST_PORT: u64 = 65535;
 

@@ -1,5 +1,5 @@
 -- Laws of what an input asks.
-use Rattle.std.proofs.Common.{◌≡◌, inl, inr, ℕ, List, ◌++◌, drop, take, Option, Some, None, Err, refl, sym, ap, ◌∙◌, arith, subst}
+use Rattle.std.proofs.Common.{◌≡◌, ◌<◌, inl, inr, ℕ, List, ◌++◌, drop, take, Option, Some, None, Err, refl, sym, ap, ◌∙◌, arith, subst}
 use Rattle.std.specs.Io.KnownBytes.{Consumes}
 use Rattle.hex.specs.Hex.{encode_lower}
 use Rattle.httparse.specs.Grammar.{RequestHead}
@@ -15,7 +15,7 @@ use Rattle.http_messages.specs.Sound.{OnNoMemory}
 use Rattle.http_messages.specs.declared.request.Received.{Received}
 use Rattle.http_messages.specs.declared.line.ReceiveFault.{ReceiveFault}
 use Rattle.http_messages.specs.declared.line.ReceiveFault.TheVariants.{Read, OutOfMemory}
-use Rattle.http_messages.specs.Request.{Request, batch, put_blob, Wanted, IsWanted, HasWanted, refused, wanted, of_head, OfBatch, framed, ill_framed, OfBlob, named, no_digest, OfBody, OfRest, Asks, by_head, by_none}
+use Rattle.http_messages.specs.Request.{Request, batch, put_blob, Wanted, IsWanted, HasWanted, IsKept, HasKept, WantsMemory, refused, wanted, of_head, OfBatch, framed, ill_framed, OfBlob, named, no_digest, OfBody, OfRest, Asks, by_head, by_none}
 use Rattle.http_messages.proofs.Frames.{one-batch}
 
 -- ---- one request for an input
@@ -71,18 +71,40 @@ input-is None new got h = tt
 input-is (Some x) None got h = absurd h
 input-is (Some x) (Some y) got h = sym h
 
--- a head that was found refuses nothing
-pub has-wanted : (got known : List ℕ) (headers : List HeaderSpan) (spans : RequestSpans) (said : Wanted)
-    → FoundHead got known headers (Some spans) → ((h : RequestHead) → IsRequestAt got headers spans h → said ≡ of_head h) → IsWanted said → HasWanted (got ++ known)
-has-wanted got known headers spans said (within, h, at, small) says wants =
+-- what has to be kept is of a head that refuses nothing
+kept-wanted : (w : Wanted) → HasKept w → IsWanted w
+kept-wanted (refused why) h = absurd h
+kept-wanted (wanted route name len) h = tt
+
+-- a body that is not empty is kept whatever its length is
+pub kept-more : (route : Route) (len : ℕ) → IsKept route 0 → IsKept route len
+kept-more Batch len h = absurd (omega (arith, h))
+kept-more Blob len h = absurd (omega (arith, h))
+kept-more Metadata len h = tt
+kept-more Target len h = tt
+
+pub kept-body : (route : Route) (len : ℕ) → 0 < len → IsKept route len
+kept-body Batch len h = h
+kept-body Blob len h = h
+kept-body Metadata len h = tt
+kept-body Target len h = tt
+
+-- a head that was found asks for what has to be kept
+pub wants-memory : (got known : List ℕ) (headers : List HeaderSpan) (spans : RequestSpans) (said : Wanted)
+    → FoundHead got known headers (Some spans) → ((h : RequestHead) → IsRequestAt got headers spans h → said ≡ of_head h) → HasKept said → WantsMemory (got ++ known)
+wants-memory got known headers spans said (within, h, at, small) says keeps =
+    let kept : HasKept (of_head h) = subst HasKept (says h at) keeps in
     record {
-      head = h;
-      rest = drop spans.len got ++ known;
-      heads = record { reads = ReadsRequest-append got h (drop spans.len got) known at.reads; small = small };
-      wants = subst IsWanted (says h at) wants;
+      wants = record {
+        head = h;
+        rest = drop spans.len got ++ known;
+        heads = record { reads = ReadsRequest-append got h (drop spans.len got) known at.reads; small = small };
+        wants = kept-wanted (of_head h) kept;
+      };
+      keeps = kept;
     }
 
--- the same, where more was read behind the head
+-- a head that was found refuses nothing, where more was read behind it
 pub wanted-more : (got known gave more : List ℕ) (headers : List HeaderSpan) (spans : RequestSpans) (said : Wanted)
     → FoundHead got known headers (Some spans) → ((h : RequestHead) → IsRequestAt got headers spans h → said ≡ of_head h) → IsWanted said → HasWanted (got ++ gave ++ more)
 wanted-more got known gave more headers spans said (within, h, at, small) says wants =

@@ -7,7 +7,7 @@ use Rattle.std.specs.List.{list_all}
 use Rattle.std.proofs.lemmas.Bool.Decides.{nat_tests}
 use Rattle.std.proofs.lemmas.Bool.{and_parts}
 use Rattle.json.specs.Print.{escape, escape_byte}
-use Rattle.http_messages.specs.DenialValue.{denied_alone, denied_at}
+use Rattle.http_messages.specs.steps.Denials.{denied_alone, denied_at}
 use Rattle.serde_json.specs.Written.{compact_text}
 use Rattle.serde_json.proofs.OnLiterals.{serde_json_on_literals}
 use Rattle.http_messages.specs.Bodies.{denial_text}

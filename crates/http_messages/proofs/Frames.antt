@@ -16,7 +16,9 @@ use Rattle.std.proofs.lemmas.Bool.Decides.{nat_tests}
 use Rattle.std.proofs.Math.Seq.{take-append_seam, drop-append_seam}
 use Rattle.path_patterns.specs.Bytes.{is_name_start, is_name_byte}
 use Rattle.path_patterns.specs.Grammar.{IsName}
-use Rattle.http_messages.specs.Framing.{Document, frame, CanStand, IsBatch, Lacks, Opens}
+use Rattle.limits.specs.Limits.{most_documents}
+use Rattle.http_messages.specs.Framing.{Document, frame, CanStand, IsBatch, Opens, BeginsWithDocument}
+use Rattle.http_messages.specs.steps.Cutting.{Lacks, Cuts}
 
 -- ---- two texts around a byte
 
@@ -160,7 +162,25 @@ frame-not-empty d more e =
     let l : 0 ≡ length (frame d ++ more) = ap length e in
     omega (arith, simp length-append at l)
 
+-- a document that was cut off opens the text where its name is one
+pub cut-opens : (text : List ℕ) (d : Document) (rest : List ℕ) → Cuts text d rest → IsName d.0 → Opens text d rest
+cut-opens text d rest cuts name = record { stands = record { name = name; short = cuts.short }; whole = cuts.whole }
+
+-- and where it is none, nothing opens the text
+pub cut-none : (text : List ℕ) (d : Document) (rest : List ℕ) → Cuts text d rest → (IsName d.0 → ⊥) → (e : Document) (more : List ℕ) → Opens text e more → ⊥
+cut-none text d rest cuts none e more opens =
+    let whole = cuts.whole ∙ sym (regroup d.0 (decimal (length d.1)) d.1 rest) in
+    let names = behind-name text e more d.0 (decimal (length d.1) ++ 10 ∷ (d.1 ++ rest)) opens whole cuts.name in
+    none (subst IsName names.0 opens.stands.name)
+
 -- ---- all documents
+
+-- documents at the front and a document behind them: the text begins with one
+pub begins : (body : List ℕ) (done : List Document) (rest : List ℕ) → body ≡ flat_map frame done ++ rest → AllByRecursion CanStand done
+    → BeginsWithDocument rest → BeginsWithDocument body
+begins body [] rest e all h = subst BeginsWithDocument (sym e) h
+begins body (d ∷ ds) rest e all h =
+    (d, flat_map frame ds ++ rest, record { stands = all.0; whole = e ∙ append_assoc (frame d) (flat_map frame ds) rest })
 
 -- documents whose texts begin a whole batch are its first
 pub front-of : (done docs : List Document) (rest : List ℕ) → AllByRecursion CanStand done → AllByRecursion CanStand docs
@@ -196,7 +216,7 @@ none-at-all body docs e batch =
 
 -- too many documents, as something is left
 pub too-many : (body : List ℕ) (done docs : List Document) (rest : List ℕ) → body ≡ flat_map frame done ++ rest → AllByRecursion CanStand done
-    → length done ≡ 160 → 0 < length rest → IsBatch body docs → ⊥
+    → length done ≡ most_documents → 0 < length rest → IsBatch body docs → ⊥
 too-many body done docs rest e all full some batch =
     let (more, is, each, left) = left-over body done docs rest e all batch in
     by more is left

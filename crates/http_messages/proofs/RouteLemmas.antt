@@ -10,11 +10,12 @@ use Rattle.matchit.proofs.SeekLemmas.{seek-empty, param_step-empty, or_else-none
 use Rattle.matchit.proofs.RenameLemmas.{seek-rename}
 use Rattle.matchit.specs.Router.{RouteOf}
 use Rattle.std.proofs.Common.{get_or, map}
-use Rattle.http_messages.specs.RouteOf.{after, route_of, prefix_of, with_rest, or_else, Routed}
+use Rattle.http_messages.specs.RouteOf.{after, route_of, or_else, Routed}
+use Rattle.http_messages.specs.steps.Prefixes.{prefix_of, with_rest}
 use Rattle.http_messages.specs.RouteOf as plain
 use Rattle.std.specs.Prelude.{option_map}
 use borrow.Author.Tests.{ltb-true}
-use Rattle.http_messages.specs.Known.{all_routes, row}
+use Rattle.http_messages.specs.steps.Known.{all_routes, row}
 use Rattle.http_messages.specs.declared.routes.Route.{Route}
 use Rattle.http_messages.specs.declared.routes.Route.TheVariants.{Batch, Blob, Metadata, Target}
 

@@ -18,7 +18,3 @@ took-more a b text more (part, rest, e, took) = (part, rest ++ more, ap (λ l. l
 pub took-after : (a b c : Option (List ℕ)) (front text : List ℕ) → Appends a b front → TookSome b c text → TookSome a c (front ++ text)
 took-after a b c front text all (part, rest, e, took) =
     (front ++ part, rest, ap (λ l. front ++ l) e ∙ sym (append_assoc front part rest), Appends-trans a b c front part all took)
-
-pub on-err : {T E : Type 0} (r : Result T E) (P Q : Type 0) → (P → Q) → OnErr r P → OnErr r Q
-on-err (Ok x) P Q f h = tt
-on-err (Err e) P Q f h = f h

@@ -1,8 +1,9 @@
 -- The documents of a batch, as the body of the request has them.
-use Rattle.std.specs.Prelude.{◌≡◌, ◌≢◌, ℕ, ◌<◌, ◌≤◌, List, ◌∷◌, ◌++◌, length, slice_index}
+use Rattle.std.specs.Prelude.{◌≡◌, ℕ, ◌<◌, ◌≤◌, List, ◌∷◌, ◌++◌, length}
 use Rattle.std.specs.List.{flat_map, AllByRecursion}
 use Rattle.std.specs.Fmt.{decimal}
 use Rattle.path_patterns.specs.Grammar.{IsName}
+use Rattle.limits.specs.Limits.{most_documents}
 
 -- a document: its name, and its bytes
 abbrev pub Document : Type 0
@@ -22,14 +23,14 @@ pub record CanStand (d : Document) : Type 0 where
 pub record IsBatch (body : List ℕ) (documents : List Document) : Type 0 where
   pub each : AllByRecursion CanStand documents
   pub least : 0 < length documents
-  pub most : length documents ≤ 160
+  pub most : length documents ≤ most_documents
   pub whole : body ≡ flat_map frame documents
-
--- the byte is not in the text
-abbrev pub Lacks : ℕ → List ℕ → Type 0
-Lacks c text = (k : ℕ) → k < length text → slice_index text k ≢ c
 
 -- a text is a document with its name and its length before it, and then the rest
 pub record Opens (text : List ℕ) (d : Document) (rest : List ℕ) : Type 0 where
   pub stands : CanStand d
   pub whole : text ≡ frame d ++ rest
+
+-- a text has a document at its front, with its name and its length before it
+abbrev pub BeginsWithDocument : List ℕ → Type 0
+BeginsWithDocument text = (d : Document) × (rest : List ℕ) × Opens text d rest

@@ -1,10 +1,8 @@
 pub mod Body
 pub mod Bodies
-pub mod DenialValue
 pub mod Faults
 pub mod Framing
 pub mod Head
-pub mod Known
 pub mod Length
 pub mod Sound
 pub mod Taken
@@ -12,3 +10,4 @@ pub mod Received
 pub mod Request
 pub mod RouteOf
 pub mod Text
+pub mod steps

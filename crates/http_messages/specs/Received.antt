@@ -1,18 +1,11 @@
 -- What the code's values stand for.
 use Rattle.std.specs.Prelude.{◌≡◌, map, string_bytes, ⊤}
-use Rattle.http_messages.specs.declared.request.Said.{Said}
-use Rattle.http_messages.specs.declared.request.Said.TheVariants.{Refused, Wanted as IsWanted}
 use Rattle.http_messages.specs.declared.request.Received.{Received}
 use Rattle.http_messages.specs.declared.request.Received.TheVariants.{Fault, Batch, PutBlob, Metadata, Target}
 use Rattle.http_messages.specs.declared.request.Asked.{Asked}
 use Rattle.http_messages.specs.declared.request.Asked.TheVariants.{Fault as AFault, Batch as ABatch, PutBlob as APutBlob, Metadata as AMetadata, Target as ATarget}
-use Rattle.http_messages.specs.Framing.{Document}
-use Rattle.http_messages.specs.Request.{Request, fault, batch, put_blob, metadata, target, Wanted, refused, wanted, OfBatch}
-
--- what a head was found to say
-abbrev pub wanted_by : Said → Wanted
-wanted_by (Refused why) = refused why
-wanted_by (IsWanted route name len) = wanted route name.now len
+use Rattle.http_messages.specs.Framing.{Document, BeginsWithDocument}
+use Rattle.http_messages.specs.Request.{Request, fault, batch, put_blob, metadata, target, OfBatch}
 
 -- what a request that was received asks, where the documents of a batch are not looked at yet
 abbrev pub Means : Received → Request → Type 0
@@ -30,10 +23,18 @@ IsOfBatch (PutBlob digest body) = ⊥
 IsOfBatch (Metadata name) = ⊥
 IsOfBatch (Target path) = ⊥
 
+-- it is a batch whose body begins with a document
+abbrev pub HasDocument : Received → Type 0
+HasDocument (Fault why) = ⊥
+HasDocument (Batch body) = BeginsWithDocument body.items
+HasDocument (PutBlob digest body) = ⊥
+HasDocument (Metadata name) = ⊥
+HasDocument (Target path) = ⊥
+
 -- what is asked
 abbrev pub request_of : Asked → Request
 request_of (AFault why) = fault why
-request_of (ABatch documents) = batch (map {B = Document} (λ d. (d.0.now, d.1.now)) documents.items)
+request_of (ABatch documents) = batch (map {B = Document} (λ d. (d.0, d.1.now)) documents.items)
 request_of (APutBlob digest bytes) = put_blob digest.0 bytes.now
 request_of (AMetadata name) = metadata name.now
 request_of (ATarget path) = target path.now

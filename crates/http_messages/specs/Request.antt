@@ -4,6 +4,7 @@ use Rattle.std.specs.List.{list_all}
 use Rattle.httparse.specs.Grammar.{RequestHead}
 use Rattle.httparse.specs.Spans.{name_and_value}
 use Rattle.hex.specs.Hex.{encode_lower}
+use Rattle.limits.specs.Limits.{blob_limit}
 use Rattle.path_patterns.specs.Names.{IsDigest}
 use Rattle.http_messages.specs.declared.fields.Declared.{Declared}
 use Rattle.http_messages.specs.declared.fields.Declared.TheVariants.{Ill, Absent, Given}
@@ -51,7 +52,7 @@ method_of Target = Get
 -- the most bytes of a body
 abbrev pub limit_of : Route → ℕ
 limit_of Batch = 4194304
-limit_of Blob = 1048576
+limit_of Blob = blob_limit
 limit_of Metadata = 0
 limit_of Target = 0
 
@@ -89,6 +90,23 @@ pub record HasWanted (input : List ℕ) : Type 0 where
   pub rest : List ℕ
   pub heads : Heads input head rest
   pub wants : IsWanted (of_head head)
+
+-- it has to be kept until the answer: a body that is not empty, or a name, which is never empty
+abbrev pub IsKept : Route → ℕ → Type 0
+IsKept Batch len = 0 < len
+IsKept Blob len = 0 < len
+IsKept Metadata len = ⊤
+IsKept Target len = ⊤
+
+-- the head alone refuses nothing, and something has to be kept
+abbrev pub HasKept : Wanted → Type 0
+HasKept (refused why) = ⊥
+HasKept (wanted route name len) = IsKept route len
+
+-- the input has a head that refuses nothing, and something has to be kept
+pub record WantsMemory (input : List ℕ) : Type 0 where
+  pub wants : HasWanted input
+  pub keeps : HasKept (of_head wants.head)
 
 -- what the body of a batch asks
 pub data OfBatch (body : List ℕ) : Request → Type 0 where

@@ -19,10 +19,6 @@ has_slash (b ∷ rest) = cond (b == 47) true (has_slash rest)
 abbrev pub Routed : Type 0
 Routed = Route × List ℕ
 
-abbrev pub with_rest : Route → Option (List ℕ) → Option Routed
-with_rest route None = None
-with_rest route (Some rest) = Some (route, rest)
-
 -- nothing may follow
 abbrev pub at_end : Route → List ℕ → Option Routed
 at_end route [] = Some (route, [])
@@ -50,10 +46,3 @@ route_of target =
     (or_else (option_and_then (with_name Blob) (after (codes "/blobs/") target))
     (or_else (option_and_then (with_name Metadata) (after (codes "/metadata/") target))
     (option_and_then (with_path Target) (after (codes "/targets/") target))))
-
--- the bytes that a route's targets begin with
-abbrev pub prefix_of : Route → List ℕ
-prefix_of Batch = codes "/batch"
-prefix_of Blob = codes "/blobs/"
-prefix_of Metadata = codes "/metadata/"
-prefix_of Target = codes "/targets/"

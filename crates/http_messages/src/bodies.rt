@@ -5,7 +5,7 @@ ghost use Rattle.std.specs.Char.{is_ascii_alphabetic};
 ghost use Rattle.std.specs.List.{list_all};
 ghost use Rattle.serde_json.specs.View.{view};
 ghost use Rattle.http_messages.specs.Bodies.{denial_text, denial_status as status_of_number, accepted_text, stored_text};
-ghost use Rattle.http_messages.specs.DenialValue.{denied_alone, denied_at};
+ghost use Rattle.http_messages.specs.steps.Denials.{denied_alone, denied_at};
 
 use crate::reply::{ShortText, Status, push};
 use serde_json::{Value, json};

@@ -55,10 +55,9 @@ pub fn read_head<R: Receive>(
         if filled == HEAD_LIMIT {
             return Ok((filled, None));
         }
-        match read_at(reader, buf, filled) {
-            Ok(0) => return Ok((filled, None)),
-            Ok(count) => filled += count,
-            Err(e) => return Err(e),
+        match read_at(reader, buf, filled)? {
+            0 => return Ok((filled, None)),
+            count => filled += count,
         }
     }
 }

@@ -5,6 +5,7 @@ ghost use Rattle.std.specs.Io.KnownBytes.{Appends, ReadConsumes, WriteAppends};
 ghost use Rattle.http_messages.specs.Sound.{StaysSound, TakesSome};
 ghost use Rattle.http_messages.specs.Taken.{TookSome};
 
+use std::alloc::AllocError;
 use std::io;
 use std::io::{Read, Write};
 use std::net::TcpStream;
@@ -24,6 +25,28 @@ pub enum ReceiveFault {
     /// Memory was refused. It says nothing of the request.
     #[error("out of memory")]
     OutOfMemory,
+}
+
+impl From<io::Error> for ReceiveFault {
+    ghost use Rattle.std.specs.Prelude.{◌≡◌};
+    ghost use Rattle.http_messages.specs.declared.line.ReceiveFault.TheVariants.{Read};
+
+    ghost from_gives = { λ _ fault. fault ≡ Read };
+
+    fn from(_error: io::Error) -> ReceiveFault {
+        ReceiveFault::Read
+    }
+}
+
+impl From<AllocError> for ReceiveFault {
+    ghost use Rattle.std.specs.Prelude.{◌≡◌};
+    ghost use Rattle.http_messages.specs.declared.line.ReceiveFault.TheVariants.{OutOfMemory};
+
+    ghost from_gives = { λ _ fault. fault ≡ OutOfMemory };
+
+    fn from(_error: AllocError) -> ReceiveFault {
+        ReceiveFault::OutOfMemory
+    }
 }
 
 /// A reader of which it can be said that it does not fail.
@@ -84,6 +107,28 @@ impl Transmit for Vec<u8> {
     }
 }
 
+/// A writer that takes everything, keeps nothing of it and never fails. It takes no memory.
+#[derive(Clone, Copy, Debug)]
+pub struct Sink;
+
+impl Write for Sink {
+    fn write(&mut self, buf: &[u8]) -> io::Result<usize> {
+        Ok(buf.len())
+    }
+
+    fn flush(&mut self) -> io::Result<()> {
+        Ok(())
+    }
+}
+
+impl Transmit for Sink {
+    ghost sound = { λ _. true };
+
+    fn transmit(&mut self, buf: &[u8]) -> io::Result<usize> {
+        Ok(buf.len())
+    }
+}
+
 impl Transmit for TcpStream {
     ghost sound = { λ _. false };
 
@@ -99,6 +144,7 @@ impl Transmit for &TcpStream {
         self.write(buf)
     }
 }
+
 /// Writes all of the bytes, in as many calls as the writer wants. On an error the writer took a beginning of them.
 pub fn send_all<W: Transmit>(writer: &mut W, bytes: &[u8]) -> Result<(), Cut>
     ensures ok { OnOk result (Appends (W.contents writer.old) (W.contents writer.new) bytes.now) }
@@ -121,12 +167,7 @@ pub fn send_both<W: Transmit>(writer: &mut W, front: &[u8], back: &[u8]) -> Resu
     ensures err { OnErr result (TookSome (W.contents writer.old) (W.contents writer.new) (front.now ++ back.now)) }
     ensures sound { StaysSound (W.sound writer.old) result (W.sound writer.new) }
 {
-    match send_all(writer, front) {
-        Ok(()) => {}
-        Err(cut) => return Err(cut),
-    }
-    match send_all(writer, back) {
-        Ok(()) => Ok(()),
-        Err(cut) => Err(cut),
-    }
+    send_all(writer, front)?;
+    send_all(writer, back)?;
+    Ok(())
 }

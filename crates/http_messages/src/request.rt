@@ -10,8 +10,10 @@ ghost use Rattle.http_messages.specs.Length.{declared as declared_by};
 ghost use Rattle.http_messages.specs.RouteOf.{route_of};
 ghost use Rattle.http_messages.specs.Sound.{ReadsSoundly, OnNoMemory};
 ghost use Rattle.http_messages.specs.Text.{method_text};
-ghost use Rattle.http_messages.specs.Received.{wanted_by, Means, IsOfBatch, request_of};
-ghost use Rattle.http_messages.specs.Request.{Request, Asks, IsWanted, HasWanted, OfRest, OfBody, OfBlob, OfBatch, wanted, of_head, of_route as of_route_lem, of_length as of_length_lem, length_for as length_for_lem, method_of, limit_of, is_visible};
+ghost use Rattle.http_messages.specs.Received.{Means, IsOfBatch, HasDocument, request_of};
+ghost use Rattle.http_messages.specs.Framing.{BeginsWithDocument};
+ghost use Rattle.http_messages.specs.steps.Said.{wanted_by};
+ghost use Rattle.http_messages.specs.Request.{Request, Asks, IsWanted, HasWanted, IsKept, HasKept, WantsMemory, OfRest, OfBody, OfBlob, OfBatch, wanted, of_head, of_route as of_route_lem, of_length as of_length_lem, length_for as length_for_lem, method_of, limit_of, is_visible};
 
 use crate::body::read_body;
 use crate::faults::Fault;
@@ -22,14 +24,12 @@ use crate::line::{Receive, ReceiveFault};
 use crate::reply::Method;
 use crate::routes::{Route, Routes};
 use httparse::spans::{EMPTY_HEADER_SPAN, HeaderSpan, RequestSpans};
-use path_patterns::{Digest, one_digest};
+use limits::BLOB_LIMIT;
+use path_patterns::{Digest, RoleName, one_digest};
 use std::alloc::{AllocError, Global};
 
 /// The most bytes of a batch's body.
 pub const BATCH_LIMIT: u64 = 4_194_304;
-
-/// The most bytes of a blob.
-pub const BLOB_LIMIT: u64 = 1_048_576;
 
 /// A request as it was received, with its texts and its body.
 #[derive(Drop)]
@@ -52,7 +52,7 @@ pub enum Asked<'a> {
     /// It is no command.
     Fault(Fault),
     /// A batch of 1 to 160 documents, each with its name.
-    Batch(Vec<(&'a str, &'a [u8])>),
+    Batch(Vec<(RoleName, &'a [u8])>),
     /// A blob's digest, and its bytes, at most 1,048,576.
     PutBlob(Digest, &'a [u8]),
     /// The name of a metadata file.
@@ -86,7 +86,7 @@ impl Route {
     {
         match self {
             Route::Batch => BATCH_LIMIT,
-            Route::Blob => BLOB_LIMIT,
+            Route::Blob => BLOB_LIMIT as u64,
             Route::Metadata => 0,
             Route::Target => 0,
         }
@@ -174,9 +174,10 @@ fn of_spans<'a>(
     }
 }
 
-// What a whole body asks of a route, under what follows the route's prefix.
+// What a whole body asks of a route, under what follows the route's prefix. Memory is wanted for a name alone.
 fn of_body(alloc: Global, route: Route, name: &str, body: Vec<u8>) -> Result<Received, AllocError>
-    ensures { IfOk result (λ r. (request : Request) → Means r request → OfBody route name.now body.items request) }
+    ensures asked { IfOk result (λ r. (request : Request) → Means r request → OfBody route name.now body.items request) }
+    ensures memory { OnErr result (IsKept route 0) }
 {
     match route {
         Route::Batch => Ok(Received::Batch(body)),
@@ -215,16 +216,13 @@ fn read_command<R: Receive>(
     ensures asked { IfOk result (λ r. (gave : List ℕ) × Consumes (R.remaining reader.old) (R.remaining reader.new) gave
         × ((request : Request) → Means r request → OfRest (wanted route name.now len) (front.now ++ gave ++ left (R.remaining reader.new)) request)) }
     ensures sound { ReadsSoundly (R.sound reader.old) result (R.sound reader.new) }
+    ensures memory { OnNoMemory result (IsKept route len) }
 {
-    let body = match read_body(alloc, reader, front, len) {
-        Ok(Some(body)) => body,
-        Ok(None) => return Ok(Received::Fault(Fault::Body)),
-        Err(fault) => return Err(fault),
+    let Some(body) = read_body(alloc, reader, front, len)? else {
+        return Ok(Received::Fault(Fault::Body));
     };
-    match of_body(alloc, route, name, body) {
-        Ok(received) => Ok(received),
-        Err(_) => Err(ReceiveFault::OutOfMemory),
-    }
+    let received = of_body(alloc, route, name, body)?;
+    Ok(received)
 }
 
 // Reads what a head says, of which `front` came with the head.
@@ -238,7 +236,7 @@ fn read_said<R: Receive>(
         × ((request : Request) → Means r request → OfRest (wanted_by said.entry) (front.now ++ gave ++ left (R.remaining reader.new)) request)) }
     ensures batch { IfOk result (λ r. IsOfBatch r → IsWanted (wanted_by said.entry)) }
     ensures sound { ReadsSoundly (R.sound reader.old) result (R.sound reader.new) }
-    ensures memory { OnNoMemory result (IsWanted (wanted_by said.entry)) }
+    ensures memory { OnNoMemory result (HasKept (wanted_by said.entry)) }
 {
     match said {
         Said::Refused(fault) => Ok(Received::Fault(fault)),
@@ -248,7 +246,8 @@ fn read_said<R: Receive>(
 
 /// Reads one request: the head within its limits, and then so many bytes as its fields declare, of which none past the body
 /// and none of a body that is refused for its length. The faults are judged in their order, but for the documents of a
-/// batch, which `Received::asked` looks at. Memory is wanted only for a request whose head refuses nothing.
+/// batch, which `Received::asked` looks at. Memory is wanted only for a request whose head refuses nothing, and only where a
+/// body that is not empty or a name has to be kept.
 pub fn read_request<R: Receive>(
     alloc: Global,
     routes: &Routes,
@@ -258,29 +257,27 @@ pub fn read_request<R: Receive>(
         × ((request : Request) → Means r request → Asks (gave ++ left (R.remaining reader.new)) request)
         × (IsOfBatch r → HasWanted (gave ++ left (R.remaining reader.new)))) }
     ensures sound { ReadsSoundly (R.sound reader.old) result (R.sound reader.new) }
-    ensures memory { OnNoMemory result ((input : List ℕ) × IsInput (R.remaining reader.old) input × HasWanted input) }
+    ensures memory { OnNoMemory result ((input : List ℕ) × IsInput (R.remaining reader.old) input × WantsMemory input) }
 {
     let mut buf = [0; HEAD_LIMIT];
     let mut headers = [EMPTY_HEADER_SPAN; FIELD_LIMIT];
-    let Ok((filled, found)) = read_head(reader, &mut buf, &mut headers) else {
-        return Err(ReceiveFault::Read);
-    };
+    let (filled, found) = read_head(reader, &mut buf, &mut headers)?;
     let Some(spans) = found else {
         return Ok(Received::Fault(Fault::Head));
     };
     let got = &buf[..filled];
     let said = of_spans(routes, got, &headers, spans);
-    match read_said(alloc, reader, said, &got[spans.len..]) {
-        Ok(received) => Ok(received),
-        Err(fault) => Err(fault),
-    }
+    let received = read_said(alloc, reader, said, &got[spans.len..])?;
+    Ok(received)
 }
 
 impl Received {
-    /// What was received asks for. The error is want of memory, for the list of a batch's documents.
+    /// What was received asks for. The error is want of memory, for the list of a batch's documents and their names: only a
+    /// body that begins with a document wants any.
     pub fn asked(&self, alloc: Global) -> Result<Asked<'_>, AllocError>
         ensures asked { IfOk result (λ a. Means self.now (request_of a)) }
         ensures memory { OnErr result (IsOfBatch self.now) }
+        ensures document { OnErr result (HasDocument self.now) }
     {
         match self {
             Received::Fault(fault) => Ok(Asked::Fault(*fault)),
@@ -294,12 +291,12 @@ impl Received {
 
 // What the body of a batch asks for.
 fn asked_batch(alloc: Global, body: &[u8]) -> Result<Asked<'_>, AllocError>
-    ensures { IfOk result (λ a. OfBatch body.now (request_of a)) }
+    ensures asked { IfOk result (λ a. OfBatch body.now (request_of a)) }
+    ensures memory { OnErr result (BeginsWithDocument body.now) }
 {
-    match read_batch(alloc, body) {
-        Ok(Some(documents)) => Ok(Asked::Batch(documents)),
-        Ok(None) => Ok(Asked::Fault(Fault::Batch)),
-        Err(e) => Err(e),
+    match read_batch(alloc, body)? {
+        Some(documents) => Ok(Asked::Batch(documents)),
+        None => Ok(Asked::Fault(Fault::Batch)),
     }
 }
 

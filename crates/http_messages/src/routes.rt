@@ -2,8 +2,9 @@
 
 ghost use Rattle.std.specs.Prelude.{◌≡◌, option_map, IfErr};
 ghost use Rattle.matchit.specs.declared.error.InsertError.TheVariants.{OutOfMemory};
-ghost use Rattle.http_messages.specs.RouteOf.{Routed, route_of, prefix_of, after, with_rest};
-ghost use Rattle.http_messages.specs.Known.{all_routes};
+ghost use Rattle.http_messages.specs.RouteOf.{Routed, route_of, after};
+ghost use Rattle.http_messages.specs.steps.Known.{all_routes};
+ghost use Rattle.http_messages.specs.steps.Prefixes.{prefix_of, with_rest};
 
 use matchit::{InsertError, Router};
 use std::alloc::{AllocError, Global};
@@ -58,22 +59,10 @@ impl Routes {
         ensures { IfErr result (λ e. e ≡ OutOfMemory) }
     {
         let mut router = Router::new(alloc);
-        match router.insert("/batch", Route::Batch) {
-            Ok(()) => {}
-            Err(e) => return Err(e),
-        }
-        match router.insert("/blobs/{digest}", Route::Blob) {
-            Ok(()) => {}
-            Err(e) => return Err(e),
-        }
-        match router.insert("/metadata/{name}", Route::Metadata) {
-            Ok(()) => {}
-            Err(e) => return Err(e),
-        }
-        match router.insert("/targets/{*path}", Route::Target) {
-            Ok(()) => {}
-            Err(e) => return Err(e),
-        }
+        router.insert("/batch", Route::Batch)?;
+        router.insert("/blobs/{digest}", Route::Blob)?;
+        router.insert("/metadata/{name}", Route::Metadata)?;
+        router.insert("/targets/{*path}", Route::Target)?;
         Ok(Routes { router })
     }
 
@@ -99,8 +88,6 @@ fn strip<'t>(text: &'t str, prefix: &str) -> Option<&'t str>
 fn rest_of<'t>(route: Route, target: &'t str) -> Option<(Route, &'t str)>
     ensures { option_map {U = Routed} (λ r. (r.0, r.1.now)) result ≡ with_rest route (after (prefix_of route) target.now) }
 {
-    match strip(target, route.prefix()) {
-        Some(rest) => Some((route, rest)),
-        None => None,
-    }
+    let rest = strip(target, route.prefix())?;
+    Some((route, rest))
 }

@@ -4,7 +4,7 @@ use Rattle.std.proofs.lemmas.Result.{IfOk-weaker}
 use Rattle.serde_json.specs.Written.{compact_text, has_float}
 use Rattle.serde_json.proofs.OnLiterals.{serde_json_on_literals}
 use Rattle.http_messages.specs.Bodies.{denial_text}
-use Rattle.http_messages.specs.DenialValue.{denied_at}
+use Rattle.http_messages.specs.steps.Denials.{denied_at}
 use Rattle.http_messages.proofs.DenialText.{at}
 use Rattle.http_messages.proofs.bodies.denial_at.Goals as goal
 

@@ -8,18 +8,18 @@ loop-filled-preserved g c =
     let (stays, fits, len, kept) = c.loop-filled.invariant in
     let (gave, consumed, taken, count) = kept in
     let at = c.loop-filled.filled in
-    let n = c.in-Ok.n in
+    let n = c.in_ok-count.count in
     let new = c.read_at.new.buf in
-    let room : at + n ≤ length new = c.in-Ok.ensures.fits in
+    let room : at + n ≤ length new = c.in_ok-count.ensures.fits in
     let more = take n (drop at new) in
     let size : length more ≡ n = length-take-le n (drop at new) (simp length-drop (omega (arith, room))) in (
-      λ h. c.in-Ok.ensures.sound (stays h),
+      λ h. c.in_ok-count.ensures.sound (stays h),
       room,
       omega arith,
       (
         gave ++ more,
-        Consumes-trans _ _ _ gave more consumed c.in-Ok.ensures.ok,
-        take-add at n new ∙ ap (λ l. l ++ more) (c.in-Ok.ensures.front ∙ taken) ∙ append_assoc (take c.args.start c.args.buf.now) gave more,
+        Consumes-trans _ _ _ gave more consumed c.in_ok-count.ensures.ok,
+        take-add at n new ∙ ap (λ l. l ++ more) (c.in_ok-count.ensures.front ∙ taken) ∙ append_assoc (take c.args.start c.args.buf.now) gave more,
         ap (λ k. at + k) (sym size) ∙ ap (λ k. k + length more) count ∙ omega (arith, length-append gave more),
       ),
     )

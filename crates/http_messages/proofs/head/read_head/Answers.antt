@@ -13,13 +13,13 @@ returns-then-filled-eq-HEAD_LIMIT-clause-head g c =
 pub loop-spans-preserved : goal.loop-spans-preserved
 loop-spans-preserved g c =
     let at = c.loop-spans.filled in
-    let n = c.in-Ok.count in
+    let n = c.in_ok-count.count in
     record {
-      sound = λ h. c.in-Ok.ensures.sound (c.loop-spans.invariant.sound h);
-      within = omega (arith, c.in-Ok.ensures.fits);
+      sound = λ h. c.in_ok-count.ensures.sound (c.loop-spans.invariant.sound h);
+      within = omega (arith, c.in_ok-count.ensures.fits);
       buffer = omega arith;
       room = omega arith;
       bytes = subst (Consumes _ _)
-          (ap (λ l. l ++ take n (drop at c.read_at.new.buf)) (sym c.in-Ok.ensures.front) ∙ sym (take-add at n c.read_at.new.buf))
-          (Consumes-trans _ _ _ _ _ c.loop-spans.invariant.bytes c.in-Ok.ensures.ok);
+          (ap (λ l. l ++ take n (drop at c.read_at.new.buf)) (sym c.in_ok-count.ensures.front) ∙ sym (take-add at n c.read_at.new.buf))
+          (Consumes-trans _ _ _ _ _ c.loop-spans.invariant.bytes c.in_ok-count.ensures.ok);
     }
