@@ -1,0 +1,50 @@
+//! The rows of a release repository: what its database holds, and what the trust machine is loaded from.
+#![tactic(auto)]
+
+ghost use Rattle.std.specs.Prelude.{◌≡◌, ◌≢◌, IsTrue, false};
+ghost use Rattle.contents.specs.Contents.{contents_view, no_rows};
+
+use std::alloc::Global;
+
+/// The rows of a repository's tables, each list in the order of its keys.
+#[derive(Debug, Drop)]
+pub struct Contents {
+    /// The table `root`: version and bytes of each root, by version.
+    pub roots: Vec<(u32, Vec<u8>)>,
+    /// The row `timestamp` of the table `current`: version and bytes.
+    pub timestamp: Option<(u32, Vec<u8>)>,
+    /// The row `snapshot` of the table `current`: version and bytes.
+    pub snapshot: Option<(u32, Vec<u8>)>,
+    /// The table `shelf`: role, version and bytes of each targets document, by role and then version.
+    pub shelf: Vec<(String, u32, Vec<u8>)>,
+    /// The table `blob`: SHA-256 digest and bytes of each target file, by digest. In the database a digest is 64 hex digits
+    /// of lower case.
+    pub blobs: Vec<([u8; 32], Vec<u8>)>,
+}
+
+impl Contents {
+    /// No row. It takes no memory.
+    pub fn empty(alloc: Global) -> Contents
+        ensures { contents_view result ≡ no_rows }
+    {
+        Contents {
+            roots: Vec::new(alloc),
+            timestamp: None,
+            snapshot: None,
+            shelf: Vec::new(alloc),
+            blobs: Vec::new(alloc),
+        }
+    }
+
+    /// Whether there is no row.
+    pub fn is_empty(&self) -> bool
+        ensures empty { IsTrue result → contents_view self.now ≡ no_rows }
+        ensures other { result ≡ false → contents_view self.now ≢ no_rows }
+    {
+        self.roots.is_empty()
+            && self.timestamp.is_none()
+            && self.snapshot.is_none()
+            && self.shelf.is_empty()
+            && self.blobs.is_empty()
+    }
+}
