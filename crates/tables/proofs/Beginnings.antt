@@ -18,8 +18,9 @@ use Rattle.sqlite.specs.Table.{Table}
 use Rattle.sqlite.specs.Term.{Term, col}
 use Rattle.sqlite.proofs.Callers.{IsPlain, command_of}
 use Rattle.tables.specs.Schema.{the_schema, beginning}
-use Rattle.tables.specs.Tables.{AreBare, StandsFor, Tables, counted, version_row}
-use Rattle.tables.specs.Making.{Asks, AsksBy, IsMade, LacksRest, every_row}
+use Rattle.contents.specs.Contents.{Contents}
+use Rattle.tables.specs.Tables.{AreBare, StandsFor, counted, version_row}
+use Rattle.tables.specs.steps.Making.{Asks, AsksBy, IsMade, LacksRest, every_row}
 use Rattle.tables.proofs.AnswerLemmas.{cells_of}
 use Rattle.tables.proofs.Queries.{loads, loads_same}
 
@@ -84,16 +85,16 @@ same_count m n few few' same = sym (tables_count m few) ∙ ap (λ (s : Schema).
 
 -- ---- what it stands for
 
-pub to_counted : (trees : Trees) (t : Tables) → StandsFor trees t → StandsFor (counted the_schema trees) t
+pub to_counted : (trees : Trees) (t : Contents) → StandsFor trees t → StandsFor (counted the_schema trees) t
 to_counted trees t (inl h) = inl (record { root = h.root; current = h.current; shelf = h.shelf; blob = h.blob; version = h.version })
 to_counted trees t (inr bare) = inr bare
 
-pub from_counted : (trees : Trees) (t : Tables) → StandsFor (counted the_schema trees) t → StandsFor trees t
+pub from_counted : (trees : Trees) (t : Contents) → StandsFor (counted the_schema trees) t → StandsFor trees t
 from_counted trees t (inl h) = inl (record { root = h.root; current = h.current; shelf = h.shelf; blob = h.blob; version = h.version })
 from_counted trees t (inr bare) = inr bare
 
 -- without the table `schema` there is no row
-pub stands_bare : (count : ℕ) (trees : Trees) (t : Tables) → count < 5 → StandsFor (counted (beginning count) trees) t → AreBare (counted (beginning count) trees)
+pub stands_bare : (count : ℕ) (trees : Trees) (t : Contents) → count < 5 → StandsFor (counted (beginning count) trees) t → AreBare (counted (beginning count) trees)
 stands_bare count trees t few (inl h) =
     let row = h.version.complete version_row (inl refl) in
     absurd (subst (λ (rows : List Row). Has rows row.0) (lacks count trees 4 (omega (arith, few)) (omega arith)) row.1)

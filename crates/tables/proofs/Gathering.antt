@@ -1,10 +1,11 @@
 -- Items that are gathered from rows, for every table.
-use Rattle.std.proofs.Common.{◌≡◌, ◌≢◌, ◌⊎◌, inl, inr, List, [], ◌∷◌, ◌++◌, map, Bool, true, false, refl, sym, ap, subst, ◌∙◌, IsTrue, true≢false, Result, Err}
+use Rattle.std.proofs.Common.{◌≡◌, ◌≢◌, ◌⊎◌, inl, inr, List, [], ◌∷◌, ◌++◌, map, Bool, true, false, refl, sym, ap, subst, ◌∙◌, IsTrue, true≢false, Result, Ok, Err}
 use Rattle.std.specs.List.{AllByRecursion}
 use Rattle.std.specs.List.Sorted.{IsStrictlySortedBy}
 use Rattle.std.specs.declared.cmp.Ordering.{Ordering}
 use Rattle.std.specs.declared.cmp.Ordering.TheVariants.{Less, Equal, Greater}
 use Rattle.std.specs.Cmp.{IsTotalOrder}
+use Rattle.std.specs.Result.{IsErrAnd}
 use Rattle.std.specs.Ordering.{ordering_reverse}
 use Rattle.std.proofs.lemmas.Cmp.{tied_itself}
 use Rattle.std.proofs.lemmas.List.{map-append, append_assoc}
@@ -14,15 +15,17 @@ use Rattle.sqlite_trees.specs.Tree.{IsTable, rowid}
 use Rattle.sqlite_trees.specs.View.{is_int}
 use Rattle.sqlite_rules.specs.Lists.{Has}
 use Rattle.sqlite_rules.proofs.ListLemmas.{has_left, has_right, has_either}
-use Rattle.tables.specs.declared.reading.Place.TheVariants.{Behind, Same, Neither}
+use Rattle.tables.specs.declared.cells.Place.TheVariants.{Behind, Same, Neither}
 use Rattle.tables.specs.Rows.{AreRows}
 use Rattle.tables.specs.Tables.{AreKeyed}
-use Rattle.tables.specs.Loading.{AreLoaded, AreRead, AreGathered, AreOrdered, AreSpoiled, IsPlace, place_of}
+use Rattle.tables.specs.steps.Loading.{AreLoaded, AreRead, AreGathered, AreOrdered, AreSpoiled, IsPlace, place_of}
 use Rattle.tables.proofs.RowLemmas.{has_map, map_has}
 use Rattle.tables.proofs.NumberLemmas.{once, integers}
 
-pub same_error : {A E : Type 0} {a b : E} → ◌≡◌ {A = Result A E} (Err a) (Err b) → a ≡ b
-same_error e = cc
+-- the fault that a `?` hands on
+pub handed_on : {A E : Type 0} {x y : E} (r : Result A E) → IsErrAnd r (λ e. e ≡ x) → r ≡ Err y → x ≡ y
+handed_on (Ok v) is same = absurd is
+handed_on {x} {y} (Err e) is same = let inner : e ≡ y = cc in sym is ∙ inner
 
 -- ---- lists that end alike
 

@@ -19,9 +19,10 @@ use Rattle.sqlite_rules.proofs.ListLemmas.{all_has, all_from}
 use Rattle.tables.specs.declared.loading.Answers.{Answers}
 use Rattle.tables.specs.Schema.{the_schema}
 use Rattle.tables.specs.Rows.{AreRows, root_cells, current_cells, shelf_cells, blob_cells, version_cells}
-use Rattle.tables.specs.Making.{AreNumbered}
-use Rattle.tables.specs.Tables.{Tables, HoldsTables, AreBare, StandsFor, IsFit, IsDigest, AreKeyed, AreRising, no_rows, root_row, slot_row, current_rows, shelf_row, blob_row, version_row, row_cmp}
-use Rattle.tables.specs.Loading.{AreLoaded, AreRead, AreOrdered, AreSpoiled, AreAnswers, AreItems, AreSorted, AreDamaged, root, current, shelf, blob, IsRootRow, FitsRoot, IsSlotRow, FitsSlot, IsShelfRow, FitsShelf, IsBlobRow, FitsBlob, IsOne, rises, current_items, IsUnbegun}
+use Rattle.tables.specs.Opening.{AreNumbered}
+use Rattle.contents.specs.Contents.{Contents, no_rows}
+use Rattle.tables.specs.Tables.{HoldsTables, AreBare, StandsFor, IsFit, IsDigest, AreKeyed, AreRising, root_row, slot_row, current_rows, shelf_row, blob_row, version_row, row_cmp}
+use Rattle.tables.specs.steps.Loading.{AreLoaded, AreRead, AreOrdered, AreSpoiled, AreAnswers, AreItems, AreSorted, AreDamaged, root, current, shelf, blob, IsRootRow, FitsRoot, IsSlotRow, FitsSlot, IsShelfRow, FitsShelf, IsBlobRow, FitsBlob, IsOne, rises, current_items, IsUnbegun}
 use Rattle.std.specs.Cmp.{IsTotalOrder, ranks}
 use Rattle.std.proofs.lemmas.Cmp.{tied_itself, int_cmp_total, nat_cmp_total, nat_list_cmp_total, by_ranked}
 use Rattle.tables.proofs.Slots.{has_timestamp, has_snapshot}
@@ -145,7 +146,7 @@ version_rows stored rows l ones some up ints = record {
         (s.0, s.1, one_cells s.0 (subst IsOne s.2 (ones r (inl refl))) ∙ sym is)
     go (r ∷ rs) some from ones c (inr none) = absurd none
 
-pub holds_items : (trees : Trees) (a : Answers) (t : Tables) → AreNumbered the_schema trees → AreAnswers trees a → AreItems a t → ((r : Row) → Has a.versions.items r → IsOne r) → a.versions.items ≢ [] → HoldsTables trees t
+pub holds_items : (trees : Trees) (a : Answers) (t : Contents) → AreNumbered the_schema trees → AreAnswers trees a → AreItems a t → ((r : Row) → Has a.versions.items r → IsOne r) → a.versions.items ≢ [] → HoldsTables trees t
 holds_items trees a t n is items ones some = record {
   root = read_all IsRootRow FitsRoot root_row root_cells _ _ _ is.root root_are t.roots items.root.read n.0.0 n.0.1;
   current = subst (AreRows current_cells (trees 1)) (items_rows t.timestamp t.snapshot) (read_all IsSlotRow FitsSlot (λ x. slot_row x.0 x.1) current_cells _ _ _ is.current slot_are _ items.current n.1.0.0 n.1.0.1);
@@ -168,12 +169,12 @@ none_answered {shown} keys stored rows l none = no_member stored (λ s h. subst 
 none_read : {K V : Type 0} {shown : Row → Row} {Reads : Row → K × V → Type 0} {Fits : K × V → Type 0} (keys : _) (stored rows : List Row) (items : List (K × V)) → AreLoaded shown keys stored rows → AreRead Reads Fits rows items → stored ≡ [] → items ≡ []
 none_read keys stored rows items l read none = no_member items (λ x h. let r = read.from x h in let s = l.from r.0 r.1 in subst (λ xs. Has xs s.0) none s.1)
 
-pub bare_items : (trees : Trees) (a : Answers) (t : Tables) → AreAnswers trees a → AreItems a t → a.versions.items ≡ [] → t ≡ no_rows → AreBare trees
+pub bare_items : (trees : Trees) (a : Answers) (t : Contents) → AreAnswers trees a → AreItems a t → a.versions.items ≡ [] → t ≡ no_rows → AreBare trees
 bare_items trees a t is items none bare =
-    let root = none_stored _ _ _ _ is.root items.root.read (ap (λ (u : Tables). u.roots) bare) in
-    let current = none_stored _ _ _ _ is.current items.current (ap (λ (u : Tables). current_items u.timestamp u.snapshot) bare) in
-    let shelf = none_stored _ _ _ _ is.shelf items.shelf.read (ap (λ (u : Tables). u.shelf) bare) in
-    let blob = none_stored _ _ _ _ is.blob items.blob.read (ap (λ (u : Tables). u.blobs) bare) in
+    let root = none_stored _ _ _ _ is.root items.root.read (ap (λ (u : Contents). u.roots) bare) in
+    let current = none_stored _ _ _ _ is.current items.current (ap (λ (u : Contents). current_items u.timestamp u.snapshot) bare) in
+    let shelf = none_stored _ _ _ _ is.shelf items.shelf.read (ap (λ (u : Contents). u.shelf) bare) in
+    let blob = none_stored _ _ _ _ is.blob items.blob.read (ap (λ (u : Contents). u.blobs) bare) in
     (root, (current, (shelf, (blob, (none_answered _ _ _ is.version none, tt)))))
 
 -- ---- what is damaged stands for nothing
@@ -217,7 +218,7 @@ not_bare keys Reads Fits stored rows l bad none =
     let s = l.from r.0 r.1 in
     subst (λ xs. Has xs s.0) none s.1
 
-pub damaged_items : (trees : Trees) (a : Answers) → AreAnswers trees a → AreDamaged a → (t : Tables) → IsFit t → StandsFor trees t → ⊥
+pub damaged_items : (trees : Trees) (a : Answers) → AreAnswers trees a → AreDamaged a → (t : Contents) → IsFit t → StandsFor trees t → ⊥
 damaged_items trees a is (root bad) t fit (inl holds) = no_items IsRootRow FitsRoot root_row root_cells _ _ _ is.root (λ x. (refl, refl)) root_one bad t.roots (λ x h. all_has FitsRoot t.roots x fit.roots h) fit.one_root holds.root
 damaged_items trees a is (root bad) t fit (inr bare) = not_bare _ IsRootRow FitsRoot _ _ is.root bad bare.0.0
 damaged_items trees a is (current bad) t fit (inl holds) =
@@ -229,7 +230,7 @@ damaged_items trees a is (shelf bad) t fit (inr bare) = not_bare _ IsShelfRow Fi
 damaged_items trees a is (blob bad) t fit (inl holds) = no_items IsBlobRow FitsBlob blob_row blob_cells _ _ _ is.blob (λ x. (refl, refl)) blob_one bad t.blobs (λ x h. all_has FitsBlob t.blobs x fit.blobs h) fit.one_blob holds.blob
 damaged_items trees a is (blob bad) t fit (inr bare) = not_bare _ IsBlobRow FitsBlob _ _ is.blob bad bare.0.1.1.1.0
 
-pub damaged_version : (trees : Trees) (a : Answers) → AreAnswers trees a → (r : Row) → Has a.versions.items r → (IsOne r → ⊥) → (t : Tables) → StandsFor trees t → ⊥
+pub damaged_version : (trees : Trees) (a : Answers) → AreAnswers trees a → (r : Row) → Has a.versions.items r → (IsOne r → ⊥) → (t : Contents) → StandsFor trees t → ⊥
 damaged_version trees a is r h bad t (inl holds) =
     let s = is.version.from r h in
     bad (subst IsOne (sym s.2) (only (holds.version.sound s.0 s.1)))
@@ -244,10 +245,10 @@ no_slots None None e = (refl, refl)
 no_slots (Some v) b e = absurd (let f = e in cc)
 no_slots None (Some w) e = absurd (let f = e in cc)
 
-pub unbegun : (trees : Trees) (a : Answers) (t : Tables) → AreAnswers trees a → AreItems a t → a.versions.items ≡ [] → IsUnbegun trees t
+pub unbegun : (trees : Trees) (a : Answers) (t : Contents) → AreAnswers trees a → AreItems a t → a.versions.items ≡ [] → IsUnbegun trees t
 unbegun trees a t is items none = record { bare = bare_items trees a t is items none; other = other }
   where
-    other : t ≢ no_rows → (u : Tables) → StandsFor trees u → ⊥
+    other : t ≢ no_rows → (u : Contents) → StandsFor trees u → ⊥
     other not u (inl holds) =
         let s = holds.version.complete version_row (inl refl) in
         subst (λ xs. Has xs (version_cells s.0)) none (is.version.each s.0 s.1)
@@ -275,7 +276,7 @@ module _ {K V : Type 0} (cmp : K → K → Ordering) (order : IsTotalOrder cmp) 
       less_itself k less = let e = sym less ∙ tied_itself order k in cc
   rising_keyed (z ∷ xs) up x y (inr a) (inr b) same = rising_keyed xs up.1 x y a b same
 
-pub items_fit : (a : Answers) (t : Tables) → AreItems a t → IsFit t
+pub items_fit : (a : Answers) (t : Contents) → AreItems a t → IsFit t
 items_fit a t items = record {
   roots = all_from FitsRoot t.roots items.root.read.fit;
   one_root = rising_keyed nat_cmp nat_cmp_total t.roots items.root.rising;
@@ -287,10 +288,10 @@ items_fit a t items = record {
   one_blob = rising_keyed (slice_cmp nat_cmp) nat_list_cmp_total t.blobs items.blob.rising;
 }
 
-pub items_rise : (a : Answers) (t : Tables) → AreItems a t → AreRising t
+pub items_rise : (a : Answers) (t : Contents) → AreItems a t → AreRising t
 items_rise a t items = record { roots = items.root.rising; shelf = items.shelf.rising; blobs = items.blob.rising }
 
-pub none_fit : (t : Tables) → t ≡ no_rows → IsFit t
+pub none_fit : (t : Contents) → t ≡ no_rows → IsFit t
 none_fit t is = subst IsFit (sym is) (record {
   roots = tt;
   one_root = λ x y none. absurd none;
@@ -302,6 +303,6 @@ none_fit t is = subst IsFit (sym is) (record {
   one_blob = λ x y none. absurd none;
 })
 
-pub none_rise : (t : Tables) → t ≡ no_rows → AreRising t
+pub none_rise : (t : Contents) → t ≡ no_rows → AreRising t
 unfolding IsStrictlySortedBy
 none_rise t is = subst AreRising (sym is) (record { roots = tt; shelf = tt; blobs = tt })

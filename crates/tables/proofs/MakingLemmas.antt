@@ -19,7 +19,7 @@ use Rattle.sqlite.specs.State.{State, ExecutesInside}
 use Rattle.sqlite.proofs.Callers.{IsPlain, command_of, statement_of, runs_as}
 use Rattle.tables.specs.Schema.{root_table, current_table, shelf_table, blob_table, version_table, the_schema, beginning}
 use Rattle.tables.specs.Tables.{AreBare}
-use Rattle.tables.specs.Making.{IsMade, MakesBy, Makes}
+use Rattle.tables.specs.steps.Making.{IsMade, MakesBy, Makes}
 use Rattle.sqlite.specs.Term.{Term, lit}
 use Rattle.sqlite.specs.Source.TheVariants.{Values}
 use Rattle.sqlite.specs.declared.types.Value.TheVariants.{Null, Int}
@@ -30,7 +30,7 @@ use Rattle.sqlite_sql.specs.Ops.{unary}
 use Rattle.sqlite.specs.Order.{value_cmp}
 use Rattle.sqlite_rules.specs.Lists.{Has}
 use Rattle.tables.specs.Rows.{AreRows, root_cells, current_cells, shelf_cells, blob_cells, version_cells}
-use Rattle.tables.specs.Writing.{IsInside, no_cells}
+use Rattle.tables.specs.steps.Writing.{IsInside, no_cells}
 use Rattle.tables.proofs.Insert.{went, same_value, inserts}
 
 abbrev HoldsRows : Trees → Schema → Trees → Type 0

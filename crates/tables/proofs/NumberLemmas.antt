@@ -17,7 +17,7 @@ use Rattle.sqlite.specs.Schema.{Schema}
 use Rattle.sqlite.specs.Table.{Table}
 use Rattle.sqlite_catalog.specs.Listing.{IsSound}
 use Rattle.sqlite_catalog.proofs.LayoutLemmas.{laid_out, objects_rise}
-use Rattle.tables.specs.Making.{AreNumbered}
+use Rattle.tables.specs.Opening.{AreNumbered}
 
 -- what the laws of a store say of the tables
 pub numbers : (v : View) (schema : Schema) → IsListed (v.trees catalog_tree) v.shape v.reals → IsOrdered v.shape v.trees → IsSound schema v.trees → AreNumbered schema v.trees

@@ -9,11 +9,12 @@ use Rattle.sqlite.specs.declared.error.Error.{Error}
 use Rattle.sqlite_schema.specs.declared.command.Returning.{Returning}
 use Rattle.sqlite.proofs.Callers.{IsPlain}
 use Rattle.tables.specs.Schema.{the_schema}
-use Rattle.tables.specs.Tables.{Tables, HoldsTables, IsStore}
+use Rattle.contents.specs.Contents.{Contents}
+use Rattle.tables.specs.Tables.{HoldsTables, IsStore}
 use Rattle.tables.proofs.Texts.{select_version, select_version_plain}
 use Rattle.tables.proofs.Selects.{select_version_same}
 
-pub loaded_store : (old new : State) (t : Tables) → IsUnchanged old new → Opens old → old.now.schema ≡ the_schema → HoldsTables old.now.trees t → IsStore new t
+pub loaded_store : (old new : State) (t : Contents) → IsUnchanged old new → Opens old → old.now.schema ≡ the_schema → HoldsTables old.now.trees t → IsStore new t
 loaded_store old new t same opens schema holds = record {
   is_open = same.0.is_open;
   schema = ap (λ (d : Database). d.schema) same.0.now_is ∙ schema;
@@ -21,7 +22,7 @@ loaded_store old new t same opens schema holds = record {
   holds = subst (λ (d : Database). HoldsTables d.trees t) (sym same.0.now_is) holds;
 }
 
-store_same : (old new : State) (t : Tables) → IsUnchanged old new → IsStore old t → IsStore new t
+store_same : (old new : State) (t : Contents) → IsUnchanged old new → IsStore old t → IsStore new t
 store_same old new t same is = record {
   is_open = same.0.is_open;
   schema = ap (λ (d : Database). d.schema) same.0.now_is ∙ is.schema;
@@ -29,7 +30,7 @@ store_same old new t same is = record {
   holds = subst (λ (d : Database). HoldsTables d.trees t) (sym same.0.now_is) is.holds;
 }
 
-store_back : (old new : State) (t : Tables) → IsTrue new.is_open → IsRolledBack old new → IsStore old t → IsStore new t
+store_back : (old new : State) (t : Contents) → IsTrue new.is_open → IsRolledBack old new → IsStore old t → IsStore new t
 store_back old new t stays back is =
     let both = back.undone stays in
     let now : new.now ≡ old.now = both.0 ∙ sym is.settled in
@@ -42,12 +43,12 @@ store_back old new t stays back is =
 
 -- ---- one look at `schema`
 
-pub looked : (old new : State) (row : Row) (t : Tables) → QueriesRow select_version [] old new (Ok row) → IsStore old t → IsStore new t
+pub looked : (old new : State) (row : Row) (t : Contents) → QueriesRow select_version [] old new (Ok row) → IsStore old t → IsStore new t
 unfolding QueriesRow
 looked old new row t (inl begins) is = store_same old new t begins.1 is
 looked old new row t (inr shown) is = store_same old new t (select_version_same old new shown.0 is.schema shown.1) is
 
-pub look_failed : (old new : State) (e : Error) (t : Tables) → IsTrue new.is_open → QueriesRow select_version [] old new (Err e) → IsStore old t → IsStore new t
+pub look_failed : (old new : State) (e : Error) (t : Contents) → IsTrue new.is_open → QueriesRow select_version [] old new (Err e) → IsStore old t → IsStore new t
 unfolding QueriesRow FailsToQuery IsNotRun
 look_failed old new e t stays (inl (inl (inl none))) is = store_same old new t none.1 is
 look_failed old new e t stays (inl (inl (inr fails))) is = store_back old new t stays fails.3 is

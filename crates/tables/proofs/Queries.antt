@@ -23,7 +23,7 @@ use Rattle.sqlite.proofs.Callers.{IsPlain, command_of, reads_as}
 use Rattle.sqlite.proofs.StateLemmas.{survives_weaker}
 use Rattle.sqlite_rules.specs.Lists.{Has}
 use Rattle.tables.specs.Schema.{the_schema}
-use Rattle.tables.specs.Loading.{AreLoaded}
+use Rattle.tables.specs.steps.Loading.{AreLoaded}
 use Rattle.tables.proofs.AnswerLemmas.{plain_query, answer_from, answer_has, cells_of, outputs_from}
 
 -- ---- no query commits

@@ -6,7 +6,7 @@ use Rattle.sqlite.specs.Order.{Row}
 use Rattle.sqlite.specs.State.{State, Shown, IsUnchanged}
 use Rattle.tables.specs.Schema.{the_schema}
 use Rattle.tables.specs.Rows.{root_cells, current_cells, shelf_cells, blob_cells, version_cells}
-use Rattle.tables.specs.Loading.{AreLoaded, rises}
+use Rattle.tables.specs.steps.Loading.{AreLoaded, rises}
 use Rattle.tables.proofs.Queries.{IsQuiet, loads, loads_same}
 use Rattle.tables.proofs.Texts.{select_root, select_root_is, select_root_plain, select_root_unlisted, select_root_terms, select_root_order, select_root_names, select_current, select_current_is, select_current_plain, select_current_unlisted, select_current_terms, select_current_order, select_current_names, select_shelf, select_shelf_is, select_shelf_plain, select_shelf_unlisted, select_shelf_terms, select_shelf_order, select_shelf_names, select_blob, select_blob_is, select_blob_plain, select_blob_unlisted, select_blob_terms, select_blob_order, select_blob_names, select_version, select_version_is, select_version_plain, select_version_unlisted, select_version_terms, select_version_order, select_version_names}
 

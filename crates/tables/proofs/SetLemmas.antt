@@ -5,8 +5,9 @@ use Rattle.sqlite_trees.specs.Tree.{Trees}
 use Rattle.sqlite_rules.specs.Lists.{Has}
 use Rattle.sqlite_rules.proofs.ListLemmas.{all_has}
 use Rattle.tables.specs.Rows.{AreRows}
-use Rattle.tables.specs.Tables.{Tables, HoldsTables, AreSame, IsFit, root_row, slot_row, current_rows, shelf_row, blob_row}
-use Rattle.tables.specs.Loading.{FitsRoot, FitsSlot, FitsShelf, FitsBlob, current_items}
+use Rattle.contents.specs.Contents.{Contents}
+use Rattle.tables.specs.Tables.{HoldsTables, AreSame, IsFit, root_row, slot_row, current_rows, shelf_row, blob_row}
+use Rattle.tables.specs.steps.Loading.{FitsRoot, FitsSlot, FitsShelf, FitsBlob, current_items}
 use Rattle.tables.proofs.RowLemmas.{has_map, map_has}
 use Rattle.tables.proofs.Changes.{rows_same}
 use Rattle.tables.proofs.Slots.{has_timestamp, has_snapshot}
@@ -15,7 +16,7 @@ use Rattle.tables.proofs.ItemLemmas.{root_one, slot_one, shelf_one, blob_one, it
 mapped : {X : Type 0} (f : X → Row) (xs ys : List X) → ((x : X) → Has xs x → Has ys x) → (c : Row) → Has (map f xs) c → Has (map f ys) c
 mapped f xs ys there c h = let m = map_has f xs c h in subst (Has (map f ys)) (sym m.2) (has_map f ys m.0 (there m.0 m.1))
 
-pub same_rows : (trees : Trees) (t u : Tables) → AreSame t u → HoldsTables trees t → HoldsTables trees u
+pub same_rows : (trees : Trees) (t u : Contents) → AreSame t u → HoldsTables trees t → HoldsTables trees u
 same_rows trees t u same holds = record {
   root = rows_same holds.root (mapped root_row t.roots u.roots (λ x. (same.roots x).0)) (mapped root_row u.roots t.roots (λ x. (same.roots x).1));
   current = subst (AreRows _ (trees 1)) (ap (λ a. current_rows a t.snapshot) same.timestamp ∙ ap (current_rows u.timestamp) same.snapshot) holds.current;
@@ -81,7 +82,7 @@ options_same None None there back = refl
 options_same None (Some v) there back = back v refl
 options_same (Some v) c there back = sym (there v refl)
 
-pub one_set : (trees : Trees) (t u : Tables) → IsFit t → IsFit u → HoldsTables trees t → HoldsTables trees u → AreSame t u
+pub one_set : (trees : Trees) (t u : Contents) → IsFit t → IsFit u → HoldsTables trees t → HoldsTables trees u → AreSame t u
 one_set trees t u fit_t fit_u a b =
     let rt : (x : _) → Has t.roots x → FitsRoot x = λ x h. all_has FitsRoot t.roots x fit_t.roots h in
     let ru : (x : _) → Has u.roots x → FitsRoot x = λ x h. all_has FitsRoot u.roots x fit_u.roots h in

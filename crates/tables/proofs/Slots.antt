@@ -3,7 +3,7 @@ use Rattle.std.proofs.Common.{◌≡◌, ◌≢◌, ◌⊎◌, inl, inr, ℕ, Li
 use Rattle.sqlite.specs.Order.{Row}
 use Rattle.sqlite_rules.specs.Lists.{Has}
 use Rattle.sqlite_rules.proofs.ListLemmas.{has_left, has_right, has_either}
-use Rattle.tables.specs.Loading.{AreRead, AreSpoiled, IsSlotRow, FitsSlot, slot_items, current_items}
+use Rattle.tables.specs.steps.Loading.{AreRead, AreSpoiled, IsSlotRow, FitsSlot, slot_items, current_items}
 
 module _ {K V : Type 0} (Reads : Row → K × V → Type 0) (Fits : K × V → Type 0) where
   pub read_none : AreRead Reads Fits [] []

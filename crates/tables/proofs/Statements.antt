@@ -26,7 +26,7 @@ use Rattle.sqlite.proofs.Callers.{runs_as}
 use Rattle.tables.specs.Schema.{the_schema, root_table, current_table, shelf_table, blob_table}
 use Rattle.tables.specs.Rows.{AreRows, current_cells, shelf_cells}
 use Rattle.tables.specs.Tables.{root_row, slot_row, shelf_row}
-use Rattle.tables.specs.Writing.{Cells, IsInside, has_text, without_text}
+use Rattle.tables.specs.steps.Writing.{Cells, IsInside, has_text, without_text}
 use Rattle.tables.proofs.Insert.{inserts, deletes}
 use Rattle.tables.proofs.AnswerLemmas.{plain_query, passes, answer_from, answer_has}
 use Rattle.tables.proofs.RowLemmas.{Picks, rows_with, rows_without}

@@ -2,7 +2,7 @@
 use Rattle.std.proofs.Common.{◌≡◌, ℕ, List, [], ◌∷◌, ◌++◌, Vec, Global, map, ap, ◌∙◌}
 use Rattle.std.proofs.lemmas.List.{map-append}
 use Rattle.std.specs.String.{string_bytes}
-pub use Rattle.tables.specs.Tables.{value_view}
+pub use Rattle.contents.specs.Contents.{value_view}
 use Rattle.std.specs.declared.string.String.{String}
 
 abbrev pub blob_view : List ℕ × Vec ℕ Global → List ℕ × List ℕ

@@ -1,10 +1,16 @@
--- The faults of the database as faults of the tables.
+-- The faults of the database as faults of the tables: want of memory stays what it is, and each other is `Database`.
 use Rattle.sqlite.specs.declared.error.Error.{Error}
 use Rattle.sqlite.specs.declared.error.Error.TheVariants.{SqliteFailure}
 use Rattle.sqlite.specs.declared.error.ErrorCode.TheVariants as code
-use Rattle.tables.specs.declared.contents.Fault.{Fault}
-use Rattle.tables.specs.declared.contents.Fault.TheVariants.{Database, OutOfMemory}
+use Rattle.sqlite_trees.specs.declared.error.StoreError.{StoreError}
+use Rattle.sqlite_trees.specs.declared.error.StoreError.TheVariants as store
+use Rattle.tables.specs.declared.faults.Fault.{Fault}
+use Rattle.tables.specs.declared.faults.Fault.TheVariants.{Database, OutOfMemory}
 
 abbrev pub fault_of : Error → Fault
 fault_of (SqliteFailure code.OutOfMemory) = OutOfMemory
 fault_of _ = Database
+
+abbrev pub fault_of_store : StoreError → Fault
+fault_of_store store.OutOfMemory = OutOfMemory
+fault_of_store _ = Database

@@ -1,7 +1,6 @@
 pub mod Schema
 pub mod Rows
 pub mod Tables
-pub mod Writing
-pub mod Making
+pub mod Opening
 pub mod Faults
-pub mod Loading
+pub mod steps

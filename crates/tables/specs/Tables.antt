@@ -1,12 +1,10 @@
 -- What the tables hold, and what a change makes of it.
-use Rattle.std.specs.Prelude.{◌≡◌, ◌⊎◌, ◌<◌, ◌^◌, ◌==◌, ◌||◌, Bool, false, ℕ, pos, List, [], ◌∷◌, ◌++◌, if◌then◌else◌, map, option_map, Option, Some, None, IsTrue, IsUtf8, codes, length, Vec}
-use Rattle.std.specs.declared.alloc.Global.{Global}
+use Rattle.std.specs.Prelude.{◌≡◌, ◌⊎◌, ◌<◌, ◌^◌, ◌==◌, ◌||◌, Bool, false, ℕ, pos, List, [], ◌∷◌, ◌++◌, if◌then◌else◌, map, Option, Some, None, IsTrue, IsUtf8, codes, length}
 use Rattle.std.specs.List.{AllByRecursion}
 use Rattle.std.specs.Ordering.{nat_cmp, on, then_cmp}
 use Rattle.std.specs.declared.cmp.Ordering.{Ordering}
 use Rattle.std.specs.Cmp.Lexicographic.{slice_cmp}
 use Rattle.std.specs.List.Sorted.{IsStrictlySortedBy}
-use Rattle.std.specs.String.{string_bytes}
 use Rattle.hex.specs.Hex.{encode_lower}
 use Rattle.sqlite_rules.specs.Lists.{Has}
 use Rattle.sqlite.specs.declared.types.Value.TheVariants.{Int, Text, Blob}
@@ -16,22 +14,11 @@ use Rattle.sqlite.specs.Table.{Table}
 use Rattle.sqlite.specs.Schema.{Schema}
 use Rattle.sqlite.specs.Effect.{Database}
 use Rattle.sqlite.specs.State.{State}
-use Rattle.tables.specs.declared.contents.Tables.{Tables as Kept}
-use Rattle.tables.specs.declared.contents.Change.{Change}
-use Rattle.tables.specs.declared.contents.Change.TheVariants.{PutRoot, Emptied, PutTimestamp, PutSnapshot, PutRow, PutBlob}
+use Rattle.tables.specs.declared.change.Change.{Change}
+use Rattle.tables.specs.declared.change.Change.TheVariants.{PutRoot, Emptied, PutTimestamp, PutSnapshot, PutRow, PutBlob}
+use Rattle.contents.specs.Contents.{Contents, no_rows}
 use Rattle.tables.specs.Schema.{the_schema, IsBeginning}
 use Rattle.tables.specs.Rows.{AreRows, root_cells, current_cells, shelf_cells, blob_cells, version_cells}
-
--- A key of a row, and its bytes. A version is a number, a role the bytes of its text, a digest its 32 bytes.
-pub record Tables : Type 0 where
-  pub roots : List (ℕ × List ℕ)
-  pub timestamp : Option (ℕ × List ℕ)
-  pub snapshot : Option (ℕ × List ℕ)
-  pub shelf : List ((List ℕ × ℕ) × List ℕ)
-  pub blobs : List (List ℕ × List ℕ)
-
-abbrev pub no_rows : Tables
-no_rows = record { roots = []; timestamp = None; snapshot = None; shelf = []; blobs = [] }
 
 -- ---- the cells of the rows
 
@@ -61,7 +48,7 @@ version_row = Int (pos 1) ∷ []
 -- ---- what is held
 
 -- the trees of the five tables hold these rows, as sets, and schema 1
-pub record HoldsTables (trees : Trees) (t : Tables) : Type 0 where
+pub record HoldsTables (trees : Trees) (t : Contents) : Type 0 where
   pub root : AreRows root_cells (trees 0) (map root_row t.roots)
   pub current : AreRows current_cells (trees 1) (current_rows t.timestamp t.snapshot)
   pub shelf : AreRows shelf_cells (trees 3) (map shelf_row t.shelf)
@@ -69,7 +56,7 @@ pub record HoldsTables (trees : Trees) (t : Tables) : Type 0 where
   pub version : AreRows version_cells (trees 7) (version_row ∷ [])
 
 -- between two transactions: the connection is open, its tables are the five, and hold these rows
-pub record IsStore (s : State) (t : Tables) : Type 0 where
+pub record IsStore (s : State) (t : Contents) : Type 0 where
   pub is_open : IsTrue s.is_open
   pub schema : s.now.schema ≡ the_schema
   pub settled : s.now ≡ s.committed
@@ -80,7 +67,7 @@ abbrev pub AreBare : Trees → Type 0
 AreBare trees = AllByRecursion (λ (t : Table). trees t.tree ≡ []) the_schema.tables
 
 -- What the trees of the five tables stand for. Five empty tables are no rows yet.
-abbrev pub StandsFor : Trees → Tables → Type 0
+abbrev pub StandsFor : Trees → Contents → Type 0
 StandsFor trees t = HoldsTables trees t ⊎ (AreBare trees × (t ≡ no_rows))
 
 -- one of the tables has this tree
@@ -93,11 +80,11 @@ abbrev pub counted : Schema → Trees → Trees
 counted schema trees tree = if is_there schema.tables tree then trees tree else []
 
 -- What a database stands for: its tables are the first of the five, or all, and hold the rows, and the absent ones count as empty.
-abbrev pub Stands : Database → Tables → Type 0
+abbrev pub Stands : Database → Contents → Type 0
 Stands db t = IsBeginning db.schema × StandsFor (counted db.schema db.trees) t
 
 -- the same rows, in any order
-pub record AreSame (t u : Tables) : Type 0 where
+pub record AreSame (t u : Contents) : Type 0 where
   pub roots : (x : _) → (Has t.roots x → Has u.roots x) × (Has u.roots x → Has t.roots x)
   pub timestamp : t.timestamp ≡ u.timestamp
   pub snapshot : t.snapshot ≡ u.snapshot
@@ -117,7 +104,7 @@ IsDigest d = (length d ≡ 32) × AllByRecursion (λ b. b < 256) d
 abbrev pub AreKeyed : {K V : Type 0} → List (K × V) → Type 0
 AreKeyed {K} {V} rows = (x y : K × V) → Has rows x → Has rows y → x.0 ≡ y.0 → x ≡ y
 
-pub record IsFit (t : Tables) : Type 0 where
+pub record IsFit (t : Contents) : Type 0 where
   pub roots : AllByRecursion (λ r. IsVersion r.0) t.roots
   pub one_root : AreKeyed t.roots
   pub timestamp : (r : _) → t.timestamp ≡ Some r → IsVersion r.0
@@ -132,48 +119,33 @@ abbrev pub row_cmp : List ℕ × ℕ → List ℕ × ℕ → Ordering
 row_cmp = then_cmp (on (λ k. k.0) (slice_cmp nat_cmp)) (on (λ k. k.1) nat_cmp)
 
 -- each key is below those after it
-pub record AreRising (t : Tables) : Type 0 where
+pub record AreRising (t : Contents) : Type 0 where
   pub roots : IsStrictlySortedBy nat_cmp (map (λ r. r.0) t.roots)
   pub shelf : IsStrictlySortedBy row_cmp (map (λ r. r.0) t.shelf)
   pub blobs : IsStrictlySortedBy (slice_cmp nat_cmp) (map (λ r. r.0) t.blobs)
 
--- ---- the code's tables and changes
-
-abbrev pub value_view : ℕ × Vec ℕ Global → ℕ × List ℕ
-value_view r = (r.0, r.1.items)
-
-abbrev pub slot_view : Option (ℕ × Vec ℕ Global) → Option (ℕ × List ℕ)
-slot_view o = option_map value_view o
-
-abbrev pub tables_view : Kept → Tables
-tables_view t = record {
-  roots = map (λ r. (r.0, r.1.items)) t.roots.items;
-  timestamp = slot_view t.timestamp;
-  snapshot = slot_view t.snapshot;
-  shelf = map (λ r. ((string_bytes r.0, r.1), r.2.items)) t.shelf.items;
-  blobs = map (λ r. (r.0, r.1.items)) t.blobs.items;
-}
+-- ---- changes
 
 -- a put stands behind the rows that are there
-abbrev pub with_root : ℕ × List ℕ → Tables → Tables
+abbrev pub with_root : ℕ × List ℕ → Contents → Contents
 with_root r t = record t { roots = t.roots ++ r ∷ [] }
 
-abbrev pub with_timestamp : ℕ × List ℕ → Tables → Tables
+abbrev pub with_timestamp : ℕ × List ℕ → Contents → Contents
 with_timestamp r t = record t { timestamp = Some r }
 
-abbrev pub with_snapshot : ℕ × List ℕ → Tables → Tables
+abbrev pub with_snapshot : ℕ × List ℕ → Contents → Contents
 with_snapshot r t = record t { snapshot = Some r }
 
-abbrev pub with_row : (List ℕ × ℕ) × List ℕ → Tables → Tables
+abbrev pub with_row : (List ℕ × ℕ) × List ℕ → Contents → Contents
 with_row r t = record t { shelf = t.shelf ++ r ∷ [] }
 
-abbrev pub with_blob : List ℕ × List ℕ → Tables → Tables
+abbrev pub with_blob : List ℕ × List ℕ → Contents → Contents
 with_blob r t = record t { blobs = t.blobs ++ r ∷ [] }
 
-abbrev pub emptied : Tables → Tables
+abbrev pub emptied : Contents → Contents
 emptied t = record t { timestamp = None; snapshot = None; shelf = [] }
 
-abbrev pub after : Change → Tables → Tables
+abbrev pub after : Change → Contents → Contents
 after (PutRoot version bytes) t = with_root (version, bytes.now) t
 after Emptied t = emptied t
 after (PutTimestamp version bytes) t = with_timestamp (version, bytes.now) t
@@ -181,6 +153,6 @@ after (PutSnapshot version bytes) t = with_snapshot (version, bytes.now) t
 after (PutRow role version bytes) t = with_row ((role.now, version), bytes.now) t
 after (PutBlob digest bytes) t = with_blob (digest.now, bytes.now) t
 
-abbrev pub after_all : List Change → Tables → Tables
+abbrev pub after_all : List Change → Contents → Contents
 after_all [] t = t
 after_all (c ∷ cs) t = after_all cs (after c t)

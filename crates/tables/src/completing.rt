@@ -4,9 +4,10 @@ ghost use Rattle.sqlite_trees.specs.Tree.{Trees};
 ghost use Rattle.sqlite.specs.State.{HasCleanDisk, IsUnchanged, KeepsCommit, Survives};
 ghost use Rattle.sqlite.specs.Held.{state};
 ghost use Rattle.tables.specs.Schema.{the_schema, beginning};
-ghost use Rattle.tables.specs.Tables.{AreBare, HoldsTables, IsStore, counted, no_rows};
-ghost use Rattle.tables.specs.Writing.{IsInside, no_cells};
-ghost use Rattle.tables.specs.Making.{Asks, IsMade, LacksRest};
+ghost use Rattle.contents.specs.Contents.{no_rows};
+ghost use Rattle.tables.specs.Tables.{AreBare, HoldsTables, IsStore, counted};
+ghost use Rattle.tables.specs.steps.Writing.{IsInside, no_cells};
+ghost use Rattle.tables.specs.steps.Making.{Asks, IsMade, LacksRest};
 
 use crate::making::{make_rest, put_version};
 use sqlite::{Alter, Connection, Error, Row, Transaction};

@@ -1,17 +1,73 @@
-// The faults of the database as faults of the tables.
-ghost use Rattle.std.specs.Prelude.{◌≡◌, ◌≢◌};
-ghost use Rattle.tables.specs.Faults.{fault_of};
+// What can go wrong, and which faults of the database stand for which.
+use sqlite::ErrorCode;
+use sqlite_trees::error::StoreError;
+use std::alloc::{AllocError, AllocFailed};
+use thiserror::Error;
 
-use crate::contents::Fault;
-use sqlite::{Error, ErrorCode};
+/// Why the rows were not read or written.
+#[derive(Debug, Clone, Copy, PartialEq, Eq, Error)]
+pub enum Fault {
+    /// The rows are those of no contents that fit. No fault of the database stands for it.
+    #[error("damaged")]
+    Damaged,
+    /// A call of the database answered a fault other than want of memory, or its tables are not these five.
+    #[error("database")]
+    Database,
+    /// Memory was refused, in the database or beside it.
+    #[error("out of memory")]
+    OutOfMemory,
+}
+
+impl From<AllocError> for Fault {
+    ghost use Rattle.std.specs.Prelude.{◌≡◌};
+    ghost use Rattle.tables.specs.declared.faults.Fault.TheVariants.{OutOfMemory};
+
+    ghost from_gives = { λ _ f. f ≡ OutOfMemory };
+
+    fn from(_error: AllocError) -> Fault {
+        Fault::OutOfMemory
+    }
+}
+
+impl<T: Drop> From<AllocFailed<T>> for Fault {
+    ghost use Rattle.std.specs.Prelude.{◌≡◌};
+    ghost use Rattle.tables.specs.declared.faults.Fault.TheVariants.{OutOfMemory};
+
+    ghost from_gives = { λ _ f. f ≡ OutOfMemory };
+
+    fn from(_error: AllocFailed<T>) -> Fault {
+        Fault::OutOfMemory
+    }
+}
 
 // Want of memory stays what it is, and all else is a fault of the database.
-pub(crate) fn fault_of(error: Error) -> Fault
-    ensures value { result ≡ fault_of error }
-    ensures undamaged { result ≢ Fault.Damaged }
-{
-    match error {
-        Error::SqliteFailure(ErrorCode::OutOfMemory) => Fault::OutOfMemory,
-        _ => Fault::Database,
+impl From<sqlite::Error> for Fault {
+    ghost use Rattle.std.specs.Prelude.{◌≡◌, ◌≢◌};
+    ghost use Rattle.tables.specs.declared.faults.Fault.TheVariants.{Damaged};
+    ghost use Rattle.tables.specs.Faults.{fault_of};
+
+    ghost from_gives = { λ error f. (f ≡ fault_of error) × (f ≢ Damaged) };
+
+    fn from(error: sqlite::Error) -> Fault {
+        match error {
+            sqlite::Error::SqliteFailure(ErrorCode::OutOfMemory) => Fault::OutOfMemory,
+            _ => Fault::Database,
+        }
+    }
+}
+
+// The same of the database's store.
+impl From<StoreError> for Fault {
+    ghost use Rattle.std.specs.Prelude.{◌≡◌, ◌≢◌};
+    ghost use Rattle.tables.specs.declared.faults.Fault.TheVariants.{Damaged};
+    ghost use Rattle.tables.specs.Faults.{fault_of_store};
+
+    ghost from_gives = { λ error f. (f ≡ fault_of_store error) × (f ≢ Damaged) };
+
+    fn from(error: StoreError) -> Fault {
+        match error {
+            StoreError::OutOfMemory => Fault::OutOfMemory,
+            _ => Fault::Database,
+        }
     }
 }

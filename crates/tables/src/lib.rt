@@ -1,8 +1,10 @@
 //! The five tables of a release repository, over the crate `sqlite`.
 #![tactic(auto)]
 
+mod cells;
+mod change;
 mod completing;
-mod contents;
+mod current;
 mod faults;
 mod laws;
 mod loading;
@@ -12,7 +14,9 @@ mod reading;
 mod shape;
 mod writing;
 
-pub use contents::{Change, Fault, Tables};
+pub use change::Change;
+pub use contents::Contents;
+pub use faults::Fault;
 pub use laws::{one_contents, rows_are_sets};
 pub use making::renew;
 pub use opening::{check_open, prepare};

@@ -4,12 +4,13 @@ ghost use Rattle.sqlite.specs.State.{HasCleanDisk, IsUnchanged, Survives};
 ghost use Rattle.sqlite.specs.Held.{state};
 ghost use Rattle.tables.specs.Schema.{the_schema};
 ghost use Rattle.tables.specs.Rows.{root_cells, current_cells, shelf_cells, blob_cells, version_cells};
-ghost use Rattle.tables.specs.Tables.{Tables as Contents, tables_view, no_rows};
-ghost use Rattle.tables.specs.Loading.{AreLoaded, AreAnswers, AreItems, AreSorted, AreDamaged, rises};
+ghost use Rattle.contents.specs.Contents.{contents_view};
+ghost use Rattle.tables.specs.steps.Loading.{AreLoaded, AreAnswers, AreItems, AreSorted, AreDamaged, rises};
 
-use crate::contents::{Fault, Tables};
-use crate::faults::fault_of;
-use crate::reading::{blobs_of, current_of, documents_of, roots_of};
+use crate::current::current_of;
+use crate::faults::Fault;
+use crate::reading::{blobs_of, documents_of, roots_of};
+use contents::Contents;
 use sqlite::{Alter, Connection, Row};
 use std::alloc::Global;
 
@@ -21,10 +22,7 @@ fn root_rows<S: Alter>(conn: &mut Connection<S>) -> Result<Vec<Row>, Fault>
     ensures mode { conn.old.in_transaction ≡ false → conn.new.in_transaction ≡ false }
     ensures survives { Survives (state S.Store conn.old) (state S.Store conn.new) (λ _. ⊥) }
 {
-    match conn.query_all("SELECT version, bytes FROM root ORDER BY version", &[]) {
-        Ok(rows) => Ok(rows),
-        Err(error) => Err(fault_of(error)),
-    }
+    Ok(conn.query_all("SELECT version, bytes FROM root ORDER BY version", &[])?)
 }
 
 // The rows of `current`.
@@ -35,10 +33,7 @@ fn current_rows<S: Alter>(conn: &mut Connection<S>) -> Result<Vec<Row>, Fault>
     ensures mode { conn.old.in_transaction ≡ false → conn.new.in_transaction ≡ false }
     ensures survives { Survives (state S.Store conn.old) (state S.Store conn.new) (λ _. ⊥) }
 {
-    match conn.query_all("SELECT slot, version, bytes FROM current", &[]) {
-        Ok(rows) => Ok(rows),
-        Err(error) => Err(fault_of(error)),
-    }
+    Ok(conn.query_all("SELECT slot, version, bytes FROM current", &[])?)
 }
 
 // The rows of `shelf`, by role and version.
@@ -49,13 +44,10 @@ fn shelf_rows<S: Alter>(conn: &mut Connection<S>) -> Result<Vec<Row>, Fault>
     ensures mode { conn.old.in_transaction ≡ false → conn.new.in_transaction ≡ false }
     ensures survives { Survives (state S.Store conn.old) (state S.Store conn.new) (λ _. ⊥) }
 {
-    match conn.query_all(
+    Ok(conn.query_all(
         "SELECT role, version, bytes FROM shelf ORDER BY role, version",
         &[],
-    ) {
-        Ok(rows) => Ok(rows),
-        Err(error) => Err(fault_of(error)),
-    }
+    )?)
 }
 
 // The rows of `blob`, by digest.
@@ -66,10 +58,7 @@ fn blob_rows<S: Alter>(conn: &mut Connection<S>) -> Result<Vec<Row>, Fault>
     ensures mode { conn.old.in_transaction ≡ false → conn.new.in_transaction ≡ false }
     ensures survives { Survives (state S.Store conn.old) (state S.Store conn.new) (λ _. ⊥) }
 {
-    match conn.query_all("SELECT digest, bytes FROM blob ORDER BY digest", &[]) {
-        Ok(rows) => Ok(rows),
-        Err(error) => Err(fault_of(error)),
-    }
+    Ok(conn.query_all("SELECT digest, bytes FROM blob ORDER BY digest", &[])?)
 }
 
 // The rows of `schema`.
@@ -80,10 +69,7 @@ fn version_rows<S: Alter>(conn: &mut Connection<S>) -> Result<Vec<Row>, Fault>
     ensures mode { conn.old.in_transaction ≡ false → conn.new.in_transaction ≡ false }
     ensures survives { Survives (state S.Store conn.old) (state S.Store conn.new) (λ _. ⊥) }
 {
-    match conn.query_all("SELECT version FROM schema", &[]) {
-        Ok(rows) => Ok(rows),
-        Err(error) => Err(fault_of(error)),
-    }
+    Ok(conn.query_all("SELECT version FROM schema", &[])?)
 }
 
 // The rows of all tables.
@@ -104,26 +90,11 @@ pub(crate) fn ask<S: Alter>(conn: &mut Connection<S>) -> Result<Answers, Fault>
     ensures mode { conn.old.in_transaction ≡ false → conn.new.in_transaction ≡ false }
     ensures survives { Survives (state S.Store conn.old) (state S.Store conn.new) (λ _. ⊥) }
 {
-    let roots = match root_rows(conn) {
-        Ok(rows) => rows,
-        Err(fault) => return Err(fault),
-    };
-    let current = match current_rows(conn) {
-        Ok(rows) => rows,
-        Err(fault) => return Err(fault),
-    };
-    let shelf = match shelf_rows(conn) {
-        Ok(rows) => rows,
-        Err(fault) => return Err(fault),
-    };
-    let blobs = match blob_rows(conn) {
-        Ok(rows) => rows,
-        Err(fault) => return Err(fault),
-    };
-    let versions = match version_rows(conn) {
-        Ok(rows) => rows,
-        Err(fault) => return Err(fault),
-    };
+    let roots = root_rows(conn)?;
+    let current = current_rows(conn)?;
+    let shelf = shelf_rows(conn)?;
+    let blobs = blob_rows(conn)?;
+    let versions = version_rows(conn)?;
     Ok(Answers {
         roots,
         current,
@@ -134,44 +105,20 @@ pub(crate) fn ask<S: Alter>(conn: &mut Connection<S>) -> Result<Answers, Fault>
 }
 
 // The items of the rows, but for those of `schema`.
-pub(crate) fn tables_of(alloc: Global, answers: &Answers) -> Result<Tables, Fault>
-    ensures read { IfOk result (λ t. AreItems answers.now (tables_view t)) }
+pub(crate) fn contents_of(alloc: Global, answers: &Answers) -> Result<Contents, Fault>
+    ensures read { IfOk result (λ t. AreItems answers.now (contents_view t)) }
     ensures damaged { result ≡ Err Fault.Damaged → AreSorted answers.now → AreDamaged answers.now }
     ensures fault { result ≢ Err Fault.Database }
 {
-    let roots = match roots_of(alloc, answers.roots.as_slice()) {
-        Ok(roots) => roots,
-        Err(fault) => return Err(fault),
-    };
-    let current = match current_of(alloc, answers.current.as_slice()) {
-        Ok(current) => current,
-        Err(fault) => return Err(fault),
-    };
-    let shelf = match documents_of(alloc, answers.shelf.as_slice()) {
-        Ok(shelf) => shelf,
-        Err(fault) => return Err(fault),
-    };
-    let blobs = match blobs_of(alloc, answers.blobs.as_slice()) {
-        Ok(blobs) => blobs,
-        Err(fault) => return Err(fault),
-    };
-    Ok(Tables {
+    let roots = roots_of(alloc, answers.roots.as_slice())?;
+    let current = current_of(alloc, answers.current.as_slice())?;
+    let shelf = documents_of(alloc, answers.shelf.as_slice())?;
+    let blobs = blobs_of(alloc, answers.blobs.as_slice())?;
+    Ok(Contents {
         roots,
         timestamp: current.timestamp,
         snapshot: current.snapshot,
         shelf,
         blobs,
     })
-}
-
-// Whether there is no row.
-pub(crate) fn is_bare(tables: &Tables) -> bool
-    ensures bare { IsTrue result → tables_view tables.now ≡ no_rows }
-    ensures other { result ≡ false → tables_view tables.now ≢ no_rows }
-{
-    tables.roots.is_empty()
-        && tables.timestamp.is_none()
-        && tables.snapshot.is_none()
-        && tables.shelf.is_empty()
-        && tables.blobs.is_empty()
 }

@@ -5,14 +5,14 @@ ghost use Rattle.sqlite.specs.Held.{state, IsNew};
 ghost use Rattle.sqlite_trees.specs.Tree.{Trees};
 ghost use Rattle.sqlite_catalog.specs.Change.{next_tree};
 ghost use Rattle.tables.specs.Schema.{the_schema, beginning};
-ghost use Rattle.tables.specs.Tables.{IsStore, HoldsTables, AreBare, no_rows};
-ghost use Rattle.tables.specs.Writing.{IsInside, no_cells};
-ghost use Rattle.tables.specs.Making.{IsMade, Makes, LacksRest, AreNumbered};
+ghost use Rattle.contents.specs.Contents.{no_rows};
+ghost use Rattle.tables.specs.Tables.{IsStore, HoldsTables, AreBare};
+ghost use Rattle.tables.specs.steps.Writing.{IsInside, no_cells};
+ghost use Rattle.tables.specs.Opening.{AreNumbered};
+ghost use Rattle.tables.specs.steps.Making.{IsMade, Makes, LacksRest};
 
-use crate::contents::Fault;
-use crate::faults::fault_of;
+use crate::faults::Fault;
 use sqlite::{Alter, Connection, Error, Transaction};
-use sqlite_trees::error::StoreError;
 use sqlite_trees::store::Store;
 use std::alloc::Global;
 
@@ -106,13 +106,9 @@ pub fn renew<S: Alter + Drop>(alloc: Global, conn: Connection<S>) -> Result<Conn
     ensures fault { result ≢ Err Fault.Damaged }
 {
     let mut store = conn.into_store();
-    match store.commit() {
-        Ok(()) => {}
-        Err(StoreError::OutOfMemory) => return Err(Fault::OutOfMemory),
-        Err(_) => return Err(Fault::Database),
-    }
+    store.commit()?;
     match Connection::over(alloc, store) {
         Ok(conn) => Ok(conn),
-        Err((error, _)) => Err(fault_of(error)),
+        Err((error, _)) => Err(Fault::from(error)),
     }
 }

@@ -3,101 +3,77 @@ ghost use Rattle.std.specs.Prelude.{◌≡◌, ◌≢◌, ◌<◌, ℕ, true, fa
 ghost use Rattle.sqlite.specs.State.{HasCleanDisk, IsUnchanged, KeepsCommit, Survives, Opens};
 ghost use Rattle.sqlite.specs.Held.{state};
 ghost use Rattle.tables.specs.Schema.{the_schema, beginning, IsBeginning};
-ghost use Rattle.tables.specs.Tables.{Tables as Contents, HoldsTables, IsStore, IsFit, AreBare, AreRising, Stands, StandsFor, counted, tables_view, no_rows};
-ghost use Rattle.tables.specs.Making.{AreNumbered, StandsEmpty};
-ghost use Rattle.tables.specs.Loading.{IsUnbegun};
+ghost use Rattle.contents.specs.Contents as plain;
+ghost use Rattle.contents.specs.Contents.{contents_view, no_rows};
+ghost use Rattle.tables.specs.Tables.{HoldsTables, IsStore, IsFit, AreBare, AreRising, Stands, StandsFor, counted};
+ghost use Rattle.tables.specs.Opening.{AreNumbered, StandsEmpty};
+ghost use Rattle.tables.specs.steps.Loading.{IsUnbegun};
 
 use crate::completing::complete;
-use crate::contents::{Fault, Tables};
-use crate::faults::fault_of;
-use crate::loading::{ask, is_bare, tables_of};
+use crate::current::is_begun;
+use crate::faults::Fault;
+use crate::loading::{ask, contents_of};
 use crate::making::begin;
-use crate::reading::is_begun;
 use crate::shape::beginning_of;
+use contents::Contents;
 use sqlite::{Alter, Connection};
 use std::alloc::Global;
 
-fn no_tables(alloc: Global) -> Tables
-    ensures { tables_view result ≡ no_rows }
-{
-    Tables {
-        roots: Vec::new(alloc),
-        timestamp: None,
-        snapshot: None,
-        shelf: Vec::new(alloc),
-        blobs: Vec::new(alloc),
-    }
-}
-
 // What the five tables hold, and whether `schema` has its row.
-fn gather<S: Alter>(alloc: Global, conn: &mut Connection<S>) -> Result<(Tables, bool), Fault>
+fn gather<S: Alter>(alloc: Global, conn: &mut Connection<S>) -> Result<(Contents, bool), Fault>
     ensures begun { HasCleanDisk (state S.Store conn.new) → (state S.Store conn.old).now.schema ≡ the_schema → AreNumbered the_schema (state S.Store conn.old).now.trees
-        → IfOk result (λ p. p.1 ≡ true → HoldsTables (state S.Store conn.old).now.trees (tables_view p.0)) }
+        → IfOk result (λ p. p.1 ≡ true → HoldsTables (state S.Store conn.old).now.trees (contents_view p.0)) }
     ensures unbegun { HasCleanDisk (state S.Store conn.new) → (state S.Store conn.old).now.schema ≡ the_schema
-        → IfOk result (λ p. p.1 ≡ false → IsUnbegun (state S.Store conn.old).now.trees (tables_view p.0)) }
-    ensures fit { IfOk result (λ p. IsFit (tables_view p.0) × AreRising (tables_view p.0)) }
+        → IfOk result (λ p. p.1 ≡ false → IsUnbegun (state S.Store conn.old).now.trees (contents_view p.0)) }
+    ensures fit { IfOk result (λ p. IsFit (contents_view p.0) × AreRising (contents_view p.0)) }
     ensures damaged { HasCleanDisk (state S.Store conn.new) → (state S.Store conn.old).now.schema ≡ the_schema → result ≡ Err Fault.Damaged
-        → (t : Contents) → IsFit t → StandsFor (state S.Store conn.old).now.trees t → ⊥ }
+        → (t : plain.Contents) → IsFit t → StandsFor (state S.Store conn.old).now.trees t → ⊥ }
     ensures kept { HasCleanDisk (state S.Store conn.new) → (state S.Store conn.old).now.schema ≡ the_schema → result ≡ Err Fault.Damaged → KeepsCommit (state S.Store conn.old) (state S.Store conn.new) }
     ensures unchanged { HasCleanDisk (state S.Store conn.new) → (state S.Store conn.old).now.schema ≡ the_schema → OnOk result (IsUnchanged (state S.Store conn.old) (state S.Store conn.new)) }
     ensures mode { conn.old.in_transaction ≡ false → conn.new.in_transaction ≡ false }
     ensures survives { Survives (state S.Store conn.old) (state S.Store conn.new) (λ _. ⊥) }
 {
-    let answers = match ask(conn) {
-        Ok(answers) => answers,
-        Err(fault) => return Err(fault),
-    };
-    let is_begun = match is_begun(answers.versions.as_slice()) {
-        Ok(is_begun) => is_begun,
-        Err(fault) => return Err(fault),
-    };
-    match tables_of(alloc, &answers) {
-        Ok(tables) => Ok((tables, is_begun)),
-        Err(fault) => Err(fault),
-    }
+    let answers = ask(conn)?;
+    let is_begun = is_begun(answers.versions.as_slice())?;
+    Ok((contents_of(alloc, &answers)?, is_begun))
 }
 
 // Puts the row of `schema` where nothing was read.
-fn begin_bare<S: Alter>(conn: &mut Connection<S>, tables: Tables) -> Result<Tables, Fault>
+fn begin_bare<S: Alter>(conn: &mut Connection<S>, contents: Contents) -> Result<Contents, Fault>
     requires { conn.old.in_transaction ≡ false }
     ensures autocommit { conn.new.in_transaction ≡ false }
-    ensures same { IfOk result (λ t. (tables_view t ≡ tables_view tables) × (tables_view t ≡ no_rows)) }
+    ensures same { IfOk result (λ t. (contents_view t ≡ contents_view contents) × (contents_view t ≡ no_rows)) }
     ensures begun { HasCleanDisk (state S.Store conn.new) → (state S.Store conn.old).now.schema ≡ the_schema → AreBare (state S.Store conn.old).now.trees → OnOk result (IsStore (state S.Store conn.new) no_rows) }
-    ensures damaged { result ≡ Err Fault.Damaged → tables_view tables ≢ no_rows }
-    ensures told { tables_view tables ≢ no_rows → (result ≡ Err Fault.Damaged) × (conn.new ≡ conn.old) }
+    ensures damaged { result ≡ Err Fault.Damaged → contents_view contents ≢ no_rows }
+    ensures told { contents_view contents ≢ no_rows → (result ≡ Err Fault.Damaged) × (conn.new ≡ conn.old) }
     ensures crash { Survives (state S.Store conn.old) (state S.Store conn.new) (λ trees. IsTrue (state S.Store conn.old).is_open → (state S.Store conn.old).now.schema ≡ the_schema
-        → (tables_view tables ≡ no_rows) × (AreBare (state S.Store conn.old).now.trees → HoldsTables trees no_rows)) }
+        → (contents_view contents ≡ no_rows) × (AreBare (state S.Store conn.old).now.trees → HoldsTables trees no_rows)) }
 {
-    if !is_bare(&tables) {
+    if !contents.is_empty() {
         return Err(Fault::Damaged);
     }
-    match begin(conn) {
-        Ok(()) => Ok(tables),
-        Err(error) => Err(fault_of(error)),
-    }
+    begin(conn)?;
+    Ok(contents)
 }
 
 // What the five tables hold. Where all are empty, the row of `schema` is put.
-fn load<S: Alter>(alloc: Global, conn: &mut Connection<S>) -> Result<Tables, Fault>
+fn load<S: Alter>(alloc: Global, conn: &mut Connection<S>) -> Result<Contents, Fault>
     requires { conn.old.in_transaction ≡ false }
     ensures autocommit { conn.new.in_transaction ≡ false }
     ensures loaded { HasCleanDisk (state S.Store conn.new) → Opens (state S.Store conn.old) → (state S.Store conn.old).now.schema ≡ the_schema → AreNumbered the_schema (state S.Store conn.old).now.trees
-        → IfOk result (λ t. StandsFor (state S.Store conn.old).now.trees (tables_view t) × IsStore (state S.Store conn.new) (tables_view t)) }
-    ensures fit { IfOk result (λ t. IsFit (tables_view t) × AreRising (tables_view t)) }
+        → IfOk result (λ t. StandsFor (state S.Store conn.old).now.trees (contents_view t) × IsStore (state S.Store conn.new) (contents_view t)) }
+    ensures fit { IfOk result (λ t. IsFit (contents_view t) × AreRising (contents_view t)) }
     ensures damaged { HasCleanDisk (state S.Store conn.new) → (state S.Store conn.old).now.schema ≡ the_schema → result ≡ Err Fault.Damaged
-        → (t : Contents) → IsFit t → StandsFor (state S.Store conn.old).now.trees t → ⊥ }
+        → (t : plain.Contents) → IsFit t → StandsFor (state S.Store conn.old).now.trees t → ⊥ }
     ensures kept { HasCleanDisk (state S.Store conn.new) → (state S.Store conn.old).now.schema ≡ the_schema → result ≡ Err Fault.Damaged → KeepsCommit (state S.Store conn.old) (state S.Store conn.new) }
     ensures crash { Survives (state S.Store conn.old) (state S.Store conn.new) (λ trees. IsTrue (state S.Store conn.old).is_open → (state S.Store conn.old).now.schema ≡ the_schema
         → AreBare (state S.Store conn.old).now.trees × HoldsTables trees no_rows) }
 {
-    let (tables, is_begun) = match gather(alloc, conn) {
-        Ok(found) => found,
-        Err(fault) => return Err(fault),
-    };
+    let (contents, is_begun) = gather(alloc, conn)?;
     if is_begun {
-        return Ok(tables);
+        return Ok(contents);
     }
-    begin_bare(conn, tables)
+    begin_bare(conn, contents)
 }
 
 // The first of the five tables, or none, hold no row: the others are made, and the row of `schema` is put.
@@ -105,23 +81,23 @@ fn complete_bare<S: Alter>(
     alloc: Global,
     conn: &mut Connection<S>,
     count: usize,
-) -> Result<Tables, Fault>
+) -> Result<Contents, Fault>
     requires autocommit { conn.old.in_transaction ≡ false }
     requires few { count < 5 }
     ensures autocommit { conn.new.in_transaction ≡ false }
     ensures made { HasCleanDisk (state S.Store conn.new) → (state S.Store conn.old).now.schema ≡ beginning count
-        → IfOk result (λ t. (tables_view t ≡ no_rows) × AreBare (counted (beginning count) (state S.Store conn.old).now.trees) × IsStore (state S.Store conn.new) no_rows) }
-    ensures empty { IfOk result (λ t. tables_view t ≡ no_rows) }
+        → IfOk result (λ t. (contents_view t ≡ no_rows) × AreBare (counted (beginning count) (state S.Store conn.old).now.trees) × IsStore (state S.Store conn.new) no_rows) }
+    ensures empty { IfOk result (λ t. contents_view t ≡ no_rows) }
     ensures damaged { HasCleanDisk (state S.Store conn.new) → (state S.Store conn.old).now.schema ≡ beginning count → result ≡ Err Fault.Damaged
-        → (t : Contents) → StandsFor (counted (beginning count) (state S.Store conn.old).now.trees) t → ⊥ }
+        → (t : plain.Contents) → StandsFor (counted (beginning count) (state S.Store conn.old).now.trees) t → ⊥ }
     ensures kept { HasCleanDisk (state S.Store conn.new) → (state S.Store conn.old).now.schema ≡ beginning count → result ≡ Err Fault.Damaged → KeepsCommit (state S.Store conn.old) (state S.Store conn.new) }
     ensures crash { Survives (state S.Store conn.old) (state S.Store conn.new) (λ trees. IsTrue (state S.Store conn.old).is_open → (state S.Store conn.old).now.schema ≡ beginning count
         → AreBare (counted (beginning count) (state S.Store conn.old).now.trees) × HoldsTables trees no_rows) }
 {
-    match complete(conn, count) {
-        Ok(true) => Ok(no_tables(alloc)),
-        Ok(false) => Err(Fault::Damaged),
-        Err(error) => Err(fault_of(error)),
+    if complete(conn, count)? {
+        Ok(Contents::empty(alloc))
+    } else {
+        Err(Fault::Damaged)
     }
 }
 
@@ -135,24 +111,24 @@ fn complete_bare<S: Alter>(
 /// - `Database`: a call of the database answered a fault, or the database has other tables than the first of these five in
 ///   their order. No other is tried.
 /// - `OutOfMemory`: memory was refused.
-pub fn prepare<S: Alter>(alloc: Global, conn: &mut Connection<S>) -> Result<Tables, Fault>
+pub fn prepare<S: Alter>(alloc: Global, conn: &mut Connection<S>) -> Result<Contents, Fault>
     requires { conn.old.in_transaction ≡ false }
     ensures autocommit { conn.new.in_transaction ≡ false }
     ensures schema { IfOk result (λ _. IsBeginning conn.old.schema) }
+    ensures ours { result ≡ Err Fault.Damaged → IsBeginning conn.old.schema }
     ensures foreign { (IsBeginning conn.old.schema → ⊥) → (result ≡ Err Fault.Database) × (conn.new ≡ conn.old) }
-    ensures made { HasCleanDisk (state S.Store conn.new) → (count : ℕ) → count < 5 → conn.old.schema ≡ beginning count → IfOk result (λ t. (tables_view t ≡ no_rows) × StandsEmpty (state S.Store conn.old) × IsStore (state S.Store conn.new) no_rows) }
+    ensures made { HasCleanDisk (state S.Store conn.new) → (count : ℕ) → count < 5 → conn.old.schema ≡ beginning count → IfOk result (λ t. (contents_view t ≡ no_rows) × StandsEmpty (state S.Store conn.old) × IsStore (state S.Store conn.new) no_rows) }
     ensures loaded { HasCleanDisk (state S.Store conn.new) → Opens (state S.Store conn.old) → AreNumbered conn.old.schema (state S.Store conn.old).now.trees
-        → IfOk result (λ t. Stands (state S.Store conn.old).now (tables_view t) × IsStore (state S.Store conn.new) (tables_view t)) }
-    ensures fit { IfOk result (λ t. IsFit (tables_view t)) }
-    ensures rising { IfOk result (λ t. AreRising (tables_view t)) }
+        → IfOk result (λ t. Stands (state S.Store conn.old).now (contents_view t) × IsStore (state S.Store conn.new) (contents_view t)) }
+    ensures fit { IfOk result (λ t. IsFit (contents_view t)) }
+    ensures rising { IfOk result (λ t. AreRising (contents_view t)) }
     ensures damaged { HasCleanDisk (state S.Store conn.new) → result ≡ Err Fault.Damaged
-        → IsBeginning conn.old.schema × ((t : Contents) → IsFit t → Stands (state S.Store conn.old).now t → ⊥) }
+        → IsBeginning conn.old.schema × ((t : plain.Contents) → IsFit t → Stands (state S.Store conn.old).now t → ⊥) }
     ensures kept { HasCleanDisk (state S.Store conn.new) → result ≡ Err Fault.Damaged → KeepsCommit (state S.Store conn.old) (state S.Store conn.new) }
     ensures crash { Survives (state S.Store conn.old) (state S.Store conn.new) (λ trees. IsTrue (state S.Store conn.old).is_open → StandsEmpty (state S.Store conn.old) × HoldsTables trees no_rows) }
 {
-    let count = match beginning_of(conn.schema()) {
-        Some(count) => count,
-        None => return Err(Fault::Database),
+    let Some(count) = beginning_of(conn.schema()) else {
+        return Err(Fault::Database);
     };
     if count == 5 {
         return load(alloc, conn);
@@ -165,14 +141,11 @@ pub fn prepare<S: Alter>(alloc: Global, conn: &mut Connection<S>) -> Result<Tabl
 pub fn check_open<S: Alter>(conn: &mut Connection<S>) -> Result<(), Fault>
     ensures open { HasCleanDisk (state S.Store conn.new) → OnOk result (IsTrue (state S.Store conn.old).is_open × IsTrue (state S.Store conn.new).is_open) }
     ensures was_open { HasCleanDisk (state S.Store conn.new) → IsTrue (state S.Store conn.new).is_open → IsTrue (state S.Store conn.old).is_open }
-    ensures kept { HasCleanDisk (state S.Store conn.new) → IsTrue (state S.Store conn.new).is_open → (t : Contents) → IsStore (state S.Store conn.old) t → IsStore (state S.Store conn.new) t }
+    ensures kept { HasCleanDisk (state S.Store conn.new) → IsTrue (state S.Store conn.new).is_open → (t : plain.Contents) → IsStore (state S.Store conn.old) t → IsStore (state S.Store conn.new) t }
     ensures mode { conn.old.in_transaction ≡ false → conn.new.in_transaction ≡ false }
     ensures survives { Survives (state S.Store conn.old) (state S.Store conn.new) (λ _. ⊥) }
     ensures fault { result ≢ Err Fault.Damaged }
 {
-    let _row = match conn.query_row("SELECT version FROM schema", &[]) {
-        Ok(row) => row,
-        Err(error) => return Err(fault_of(error)),
-    };
+    conn.query_row("SELECT version FROM schema", &[])?;
     Ok(())
 }

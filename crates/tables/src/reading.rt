@@ -1,69 +1,17 @@
-// The rows of each table as items.
-ghost use Rattle.std.specs.Prelude.{◌≡◌, ◌≢◌, ◌++◌, ◌∷◌, [], ◌<◌, List, ℕ, pos, map, codes, Err, IfOk, IfErr, IsTrue, IfNone, IfSome, MatchOption, Some, None, option_map, true, false, ◌⊎◌, string_bytes};
+// The rows of `root`, `shelf` and `blob` as items, by their keys.
+ghost use Rattle.std.specs.Prelude.{◌≡◌, ◌≢◌, ◌<◌, List, ℕ, map, Err, IfOk, IfSome, MatchOption, string_bytes};
 ghost use Rattle.std.specs.List.{AllByRecursion};
 ghost use Rattle.std.specs.Ordering.{nat_cmp};
 ghost use Rattle.std.specs.Cmp.Lexicographic.{slice_cmp};
-ghost use Rattle.sqlite.specs.Order.{Row, column};
-ghost use Rattle.sqlite.specs.declared.types.Value.TheVariants.{Int, Text, Blob};
-ghost use Rattle.sqlite_rules.specs.Lists.{Has};
 ghost use Rattle.hex.specs.Hex.{encode_lower};
-ghost use Rattle.tables.specs.Tables.{IsVersion, IsDigest, row_cmp, value_view, slot_view};
-ghost use Rattle.tables.specs.Loading.{AreRead, IsOne, current_items, IsRootRow, IsSlotRow, IsShelfRow, IsBlobRow, FitsRoot, FitsSlot, FitsShelf, FitsBlob, AreGathered, AreOrdered, AreSpoiled, IsPlace, place_of, slot_name};
+ghost use Rattle.tables.specs.Tables.{IsDigest, row_cmp};
+ghost use Rattle.tables.specs.steps.Loading.{AreGathered, AreOrdered, AreSpoiled, FitsBlob, FitsRoot, FitsShelf, IsBlobRow, IsPlace, IsRootRow, IsShelfRow};
 
-use crate::contents::Fault;
+use crate::cells::{Place, blob_at, copied, is_same, place_by, text_at, text_order, version_at};
+use crate::faults::Fault;
 use sqlite::Row;
-use sqlite_value::value::ValueRef;
 use std::alloc::Global;
 use std::cmp::Ordering;
-
-// Where an item stands to the last one before it.
-#[derive(Clone, Copy)]
-pub(crate) enum Place {
-    // its key is higher
-    Behind,
-    // it is the same
-    Same,
-    // neither
-    Neither,
-}
-
-fn text_at(row: &Row, at: usize) -> Option<&[u8]>
-    ensures { MatchOption result ((t : _) → column row.now at ≢ Text t) (λ t. column row.now at ≡ Text t.now) }
-{
-    match row.get_ref(at) {
-        Ok(ValueRef::Text(text)) => Some(text),
-        _ => None,
-    }
-}
-
-fn blob_at(row: &Row, at: usize) -> Option<&[u8]>
-    ensures { MatchOption result ((b : _) → column row.now at ≢ Blob b) (λ b. column row.now at ≡ Blob b.now) }
-{
-    match row.get_ref(at) {
-        Ok(ValueRef::Blob(bytes)) => Some(bytes),
-        _ => None,
-    }
-}
-
-fn version_at(row: &Row, at: usize) -> Option<u32>
-    ensures value { MatchOption result ((n : ℕ) → IsVersion n → column row.now at ≢ Int (pos n)) (λ n. column row.now at ≡ Int (pos n)) }
-    ensures fits { IfSome result (λ n. IsVersion n) }
-{
-    match row.get_ref(at) {
-        Ok(ValueRef::Int(number)) if 0 <= number && number <= 4_294_967_295 => Some(number as u32),
-        _ => None,
-    }
-}
-
-fn copied(alloc: Global, bytes: &[u8]) -> Result<Vec<u8>, Fault>
-    ensures value { IfOk result (λ v. v.items ≡ bytes.now) }
-    ensures fault { IfErr result (λ f. f ≡ Fault.OutOfMemory) }
-{
-    match Vec::from_slice(alloc, bytes) {
-        Ok(copy) => Ok(copy),
-        Err(_) => Err(Fault::OutOfMemory),
-    }
-}
 
 // The root of a row, and `Damaged` exactly where it is that of none.
 fn root_of(alloc: Global, row: &Row) -> Result<(u32, Vec<u8>), Fault>
@@ -78,33 +26,7 @@ fn root_of(alloc: Global, row: &Row) -> Result<(u32, Vec<u8>), Fault>
     let Some(bytes) = blob_at(row, 1) else {
         return Err(Fault::Damaged);
     };
-    match copied(alloc, bytes) {
-        Ok(bytes) => Ok((version, bytes)),
-        Err(fault) => Err(fault),
-    }
-}
-
-fn text_order(a: &[u8], b: &[u8]) -> Ordering
-    ensures { result ≡ slice_cmp nat_cmp a.now b.now }
-{
-    a.cmp(b)
-}
-
-fn is_same(a: &[u8], b: &[u8]) -> bool
-    ensures same { IsTrue result → a.now ≡ b.now }
-    ensures other { a.now ≡ b.now → IsTrue result }
-{
-    a == b
-}
-
-fn place_by(order: Ordering, same: bool) -> Place
-    ensures { result ≡ place_of order same }
-{
-    match order {
-        Ordering::Less => Place::Behind,
-        Ordering::Equal if same => Place::Same,
-        _ => Place::Neither,
-    }
+    Ok((version, copied(alloc, bytes)?))
 }
 
 fn root_place(roots: &[(u32, Vec<u8>)], root: &(u32, Vec<u8>)) -> Place
@@ -125,17 +47,9 @@ pub(crate) fn roots_of(alloc: Global, rows: &[Row]) -> Result<Vec<(u32, Vec<u8>)
 {
     let mut roots = Vec::new(alloc);
     'rows: for row in rows {
-        let root = match root_of(alloc, row) {
-            Ok(root) => root,
-            Err(fault) => return Err(fault),
-        };
+        let root = root_of(alloc, row)?;
         match root_place(roots.as_slice(), &root) {
-            Place::Behind => {
-                if roots.reserve(1).is_err() {
-                    return Err(Fault::OutOfMemory);
-                }
-                roots.push_reserved(root);
-            }
+            Place::Behind => roots.push(root)?,
             Place::Same => {}
             Place::Neither => return Err(Fault::Damaged),
         }
@@ -162,13 +76,8 @@ fn document_of(alloc: Global, row: &Row) -> Result<(String, u32, Vec<u8>), Fault
     let Ok(role) = std::str::from_utf8(role) else {
         return Err(Fault::Damaged);
     };
-    let Ok(role) = String::from_str(alloc, role) else {
-        return Err(Fault::OutOfMemory);
-    };
-    match copied(alloc, bytes) {
-        Ok(bytes) => Ok((role, version, bytes)),
-        Err(fault) => Err(fault),
-    }
+    let role = String::from_str(alloc, role)?;
+    Ok((role, version, copied(alloc, bytes)?))
 }
 
 fn row_order(role: &[u8], version: u32, other_role: &[u8], other: u32) -> Ordering
@@ -199,17 +108,9 @@ pub(crate) fn documents_of(
 {
     let mut documents = Vec::new(alloc);
     'rows: for row in rows {
-        let document = match document_of(alloc, row) {
-            Ok(document) => document,
-            Err(fault) => return Err(fault),
-        };
+        let document = document_of(alloc, row)?;
         match document_place(documents.as_slice(), &document) {
-            Place::Behind => {
-                if documents.reserve(1).is_err() {
-                    return Err(Fault::OutOfMemory);
-                }
-                documents.push_reserved(document);
-            }
+            Place::Behind => documents.push(document)?,
             Place::Same => {}
             Place::Neither => return Err(Fault::Damaged),
         }
@@ -258,10 +159,7 @@ fn blob_of(alloc: Global, row: &Row) -> Result<([u8; 32], Vec<u8>), Fault>
     let Some(digest) = digest_of(digits) else {
         return Err(Fault::Damaged);
     };
-    match copied(alloc, bytes) {
-        Ok(bytes) => Ok((digest, bytes)),
-        Err(fault) => Err(fault),
-    }
+    Ok((digest, copied(alloc, bytes)?))
 }
 
 fn blob_place(blobs: &[([u8; 32], Vec<u8>)], blob: &([u8; 32], Vec<u8>)) -> Place
@@ -282,128 +180,12 @@ pub(crate) fn blobs_of(alloc: Global, rows: &[Row]) -> Result<Vec<([u8; 32], Vec
 {
     let mut blobs = Vec::new(alloc);
     'rows: for row in rows {
-        let blob = match blob_of(alloc, row) {
-            Ok(blob) => blob,
-            Err(fault) => return Err(fault),
-        };
+        let blob = blob_of(alloc, row)?;
         match blob_place(blobs.as_slice(), &blob) {
-            Place::Behind => {
-                if blobs.reserve(1).is_err() {
-                    return Err(Fault::OutOfMemory);
-                }
-                blobs.push_reserved(blob);
-            }
+            Place::Behind => blobs.push(blob)?,
             Place::Same => {}
             Place::Neither => return Err(Fault::Damaged),
         }
     }
     Ok(blobs)
-}
-
-// The rows of `current`.
-#[derive(Drop)]
-pub(crate) struct Current {
-    pub timestamp: Option<(u32, Vec<u8>)>,
-    pub snapshot: Option<(u32, Vec<u8>)>,
-}
-
-// The slot of a row of `current`, whether `timestamp` or `snapshot`, with its version and bytes; `Damaged` exactly where
-// it is that of none.
-fn slot_of(alloc: Global, row: &Row) -> Result<(bool, (u32, Vec<u8>)), Fault>
-    ensures read { IfOk result (λ r. IsSlotRow row.now (slot_name r.0, (r.1.0, r.1.1.items)) × FitsSlot (slot_name r.0, (r.1.0, r.1.1.items))) }
-    ensures damaged { result ≡ Err Fault.Damaged → (r : List ℕ × (ℕ × List ℕ)) → FitsSlot r → IsSlotRow row.now r → ⊥ }
-    ensures told { ((r : List ℕ × (ℕ × List ℕ)) → FitsSlot r → IsSlotRow row.now r → ⊥) → result ≡ Err Fault.Damaged }
-    ensures fault { result ≢ Err Fault.Database }
-{
-    let Some(slot) = text_at(row, 0) else {
-        return Err(Fault::Damaged);
-    };
-    let Some(version) = version_at(row, 1) else {
-        return Err(Fault::Damaged);
-    };
-    let Some(bytes) = blob_at(row, 2) else {
-        return Err(Fault::Damaged);
-    };
-    let is_timestamp = is_same(slot, b"timestamp");
-    if !is_timestamp && !is_same(slot, b"snapshot") {
-        return Err(Fault::Damaged);
-    }
-    match copied(alloc, bytes) {
-        Ok(bytes) => Ok((is_timestamp, (version, bytes))),
-        Err(fault) => Err(fault),
-    }
-}
-
-fn is_held(held: &(u32, Vec<u8>), item: &(u32, Vec<u8>)) -> bool
-    ensures same { IsTrue result → value_view item.now ≡ value_view held.now }
-    ensures other { result ≡ false → value_view item.now ≢ value_view held.now }
-{
-    let same = is_same(held.1.as_slice(), item.1.as_slice());
-    held.0 == item.0 && same
-}
-
-// Puts the item into the slot, unless the slot holds another.
-fn fill(slot: &mut Option<(u32, Vec<u8>)>, item: (u32, Vec<u8>)) -> bool
-    ensures filled { IsTrue result → slot_view slot.new ≡ Some (value_view item) }
-    ensures was { IsTrue result → (slot_view slot.old ≡ None) ⊎ (slot_view slot.old ≡ Some (value_view item)) }
-    ensures refused { result ≡ false → (y : ℕ × List ℕ) × (slot_view slot.old ≡ Some y) × (value_view item ≢ y) }
-{
-    match slot {
-        Some(held) => is_held(held, &item),
-        None => {
-            *slot = Some(item);
-            true
-        }
-    }
-}
-
-// The rows of `current`, each slot at most once. Rows of the same cells are one.
-pub(crate) fn current_of(alloc: Global, rows: &[Row]) -> Result<Current, Fault>
-    ensures read { IfOk result (λ v. AreRead IsSlotRow FitsSlot rows.now (current_items (slot_view v.timestamp) (slot_view v.snapshot))) }
-    ensures damaged { result ≡ Err Fault.Damaged → AreSpoiled IsSlotRow FitsSlot rows.now }
-    ensures fault { result ≢ Err Fault.Database }
-{
-    let mut timestamp = None;
-    let mut snapshot = None;
-    'rows: for row in rows {
-        let (is_timestamp, item) = match slot_of(alloc, row) {
-            Ok(slot) => slot,
-            Err(fault) => return Err(fault),
-        };
-        let filled = if is_timestamp {
-            fill(&mut timestamp, item)
-        } else {
-            fill(&mut snapshot, item)
-        };
-        if !filled {
-            return Err(Fault::Damaged);
-        }
-    }
-    Ok(Current {
-        timestamp,
-        snapshot,
-    })
-}
-
-fn is_one(row: &Row) -> bool
-    ensures yes { IsTrue result → IsOne row.now }
-    ensures no { result ≡ false → IsOne row.now → ⊥ }
-{
-    matches!(version_at(row, 0), Some(1))
-}
-
-// Whether `schema` holds version 1, and `Damaged` where it holds another. There may be none.
-pub(crate) fn is_begun(rows: &[Row]) -> Result<bool, Fault>
-    ensures one { IfOk result (λ b. (r : Row) → Has rows.now r → IsOne r) }
-    ensures some { IfOk result (λ b. IsTrue b → rows.now ≢ []) }
-    ensures none { IfOk result (λ b. b ≡ false → rows.now ≡ []) }
-    ensures damaged { result ≡ Err Fault.Damaged → (r : Row) × Has rows.now r × (IsOne r → ⊥) }
-    ensures fault { IfErr result (λ f. f ≡ Fault.Damaged) }
-{
-    'rows: for row in rows {
-        if !is_one(row) {
-            return Err(Fault::Damaged);
-        }
-    }
-    Ok(!rows.is_empty())
 }

@@ -3,18 +3,19 @@ ghost use Rattle.std.specs.Prelude.{◌≡◌, ◌≢◌, ◌++◌, ◌∷◌, [
 ghost use Rattle.sqlite.specs.State.{HasCleanDisk, KeepsCommit, Survives};
 ghost use Rattle.sqlite.specs.Held.{state};
 ghost use Rattle.sqlite.specs.declared.types.Value.TheVariants.{Text, Blob};
-ghost use Rattle.tables.specs.Tables.{Tables, IsStore, HoldsTables, after, after_all, slot_row, with_root, with_row, with_blob, with_timestamp, with_snapshot, emptied};
-ghost use Rattle.tables.specs.Writing.{Cells, IsInside, cells_of, without_text};
+ghost use Rattle.contents.specs.Contents.{Contents};
+ghost use Rattle.tables.specs.Tables.{IsStore, HoldsTables, after, after_all, slot_row, with_root, with_row, with_blob, with_timestamp, with_snapshot, emptied};
+ghost use Rattle.tables.specs.steps.Writing.{Cells, IsInside, cells_of, without_text};
 
-use crate::contents::{Change, Fault};
-use crate::faults::fault_of;
+use crate::change::Change;
+use crate::faults::Fault;
 use sqlite::{Alter, Connection, Error, Transaction, params};
 use sqlite_value::value::ValueRef;
 
 // A root more.
 fn put_root<S: Alter>(tx: &mut Transaction<'_, S>, version: u32, bytes: &[u8]) -> Result<(), Error>
     ensures same_reference { tx.new.conn.ghost_name ≡ tx.old.conn.ghost_name }
-    ensures wrote { HasCleanDisk (state S.Store tx.new.conn.now) → (t : Tables) → IsInside (state S.Store tx.old.conn.now) (cells_of t) → OnOk result (IsInside (state S.Store tx.new.conn.now) (cells_of (with_root (version, bytes.now) t))) }
+    ensures wrote { HasCleanDisk (state S.Store tx.new.conn.now) → (t : Contents) → IsInside (state S.Store tx.old.conn.now) (cells_of t) → OnOk result (IsInside (state S.Store tx.new.conn.now) (cells_of (with_root (version, bytes.now) t))) }
     ensures kept { HasCleanDisk (state S.Store tx.new.conn.now) → KeepsCommit (state S.Store tx.old.conn.now) (state S.Store tx.new.conn.now) }
     ensures survives { Survives (state S.Store tx.old.conn.now) (state S.Store tx.new.conn.now) (λ _. ⊥) }
 {
@@ -63,7 +64,7 @@ fn put_row<S: Alter>(
     bytes: &[u8],
 ) -> Result<(), Error>
     ensures same_reference { tx.new.conn.ghost_name ≡ tx.old.conn.ghost_name }
-    ensures wrote { HasCleanDisk (state S.Store tx.new.conn.now) → (t : Tables) → IsInside (state S.Store tx.old.conn.now) (cells_of t) → OnOk result (IsInside (state S.Store tx.new.conn.now) (cells_of (with_row ((role.now, version), bytes.now) t))) }
+    ensures wrote { HasCleanDisk (state S.Store tx.new.conn.now) → (t : Contents) → IsInside (state S.Store tx.old.conn.now) (cells_of t) → OnOk result (IsInside (state S.Store tx.new.conn.now) (cells_of (with_row ((role.now, version), bytes.now) t))) }
     ensures kept { HasCleanDisk (state S.Store tx.new.conn.now) → KeepsCommit (state S.Store tx.old.conn.now) (state S.Store tx.new.conn.now) }
     ensures survives { Survives (state S.Store tx.old.conn.now) (state S.Store tx.new.conn.now) (λ _. ⊥) }
 {
@@ -117,7 +118,7 @@ fn put_blob<S: Alter>(
     bytes: &[u8],
 ) -> Result<(), Error>
     ensures same_reference { tx.new.conn.ghost_name ≡ tx.old.conn.ghost_name }
-    ensures wrote { HasCleanDisk (state S.Store tx.new.conn.now) → (t : Tables) → IsInside (state S.Store tx.old.conn.now) (cells_of t) → OnOk result (IsInside (state S.Store tx.new.conn.now) (cells_of (with_blob (digest.now, bytes.now) t))) }
+    ensures wrote { HasCleanDisk (state S.Store tx.new.conn.now) → (t : Contents) → IsInside (state S.Store tx.old.conn.now) (cells_of t) → OnOk result (IsInside (state S.Store tx.new.conn.now) (cells_of (with_blob (digest.now, bytes.now) t))) }
     ensures kept { HasCleanDisk (state S.Store tx.new.conn.now) → KeepsCommit (state S.Store tx.old.conn.now) (state S.Store tx.new.conn.now) }
     ensures survives { Survives (state S.Store tx.old.conn.now) (state S.Store tx.new.conn.now) (λ _. ⊥) }
 {
@@ -134,7 +135,7 @@ fn put_timestamp<S: Alter>(
     bytes: &[u8],
 ) -> Result<(), Error>
     ensures same_reference { tx.new.conn.ghost_name ≡ tx.old.conn.ghost_name }
-    ensures wrote { HasCleanDisk (state S.Store tx.new.conn.now) → (t : Tables) → IsInside (state S.Store tx.old.conn.now) (cells_of t) → OnOk result (IsInside (state S.Store tx.new.conn.now) (cells_of (with_timestamp (version, bytes.now) t))) }
+    ensures wrote { HasCleanDisk (state S.Store tx.new.conn.now) → (t : Contents) → IsInside (state S.Store tx.old.conn.now) (cells_of t) → OnOk result (IsInside (state S.Store tx.new.conn.now) (cells_of (with_timestamp (version, bytes.now) t))) }
     ensures kept { HasCleanDisk (state S.Store tx.new.conn.now) → KeepsCommit (state S.Store tx.old.conn.now) (state S.Store tx.new.conn.now) }
     ensures survives { Survives (state S.Store tx.old.conn.now) (state S.Store tx.new.conn.now) (λ _. ⊥) }
 {
@@ -149,7 +150,7 @@ fn put_snapshot<S: Alter>(
     bytes: &[u8],
 ) -> Result<(), Error>
     ensures same_reference { tx.new.conn.ghost_name ≡ tx.old.conn.ghost_name }
-    ensures wrote { HasCleanDisk (state S.Store tx.new.conn.now) → (t : Tables) → IsInside (state S.Store tx.old.conn.now) (cells_of t) → OnOk result (IsInside (state S.Store tx.new.conn.now) (cells_of (with_snapshot (version, bytes.now) t))) }
+    ensures wrote { HasCleanDisk (state S.Store tx.new.conn.now) → (t : Contents) → IsInside (state S.Store tx.old.conn.now) (cells_of t) → OnOk result (IsInside (state S.Store tx.new.conn.now) (cells_of (with_snapshot (version, bytes.now) t))) }
     ensures kept { HasCleanDisk (state S.Store tx.new.conn.now) → KeepsCommit (state S.Store tx.old.conn.now) (state S.Store tx.new.conn.now) }
     ensures survives { Survives (state S.Store tx.old.conn.now) (state S.Store tx.new.conn.now) (λ _. ⊥) }
 {
@@ -160,7 +161,7 @@ fn put_snapshot<S: Alter>(
 // The rows of `current` and `shelf` go.
 fn empty<S: Alter>(tx: &mut Transaction<'_, S>) -> Result<(), Error>
     ensures same_reference { tx.new.conn.ghost_name ≡ tx.old.conn.ghost_name }
-    ensures wrote { HasCleanDisk (state S.Store tx.new.conn.now) → (t : Tables) → IsInside (state S.Store tx.old.conn.now) (cells_of t) → OnOk result (IsInside (state S.Store tx.new.conn.now) (cells_of (emptied t))) }
+    ensures wrote { HasCleanDisk (state S.Store tx.new.conn.now) → (t : Contents) → IsInside (state S.Store tx.old.conn.now) (cells_of t) → OnOk result (IsInside (state S.Store tx.new.conn.now) (cells_of (emptied t))) }
     ensures kept { HasCleanDisk (state S.Store tx.new.conn.now) → KeepsCommit (state S.Store tx.old.conn.now) (state S.Store tx.new.conn.now) }
     ensures survives { Survives (state S.Store tx.old.conn.now) (state S.Store tx.new.conn.now) (λ _. ⊥) }
 {
@@ -171,7 +172,7 @@ fn empty<S: Alter>(tx: &mut Transaction<'_, S>) -> Result<(), Error>
 // One change.
 fn write<S: Alter>(tx: &mut Transaction<'_, S>, change: &Change<'_>) -> Result<(), Error>
     ensures same_reference { tx.new.conn.ghost_name ≡ tx.old.conn.ghost_name }
-    ensures wrote { HasCleanDisk (state S.Store tx.new.conn.now) → (t : Tables) → IsInside (state S.Store tx.old.conn.now) (cells_of t) → OnOk result (IsInside (state S.Store tx.new.conn.now) (cells_of (after change.now t))) }
+    ensures wrote { HasCleanDisk (state S.Store tx.new.conn.now) → (t : Contents) → IsInside (state S.Store tx.old.conn.now) (cells_of t) → OnOk result (IsInside (state S.Store tx.new.conn.now) (cells_of (after change.now t))) }
     ensures kept { HasCleanDisk (state S.Store tx.new.conn.now) → KeepsCommit (state S.Store tx.old.conn.now) (state S.Store tx.new.conn.now) }
     ensures survives { Survives (state S.Store tx.old.conn.now) (state S.Store tx.new.conn.now) (λ _. ⊥) }
 {
@@ -189,10 +190,10 @@ fn write<S: Alter>(tx: &mut Transaction<'_, S>, change: &Change<'_>) -> Result<(
 fn write_changes<S: Alter>(conn: &mut Connection<S>, changes: &[Change<'_>]) -> Result<(), Error>
     requires { conn.old.in_transaction ≡ false }
     ensures autocommit { conn.new.in_transaction ≡ false }
-    ensures wrote { HasCleanDisk (state S.Store conn.new) → (t : Tables) → IsStore (state S.Store conn.old) t → OnOk result (IsStore (state S.Store conn.new) (after_all changes.now t)) }
-    ensures kept { HasCleanDisk (state S.Store conn.new) → IsTrue (state S.Store conn.new).is_open → (t : Tables) → IsStore (state S.Store conn.old) t → OnErr result (IsStore (state S.Store conn.new) t) }
+    ensures wrote { HasCleanDisk (state S.Store conn.new) → (t : Contents) → IsStore (state S.Store conn.old) t → OnOk result (IsStore (state S.Store conn.new) (after_all changes.now t)) }
+    ensures kept { HasCleanDisk (state S.Store conn.new) → IsTrue (state S.Store conn.new).is_open → (t : Contents) → IsStore (state S.Store conn.old) t → OnErr result (IsStore (state S.Store conn.new) t) }
     ensures was_open { HasCleanDisk (state S.Store conn.new) → IsTrue (state S.Store conn.new).is_open → IsTrue (state S.Store conn.old).is_open }
-    ensures crash { Survives (state S.Store conn.old) (state S.Store conn.new) (λ trees. (t : Tables) → IsStore (state S.Store conn.old) t → HoldsTables trees (after_all changes.now t)) }
+    ensures crash { Survives (state S.Store conn.old) (state S.Store conn.new) (λ trees. (t : Contents) → IsStore (state S.Store conn.old) t → HoldsTables trees (after_all changes.now t)) }
 {
     let mut tx = conn.transaction();
     'writes: for change in changes {
@@ -209,14 +210,12 @@ fn write_changes<S: Alter>(conn: &mut Connection<S>, changes: &[Change<'_>]) -> 
 pub fn write_all<S: Alter>(conn: &mut Connection<S>, changes: &[Change<'_>]) -> Result<(), Fault>
     requires { conn.old.in_transaction ≡ false }
     ensures autocommit { conn.new.in_transaction ≡ false }
-    ensures wrote { HasCleanDisk (state S.Store conn.new) → (t : Tables) → IsStore (state S.Store conn.old) t → OnOk result (IsStore (state S.Store conn.new) (after_all changes.now t)) }
-    ensures kept { HasCleanDisk (state S.Store conn.new) → IsTrue (state S.Store conn.new).is_open → (t : Tables) → IsStore (state S.Store conn.old) t → OnErr result (IsStore (state S.Store conn.new) t) }
+    ensures wrote { HasCleanDisk (state S.Store conn.new) → (t : Contents) → IsStore (state S.Store conn.old) t → OnOk result (IsStore (state S.Store conn.new) (after_all changes.now t)) }
+    ensures kept { HasCleanDisk (state S.Store conn.new) → IsTrue (state S.Store conn.new).is_open → (t : Contents) → IsStore (state S.Store conn.old) t → OnErr result (IsStore (state S.Store conn.new) t) }
     ensures was_open { HasCleanDisk (state S.Store conn.new) → IsTrue (state S.Store conn.new).is_open → IsTrue (state S.Store conn.old).is_open }
-    ensures crash { Survives (state S.Store conn.old) (state S.Store conn.new) (λ trees. (t : Tables) → IsStore (state S.Store conn.old) t → HoldsTables trees (after_all changes.now t)) }
+    ensures crash { Survives (state S.Store conn.old) (state S.Store conn.new) (λ trees. (t : Contents) → IsStore (state S.Store conn.old) t → HoldsTables trees (after_all changes.now t)) }
     ensures fault { result ≢ Err Fault.Damaged }
 {
-    match write_changes(conn, changes) {
-        Ok(()) => Ok(()),
-        Err(error) => Err(fault_of(error)),
-    }
+    write_changes(conn, changes)?;
+    Ok(())
 }

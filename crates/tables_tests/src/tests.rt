@@ -2,9 +2,9 @@ use sqlite::{Alter, Connection, MemStore};
 use sqlite_value::value::ValueRef;
 use std::alloc::Global;
 use std::test::Fail;
-use tables::{Change, Fault, Tables, check_open, prepare, renew, write_all};
+use tables::{Change, Contents, Fault, check_open, prepare, renew, write_all};
 
-fn read<S: Alter>(alloc: Global, conn: &mut Connection<S>) -> Result<Tables, Fault> {
+fn read<S: Alter>(alloc: Global, conn: &mut Connection<S>) -> Result<Contents, Fault> {
     if !conn.is_autocommit() {
         return Err(Fault::Database);
     }
@@ -44,8 +44,8 @@ fn is_at(slot: &Option<(u32, Vec<u8>)>, version: u32, bytes: &[u8]) -> bool {
     }
 }
 
-fn are_roots(tables: &Tables) -> bool {
-    match tables.roots.as_slice() {
+fn are_roots(contents: &Contents) -> bool {
+    match contents.roots.as_slice() {
         [one, two] => {
             one.0 == 1
                 && one.1.as_slice() == b"root 1".as_slice()
@@ -56,8 +56,8 @@ fn are_roots(tables: &Tables) -> bool {
     }
 }
 
-fn are_rows(tables: &Tables) -> bool {
-    match tables.shelf.as_slice() {
+fn are_rows(contents: &Contents) -> bool {
+    match contents.shelf.as_slice() {
         [a, two, three] => {
             a.0.as_str() == "a"
                 && a.1 == 4_294_967_295
@@ -72,8 +72,8 @@ fn are_rows(tables: &Tables) -> bool {
     }
 }
 
-fn are_blobs(tables: &Tables) -> bool {
-    match tables.blobs.as_slice() {
+fn are_blobs(contents: &Contents) -> bool {
+    match contents.blobs.as_slice() {
         [low, high] => {
             low.0 == [16; 32]
                 && low.1.as_slice() == b"low".as_slice()
@@ -84,20 +84,12 @@ fn are_blobs(tables: &Tables) -> bool {
     }
 }
 
-fn is_some(tables: &Tables) -> bool {
-    are_roots(tables)
-        && is_at(&tables.timestamp, 8, b"timestamp 8")
-        && is_at(&tables.snapshot, 5, b"snapshot 5")
-        && are_rows(tables)
-        && are_blobs(tables)
-}
-
-fn is_empty(tables: &Tables) -> bool {
-    tables.roots.is_empty()
-        && tables.timestamp.is_none()
-        && tables.snapshot.is_none()
-        && tables.shelf.is_empty()
-        && tables.blobs.is_empty()
+fn is_some(contents: &Contents) -> bool {
+    are_roots(contents)
+        && is_at(&contents.timestamp, 8, b"timestamp 8")
+        && is_at(&contents.snapshot, 5, b"snapshot 5")
+        && are_rows(contents)
+        && are_blobs(contents)
 }
 
 // A database in memory with the five tables and the rows.
@@ -112,17 +104,17 @@ fn made(alloc: Global) -> Result<Connection<MemStore>, Fault> {
 fn reads_what_was_put(rt: HostRuntime) -> Result<(), Fail> {
     let alloc = rt.alloc();
     let mut conn = renew(alloc, Connection::open_in_memory(alloc)?)?;
-    assert!(rt; is_empty(&read(alloc, &mut conn)?));
-    assert!(rt; is_empty(&read(alloc, &mut conn)?));
+    assert!(rt; read(alloc, &mut conn)?.is_empty());
+    assert!(rt; read(alloc, &mut conn)?.is_empty());
     put_some(&mut conn)?;
     assert!(rt; is_some(&read(alloc, &mut conn)?));
     let mut conn = renew(alloc, conn)?;
     assert!(rt; is_some(&read(alloc, &mut conn)?));
     check_open(&mut conn)?;
     put(&mut conn, &[Change::Emptied])?;
-    let tables = read(alloc, &mut conn)?;
-    assert!(rt; are_roots(&tables) && are_blobs(&tables));
-    assert!(rt; tables.shelf.is_empty() && tables.timestamp.is_none() && tables.snapshot.is_none());
+    let contents = read(alloc, &mut conn)?;
+    assert!(rt; are_roots(&contents) && are_blobs(&contents));
+    assert!(rt; contents.shelf.is_empty() && contents.timestamp.is_none() && contents.snapshot.is_none());
     Ok(())
 }
 
@@ -144,7 +136,7 @@ fn a_refused_change_takes_the_others_back(rt: HostRuntime) -> Result<(), Fail> {
 }
 
 // What a statement makes of the rows for the next opening.
-fn after(alloc: Global, text: &str) -> Result<Result<Tables, Fault>, Fail> {
+fn after(alloc: Global, text: &str) -> Result<Result<Contents, Fault>, Fail> {
     let mut conn = made(alloc)?;
     conn.execute_batch(text)?;
     let mut conn = renew(alloc, conn)?;
@@ -185,7 +177,7 @@ fn each_damage_is_told(rt: HostRuntime) -> Result<(), Fail> {
 }
 
 // What a targets document with a role of these bytes makes of the rows for the next opening.
-fn with_role(alloc: Global, role: &[u8]) -> Result<Result<Tables, Fault>, Fail> {
+fn with_role(alloc: Global, role: &[u8]) -> Result<Result<Contents, Fault>, Fail> {
     let mut conn = made(alloc)?;
     conn.execute(
         "INSERT INTO shelf (role, version, bytes) VALUES (?1, 1, x'00')",
@@ -227,7 +219,7 @@ fn tables_without_rows_are_begun(rt: HostRuntime) -> Result<(), Fail> {
         "DELETE FROM root; DELETE FROM current; DELETE FROM shelf; DELETE FROM blob; DELETE FROM schema",
     )?;
     match found {
-        Ok(tables) => assert!(rt; is_empty(&tables)),
+        Ok(contents) => assert!(rt; contents.is_empty()),
         Err(_) => assert!(rt; false),
     }
     Ok(())
@@ -267,7 +259,7 @@ fn is_whole<S: Alter>(conn: &mut Connection<S>) -> Result<bool, Fail> {
 // Whether the database that the texts made opens without rows, and then takes and keeps rows.
 fn is_completed(alloc: Global, texts: &[&str]) -> Result<bool, Fail> {
     let mut conn = holding(alloc, texts)?;
-    if !is_empty(&read(alloc, &mut conn)?) || !is_whole(&mut conn)? {
+    if !read(alloc, &mut conn)?.is_empty() || !is_whole(&mut conn)? {
         return Ok(false);
     }
     put_some(&mut conn)?;
@@ -300,7 +292,7 @@ fn the_first_four_tables_are_completed(rt: HostRuntime) -> Result<(), Fail> {
 }
 
 // What the opening of the database that the texts made answers, and how many tables there are afterwards.
-fn opened(alloc: Global, texts: &[&str]) -> Result<(Result<Tables, Fault>, usize), Fail> {
+fn opened(alloc: Global, texts: &[&str]) -> Result<(Result<Contents, Fault>, usize), Fail> {
     let mut conn = holding(alloc, texts)?;
     let found = read(alloc, &mut conn);
     Ok((found, conn.schema().tables.len()))
@@ -354,22 +346,22 @@ fn goes_on_after_a_refused_allocation(rt: HostRuntime) -> Result<(), Fail> {
         return Ok(());
     };
     match read(alloc, &mut conn) {
-        Ok(tables) => assert!(rt; is_empty(&tables)),
+        Ok(contents) => assert!(rt; contents.is_empty()),
         Err(fault) => {
             assert_eq!(rt; fault, Fault::OutOfMemory);
-            assert!(rt; is_empty(&read(alloc, &mut conn)?));
+            assert!(rt; read(alloc, &mut conn)?.is_empty());
         }
     }
     match put_some(&mut conn) {
         Ok(()) => {}
         Err(fault) => {
             assert_eq!(rt; fault, Fault::OutOfMemory);
-            assert!(rt; is_empty(&read(alloc, &mut conn)?));
+            assert!(rt; read(alloc, &mut conn)?.is_empty());
             put_some(&mut conn)?;
         }
     }
     match read(alloc, &mut conn) {
-        Ok(tables) => assert!(rt; is_some(&tables)),
+        Ok(contents) => assert!(rt; is_some(&contents)),
         Err(fault) => {
             assert_eq!(rt; fault, Fault::OutOfMemory);
             assert!(rt; is_some(&read(alloc, &mut conn)?));

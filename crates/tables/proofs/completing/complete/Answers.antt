@@ -5,8 +5,9 @@ use Rattle.sqlite.specs.State.{HasCleanDisk, KeepsCommit, Survives}
 use Rattle.sqlite.proofs.StateLemmas.{survives_then}
 use Rattle.sqlite.proofs.Callers.{survives_begin}
 use Rattle.tables.specs.Schema.{beginning}
-use Rattle.tables.specs.Tables.{AreBare, HoldsTables, IsStore, counted, no_rows}
-use Rattle.tables.specs.Making.{IsMade}
+use Rattle.contents.specs.Contents.{no_rows}
+use Rattle.tables.specs.Tables.{AreBare, HoldsTables, IsStore, counted}
+use Rattle.tables.specs.steps.Making.{IsMade}
 use Rattle.tables.proofs.Beginnings.{as_counted, lacks}
 use Rattle.tables.proofs.Changes.{committed, keeps_then, to_tables}
 use Rattle.tables.proofs.completing.complete.Goals as goal

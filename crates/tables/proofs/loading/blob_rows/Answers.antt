@@ -5,14 +5,14 @@ use Rattle.tables.proofs.Texts.{select_blob}
 use Rattle.tables.proofs.Selects.{select_blob_loads, select_blob_same, select_blob_quiet}
 use Rattle.tables.proofs.loading.blob_rows.Goals as goal
 
-pub returns-in-Ok-clause-rows : goal.returns-in-Ok-clause-rows
-returns-in-Ok-clause-rows g c clean has = select_blob_loads (state g.S.Store c.args.conn.now) (state g.S.Store c.query_all.new.self) c.in-Ok.rows.items has (c.in-Ok.ensures.ok clean)
+pub returns-clause-rows : goal.returns-clause-rows
+returns-clause-rows g c clean has = select_blob_loads (state g.S.Store c.args.conn.now) (state g.S.Store c.query_all.new.self) c.in_ok-query_all.field-0.items has (c.in_ok-query_all.ensures.ok clean)
 
-pub returns-in-Ok-clause-unchanged : goal.returns-in-Ok-clause-unchanged
-returns-in-Ok-clause-unchanged g c clean has = select_blob_same (state g.S.Store c.args.conn.now) (state g.S.Store c.query_all.new.self) c.in-Ok.rows.items has (c.in-Ok.ensures.ok clean)
+pub returns-clause-unchanged : goal.returns-clause-unchanged
+returns-clause-unchanged g c clean has = select_blob_same (state g.S.Store c.args.conn.now) (state g.S.Store c.query_all.new.self) c.in_ok-query_all.field-0.items has (c.in_ok-query_all.ensures.ok clean)
 
-pub returns-in-Ok-clause-survives : goal.returns-in-Ok-clause-survives
-returns-in-Ok-clause-survives g c = commits_nothing select_blob [] (state g.S.Store c.args.conn.now) (state g.S.Store c.query_all.new.self) select_blob_quiet c.query_all.ensures.survives
+pub returns-clause-survives : goal.returns-clause-survives
+returns-clause-survives g c = commits_nothing select_blob [] (state g.S.Store c.args.conn.now) (state g.S.Store c.query_all.new.self) select_blob_quiet c.query_all.ensures.survives
 
-pub returns-in-Err-clause-survives : goal.returns-in-Err-clause-survives
-returns-in-Err-clause-survives g c = commits_nothing select_blob [] (state g.S.Store c.args.conn.now) (state g.S.Store c.query_all.new.self) select_blob_quiet c.query_all.ensures.survives
+pub returns-in_err-query_all-clause-survives : goal.returns-in_err-query_all-clause-survives
+returns-in_err-query_all-clause-survives g c = commits_nothing select_blob [] (state g.S.Store c.args.conn.now) (state g.S.Store c.query_all.new.self) select_blob_quiet c.query_all.ensures.survives

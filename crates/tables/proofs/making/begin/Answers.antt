@@ -5,8 +5,9 @@ use Rattle.sqlite.specs.State.{HasCleanDisk, Survives}
 use Rattle.sqlite.proofs.StateLemmas.{survives_then}
 use Rattle.sqlite.proofs.Callers.{survives_begin}
 use Rattle.tables.specs.Schema.{the_schema}
-use Rattle.tables.specs.Tables.{AreBare, HoldsTables, IsStore, no_rows}
-use Rattle.tables.specs.Making.{IsMade}
+use Rattle.contents.specs.Contents.{no_rows}
+use Rattle.tables.specs.Tables.{AreBare, HoldsTables, IsStore}
+use Rattle.tables.specs.steps.Making.{IsMade}
 use Rattle.tables.proofs.Changes.{OnOk_then, committed, to_tables}
 use Rattle.tables.proofs.making.begin.Goals as goal
 

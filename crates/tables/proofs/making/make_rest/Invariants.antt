@@ -3,7 +3,7 @@ use Rattle.sqlite_trees.specs.Tree.{Trees}
 use Rattle.sqlite.specs.State.{HasCleanDisk, KeepsCommit, Survives}
 use Rattle.sqlite.specs.Held.{state}
 use Rattle.tables.specs.Schema.{beginning}
-use Rattle.tables.specs.Making.{IsMade, LacksRest}
+use Rattle.tables.specs.steps.Making.{IsMade, LacksRest}
 use Rattle.tables.proofs.making.make_rest.Given as goal
 
 -- the tables up to this place are made, and nothing is committed

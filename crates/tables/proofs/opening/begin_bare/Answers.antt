@@ -3,13 +3,14 @@ use Rattle.sqlite_trees.specs.Tree.{Trees}
 use Rattle.sqlite.specs.Held.{state}
 use Rattle.sqlite.proofs.StateLemmas.{survives_weaker}
 use Rattle.tables.specs.Schema.{the_schema}
-use Rattle.tables.specs.Tables.{AreBare, HoldsTables, no_rows, tables_view}
+use Rattle.contents.specs.Contents.{contents_view, no_rows}
+use Rattle.tables.specs.Tables.{AreBare, HoldsTables}
 use Rattle.tables.proofs.opening.begin_bare.Goals as goal
 
-pub returns-in-Err-clause-crash : goal.returns-in-Err-clause-crash
-returns-in-Err-clause-crash g c =
+pub returns-in_err-begin-clause-crash : goal.returns-in_err-begin-clause-crash
+returns-in_err-begin-clause-crash g c =
     let old = state g.S.Store c.args.conn.now in
     let new = state g.S.Store c.begin.new.conn in
-    survives_weaker old new _ (λ (trees : Trees). IsTrue old.is_open → old.now.schema ≡ the_schema → (tables_view c.args.tables ≡ no_rows) × (AreBare old.now.trees → HoldsTables trees no_rows))
-    (λ _ db h is_open schema. (c.if-not-is_bare.ensures.bare refl, λ bare. h is_open schema bare))
-    c.in-Err.ensures.crash
+    survives_weaker old new _ (λ (trees : Trees). IsTrue old.is_open → old.now.schema ≡ the_schema → (contents_view c.args.contents ≡ no_rows) × (AreBare old.now.trees → HoldsTables trees no_rows))
+    (λ _ db h is_open schema. (c.if-not-is_empty.ensures.empty refl, λ bare. h is_open schema bare))
+    c.in_err-begin.ensures.crash

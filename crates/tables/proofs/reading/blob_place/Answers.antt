@@ -3,7 +3,7 @@ use Rattle.std.specs.Ordering.{nat_cmp}
 use Rattle.std.specs.Cmp.Lexicographic.{slice_cmp}
 use Rattle.std.proofs.lemmas.Cmp.{nat_list_cmp_total}
 use Rattle.std.proofs.lemmas.Map.Lookups.{exact_bytes}
-use Rattle.tables.specs.Loading.{IsPlace}
+use Rattle.tables.specs.steps.Loading.{IsPlace}
 use Rattle.tables.proofs.Gathering.{is_place}
 use Rattle.tables.proofs.Views.{blob_view, mapped_last}
 use Rattle.tables.proofs.reading.blob_place.Goals as goal

@@ -2,7 +2,7 @@ use Rattle.std.proofs.Common.{ℕ, List, ap, sym, subst, ◌∙◌, map}
 use Rattle.tables.specs.Tables.{row_cmp}
 use Rattle.tables.proofs.Orders.{row_cmp_total, exact_rows}
 use Rattle.std.specs.String.{string_bytes}
-use Rattle.tables.specs.Loading.{IsPlace}
+use Rattle.tables.specs.steps.Loading.{IsPlace}
 use Rattle.tables.proofs.Gathering.{is_place}
 use Rattle.tables.proofs.Views.{document_view, mapped_last}
 use Rattle.tables.proofs.reading.document_place.Goals as goal

@@ -2,7 +2,7 @@ use Rattle.std.proofs.Common.{sym, subst, ◌∙◌, map}
 use Rattle.std.specs.Ordering.{nat_cmp}
 use Rattle.std.proofs.lemmas.Cmp.{nat_cmp_total}
 use Rattle.std.proofs.lemmas.Map.Lookups.{exact_unsigned}
-use Rattle.tables.specs.Loading.{IsPlace}
+use Rattle.tables.specs.steps.Loading.{IsPlace}
 use Rattle.tables.proofs.Gathering.{is_place}
 use Rattle.tables.proofs.Views.{value_view, mapped_last}
 use Rattle.tables.proofs.reading.root_place.Goals as goal

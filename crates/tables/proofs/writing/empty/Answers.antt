@@ -1,7 +1,7 @@
 use Rattle.std.proofs.Common.{arith}
 use Rattle.sqlite.specs.Held.{state}
 use Rattle.sqlite.specs.State.{HasCleanDisk}
-use Rattle.tables.specs.Writing.{cells_of}
+use Rattle.tables.specs.steps.Writing.{cells_of}
 use Rattle.tables.proofs.writing.empty.Goals as goal
 
 pub returns-clause-wrote : goal.returns-clause-wrote

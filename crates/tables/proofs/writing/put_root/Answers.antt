@@ -1,5 +1,5 @@
 use Rattle.sqlite.specs.Held.{state}
-use Rattle.tables.specs.Writing.{cells_of}
+use Rattle.tables.specs.steps.Writing.{cells_of}
 use Rattle.tables.proofs.Statements.{adds_root}
 use Rattle.tables.proofs.Changes.{grown_root}
 use Rattle.tables.proofs.writing.put_root.Goals as goal

@@ -1,5 +1,5 @@
 use Rattle.sqlite.specs.Held.{state}
-use Rattle.tables.specs.Writing.{cells_of}
+use Rattle.tables.specs.steps.Writing.{cells_of}
 use Rattle.tables.proofs.Statements.{adds_row}
 use Rattle.tables.proofs.Changes.{grown_shelf}
 use Rattle.tables.proofs.writing.put_row.Goals as goal

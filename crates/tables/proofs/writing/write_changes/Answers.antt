@@ -4,10 +4,11 @@ use Rattle.sqlite_trees.specs.Tree.{Trees}
 use Rattle.sqlite.specs.State.{HasCleanDisk, Survives}
 use Rattle.sqlite.specs.Held.{state}
 use Rattle.sqlite.proofs.StateLemmas.{survives_then}
-use Rattle.tables.specs.declared.contents.Change.{Change}
-use Rattle.tables.specs.declared.contents.Change.TheVariants.{PutRoot}
-use Rattle.tables.specs.Tables.{Tables, IsStore, HoldsTables, after_all}
-use Rattle.tables.specs.Writing.{IsInside, cells_of}
+use Rattle.tables.specs.declared.change.Change.{Change}
+use Rattle.tables.specs.declared.change.Change.TheVariants.{PutRoot}
+use Rattle.contents.specs.Contents.{Contents}
+use Rattle.tables.specs.Tables.{IsStore, HoldsTables, after_all}
+use Rattle.tables.specs.steps.Writing.{IsInside, cells_of}
 use Rattle.tables.proofs.Changes.{OnOk_then, after_all_more, committed, keeps_then, to_tables}
 use Rattle.tables.proofs.writing.write_changes.Goals as goal
 
@@ -44,7 +45,7 @@ returns-clause-crash g c =
     let old = state g.S.Store c.args.conn.now in
     let tx = state g.S.Store c.writes.tx.conn.now in
     let end = c.commit.new.self.0 in
-    let P = λ (trees : Trees). (t : Tables) → IsStore old t → HoldsTables trees (after_all c.args.changes.now t) in
+    let P = λ (trees : Trees). (t : Contents) → IsStore old t → HoldsTables trees (after_all c.args.changes.now t) in
     let whole : take c.writes.change-index c.args.changes.now ≡ c.args.changes.now = take_all c.writes.change-index c.args.changes.now (omega arith) in
     let all = survives_then old tx (state g.S.Store end) (λ _. ⊥) (λ db. db ≡ tx.now.trees) P (λ _ db none. absurd none)
     (λ clean db is t store. subst (λ es. HoldsTables db (after_all es t)) whole (subst (λ (d : Trees). HoldsTables d (after_all (take c.writes.change-index c.args.changes.now) t)) (sym is) (to_tables (c.writes.invariant.3 (omega (arith, c.commit.ensures.survives.clean)) t store).holds)))

@@ -2,7 +2,7 @@ use Rattle.std.proofs.Common.{◌≡◌, take}
 use Rattle.sqlite.specs.State.{HasCleanDisk, KeepsCommit, Survives}
 use Rattle.sqlite.specs.Held.{state}
 use Rattle.tables.specs.Tables.{IsStore, after_all}
-use Rattle.tables.specs.Writing.{IsInside, cells_of}
+use Rattle.tables.specs.steps.Writing.{IsInside, cells_of}
 use Rattle.tables.proofs.writing.write_changes.Given as goal
 
 -- the changes so far are made inside the transaction, and nothing is committed

@@ -2,8 +2,8 @@ use Rattle.std.proofs.Common.{◌≡◌, ◌+◌, ◌++◌, [], ◌∷◌, inl, 
 use Rattle.std.proofs.lemmas.List.{take_more, take-append-drop}
 use Rattle.sqlite_rules.specs.Lists.{Has}
 use Rattle.sqlite_rules.proofs.ListLemmas.{has_left, has_right, has_either}
-use Rattle.tables.specs.Loading.{IsOne}
-use Rattle.tables.proofs.reading.is_begun.Goals as goal
+use Rattle.tables.specs.steps.Loading.{IsOne}
+use Rattle.tables.proofs.current.is_begun.Goals as goal
 
 pub returns-then-not-is_one-clause-damaged : goal.returns-then-not-is_one-clause-damaged
 returns-then-not-is_one-clause-damaged c is =

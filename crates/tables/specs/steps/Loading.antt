@@ -11,14 +11,15 @@ use Rattle.sqlite_value.specs.declared.keys.Key.{Key}
 use Rattle.sqlite_sql.specs.Query.{key_cmp}
 use Rattle.sqlite.specs.declared.types.Value.TheVariants.{Int, Text, Blob}
 use Rattle.sqlite.specs.Order.{Row, column}
-use Rattle.tables.specs.declared.reading.Place.{Place}
-use Rattle.tables.specs.declared.reading.Place.TheVariants.{Behind, Same, Neither}
+use Rattle.tables.specs.declared.cells.Place.{Place}
+use Rattle.tables.specs.declared.cells.Place.TheVariants.{Behind, Same, Neither}
 use Rattle.sqlite_trees.specs.Tree.{Trees}
 use Rattle.tables.specs.declared.loading.Answers.{Answers}
 use Rattle.tables.specs.Rows.{root_cells, current_cells, shelf_cells, blob_cells, version_cells}
 use Rattle.std.specs.Ordering.{nat_cmp}
 use Rattle.std.specs.Cmp.Lexicographic.{slice_cmp}
-use Rattle.tables.specs.Tables.{Tables, IsVersion, IsDigest, row_cmp, no_rows, AreBare, StandsFor}
+use Rattle.contents.specs.Contents.{Contents, no_rows}
+use Rattle.tables.specs.Tables.{IsVersion, IsDigest, row_cmp, AreBare, StandsFor}
 
 -- What was read is what the table holds, and stands in the order of these keys.
 pub record AreLoaded (shown : Row → Row) (keys : List Key) (stored rows : List Row) : Type 0 where
@@ -119,7 +120,7 @@ pub record AreAnswers (trees : Trees) (a : Answers) : Type 0 where
   pub version : AreLoaded version_cells [] (trees 7) a.versions.items
 
 -- the items of the answers
-pub record AreItems (a : Answers) (t : Tables) : Type 0 where
+pub record AreItems (a : Answers) (t : Contents) : Type 0 where
   pub root : AreGathered nat_cmp IsRootRow FitsRoot a.roots.items t.roots
   pub current : AreRead IsSlotRow FitsSlot a.current.items (current_items t.timestamp t.snapshot)
   pub shelf : AreGathered row_cmp IsShelfRow FitsShelf a.shelf.items t.shelf
@@ -137,6 +138,6 @@ pub data AreDamaged (a : Answers) : Type 0 where
   blob : AreSpoiled IsBlobRow FitsBlob a.blobs.items → AreDamaged a
 
 -- What was read where `schema` has no row: either nothing is there, or the trees stand for nothing.
-pub record IsUnbegun (trees : Trees) (t : Tables) : Type 0 where
+pub record IsUnbegun (trees : Trees) (t : Contents) : Type 0 where
   pub bare : t ≡ no_rows → AreBare trees
-  pub other : t ≢ no_rows → (u : Tables) → StandsFor trees u → ⊥
+  pub other : t ≢ no_rows → (u : Contents) → StandsFor trees u → ⊥

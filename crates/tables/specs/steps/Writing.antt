@@ -10,7 +10,8 @@ use Rattle.sqlite_trees.specs.Tree.{Trees}
 use Rattle.sqlite.specs.State.{State}
 use Rattle.tables.specs.Schema.{the_schema}
 use Rattle.tables.specs.Rows.{AreRows, root_cells, current_cells, shelf_cells, blob_cells, version_cells}
-use Rattle.tables.specs.Tables.{Tables, root_row, current_rows, shelf_row, blob_row, version_row}
+use Rattle.contents.specs.Contents.{Contents}
+use Rattle.tables.specs.Tables.{root_row, current_rows, shelf_row, blob_row, version_row}
 
 -- the cells of four tables; the fifth has its one row
 pub record Cells : Type 0 where
@@ -22,7 +23,7 @@ pub record Cells : Type 0 where
 abbrev pub no_cells : Cells
 no_cells = record { root = []; current = []; shelf = []; blob = [] }
 
-abbrev pub cells_of : Tables → Cells
+abbrev pub cells_of : Contents → Cells
 cells_of t = record {
   root = map root_row t.roots;
   current = current_rows t.timestamp t.snapshot;

@@ -3,8 +3,7 @@ use Rattle.std.specs.Prelude.{◌≡◌, ◌<◌, ◌≤◌, false, ℕ, pos, ne
 use Rattle.std.specs.List.{AllByRecursion}
 use Rattle.sqlite.specs.Schema.{Schema}
 use Rattle.sqlite.specs.Table.{Table}
-use Rattle.sqlite_trees.specs.Tree.{Trees, IsTable, rowid}
-use Rattle.sqlite_trees.specs.View.{is_int}
+use Rattle.sqlite_trees.specs.Tree.{Trees}
 use Rattle.sqlite_catalog.specs.Change.{created, next_tree}
 use Rattle.sqlite_resolve.specs.Compile.{table_defined_by}
 use Rattle.sqlite_resolve.specs.declared.compiled.Compiled.{Compiled}
@@ -16,8 +15,7 @@ use Rattle.sqlite.specs.declared.types.Value.TheVariants.{Int}
 use Rattle.sqlite_sql.specs.Query.{Query, inner, end}
 use Rattle.sqlite.specs.Does.{lacks_sequence}
 use Rattle.sqlite.specs.State.{State, text_of}
-use Rattle.tables.specs.Schema.{the_schema, beginning, IsBeginning}
-use Rattle.tables.specs.Tables.{AreBare, counted}
+use Rattle.tables.specs.Schema.{the_schema, beginning}
 
 -- inside the transaction that makes the tables, where those that are there hold these rows
 pub record IsMade (rows : Trees) (schema : Schema) (s : State) : Type 0 where
@@ -38,14 +36,6 @@ MakesBy before sql after (Err e) = ⊥
 -- the text makes one schema of the other
 abbrev pub Makes : Schema → List ℕ → Schema → Type 0
 Makes before sql after = MakesBy before sql after (understood before sql)
-
--- what stands for no rows yet: no table of the five, some or all, without a row
-abbrev pub StandsEmpty : State → Type 0
-StandsEmpty s = IsBeginning s.now.schema × AreBare (counted s.now.schema s.now.trees)
-
--- in each table the rowids are integers, and rise
-abbrev pub AreNumbered : Schema → Trees → Type 0
-AreNumbered schema trees = AllByRecursion (λ (t : Table). IsTable (trees t.tree) × AllByRecursion (λ r. IsTrue (is_int (rowid r))) (trees t.tree)) schema.tables
 
 -- a query of all rows of the tree, that shows these terms of each
 abbrev pub every_row : ℕ → List Term → Query
