@@ -2,7 +2,7 @@
 use Rattle.std.specs.Prelude.{ℕ, List, [], map, option_map, Option, None, Vec}
 use Rattle.std.specs.declared.alloc.Global.{Global}
 use Rattle.std.specs.String.{string_bytes}
-use Rattle.contents.specs.declared.Contents.{Contents as Kept}
+use Rattle.contents.specs.declared.Contents.{Contents as Owned}
 
 -- Each row is a key and its bytes. The key of a root, of the timestamp and of the snapshot is its version; that of a targets
 -- document its role, as the bytes of its text, and its version; that of a target file its digest, as 32 bytes.
@@ -24,7 +24,7 @@ value_view r = (r.0, r.1.items)
 abbrev pub slot_view : Option (ℕ × Vec ℕ Global) → Option (ℕ × List ℕ)
 slot_view o = option_map value_view o
 
-abbrev pub contents_view : Kept → Contents
+abbrev pub contents_view : Owned → Contents
 contents_view c = record {
   roots = map (λ r. (r.0, r.1.items)) c.roots.items;
   timestamp = slot_view c.timestamp;

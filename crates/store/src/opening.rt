@@ -2,7 +2,7 @@
 ghost use Rattle.std.specs.Prelude.{◌≡◌, ◌<◌, ℕ, false, Err, IfErr, IfOk, IsSomeAnd, IsTrue};
 ghost use Rattle.sqlite.specs.Held.{state};
 ghost use Rattle.sqlite.specs.State.{HasCleanDisk, Opens, Survives};
-ghost use Rattle.tables.specs.Making.{AreNumbered, StandsEmpty};
+ghost use Rattle.tables.specs.Opening.{AreNumbered, StandsEmpty};
 ghost use Rattle.tables.specs.Schema.{IsBeginning, beginning};
 ghost use Rattle.tables.specs.Tables.{HoldsTables, IsStore, Stands};
 ghost use Rattle.contents.specs.Contents.{no_rows};
