@@ -1,8 +1,6 @@
 -- The bodies of replies that are JSON objects (RFC 8259), with no space.
-use Rattle.std.specs.Prelude.{ℕ, List, [], ◌++◌, Option, Some, None, Bool, true, false, cond, ◌==◌, ◌||◌, codes}
+use Rattle.std.specs.Prelude.{ℕ, List, [], ◌++◌, Option, Some, None, Bool, true, false, codes}
 use Rattle.std.specs.Fmt.{decimal}
-use Rattle.http_messages.specs.declared.reply.Status.{Status}
-use Rattle.http_messages.specs.declared.reply.Status.TheVariants.{Forbidden, NotFound}
 
 -- the member that says which document of a batch was denied
 abbrev pub index_text : Option ℕ → List ℕ
@@ -13,10 +11,6 @@ index_text (Some i) = codes ",\"index\":" ++ decimal i
 abbrev pub denial_text : ℕ → Option ℕ → List ℕ → List ℕ
 denial_text n index name =
     codes "{\"denial\":" ++ decimal n ++ index_text index ++ codes ",\"rule\":\"" ++ name ++ codes "\"}"
-
--- the status of a denial: what is missing (a role's document, a listing, a blob) is not found, and all else is forbidden
-abbrev pub denial_status : ℕ → Status
-denial_status n = cond ((n == 33) || (n == 35) || (n == 37)) NotFound Forbidden
 
 -- the body of a batch's reply: how many documents changed something, and how many were held already
 abbrev pub accepted_text : ℕ → ℕ → List ℕ

@@ -4,10 +4,10 @@ ghost use Rattle.std.specs.Prelude.{◌≡◌, Some, None, IfOk, IsTrue, string_
 ghost use Rattle.std.specs.Char.{is_ascii_alphabetic};
 ghost use Rattle.std.specs.List.{list_all};
 ghost use Rattle.serde_json.specs.View.{view};
-ghost use Rattle.http_messages.specs.Bodies.{denial_text, denial_status as status_of_number, accepted_text, stored_text};
+ghost use Rattle.http_messages.specs.Bodies.{denial_text, accepted_text, stored_text};
 ghost use Rattle.http_messages.specs.steps.Denials.{denied_alone, denied_at};
 
-use crate::reply::{ShortText, Status, push};
+use crate::reply::{ShortText, push};
 use serde_json::{Value, json};
 use std::alloc::{AllocError, Global};
 
@@ -56,18 +56,6 @@ fn denial_at(alloc: Global, number: u8, index: usize, name: &str) -> Result<Stri
 {
     let value = value_at(alloc, number, index, name)?;
     value.to_string(alloc)
-}
-
-/// The status of a denial of this number: not found for 33, 35 and 37, where something is missing, and forbidden for all
-/// else.
-pub fn denial_status(number: u8) -> Status
-    ensures { result ≡ status_of_number number }
-{
-    if number == 33 || number == 35 || number == 37 {
-        Status::NotFound
-    } else {
-        Status::Forbidden
-    }
 }
 
 /// The body of a batch's reply: how many documents changed something, and how many were held already. It takes no memory.

@@ -3,7 +3,7 @@ use Rattle.std.proofs.Common.{◌≡◌, ◌⊎◌, inl, inr, ℕ, List, [], ◌
 use Rattle.denials.specs.Orders as orders
 use Rattle.path_patterns.specs.Names.{Asks as AsksPath}
 use Rattle.machine.specs.State.{State}
-use Rattle.machine.specs.Steps.{Command, Batch, PutBlob, Metadata, Target, Reply, Begun, Offered, BatchDone, Stored, FileBytes, Absent, Refused, Steps, Outcome, Runs, done as ended, next}
+use Rattle.machine.specs.Runs.{Command, Batch, PutBlob, Metadata, Target, Reply, Begun, Offered, BatchDone, Stored, FileBytes, Absent, Refused, Steps, Outcome, Runs, done as ended, next}
 use Rattle.http_messages.specs.Request.{Request, fault, batch, put_blob, metadata, target, Asks}
 use Rattle.http_messages.specs.Framing.{Document}
 use Rattle.http_messages.specs.Text.{response}

@@ -5,7 +5,7 @@ use Rattle.std.proofs.lemmas.List.{map-append, take_more}
 use Rattle.std.specs.Io.KnownBytes.{Appends}
 use Rattle.sqlite.specs.State as database
 use Rattle.machine.specs.State.{State}
-use Rattle.machine.specs.Steps.{Command, Batch}
+use Rattle.machine.specs.Runs.{Command, Batch}
 use Rattle.http_messages.specs.Framing.{Document}
 use Rattle.http_messages.specs.Head.{IsInput}
 use Rattle.http_messages.specs.Request.{Request, fault, batch, Asks, HasWanted}

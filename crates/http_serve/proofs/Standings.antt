@@ -7,7 +7,7 @@ use Rattle.sqlite.specs.State.{HasCleanDisk}
 use Rattle.tables.specs.Tables.{IsStore}
 use Rattle.machine.specs.State.{State}
 use Rattle.machine.specs.Commands.{grants, batch, put_blob}
-use Rattle.machine.specs.Steps.{Command, Batch, PutBlob, Metadata, Target, Init, OfferOne, Reply, Begun, Offered, Refused, Steps, leads, Leads, settled, batch_outcome, Outcome, metadata_reply}
+use Rattle.machine.specs.Runs.{Command, Batch, PutBlob, Metadata, Target, Init, OfferOne, Reply, Begun, Offered, Refused, Steps, leads, Leads, settled, batch_outcome, Outcome, metadata_reply}
 use Rattle.denials.specs.Orders as orders
 use Rattle.store.specs.StateRows.{rows_of}
 use Rattle.store.specs.Applies.{Applies}

@@ -4,7 +4,7 @@ use Rattle.denials.specs.Orders as orders
 use Rattle.path_patterns.specs.Names.{Asks as AsksPath}
 use Rattle.machine.specs.State.{State}
 use Rattle.machine.specs.Commands.{offer_of}
-use Rattle.machine.specs.Steps.{Command, Batch, PutBlob, Metadata, Target, Init, OfferOne, Reply, BatchDone, Stored, FileBytes, Absent, Refused, Steps}
+use Rattle.machine.specs.Runs.{Command, Batch, PutBlob, Metadata, Target, Init, OfferOne, Reply, BatchDone, Stored, FileBytes, Absent, Refused, Steps}
 use Rattle.http_messages.specs.Request.{Request, fault, batch, put_blob, metadata, target, Asks}
 use Rattle.http_messages.specs.Text.{response}
 use Rattle.http_messages.specs.Bodies.{accepted_text, stored_text, denial_text}

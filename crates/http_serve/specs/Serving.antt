@@ -1,7 +1,7 @@
 -- What serving does: one connection, and a list of them in order.
 use Rattle.std.specs.Prelude.{◌≡◌, ◌⊎◌, ℕ, ◌+◌, List, [], ◌∷◌, ◌++◌, Option, Some, None, Result, Ok, Err, Bool, true}
 use Rattle.std.specs.Io.KnownBytes.{Appends, Keeps as KeepsBytes}
-use Rattle.machine.specs.Steps.{Command, Reply, Steps}
+use Rattle.machine.specs.Runs.{Command, Reply, Steps}
 use Rattle.http_messages.specs.Head.{IsInput}
 use Rattle.http_messages.specs.Request.{Request, Asks, HasWanted, fault}
 use Rattle.http_messages.specs.Faults.{fault_response}

@@ -7,6 +7,8 @@
 #[cfg(test)]
 mod canonical_json_tests;
 #[cfg(test)]
+mod denials_tests;
+#[cfg(test)]
 mod keys_roles_tests;
 #[cfg(test)]
 mod lms_tests;

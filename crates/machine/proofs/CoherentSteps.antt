@@ -5,7 +5,7 @@ use Rattle.metadata.specs.File.{Bytes}
 use Rattle.denials.specs.Orders.{Judged, Denial, Denied, Same, pass, decide, given, judges}
 use Rattle.machine.specs.State.{Trusted, State, IsCoherent}
 use Rattle.machine.specs.Commands.{Offer, Batched, BatchOrder, coherent, incoherent, going_on, batch_from, init, put_blob}
-use Rattle.machine.specs.Steps.{Init, Batch, OfferOne, PutBlob, Metadata, Target, Reply, Outcome, settled, batch_outcome, Leads, leads, StaysCoherent}
+use Rattle.machine.specs.Runs.{Init, Batch, OfferOne, PutBlob, Metadata, Target, Reply, Outcome, settled, batch_outcome, Leads, leads, StaysCoherent}
 
 abbrev IfCoherent : Judged State → Type 0
 IfCoherent j = IfOk j (λ S. IsCoherent S.trusted)

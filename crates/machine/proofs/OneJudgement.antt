@@ -7,7 +7,7 @@ use Rattle.delegations.specs.Delegation.{Edge}
 use Rattle.delegations.specs.Search.{Shelf, Found, visit, find_in, found_or, listing_of, search, shelf_of}
 use Rattle.machine.specs.State.{Trusted, State}
 use Rattle.machine.specs.Commands.{kept, rotated, after_root, live_timestamp, live_snapshot, after_timestamp, after_snapshot, named_snapshot, named_targets, placed, Offer, RootOffer, TimestampOffer, SnapshotOffer, TargetsOffer, init, offer_root, offer_timestamp, offer_snapshot, offer_targets, offer, put_blob, Batched, BatchOrder, Ended, coherent, incoherent, going_on, batch_from, batch, blob_of, grants}
-use Rattle.machine.specs.Steps.{Outcome, Command, Init, Batch, OfferOne, PutBlob, Metadata, Target, Leads, leads, Steps}
+use Rattle.machine.specs.Runs.{Outcome, Command, Init, Batch, OfferOne, PutBlob, Metadata, Target, Leads, leads, Steps}
 use Rattle.machine.proofs.DefiniteOrders.{Definite, check-definite, same_if-definite, give-definite, stop-definite, need_or-definite, judged-definite}
 use Rattle.machine.proofs.ShapedOnce.{Shapes, line, shaped-definite, root-tells, timestamp-tells, snapshot-tells, targets-tells}
 

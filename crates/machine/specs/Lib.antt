@@ -3,7 +3,7 @@ pub mod Commands
 pub mod Contents
 pub mod Effects
 pub mod Room
+pub mod Runs
 pub mod State
-pub mod Steps
 pub mod Views
 pub mod steps

@@ -6,7 +6,7 @@ ghost use Rattle.machine.specs.State.{Trusted, State, IsTrusted, IsState, nothin
 ghost use Rattle.machine.specs.Commands.{Offer, Batched, init, offer, batch, put_blob, grants};
 ghost use Rattle.machine.specs.Contents.{contents_of, root_rows};
 ghost use Rattle.machine.specs.Effects.{Effects, applied};
-ghost use Rattle.machine.specs.Steps.{Command, Reply, Outcome, Steps, Runs, StaysCoherent};
+ghost use Rattle.machine.specs.Runs.{Command, Reply, Outcome, Steps, Runs, StaysCoherent};
 
 use metadata::{one_document, one_shape, snapshot_names};
 

@@ -1,2 +1,2 @@
-pub mod Documents
+pub mod Arguments
 pub mod Statuses

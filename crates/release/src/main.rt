@@ -1,7 +1,7 @@
 //! The program `release`: one subcommand for each task of a release repository.
 #![tactic(auto)]
 
-mod documents;
+mod arguments;
 mod fault;
 mod files;
 mod init;

@@ -1,7 +1,9 @@
 //! `publish`: offers documents in order, which are taken together or not at all.
-use crate::documents::{batch_of, documents_of};
+ghost use Rattle.std.specs.Prelude.{◌≡◌, IfOk, map};
+
+use crate::arguments::{batch_of, documents_of};
 use crate::fault::Fault;
-use crate::files::{print, read};
+use crate::files::{InputFile, print, read_file};
 use crate::moments::moment;
 use crate::repository::{applied, refused};
 use http_messages::accepted_body;
@@ -32,11 +34,16 @@ pub fn publish<O: Write>(
 }
 
 // The files of the documents, in order.
-fn read_all(rt: &HostRuntime, documents: &[(Offer, &str)]) -> Result<Vec<Vec<u8>>, Fault> {
+fn read_all<'a>(
+    rt: &HostRuntime,
+    documents: &[(Offer, &'a str)],
+) -> Result<Vec<InputFile<'a>>, Fault>
+    ensures { IfOk result (λ files. map (λ f. f.path.now) files.items ≡ map (λ d. d.1.now) documents.now) }
+{
     let mut files = Vec::new(rt.alloc());
-    for (_, file) in documents {
-        let bytes = read(rt, file)?;
-        files.push(bytes)?;
+    for (_, path) in documents {
+        let file = read_file(rt, path)?;
+        files.push(file)?;
     }
     Ok(files)
 }

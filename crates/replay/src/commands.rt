@@ -13,15 +13,10 @@ use store::{Command, StoreFault, Reply};
 
 /// What a document is offered as: `root`, `timestamp`, `snapshot`, or the name of another role.
 fn offer_of(alloc: Global, role: &str) -> Result<Offer, LineFault> {
-    Ok(match role {
-        "root" => Offer::Root,
-        "timestamp" => Offer::Timestamp,
-        "snapshot" => Offer::Snapshot,
-        _ => match RoleName::read(alloc, role)? {
-            Some(role) => Offer::Targets(role),
-            None => return Err(LineFault::NotUnderstood),
-        },
-    })
+    match RoleName::read(alloc, role)? {
+        Some(role) => Ok(Offer::of(role)),
+        None => Err(LineFault::NotUnderstood),
+    }
 }
 
 // The kind of the documents of a role.

@@ -10,7 +10,7 @@ use Rattle.denials.specs.Orders.{Order, Same}
 use Rattle.machine.specs.State.{State, IsState, metadata_of}
 use Rattle.machine.specs.Commands as commands
 use Rattle.machine.specs.Effects.{applied, brought, on_state}
-use Rattle.machine.specs.Steps.{Command, Reply, Steps, leads, Init, Batch, OfferOne, PutBlob, Metadata, Target, Begun, BatchDone, Offered, Stored, FileBytes, Absent}
+use Rattle.machine.specs.Runs.{Command, Reply, Steps, leads, Init, Batch, OfferOne, PutBlob, Metadata, Target, Begun, BatchDone, Offered, Stored, FileBytes, Absent}
 use Rattle.machine.specs.Answers.{Answers, changes, unchanged, refused, AnswersBatch, done, denied, Gives, gives, denies}
 use Rattle.denials.specs.Views.{denial_view}
 use Rattle.machine.specs.Views.{effects_view}

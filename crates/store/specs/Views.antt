@@ -1,6 +1,6 @@
 -- What the code's commands and replies stand for.
 use Rattle.std.specs.Prelude.{option_map}
-use Rattle.machine.specs.Steps as steps
+use Rattle.machine.specs.Runs as steps
 use Rattle.denials.specs.Views.{denial_view}
 use Rattle.machine.specs.Views.{documents_view, offer_view}
 use Rattle.tables.specs.declared.contents.Fault.{Fault}

@@ -7,7 +7,7 @@ ghost use Rattle.tables.specs.Tables.{HoldsTables, IsStore};
 ghost use Rattle.machine.specs.State.{IsSnapshotDue, IsState};
 ghost use Rattle.machine.specs.Effects.{applied};
 ghost use Rattle.machine.specs.Views.{documents_view, effects_view, offer_view};
-ghost use Rattle.machine.specs.Steps as steps;
+ghost use Rattle.machine.specs.Runs as steps;
 ghost use Rattle.store.specs.Applies.{Applies};
 ghost use Rattle.store.specs.steps.Replies.{IsBatchRefusal, IsCopied, IsRefusal};
 ghost use Rattle.store.specs.StateRows.{rows_of};

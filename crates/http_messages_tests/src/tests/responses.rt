@@ -1,7 +1,7 @@
 //! Whole answers, their statuses and their bodies.
 use crate::tests::answers::{NOT_ALLOWED, NOT_FOUND, answer_to};
 use http_messages::{
-    Fault, Kind, Status, accepted_body, denial_body, denial_status, stored_body, write_fault,
+    Fault, Kind, Status, accepted_body, denial_body, stored_body, write_fault,
     write_response,
 };
 use std::test::Fail;
@@ -66,7 +66,7 @@ fn statuses(rt: HostRuntime) -> Result<(), Fail> {
         )
     );
     let mut denied = Vec::new(rt.alloc());
-    write_response(&mut denied, denial_status(39), Kind::Json, None, b"{}")?;
+    write_response(&mut denied, Status::Forbidden, Kind::Json, None, b"{}")?;
     assert!(rt; is_fault(&denied, b"HTTP/1.1 403 Forbidden\r\n", b"{}"));
     Ok(())
 }
@@ -83,16 +83,6 @@ fn bodies(rt: HostRuntime) -> Result<(), Fail> {
         "{\"denial\":20,\"index\":2,\"rule\":\"SnapshotVersion\"}"
     );
     assert_eq!(rt; version.len(), 48);
-    for (number, status) in [
-        (33, Status::NotFound),
-        (34, Status::Forbidden),
-        (35, Status::NotFound),
-        (36, Status::Forbidden),
-        (37, Status::NotFound),
-        (38, Status::Forbidden),
-    ] {
-        assert!(rt; denial_status(number) == status);
-    }
     assert!(rt; accepted_body(3, 0).as_slice() == b"{\"accepted\":3,\"same\":0}".as_slice());
     assert!(rt; stored_body(true) == b"{\"stored\":true}".as_slice());
     assert!(rt; stored_body(false) == b"{\"stored\":false}".as_slice());

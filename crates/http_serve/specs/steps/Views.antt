@@ -1,7 +1,7 @@
 -- What the code's values stand for, and what its parts are asked.
 use Rattle.std.specs.Prelude.{◌≡◌, ◌⊎◌, ℕ, List, Option, Result, Ok, Err, map, ⊤}
 use Rattle.std.specs.Borrow.{Bor}
-use Rattle.machine.specs.Steps.{Command, Init, OfferOne, Batch, PutBlob, Metadata, Target, Reply, Begun, Offered, BatchDone, Stored, FileBytes, Absent, Refused}
+use Rattle.machine.specs.Runs.{Command, Init, OfferOne, Batch, PutBlob, Metadata, Target, Reply, Begun, Offered, BatchDone, Stored, FileBytes, Absent, Refused}
 use Rattle.machine.specs.Commands.{Offer, offer_of}
 use Rattle.http_messages.specs.Faults.{fault_response}
 use Rattle.http_messages.specs.Request.{Request, Asks}

@@ -4,7 +4,7 @@ use Rattle.sqlite.specs.State as database
 use Rattle.sqlite.specs.State.{HasCleanDisk}
 use Rattle.sqlite_trees.specs.Tree.{Trees}
 use Rattle.machine.specs.State.{State}
-use Rattle.machine.specs.Steps.{Command, Reply, Steps}
+use Rattle.machine.specs.Runs.{Command, Reply, Steps}
 use Rattle.tables.specs.Tables.{HoldsTables}
 use Rattle.store.specs.StateRows.{rows_of}
 use Rattle.store.specs.Views.{reply_view}

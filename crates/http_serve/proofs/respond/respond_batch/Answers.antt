@@ -1,6 +1,6 @@
 use Rattle.std.proofs.Common.{ap, subst, ◌∙◌}
 use Rattle.sqlite.specs.Held.{state}
-use Rattle.machine.specs.Steps.{Batch}
+use Rattle.machine.specs.Runs.{Batch}
 use Rattle.machine.specs.Views.{documents_view}
 use Rattle.http_serve.specs.Standing.{seen}
 use Rattle.http_serve.specs.steps.Views.{Performed}

@@ -1,7 +1,7 @@
 use Rattle.std.proofs.Common.{subst}
 use Rattle.std.specs.Prelude.{option_map}
 use Rattle.sqlite.specs.Held.{state}
-use Rattle.machine.specs.Steps.{Target}
+use Rattle.machine.specs.Runs.{Target}
 use Rattle.http_serve.specs.Response.{asks}
 use Rattle.http_serve.specs.Standing.{seen}
 use Rattle.http_serve.specs.steps.Views.{Performed}

@@ -1,6 +1,6 @@
 use Rattle.std.proofs.Common.{Err, ap}
 use Rattle.sqlite.specs.Held.{state}
-use Rattle.machine.specs.Steps.{Init, Begun}
+use Rattle.machine.specs.Runs.{Init, Begun}
 use Rattle.store.specs.declared.command.Reply.TheVariants as answers
 use Rattle.store.proofs.Applying.{begin_refused, begins, begins_same, is_valid, made, refusal_sound, still, unmade}
 use Rattle.store.proofs.store.Store.begin.Goals as goal

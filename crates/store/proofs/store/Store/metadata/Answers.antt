@@ -1,7 +1,7 @@
 use Rattle.std.proofs.Common.{◌≡◌, None, Some, subst, sym}
 use Rattle.sqlite.specs.Held.{state}
 use Rattle.machine.specs.State.{State, metadata_of}
-use Rattle.machine.specs.Steps.{Metadata}
+use Rattle.machine.specs.Runs.{Metadata}
 use Rattle.store.proofs.Applying.{copy_sound, file_absent, file_found, still}
 use Rattle.store.proofs.store.Store.metadata.Goals as goal
 

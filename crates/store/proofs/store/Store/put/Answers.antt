@@ -1,7 +1,7 @@
 use Rattle.std.proofs.Common.{Err, ap}
 use Rattle.sqlite.specs.Held.{state}
 use Rattle.std.proofs.Common.{true}
-use Rattle.machine.specs.Steps.{PutBlob, Stored}
+use Rattle.machine.specs.Runs.{PutBlob, Stored}
 use Rattle.store.specs.declared.command.Reply.TheVariants as answers
 use Rattle.store.proofs.Applying.{is_valid, made, refusal_sound, still, unmade, puts, puts_same, put_refused}
 use Rattle.store.proofs.store.Store.put.Goals as goal

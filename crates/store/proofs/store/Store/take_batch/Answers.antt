@@ -1,6 +1,6 @@
 use Rattle.std.proofs.Common.{Err, ap}
 use Rattle.sqlite.specs.Held.{state}
-use Rattle.machine.specs.Steps.{Batch, BatchDone}
+use Rattle.machine.specs.Runs.{Batch, BatchDone}
 use Rattle.machine.specs.Views.{documents_view}
 use Rattle.store.specs.declared.command.Reply.TheVariants as answers
 use Rattle.store.proofs.Applying.{batch_refusal_sound, batch_refused, batch_valid, batches_all, made, still, unmade}

@@ -1,7 +1,7 @@
 use Rattle.std.proofs.Common.{Err, ap}
 use Rattle.sqlite.specs.Held.{state}
 use Rattle.std.proofs.Common.{false}
-use Rattle.machine.specs.Steps.{OfferOne, Offered}
+use Rattle.machine.specs.Runs.{OfferOne, Offered}
 use Rattle.machine.specs.Views.{offer_view}
 use Rattle.store.specs.declared.command.Reply.TheVariants as answers
 use Rattle.store.proofs.Applying.{is_valid, made, refusal_sound, still, unmade, offers_one, offers_same, offer_refused}

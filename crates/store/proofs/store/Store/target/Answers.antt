@@ -4,7 +4,7 @@ use Rattle.sqlite.specs.Held.{state}
 use Rattle.machine.specs.Answers.{Gives}
 use Rattle.machine.specs.Commands.{grants}
 use Rattle.machine.specs.State.{State}
-use Rattle.machine.specs.Steps.{Target}
+use Rattle.machine.specs.Runs.{Target}
 use Rattle.store.proofs.Applying.{copy_sound, refusal_sound, still, target_found, target_refused}
 use Rattle.store.proofs.store.Store.target.Goals as goal
 

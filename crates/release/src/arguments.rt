@@ -2,9 +2,10 @@
 ghost use Rattle.std.specs.Prelude.{◌≡◌, ℕ, List, IfErr, IfNone, IfOk, IfSome, map, string_bytes};
 ghost use Rattle.machine.specs.Commands as commands;
 ghost use Rattle.machine.specs.Views.{offer_view};
-ghost use Rattle.release.specs.Documents.{AreDocuments, IsDocument, IsWhyNot, offer_of as offer_named};
+ghost use Rattle.release.specs.Arguments.{AreDocuments, IsDocument, IsWhyNot};
 
 use crate::fault::Fault;
+use crate::files::InputFile;
 use machine::{Denial, Offer};
 use path_patterns::RoleName;
 use std::alloc::{AllocError, Global};
@@ -36,33 +37,25 @@ fn document_of(alloc: Global, argument: &str) -> Result<Option<(Offer, &str)>, A
         return Ok(None);
     };
     match RoleName::read(alloc, role) {
-        Ok(Some(role)) => Ok(Some((offer_of(role), file))),
+        Ok(Some(role)) => Ok(Some((Offer::of(role), file))),
         Ok(None) => Ok(None),
         Err(error) => Err(error),
     }
 }
 
-// What a document of this role is offered as.
-fn offer_of(role: RoleName) -> Offer
-    ensures { offer_view result ≡ offer_named role }
-{
-    match role.as_str() {
-        "root" => Offer::Root,
-        "timestamp" => Offer::Timestamp,
-        "snapshot" => Offer::Snapshot,
-        _ => Offer::Targets(role),
-    }
-}
-
-/// The offers with the bytes of their files, in order.
+/// The offers with the bytes of their files, in order: each document's own file is the one at its place.
 pub fn batch_of<'a>(
     alloc: Global,
     documents: Vec<(Offer, &str)>,
-    files: &'a [Vec<u8>],
-) -> Result<Vec<(Offer, &'a [u8])>, AllocError> {
+    files: &'a [InputFile<'_>],
+) -> Result<Vec<(Offer, &'a [u8])>, AllocError>
+    requires own { map (λ f. f.path.now) files.now ≡ map (λ d. d.1.now) documents.items }
+    ensures offers { IfOk result (λ batch. map (λ b. offer_view b.0) batch.items ≡ map (λ d. offer_view d.0) documents.entry.items) }
+    ensures files { IfOk result (λ batch. map (λ b. b.1.now) batch.items ≡ map (λ f. f.bytes.items) files.now) }
+{
     let mut batch = Vec::new(alloc);
-    for ((offer, _), file) in documents.into_iter().zip(files) {
-        batch.push((offer, file.as_slice()))?;
+    'documents: for (index, (offer, _)) in documents.into_iter().enumerate() {
+        batch.push((offer, files[index].bytes.as_slice()))?;
     }
     Ok(batch)
 }
