@@ -1,6 +1,7 @@
 //! Bytes as text of one line, and texts with the bytes of files in them.
 use crate::failure::LineFault;
 use crate::files::{File, find};
+use metadata::digest_of;
 use std::alloc::{AllocError, Global};
 use std::fmt::Write;
 
@@ -86,7 +87,8 @@ pub fn unescaped(alloc: Global, text: &str) -> Result<Vec<u8>, LineFault> {
     Ok(bytes)
 }
 
-/// The bytes of a text with escapes, in which `{NAME}` stands for the bytes of a file and `{#NAME}` for their number.
+/// The bytes of a text with escapes, in which `{NAME}` stands for the bytes of a file, `{#NAME}` for their number and `{@NAME}` for the
+/// hex digits of their digest.
 pub fn expanded(alloc: Global, files: &[File], text: &str) -> Result<Vec<u8>, LineFault> {
     let mut bytes = Vec::new(alloc);
     for (index, part) in text.split('{').enumerate() {
@@ -109,13 +111,17 @@ fn push_named(
     files: &[File],
     name: &str,
 ) -> Result<(), LineFault> {
-    match name.strip_prefix("#") {
-        Some(name) => {
-            let length = find(files, name)?.bytes.len().to_string(alloc)?;
-            bytes.extend_from_slice(length.as_bytes())?;
-        }
-        None => bytes.extend_from_slice(&find(files, name)?.bytes)?,
+    if let Some(name) = name.strip_prefix("#") {
+        let length = find(files, name)?.bytes.len().to_string(alloc)?;
+        bytes.extend_from_slice(length.as_bytes())?;
+        return Ok(());
     }
+    if let Some(name) = name.strip_prefix("@") {
+        let digits = digest_of(&find(files, name)?.bytes).text(alloc)?;
+        bytes.extend_from_slice(digits.as_bytes())?;
+        return Ok(());
+    }
+    bytes.extend_from_slice(&find(files, name)?.bytes)?;
     Ok(())
 }
 

@@ -113,13 +113,20 @@ fn replayed(session: &mut Session, name: &str) -> Result<String, LineFault> {
 // `repeat N NAME`: the same N times, and whether all of them were as the first.
 fn repeated(session: &mut Session, text: &str) -> Result<String, LineFault> {
     let (count, name) = text.split_once(' ').unwrap_or((text, ""));
-    let first = replayed(session, name)?;
+    let first = replayed_in(session, name, 0)?;
     for time in 1..number_of(count)? {
-        if replayed(session, name)? != first {
+        if replayed_in(session, name, time)? != first {
             return Ok(format!(in session.alloc; "time {time} was another")?);
         }
     }
     Ok(format!(in session.alloc; "{count} times: {first}")?)
+}
+
+// The replies of the lines, where the file `ROUND` says how many times they were replayed before.
+fn replayed_in(session: &mut Session, name: &str, round: u32) -> Result<String, LineFault> {
+    let file = format!(in session.alloc; "ROUND = text {round}")?;
+    set(session, "file", file.as_str())?;
+    replayed(session, name)
 }
 
 // A line that is no word about other lines.
