@@ -115,7 +115,8 @@ pub fn read(alloc: Global, bytes: &[u8]) -> Result<Value, ReadFault>
 }
 
 /// Appends the spelling of the value. On an error the output is as it was: a value that has no spelling is refused before
-/// anything is written, and where memory is refused in the middle, the output is cut back.
+/// anything is written, and where memory is refused in the middle, the output is cut back. `OutOfMemory`: the output had no
+/// room for the spelling and could not grow, so with room enough the one error is the value's own.
 ///
 /// It takes time linear in the length of the spelling. The one memory that it asks for is room in the output.
 pub fn write(value: &Value, out: &mut Vec<u8>) -> Result<(), WriteFault>

@@ -1,5 +1,5 @@
 -- A visit ends in the document of its edge exactly where that document is good.
-use Rattle.std.proofs.Common.{◌≡◌, ◌↔◌, ℕ, ◌<◌, IsTrue, IfSome, Bool, true, false, cond, Option, Some, None, Ok, Err, refl, sym, ap, ◌∙◌, subst, length}
+use Rattle.std.proofs.Common.{◌≡◌, ◌↔◌, ℕ, IsTrue, IfSome, Bool, true, false, cond, Option, Some, None, Ok, refl, sym, ap, ◌∙◌, subst, length}
 use Rattle.std.proofs.lemmas.Bool.{and_from, and_parts}
 use Rattle.std.proofs.lemmas.Bool.Decides.{Decides-eqb}
 use Rattle.std.proofs.lemmas.Slice.Eq.{bytes_eq-Decides}
@@ -9,10 +9,10 @@ use Rattle.keys_roles.specs.Plain.{look_up}
 use Rattle.metadata.specs.Documents.{Targets, MetaFile}
 use Rattle.metadata.specs.File.{Bytes, Name, File}
 use Rattle.metadata.specs.Numbers as no
-use Rattle.metadata.specs.Orders.{Denial, Order, Plain, RoleMissing, ◌>>=◌, ◌>>◌, Then, pass, Check, holds, Give, given, need_or, check, give}
+use Rattle.metadata.specs.Orders.{Denial, Plain, RoleMissing, pass, holds, given, need_or, check}
 use Rattle.delegations.specs.Delegation.{Edge}
-use Rattle.delegations.specs.Search.{Shelf, Good, doc, visit, MeetsEdge}
-use Rattle.delegations.specs.Shelf.{Rows, row_at, HasLength, HasHash, has_length, has_hash, named_row}
+use Rattle.delegations.specs.Search.{Shelf, Good, doc, visit}
+use Rattle.delegations.specs.Shelf.{row_at, HasLength, HasHash, has_length, has_hash, named_row}
 use Rattle.delegations.proofs.Visits.{good}
 
 -- ---- what the entry says of the bytes, as a fact and as a test
@@ -48,14 +48,14 @@ module _ (V : Shelf) (e : Edge) (now : ℕ) where
 
   good_of : (file : File Targets) → visit V e now (Ok file) → (g : Good V e now) × (g.file ≡ file)
   good_of file (pass {a = m} listed (pass {a = f} found (pass (holds len) (pass (holds hash) (pass (holds meets) (pass (holds live) given)))))) = (
-        record {
-          file = f;
-          there = named m f (there (Plain no.role_unlisted) (look_up V.listing e.role) m listed) (there (RoleMissing e.role m.version) (row_at V.rows e.role m.version) f found) len hash;
-          meets = meets;
-          live = live;
-        },
-        refl,
-      )
+    record {
+      file = f;
+      there = named m f (there (Plain no.role_unlisted) (look_up V.listing e.role) m listed) (there (RoleMissing e.role m.version) (row_at V.rows e.role m.version) f found) len hash;
+      meets = meets;
+      live = live;
+    },
+    refl,
+  )
 
   -- what the document of a role is
   record Named (role : Name) (file : File Targets) : Type 0 where

@@ -1,5 +1,5 @@
 -- The index lists that a search looks at rise in dictionary order, and so do those that it keeps of them.
-use Rattle.std.proofs.Common.{◌≡◌, ℕ, zero, suc, ◌<◌, ◌≤◌, Bool, true, false, List, [], ◌∷◌, ◌++◌, map, refl, ap, ◌∙◌, arith, IsTrue}
+use Rattle.std.proofs.Common.{ℕ, zero, suc, ◌<◌, List, [], ◌∷◌, ◌++◌, map, refl, arith, IsTrue}
 use Rattle.std.proofs.lemmas.Bool.{lt-ltb, or_left, or_right, and_from}
 use Rattle.std.proofs.lemmas.Bool.Decides.{Decides-eqb}
 use Rattle.std.proofs.lemmas.List.Elements.{All-from_recursion}
@@ -29,7 +29,6 @@ rise_append [] ys h g b = g
 rise_append (x ∷ xs) ys h g b = (all_append (Below x) xs ys h.0 b.0, rise_append xs ys h.1 g b.1)
 
 -- ---- lists that begin with one index
-
 
 same_front : (i : ℕ) (c d : List ℕ) → Below c d → Below (i ∷ c) (i ∷ d)
 same_front i c d h = or_right (nat_lt i i) ((i == i) && before c d) (and_from (i == i) (before c d) ((Decides-eqb i i).1 refl) h)
