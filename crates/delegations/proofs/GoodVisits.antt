@@ -8,11 +8,11 @@ use Rattle.sha2.specs.Sha256.{sha256}
 use Rattle.keys_roles.specs.Plain.{look_up}
 use Rattle.metadata.specs.Documents.{Targets, MetaFile}
 use Rattle.metadata.specs.File.{Bytes, Name, File}
-use Rattle.metadata.specs.Numbers as no
-use Rattle.metadata.specs.Orders.{Denial, Plain, RoleMissing, pass, holds, given, need_or, check}
+use Rattle.denials.specs.Numbers as no
+use Rattle.denials.specs.Orders.{Denial, Plain, RoleMissing, pass, holds, given, need_or, check}
 use Rattle.delegations.specs.Delegation.{Edge}
 use Rattle.delegations.specs.Search.{Shelf, Good, doc, visit}
-use Rattle.delegations.specs.Shelf.{row_at, HasLength, HasHash, has_length, has_hash, named_row}
+use Rattle.delegations.specs.Rows.{row_at, HasLength, HasHash, has_length, has_hash, named_row}
 use Rattle.delegations.proofs.Visits.{good}
 
 -- ---- what the entry says of the bytes, as a fact and as a test

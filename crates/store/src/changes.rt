@@ -1,5 +1,6 @@
 //! What a command changes, as changes of the rows.
 ghost use Rattle.std.specs.Prelude.{◌≡◌, ◌≢◌, ◌≤◌, false, map, length, option_map, Err, IfOk, IsTrue, OnErr, OnOk};
+ghost use Rattle.limits.specs.Limits.{most_held};
 ghost use Rattle.sqlite.specs.Held.{state};
 ghost use Rattle.sqlite.specs.State.{HasCleanDisk, Survives};
 ghost use Rattle.metadata.specs.FileViews.{root_file, snapshot_file, timestamp_file};
@@ -24,7 +25,7 @@ use tables::{Change, write_all};
 
 /// The changes of the rows, in the order in which they are made.
 pub(crate) fn changes_of(alloc: Global, effects: &Effects) -> Result<Vec<Change<'_>>, AllocError>
-    requires { length effects.now.roots.items ≤ 4096 }
+    requires { length effects.now.roots.items ≤ most_held }
     ensures { IfOk result (λ changes. (t : Contents) → after_all changes.items t ≡ changed (effects_view effects.now) t) }
 {
     let mut changes = Vec::new(alloc);
@@ -39,7 +40,7 @@ pub(crate) fn changes_of(alloc: Global, effects: &Effects) -> Result<Vec<Change<
 
 // The roots: the last has its own version, and they rise by one.
 fn put_roots<'a>(changes: &mut Vec<Change<'a>>, roots: &'a [File<Root>]) -> Result<(), AllocError>
-    requires { length roots.now ≤ 4096 }
+    requires { length roots.now ≤ most_held }
     ensures { IfOk result (λ _. (t : Contents) → after_all changes.new.items t
         ≡ more_roots (new_roots (last_version (map root_file roots.now)) (map root_file roots.now)) (after_all changes.old.items t)) }
 {
@@ -55,7 +56,7 @@ fn put_roots_to<'a>(
     last: u32,
     roots: &'a [File<Root>],
 ) -> Result<(), AllocError>
-    requires { length roots.now ≤ 4096 }
+    requires { length roots.now ≤ most_held }
     ensures { IfOk result (λ _. (t : Contents) → after_all changes.new.items t ≡ more_roots (new_roots last (map root_file roots.now)) (after_all changes.old.items t)) }
 {
     let mut rest = roots;

@@ -27,7 +27,7 @@ returns-in-Err-OutOfMemory g c =
     let here = seen c.args.store.now.state (state g.S.Store c.args.store.now.conn) in
     let (input, is, wants) = of-no-memory c.in-Err-OutOfMemory.field-0 _ c.in-Err-OutOfMemory.field-0-is c.in-Err-OutOfMemory.ensures.memory in
     ends line _ here here input (fault_response Memory) _ c.write_fault.result c.ended.result is
-    (unread here wants (rests c.args.store.now.state (state g.S.Store c.args.store.now.conn) c.holds_rows.ensures))
+    (unread here wants.wants (rests c.args.store.now.state (state g.S.Store c.args.store.now.conn) c.holds_rows.ensures))
     (wrote _ _ _ _ c.write_fault.ensures.ok c.write_fault.ensures.err) c.write_fault.ensures.sound c.ended.ensures
 
 pub returns-in-Err : goal.returns-in-Err

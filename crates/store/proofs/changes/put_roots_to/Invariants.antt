@@ -1,3 +1,4 @@
+use Rattle.limits.specs.Limits.{most_held}
 use Rattle.std.proofs.Common.{◌≡◌, ◌≤◌, map, length}
 use Rattle.metadata.specs.FileViews.{root_file}
 use Rattle.tables.specs.Tables.{after_all}
@@ -7,7 +8,7 @@ use Rattle.store.proofs.changes.put_roots_to.Given as goal
 
 abbrev pub invariant-roots : goal.invariant-roots
 invariant-roots l = record {
-  few : length l.rest ≤ 4096;
+  few : length l.rest ≤ most_held;
   same : (t : Contents) → more_roots (new_roots l.fn.last (map root_file l.rest)) (after_all l.changes.items t)
       ≡ more_roots (new_roots l.fn.last (map root_file l.fn.roots)) (after_all l.initial.changes.items t);
 }
