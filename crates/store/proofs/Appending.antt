@@ -8,7 +8,7 @@ use Rattle.delegations.specs.Rows.{Place}
 use Rattle.metadata.specs.File.{Bytes}
 use Rattle.tables.specs.Tables.{after, after_all}
 use Rattle.contents.specs.Contents.{Contents}
-use Rattle.tables.specs.declared.contents.Change.{Change}
+use Rattle.tables.specs.declared.change.Change.{Change}
 use Rattle.store.specs.steps.Changed.{more_blobs, more_roots, more_rows}
 
 pub after_more : (cs : List Change) (c : Change) (t : Contents) → after_all (cs ++ c ∷ []) t ≡ after c (after_all cs t)

@@ -3,8 +3,8 @@ use Rattle.std.specs.Prelude.{option_map}
 use Rattle.machine.specs.Runs as steps
 use Rattle.denials.specs.Views.{denial_view}
 use Rattle.machine.specs.Views.{documents_view, offer_view}
-use Rattle.tables.specs.declared.contents.Fault.{Fault}
-use Rattle.tables.specs.declared.contents.Fault.TheVariants as faults
+use Rattle.tables.specs.declared.faults.Fault.{Fault}
+use Rattle.tables.specs.declared.faults.Fault.TheVariants as faults
 use Rattle.store.specs.declared.command.StoreFault.{StoreFault}
 use Rattle.store.specs.declared.command.StoreFault.TheVariants as stores
 use Rattle.store.specs.declared.command.Command.{Command}

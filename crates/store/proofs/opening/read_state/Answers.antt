@@ -7,8 +7,8 @@ use Rattle.store.specs.declared.command.StoreFault.{StoreFault}
 use Rattle.store.specs.declared.command.StoreFault.TheVariants.{Damaged}
 use Rattle.sqlite.specs.Held.{state}
 use Rattle.tables.specs.Tables.{IsStore, Stands, counted}
-use Rattle.tables.specs.declared.contents.Fault.{Fault}
-use Rattle.tables.specs.declared.contents.Fault.TheVariants as faults
+use Rattle.tables.specs.declared.faults.Fault.{Fault}
+use Rattle.tables.specs.declared.faults.Fault.TheVariants as faults
 use Rattle.store.specs.StateRows.{rows_of}
 use Rattle.store.proofs.Fitting.{one_stands, state_fits, state_rises}
 use Rattle.store.proofs.opening.read_state.Goals as goal
