@@ -12,6 +12,7 @@ use Rattle.delegations.specs.Rows.{Place}
 use Rattle.machine.specs.Effects.{Effects, last_or}
 use Rattle.sqlite.specs.Effect.{Database, IsDatabase}
 use Rattle.sqlite_trees.specs.Tree.{Trees}
+use Rattle.tables.specs.Schema.{IsBeginning}
 use Rattle.tables.specs.Tables.{Stands, emptied}
 
 -- what a caller sees of a store: its connection, and its state
