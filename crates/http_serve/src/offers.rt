@@ -13,7 +13,7 @@ pub fn offers_of<'a>(
     alloc: Global,
     documents: Vec<(RoleName, &'a [u8])>,
 ) -> Result<Vec<(Offer, &'a [u8])>, AllocError>
-    ensures { IfOk result (λ v. documents_view v.items ≡ offers_of_lem documents.items) }
+    ensures { IfOk result (λ v. documents_view v.items ≡ offers_of_lem documents.entry.items) }
 {
     let mut offers = Vec::with_capacity(alloc, documents.len())?;
     'documents: for (role, bytes) in documents {

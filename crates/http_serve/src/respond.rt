@@ -52,7 +52,7 @@ fn respond_batch<W: Transmit, S: Alter>(
     now: Moment,
 ) -> Result<(), Cut>
     ensures sound { StaysSound (W.sound writer.old) result (W.sound writer.new) }
-    ensures responded { Responded (seen store.old.state (state S.Store store.old.conn)) (batch (map {B = Document} (λ d. (d.0, d.1.now)) documents.items)) now
+    ensures responded { Responded (seen store.old.state (state S.Store store.old.conn)) (batch (map {B = Document} (λ d. (d.0, d.1.now)) documents.entry.items)) now
         (seen store.new.state (state S.Store store.new.conn)) (W.contents writer.old) (W.contents writer.new) result }
 {
     match offers_of(alloc, documents) {

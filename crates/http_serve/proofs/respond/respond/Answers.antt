@@ -1,10 +1,5 @@
-use Rattle.std.proofs.Common.{List, map, subst, ℕ}
-use Rattle.sqlite.specs.Held.{state}
-use Rattle.http_messages.specs.Framing.{Document}
-use Rattle.http_messages.specs.Request.{batch, metadata, put_blob, target}
+use Rattle.http_messages.specs.Request.{metadata, put_blob}
 use Rattle.http_serve.specs.Response.{names, puts}
-use Rattle.http_serve.specs.Standing.{seen}
-use Rattle.http_serve.specs.steps.Views.{Responded}
 use Rattle.http_serve.proofs.Responding.{faulty, served}
 use Rattle.http_serve.proofs.Standings.{wrote}
 use Rattle.http_serve.proofs.respond.respond.Goals as goal
@@ -14,10 +9,7 @@ returns-in-Fault-clause-responded g c =
     rw c.in-Fault.is (faulty _ c.in-Fault.fault c.args.now _ _ c.write_fault.result (wrote _ _ _ _ c.write_fault.ensures.ok c.write_fault.ensures.err))
 
 pub returns-in-Batch-clause-responded : goal.returns-in-Batch-clause-responded
-returns-in-Batch-clause-responded g c =
-    rw c.in-Batch.is (subst (λ ds. Responded (seen c.args.store.now.state (state g.S.Store c.args.store.now.conn)) (batch (map {B = Document} (λ d. (d.0, d.1.now)) ds)) c.args.now
-    (seen c.respond_batch.new.store.state (state g.S.Store c.respond_batch.new.store.conn)) (g.W.Write.contents c.args.writer.now) (g.W.Write.contents c.respond_batch.new.writer) c.respond_batch.result)
-    c.deref.ensures.value c.respond_batch.ensures.responded)
+returns-in-Batch-clause-responded g c = rw c.in-Batch.is c.respond_batch.ensures.responded
 
 pub returns-in-PutBlob-clause-responded : goal.returns-in-PutBlob-clause-responded
 returns-in-PutBlob-clause-responded g c =
