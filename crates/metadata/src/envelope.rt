@@ -96,10 +96,7 @@ fn signatures_of(alloc: Global, items: &[Value]) -> Result<Vec<Signature>, Shape
     let mut signatures = Vec::new(alloc);
     let mut rest = items;
     'items: while let Some((item, later)) = rest.split_first() {
-        let signature = match read_signature(alloc, item) {
-            Ok(signature) => signature,
-            Err(fault) => return Err(fault),
-        };
+        let signature = read_signature(alloc, item)?;
         signatures.push(signature)?;
         rest = later;
     }

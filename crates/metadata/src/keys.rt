@@ -276,10 +276,8 @@ pub(crate) fn name_table(alloc: Global, table: &SpelledTable) -> Result<KeyTable
     ensures ok { IfOk result (λ t. (table_view t ≡ spelled_table table.now) × NamesAreIds (spelled_table table.now) × NamesAreHex (spelled_table table.now)) }
     ensures err { IfErr result (IsMisnamed (NamesAreIds (spelled_table table.now))) }
 {
-    match name_rows(alloc, &table.rows) {
-        Ok(entries) => Ok(KeyTable { entries }),
-        Err(fault) => Err(fault),
-    }
+    let entries = name_rows(alloc, &table.rows)?;
+    Ok(KeyTable { entries })
 }
 
 fn name_rows(alloc: Global, rows: &[(String, Key)]) -> Result<Vec<(KeyId, Key)>, ShapeFault>
@@ -324,13 +322,11 @@ pub(crate) fn name_rule(alloc: Global, rule: &SpelledRule) -> Result<RoleRule, S
     ensures ok { IfOk result (λ r. rule_view r ≡ spelled_rule rule.now) }
     ensures err { IfErr result (IsMisnamed (AllByRecursion (IsHex 64) (spelled_rule rule.now).keyids)) }
 {
-    match name_ids(alloc, &rule.ids) {
-        Ok(keyids) => Ok(RoleRule {
-            keyids,
-            threshold: rule.threshold,
-        }),
-        Err(fault) => Err(fault),
-    }
+    let keyids = name_ids(alloc, &rule.ids)?;
+    Ok(RoleRule {
+        keyids,
+        threshold: rule.threshold,
+    })
 }
 
 fn name_ids(alloc: Global, ids: &[String]) -> Result<Vec<KeyId>, ShapeFault>
