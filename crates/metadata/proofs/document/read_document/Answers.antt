@@ -5,6 +5,6 @@ use Rattle.metadata.proofs.document.read_document.Goals as goal
 
 pub returns-clause-fault : goal.returns-clause-fault
 returns-clause-fault c =
-    let there = signed_there _ (view c.in-Ok.value) _ _ c.in-Ok-read_value.ensures.ok in
-    let e : false ≡ true = c.in-None.ensures.none (view c.in-Ok.value) c.in-Ok-read_value.ensures.ok.part c.in-Ok.ensures.value there in
+    let there = signed_there _ (view c.in-Ok.value) _ _ c.in_ok-signatures.ensures.ok in
+    let e : false ≡ true = c.in-None.ensures.none (view c.in-Ok.value) c.in_ok-signatures.ensures.ok.part c.in-Ok.ensures.value there in
     absurd (cc)
