@@ -42,14 +42,14 @@ pub fn read_document<'a>(
         Err(fault) => return Err(unread(fault)),
     };
     let (signatures, body) = read_value(alloc, kind, &value)?;
-    match member(bytes, "signed") {
-        Some(signed) => Ok(Document {
-            signatures,
-            signed,
-            body,
-        }),
-        None => Err(ShapeFault::WrongShape),
-    }
+    let Some(signed) = member(bytes, "signed") else {
+        return Err(ShapeFault::WrongShape);
+    };
+    Ok(Document {
+        signatures,
+        signed,
+        body,
+    })
 }
 
 // What a file that is not read is refused as.
