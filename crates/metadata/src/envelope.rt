@@ -63,10 +63,7 @@ fn type_of(part: &Value) -> Option<&str>
         (λ t. Has (view part.now) (codes "_type") (λ x. IsText x t.now)) }
 {
     let found = member_of(part, "_type")?;
-    match text_of(found) {
-        Some(text) => Some(text),
-        None => None,
-    }
+    text_of(found)
 }
 
 // The signatures that the value is.

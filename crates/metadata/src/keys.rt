@@ -53,10 +53,8 @@ pub(crate) fn read_key(value: &Value) -> Option<Key>
     if !is_text(kind, "lms") || !is_text(scheme, "lms-sha256") {
         return None;
     }
-    match read_keyval(keyval) {
-        Some(public) => Some(Key::Lms(public)),
-        None => None,
-    }
+    let public = read_keyval(keyval)?;
+    Some(Key::Lms(public))
 }
 
 // The 56 bytes that `keyval` holds.
@@ -65,10 +63,7 @@ fn read_keyval(value: &Value) -> Option<[u8; 56]>
 {
     let public = one_member(value, "public")?;
     let digits = text_of(public)?;
-    match read_public(digits) {
-        Some(bytes) => Some(bytes),
-        None => None,
-    }
+    read_public(digits)
 }
 
 // The 56 bytes that the text spells in hex digits of lower case.
@@ -162,10 +157,8 @@ fn threshold_of(value: &Value) -> Option<u8>
     ensures { MatchOption result ((n : ℕ) → Has (view value.now) (codes "threshold") (λ x. IsNumber 1 16 x n) → ⊥)
         (λ n. Has (view value.now) (codes "threshold") (λ x. IsNumber 1 16 x n)) }
 {
-    match number_at(value, "threshold", 1, 16) {
-        Some(number) => u8::try_from(number).ok(),
-        None => None,
-    }
+    let number = number_at(value, "threshold", 1, 16)?;
+    u8::try_from(number).ok()
 }
 
 /// The texts of the list that the value is.
