@@ -41,18 +41,15 @@ pub fn read_document<'a>(
         Ok(value) => value,
         Err(fault) => return Err(unread(fault)),
     };
-    let (signatures, body) = match read_value(alloc, kind, &value) {
-        Ok(parts) => parts,
-        Err(fault) => return Err(fault),
+    let (signatures, body) = read_value(alloc, kind, &value)?;
+    let Some(signed) = member(bytes, "signed") else {
+        return Err(ShapeFault::WrongShape);
     };
-    match member(bytes, "signed") {
-        Some(signed) => Ok(Document {
-            signatures,
-            signed,
-            body,
-        }),
-        None => Err(ShapeFault::WrongShape),
-    }
+    Ok(Document {
+        signatures,
+        signed,
+        body,
+    })
 }
 
 // What a file that is not read is refused as.
@@ -78,17 +75,12 @@ fn read_value(
     ensures ok { IfOk result (λ r. IsSignedAs kind (view value.now) (entries_view r.0.items) (body_view r.1)) }
     ensures err { IfErr result (IsFaultOf kind (view value.now)) }
 {
-    let envelope = match read_envelope(alloc, value) {
-        Ok(envelope) => envelope,
-        Err(fault) => return Err(fault),
-    };
+    let envelope = read_envelope(alloc, value)?;
     if !is_kind(kind, envelope.type_name) {
         return Err(ShapeFault::WrongType);
     }
-    match read_body(alloc, kind, envelope.part) {
-        Ok(body) => Ok((envelope.signatures, body)),
-        Err(fault) => Err(fault),
-    }
+    let body = read_body(alloc, kind, envelope.part)?;
+    Ok((envelope.signatures, body))
 }
 
 // Whether the `_type` is the kind's.
@@ -111,21 +103,12 @@ fn read_body(alloc: Global, kind: Kind, part: &Value) -> Result<Body, ShapeFault
     ensures err { IfErr result (IsFaulty (IsBody kind (view part.now)) (λ b. AllByRecursion NamesAreIds (tables b))) }
 {
     match kind {
-        Kind::Root => match read_root(alloc, part) {
-            Ok(root) => Ok(Body::Root(root)),
-            Err(fault) => Err(fault),
-        },
+        Kind::Root => Ok(Body::Root(read_root(alloc, part)?)),
         Kind::Timestamp => match read_timestamp(part) {
             Some(timestamp) => Ok(Body::Timestamp(timestamp)),
             None => Err(ShapeFault::WrongShape),
         },
-        Kind::Snapshot => match read_snapshot(alloc, part) {
-            Ok(snapshot) => Ok(Body::Snapshot(snapshot)),
-            Err(fault) => Err(fault),
-        },
-        Kind::Targets => match read_targets(alloc, part) {
-            Ok(targets) => Ok(Body::Targets(targets)),
-            Err(fault) => Err(fault),
-        },
+        Kind::Snapshot => Ok(Body::Snapshot(read_snapshot(alloc, part)?)),
+        Kind::Targets => Ok(Body::Targets(read_targets(alloc, part)?)),
     }
 }

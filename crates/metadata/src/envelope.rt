@@ -63,10 +63,7 @@ fn type_of(part: &Value) -> Option<&str>
         (λ t. Has (view part.now) (codes "_type") (λ x. IsText x t.now)) }
 {
     let found = member_of(part, "_type")?;
-    match text_of(found) {
-        Some(text) => Some(text),
-        None => None,
-    }
+    text_of(found)
 }
 
 // The signatures that the value is.
@@ -96,10 +93,7 @@ fn signatures_of(alloc: Global, items: &[Value]) -> Result<Vec<Signature>, Shape
     let mut signatures = Vec::new(alloc);
     let mut rest = items;
     'items: while let Some((item, later)) = rest.split_first() {
-        let signature = match read_signature(alloc, item) {
-            Ok(signature) => signature,
-            Err(fault) => return Err(fault),
-        };
+        let signature = read_signature(alloc, item)?;
         signatures.push(signature)?;
         rest = later;
     }

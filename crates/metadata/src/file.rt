@@ -25,10 +25,7 @@ pub fn read_root_file(alloc: Global, bytes: &[u8]) -> Result<File<Root>, ShapeFa
         signatures,
         signed,
         body,
-    } = match read_document(alloc, Kind::Root, bytes) {
-        Ok(document) => document,
-        Err(fault) => return Err(fault),
-    };
+    } = read_document(alloc, Kind::Root, bytes)?;
     match body {
         Body::Root(body) => {
             let source = Source::new(alloc, bytes, signed, signatures)?;
@@ -47,10 +44,7 @@ pub fn read_timestamp_file(alloc: Global, bytes: &[u8]) -> Result<File<Timestamp
         signatures,
         signed,
         body,
-    } = match read_document(alloc, Kind::Timestamp, bytes) {
-        Ok(document) => document,
-        Err(fault) => return Err(fault),
-    };
+    } = read_document(alloc, Kind::Timestamp, bytes)?;
     match body {
         Body::Timestamp(body) => {
             let source = Source::new(alloc, bytes, signed, signatures)?;
@@ -69,10 +63,7 @@ pub fn read_snapshot_file(alloc: Global, bytes: &[u8]) -> Result<File<Snapshot>,
         signatures,
         signed,
         body,
-    } = match read_document(alloc, Kind::Snapshot, bytes) {
-        Ok(document) => document,
-        Err(fault) => return Err(fault),
-    };
+    } = read_document(alloc, Kind::Snapshot, bytes)?;
     match body {
         Body::Snapshot(body) => {
             let source = Source::new(alloc, bytes, signed, signatures)?;
@@ -91,10 +82,7 @@ pub fn read_targets_file(alloc: Global, bytes: &[u8]) -> Result<File<Targets>, S
         signatures,
         signed,
         body,
-    } = match read_document(alloc, Kind::Targets, bytes) {
-        Ok(document) => document,
-        Err(fault) => return Err(fault),
-    };
+    } = read_document(alloc, Kind::Targets, bytes)?;
     match body {
         Body::Targets(body) => {
             let source = Source::new(alloc, bytes, signed, signatures)?;

@@ -21,13 +21,9 @@ pub(crate) fn read_head(signed: &Value) -> Option<(u32, Moment)>
     if !has_spec_version(signed) {
         return None;
     }
-    let Some(version) = version_of(signed) else {
-        return None;
-    };
-    match expires_of(signed) {
-        Some(expires) => Some((version, expires)),
-        None => None,
-    }
+    let version = version_of(signed)?;
+    let expires = expires_of(signed)?;
+    Some((version, expires))
 }
 
 // Whether the object has a `spec_version`.

@@ -53,10 +53,8 @@ pub(crate) fn read_key(value: &Value) -> Option<Key>
     if !is_text(kind, "lms") || !is_text(scheme, "lms-sha256") {
         return None;
     }
-    match read_keyval(keyval) {
-        Some(public) => Some(Key::Lms(public)),
-        None => None,
-    }
+    let public = read_keyval(keyval)?;
+    Some(Key::Lms(public))
 }
 
 // The 56 bytes that `keyval` holds.
@@ -65,10 +63,7 @@ fn read_keyval(value: &Value) -> Option<[u8; 56]>
 {
     let public = one_member(value, "public")?;
     let digits = text_of(public)?;
-    match read_public(digits) {
-        Some(bytes) => Some(bytes),
-        None => None,
-    }
+    read_public(digits)
 }
 
 // The 56 bytes that the text spells in hex digits of lower case.
@@ -162,10 +157,8 @@ fn threshold_of(value: &Value) -> Option<u8>
     ensures { MatchOption result ((n : ℕ) → Has (view value.now) (codes "threshold") (λ x. IsNumber 1 16 x n) → ⊥)
         (λ n. Has (view value.now) (codes "threshold") (λ x. IsNumber 1 16 x n)) }
 {
-    match number_at(value, "threshold", 1, 16) {
-        Some(number) => u8::try_from(number).ok(),
-        None => None,
-    }
+    let number = number_at(value, "threshold", 1, 16)?;
+    u8::try_from(number).ok()
 }
 
 /// The texts of the list that the value is.
@@ -276,10 +269,8 @@ pub(crate) fn name_table(alloc: Global, table: &SpelledTable) -> Result<KeyTable
     ensures ok { IfOk result (λ t. (table_view t ≡ spelled_table table.now) × NamesAreIds (spelled_table table.now) × NamesAreHex (spelled_table table.now)) }
     ensures err { IfErr result (IsMisnamed (NamesAreIds (spelled_table table.now))) }
 {
-    match name_rows(alloc, &table.rows) {
-        Ok(entries) => Ok(KeyTable { entries }),
-        Err(fault) => Err(fault),
-    }
+    let entries = name_rows(alloc, &table.rows)?;
+    Ok(KeyTable { entries })
 }
 
 fn name_rows(alloc: Global, rows: &[(String, Key)]) -> Result<Vec<(KeyId, Key)>, ShapeFault>
@@ -324,13 +315,11 @@ pub(crate) fn name_rule(alloc: Global, rule: &SpelledRule) -> Result<RoleRule, S
     ensures ok { IfOk result (λ r. rule_view r ≡ spelled_rule rule.now) }
     ensures err { IfErr result (IsMisnamed (AllByRecursion (IsHex 64) (spelled_rule rule.now).keyids)) }
 {
-    match name_ids(alloc, &rule.ids) {
-        Ok(keyids) => Ok(RoleRule {
-            keyids,
-            threshold: rule.threshold,
-        }),
-        Err(fault) => Err(fault),
-    }
+    let keyids = name_ids(alloc, &rule.ids)?;
+    Ok(RoleRule {
+        keyids,
+        threshold: rule.threshold,
+    })
 }
 
 fn name_ids(alloc: Global, ids: &[String]) -> Result<Vec<KeyId>, ShapeFault>

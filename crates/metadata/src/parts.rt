@@ -68,10 +68,7 @@ pub(crate) fn optional_length(value: &Value) -> Option<Option<u32>>
 {
     match member_of(value, "length") {
         None => Some(None),
-        Some(length) => match number_of(length, 0, LAST_NUMBER) {
-            Some(number) => Some(Some(number)),
-            None => None,
-        },
+        Some(length) => Some(Some(number_of(length, 0, LAST_NUMBER)?)),
     }
 }
 
@@ -83,10 +80,7 @@ pub(crate) fn optional_hashes(value: &Value) -> Option<Option<Digest>>
 {
     match member_of(value, "hashes") {
         None => Some(None),
-        Some(hashes) => match read_hashes(hashes) {
-            Some(digest) => Some(Some(digest)),
-            None => None,
-        },
+        Some(hashes) => Some(Some(read_hashes(hashes)?)),
     }
 }
 

@@ -50,26 +50,18 @@ pub(crate) fn read_root(alloc: Global, signed: &Value) -> Result<Root, ShapeFaul
     if !is_true_at(signed, "consistent_snapshot") {
         return Err(ShapeFault::WrongShape);
     }
-    let keys = match keys_of(alloc, signed) {
-        Ok(keys) => keys,
-        Err(fault) => return Err(fault),
-    };
-    let roles = match roles_of(alloc, signed, &keys) {
-        Ok(roles) => roles,
-        Err(fault) => return Err(fault),
-    };
-    match named(alloc, &keys, &roles) {
-        Ok(keyed) => Ok(Root {
-            version,
-            expires,
-            keys: keyed.keys,
-            root: keyed.root,
-            targets: keyed.targets,
-            snapshot: keyed.snapshot,
-            timestamp: keyed.timestamp,
-        }),
-        Err(fault) => Err(fault),
-    }
+    let keys = keys_of(alloc, signed)?;
+    let roles = roles_of(alloc, signed, &keys)?;
+    let keyed = named(alloc, &keys, &roles)?;
+    Ok(Root {
+        version,
+        expires,
+        keys: keyed.keys,
+        root: keyed.root,
+        targets: keyed.targets,
+        snapshot: keyed.snapshot,
+        timestamp: keyed.timestamp,
+    })
 }
 
 // The key table that the object has under `keys`.
@@ -81,10 +73,7 @@ fn keys_of(alloc: Global, signed: &Value) -> Result<SpelledTable, ShapeFault>
     let Some(keys) = member_of(signed, "keys") else {
         return Err(ShapeFault::WrongShape);
     };
-    match read_table(alloc, keys) {
-        Ok(table) => Ok(table),
-        Err(fault) => Err(fault),
-    }
+    read_table(alloc, keys)
 }
 
 // The rules of the four roles that the object has under `roles`.
@@ -96,10 +85,7 @@ fn roles_of(alloc: Global, signed: &Value, keys: &SpelledTable) -> Result<Spelle
     let Some(roles) = member_of(signed, "roles") else {
         return Err(ShapeFault::WrongShape);
     };
-    match read_roles(alloc, roles, keys) {
-        Ok(roles) => Ok(roles),
-        Err(fault) => Err(fault),
-    }
+    read_roles(alloc, roles, keys)
 }
 
 // The rules of the four roles that the value is.
@@ -117,22 +103,10 @@ fn read_roles(alloc: Global, roles: &Value, keys: &SpelledTable) -> Result<Spell
     ) else {
         return Err(ShapeFault::WrongShape);
     };
-    let root = match read_rule(alloc, root, "keyids", keys) {
-        Ok(rule) => rule,
-        Err(fault) => return Err(fault),
-    };
-    let snapshot = match read_rule(alloc, snapshot, "keyids", keys) {
-        Ok(rule) => rule,
-        Err(fault) => return Err(fault),
-    };
-    let targets = match read_rule(alloc, targets, "keyids", keys) {
-        Ok(rule) => rule,
-        Err(fault) => return Err(fault),
-    };
-    let timestamp = match read_rule(alloc, timestamp, "keyids", keys) {
-        Ok(rule) => rule,
-        Err(fault) => return Err(fault),
-    };
+    let root = read_rule(alloc, root, "keyids", keys)?;
+    let snapshot = read_rule(alloc, snapshot, "keyids", keys)?;
+    let targets = read_rule(alloc, targets, "keyids", keys)?;
+    let timestamp = read_rule(alloc, timestamp, "keyids", keys)?;
     Ok(SpelledRoles {
         root,
         snapshot,
@@ -147,26 +121,11 @@ fn named(alloc: Global, keys: &SpelledTable, roles: &SpelledRoles) -> Result<Key
     ensures ok { IfOk result (λ k. (keyed_view k ≡ (spelled_table keys.now, spelled_roles roles.now)) × NamesAreIds (spelled_table keys.now)) }
     ensures err { IfErr result (IsMisnamed (NamesAreIds (spelled_table keys.now))) }
 {
-    let table = match name_table(alloc, keys) {
-        Ok(table) => table,
-        Err(fault) => return Err(fault),
-    };
-    let root = match name_rule(alloc, &roles.root) {
-        Ok(rule) => rule,
-        Err(fault) => return Err(fault),
-    };
-    let targets = match name_rule(alloc, &roles.targets) {
-        Ok(rule) => rule,
-        Err(fault) => return Err(fault),
-    };
-    let snapshot = match name_rule(alloc, &roles.snapshot) {
-        Ok(rule) => rule,
-        Err(fault) => return Err(fault),
-    };
-    let timestamp = match name_rule(alloc, &roles.timestamp) {
-        Ok(rule) => rule,
-        Err(fault) => return Err(fault),
-    };
+    let table = name_table(alloc, keys)?;
+    let root = name_rule(alloc, &roles.root)?;
+    let targets = name_rule(alloc, &roles.targets)?;
+    let snapshot = name_rule(alloc, &roles.snapshot)?;
+    let timestamp = name_rule(alloc, &roles.timestamp)?;
     Ok(Keyed {
         keys: table,
         root,

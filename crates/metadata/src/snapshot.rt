@@ -35,14 +35,12 @@ pub(crate) fn read_snapshot(alloc: Global, signed: &Value) -> Result<Snapshot, S
     let Some(found) = member_of(signed, "meta") else {
         return Err(ShapeFault::WrongShape);
     };
-    match read_table(alloc, found) {
-        Ok(meta) => Ok(Snapshot {
-            version,
-            expires,
-            meta,
-        }),
-        Err(fault) => Err(fault),
-    }
+    let meta = read_table(alloc, found)?;
+    Ok(Snapshot {
+        version,
+        expires,
+        meta,
+    })
 }
 
 // The roles of a snapshot, with what is said of their documents.
@@ -79,10 +77,7 @@ fn read_rows(
     let mut rows = Vec::new(alloc);
     let mut rest = members;
     'members: while let Some((member, later)) = rest.split_first() {
-        let row = match read_row(alloc, member.0.as_str(), &member.1) {
-            Ok(row) => row,
-            Err(fault) => return Err(fault),
-        };
+        let row = read_row(alloc, member.0.as_str(), &member.1)?;
         rows.push(row)?;
         rest = later;
     }

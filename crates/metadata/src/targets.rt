@@ -33,14 +33,12 @@ pub(crate) fn read_targets(alloc: Global, signed: &Value) -> Result<Targets, Sha
     let Some(found) = member_of(signed, "targets") else {
         return Err(ShapeFault::WrongShape);
     };
-    match read_table(alloc, found) {
-        Ok(targets) => Ok(Targets {
-            version,
-            expires,
-            targets,
-        }),
-        Err(fault) => Err(fault),
-    }
+    let targets = read_table(alloc, found)?;
+    Ok(Targets {
+        version,
+        expires,
+        targets,
+    })
 }
 
 // Whether the value has no member of this name.
@@ -63,10 +61,7 @@ fn read_table(alloc: Global, value: &Value) -> Result<Vec<Listing>, ShapeFault>
     let Some(members) = members_of(value) else {
         return Err(ShapeFault::WrongShape);
     };
-    match read_listings(alloc, members) {
-        Ok(listings) => Ok(listings),
-        Err(fault) => Err(fault),
-    }
+    read_listings(alloc, members)
 }
 
 fn read_listings(alloc: Global, members: &[(String, Value)]) -> Result<Vec<Listing>, ShapeFault>
@@ -77,10 +72,7 @@ fn read_listings(alloc: Global, members: &[(String, Value)]) -> Result<Vec<Listi
     let mut listings = Vec::new(alloc);
     let mut rest = members;
     'members: while let Some((member, later)) = rest.split_first() {
-        let listing = match read_listing(alloc, member.0.as_str(), &member.1) {
-            Ok(listing) => listing,
-            Err(fault) => return Err(fault),
-        };
+        let listing = read_listing(alloc, member.0.as_str(), &member.1)?;
         listings.push(listing)?;
         rest = later;
     }

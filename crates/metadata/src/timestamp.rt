@@ -19,17 +19,13 @@ pub(crate) fn read_timestamp(signed: &Value) -> Option<Timestamp>
     ensures { MatchOption result ((t : plain.Timestamp) → IsTimestamp (view signed.now) t → ⊥)
         (λ t. IsTimestamp (view signed.now) (timestamp_view t)) }
 {
-    let Some((version, expires)) = read_head(signed) else {
-        return None;
-    };
-    match snapshot_of(signed) {
-        Some(snapshot) => Some(Timestamp {
-            version,
-            expires,
-            snapshot,
-        }),
-        None => None,
-    }
+    let (version, expires) = read_head(signed)?;
+    let snapshot = snapshot_of(signed)?;
+    Some(Timestamp {
+        version,
+        expires,
+        snapshot,
+    })
 }
 
 // What the object says of the snapshot under `meta`.

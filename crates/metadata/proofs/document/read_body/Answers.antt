@@ -1,4 +1,5 @@
 use Rattle.std.proofs.Common.{sym, subst}
+use Rattle.std.proofs.lemmas.Result.{err_from_is_err_and}
 use Rattle.std.specs.List.{AllByRecursion}
 use Rattle.canonical_json.specs.View.{view}
 use Rattle.metadata.specs.Documents.{targets}
@@ -11,18 +12,20 @@ use Rattle.metadata.specs.declared.documents.ShapeFault.TheVariants.{WrongShape}
 use Rattle.metadata.proofs.Judged.{root_faulty, timestamp_faulty, no_tables}
 use Rattle.metadata.proofs.document.read_body.Goals as goal
 
-pub returns-in-Err-clause-err : goal.returns-in-Err-clause-err
-returns-in-Err-clause-err c =
-    subst (λ (k : Kind). IsFaulty (IsBody k (view c.args.part.now)) (λ b. AllByRecursion NamesAreIds (tables b)) c.in-Err.fault) (sym c.in-Root.is)
-    (root_faulty (view c.args.part.now) c.in-Err.fault c.in-Err.ensures.err)
+pub returns-in_err-read_root-in-Root-clause-err : goal.returns-in_err-read_root-in-Root-clause-err
+returns-in_err-read_root-in-Root-clause-err c =
+    let p = err_from_is_err_and c.from_residual.result c.from_residual.ensures.1 in
+    rw (p.1, p.2)
+    (subst (λ (k : Kind). IsFaulty (IsBody k (view c.args.part.now)) (λ b. AllByRecursion NamesAreIds (tables b)) c.in_err-read_root-in-Root.field-0.0) (sym c.in-Root.is)
+    (root_faulty (view c.args.part.now) c.in_err-read_root-in-Root.field-0.0 c.in_err-read_root-in-Root.ensures.err))
 
 pub returns-in-None-clause-err : goal.returns-in-None-clause-err
 returns-in-None-clause-err c =
     subst (λ (k : Kind). IsFaulty (IsBody k (view c.args.part.now)) (λ b. AllByRecursion NamesAreIds (tables b)) WrongShape) (sym c.in-Timestamp.is)
     (timestamp_faulty (view c.args.part.now) c.in-None.ensures)
 
-pub returns-in-Ok-read_targets-clause-ok : goal.returns-in-Ok-read_targets-clause-ok
-returns-in-Ok-read_targets-clause-ok c = (
-  subst (λ (k : Kind). IsBody k (view c.args.part.now) (targets (targets_view c.in-Ok-read_targets.targets))) (sym c.in-Targets.is) c.in-Ok-read_targets.ensures.ok,
-  no_tables c.in-Ok-read_targets.targets.targets.items,
+pub returns-in_ok-read_targets-in-Targets-clause-ok : goal.returns-in_ok-read_targets-in-Targets-clause-ok
+returns-in_ok-read_targets-in-Targets-clause-ok c = (
+  subst (λ (k : Kind). IsBody k (view c.args.part.now) (targets (targets_view c.in_ok-read_targets-in-Targets.field-0))) (sym c.in-Targets.is) c.in_ok-read_targets-in-Targets.ensures.ok,
+  no_tables c.in_ok-read_targets-in-Targets.field-0.targets.items,
 )

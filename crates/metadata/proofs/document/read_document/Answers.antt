@@ -3,8 +3,8 @@ use Rattle.canonical_json.specs.View.{view}
 use Rattle.metadata.proofs.Judged.{signed_there}
 use Rattle.metadata.proofs.document.read_document.Goals as goal
 
-pub returns-clause-fault : goal.returns-clause-fault
-returns-clause-fault c =
-    let there = signed_there _ (view c.in-Ok.value) _ _ c.in-Ok-read_value.ensures.ok in
-    let e : false ≡ true = c.in-None.ensures.none (view c.in-Ok.value) c.in-Ok-read_value.ensures.ok.part c.in-Ok.ensures.value there in
+pub returns-in_default-clause-fault : goal.returns-in_default-clause-fault
+returns-in_default-clause-fault c =
+    let there = signed_there _ (view c.in-Ok.value) _ _ c.in_ok-signatures.ensures.ok in
+    let e : false ≡ true = c.in_default.ensures.none (view c.in-Ok.value) c.in_ok-signatures.ensures.ok.part c.in-Ok.ensures.value there in
     absurd (cc)

@@ -1,4 +1,5 @@
 use Rattle.std.proofs.Common.{ap}
+use Rattle.std.proofs.lemmas.Result.{err_from_is_err_and}
 use Rattle.canonical_json.specs.View.{view, items_view}
 use Rattle.keys_roles.specs.Views.{entries_view}
 use Rattle.metadata.specs.Parts.{IsEntry}
@@ -7,11 +8,12 @@ use Rattle.metadata.proofs.Growing.{items_first, items_done}
 use Rattle.metadata.proofs.Ill.{ill_again}
 use Rattle.metadata.proofs.envelope.signatures_of.Goals as goal
 
-pub returns-in-Err-clause-err : goal.returns-in-Err-clause-err
-returns-in-Err-clause-err c =
-    ill_again c.in-Err.fault c.in-Err.ensures.err
+pub returns-in_err-signature-clause-err : goal.returns-in_err-signature-clause-err
+returns-in_err-signature-clause-err c =
+    let p = err_from_is_err_and c.from_residual.result c.from_residual.ensures.1 in
+    rw (p.1, p.2) (ill_again _ c.in_err-signature.ensures.err
     (items_first IsEntry (items_view c.args.items.now) (items_view c.items.rest.now) (items_view c.in-Some.later.now) (view c.in-Some.item.now)
-    (ap items_view c.in-Some.ensures.cases.0) c.items.invariant.left)
+    (ap items_view c.in-Some.ensures.cases.0) c.items.invariant.left))
 
 pub returns-clause-ok : goal.returns-clause-ok
 returns-clause-ok c =

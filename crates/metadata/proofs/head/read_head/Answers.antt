@@ -1,7 +1,7 @@
 use Rattle.metadata.proofs.head.read_head.Goals as goal
 
-pub returns-in_default : goal.returns-in_default
-returns-in_default c version expires h = c.in_default.ensures version h.1
+pub returns-in_err-version : goal.returns-in_err-version
+returns-in_err-version c = rw c.from_residual.ensures (λ version expires h. c.in_err-version.ensures version h.1)
 
-pub returns-in-None : goal.returns-in-None
-returns-in-None c version expires h = c.in-None.ensures expires h.2
+pub returns-in_err-expires : goal.returns-in_err-expires
+returns-in_err-expires c = rw c.from_residual-in_err-expires.ensures (λ version expires h. c.in_err-expires.ensures expires h.2)

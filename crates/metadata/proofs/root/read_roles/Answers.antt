@@ -1,4 +1,5 @@
 use Rattle.std.proofs.Common.{refl, inr}
+use Rattle.std.proofs.lemmas.Result.{err_from_is_err_and}
 use Rattle.canonical_json.specs.View.{view}
 use Rattle.metadata.specs.steps.Spelled.{spelled_table}
 use Rattle.metadata.proofs.Ill.{ill_again}
@@ -13,14 +14,20 @@ returns-in_default-clause-err c = inr (
       c.in_default.ensures f.root f.snapshot f.targets f.timestamp f.is,
 )
 
-pub returns-in-Err-read_rule-clause-err : goal.returns-in-Err-read_rule-clause-err
-returns-in-Err-read_rule-clause-err c = ill_again c.in-Err-read_rule.fault c.in-Err-read_rule.ensures.err
-    (λ r. (r.0.snapshot, snapshot_rule (view c.args.roles.now) _ _ _ _ c.requires c.in-Some.ensures (spelled_table c.args.keys.now) r.0 r.1))
+pub returns-in_err-snapshot-clause-err : goal.returns-in_err-snapshot-clause-err
+returns-in_err-snapshot-clause-err c =
+    let p = err_from_is_err_and c.from_residual-in_err-snapshot.result c.from_residual-in_err-snapshot.ensures.1 in
+    rw (p.1, p.2) (ill_again _ c.in_err-snapshot.ensures.err
+    (λ r. (r.0.snapshot, snapshot_rule (view c.args.roles.now) _ _ _ _ c.requires c.in-Some.ensures (spelled_table c.args.keys.now) r.0 r.1)))
 
-pub returns-in-Err-read_rule-2-clause-err : goal.returns-in-Err-read_rule-2-clause-err
-returns-in-Err-read_rule-2-clause-err c = ill_again c.in-Err-read_rule-2.fault c.in-Err-read_rule-2.ensures.err
-    (λ r. (r.0.targets, targets_rule (view c.args.roles.now) _ _ _ _ c.requires c.in-Some.ensures (spelled_table c.args.keys.now) r.0 r.1))
+pub returns-in_err-targets-clause-err : goal.returns-in_err-targets-clause-err
+returns-in_err-targets-clause-err c =
+    let p = err_from_is_err_and c.from_residual-in_err-targets.result c.from_residual-in_err-targets.ensures.1 in
+    rw (p.1, p.2) (ill_again _ c.in_err-targets.ensures.err
+    (λ r. (r.0.targets, targets_rule (view c.args.roles.now) _ _ _ _ c.requires c.in-Some.ensures (spelled_table c.args.keys.now) r.0 r.1)))
 
-pub returns-in-Err-read_rule-3-clause-err : goal.returns-in-Err-read_rule-3-clause-err
-returns-in-Err-read_rule-3-clause-err c = ill_again c.in-Err-read_rule-3.fault c.in-Err-read_rule-3.ensures.err
-    (λ r. (r.0.timestamp, timestamp_rule (view c.args.roles.now) _ _ _ _ c.requires c.in-Some.ensures (spelled_table c.args.keys.now) r.0 r.1))
+pub returns-in_err-timestamp-clause-err : goal.returns-in_err-timestamp-clause-err
+returns-in_err-timestamp-clause-err c =
+    let p = err_from_is_err_and c.from_residual-in_err-timestamp.result c.from_residual-in_err-timestamp.ensures.1 in
+    rw (p.1, p.2) (ill_again _ c.in_err-timestamp.ensures.err
+    (λ r. (r.0.timestamp, timestamp_rule (view c.args.roles.now) _ _ _ _ c.requires c.in-Some.ensures (spelled_table c.args.keys.now) r.0 r.1)))

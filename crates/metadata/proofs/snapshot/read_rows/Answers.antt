@@ -18,9 +18,9 @@ members-preserved c =
     let name = string_bytes c.in-Some.member.now.0 in
     let value = view c.in-Some.member.now.1 in
     let at = ap members_view c.in-Some.ensures.cases.0 in
-    let row = subst (λ (n : List ℕ). IsMetaRow n value (c.in-Ok.row.0, meta_view c.in-Ok.row.1)) c.as_str.ensures.value c.in-Ok.ensures.ok in
-    let grown = members_grow IsMetaRow all rest later name value (c.in-Ok.row.0, meta_view c.in-Ok.row.1) (rows_view c.members.rows.items) at row c.members.invariant.grow in
-    let items = ap rows_view c.in_ok-push.ensures.items ∙ map-append (λ e. (e.0, meta_view e.1)) c.members.rows.items (c.in-Ok.row ∷ []) in
+    let row = subst (λ (n : List ℕ). IsMetaRow n value (c.in_ok-row.row.0, meta_view c.in_ok-row.row.1)) c.as_str.ensures.value c.in_ok-row.ensures.ok in
+    let grown = members_grow IsMetaRow all rest later name value (c.in_ok-row.row.0, meta_view c.in_ok-row.row.1) (rows_view c.members.rows.items) at row c.members.invariant.grow in
+    let items = ap rows_view c.in_ok-push.ensures.items ∙ map-append (λ e. (e.0, meta_view e.1)) c.members.rows.items (c.in_ok-row.row ∷ []) in
     record {
       grow = subst (λ (z : List (List ℕ × MetaFile)). MembersGrow IsMetaRow all later z) (sym items) grown;
       left = members_left IsMetaRow all rest later name value at c.members.invariant.left;

@@ -20,5 +20,5 @@ returns-in_default-clause-err c = inr (refl, λ s. c.in_default.ensures s.0.vers
 pub invariant_of-result : goal.invariant_of-result
 invariant_of-result c =
     let v = view c.in-Some-member_of.found.now in
-    let listed = members_in_order IsMetaRow file (λ n v e h. h.0) v (rows_view c.in-Ok.meta.items) c.in-Some-member_of.ensures.proper c.in-Ok.ensures.ok.each in
-    record { in_order = seen_in_order seen file c.in-Ok.meta.items listed }
+    let listed = members_in_order IsMetaRow file (λ n v e h. h.0) v (rows_view c.in_ok-meta.meta.items) c.in-Some-member_of.ensures.proper c.in_ok-meta.ensures.ok.each in
+    record { in_order = seen_in_order seen file c.in_ok-meta.meta.items listed }

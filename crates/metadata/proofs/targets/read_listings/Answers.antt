@@ -18,9 +18,9 @@ members-preserved c =
     let path = string_bytes c.in-Some.member.now.0 in
     let value = view c.in-Some.member.now.1 in
     let at = ap members_view c.in-Some.ensures.cases.0 in
-    let listing = subst (λ (n : List ℕ). IsListing n value (listing_view c.in-Ok.listing)) c.as_str.ensures.value c.in-Ok.ensures.ok in
-    let grown = members_grow IsListing all rest later path value (listing_view c.in-Ok.listing) (listings_view c.members.listings.items) at listing c.members.invariant.grow in
-    let items = ap listings_view c.in_ok-push.ensures.items ∙ map-append listing_view c.members.listings.items (c.in-Ok.listing ∷ []) in
+    let listing = subst (λ (n : List ℕ). IsListing n value (listing_view c.in_ok-listing.listing)) c.as_str.ensures.value c.in_ok-listing.ensures.ok in
+    let grown = members_grow IsListing all rest later path value (listing_view c.in_ok-listing.listing) (listings_view c.members.listings.items) at listing c.members.invariant.grow in
+    let items = ap listings_view c.in_ok-push.ensures.items ∙ map-append listing_view c.members.listings.items (c.in_ok-listing.listing ∷ []) in
     record {
       grow = subst (λ (z : List plain.Listing). MembersGrow IsListing all later z) (sym items) grown;
       left = members_left IsListing all rest later path value at c.members.invariant.left;

@@ -1,7 +1,7 @@
 use Rattle.metadata.proofs.timestamp.read_timestamp.Goals as goal
 
-pub returns-in_default : goal.returns-in_default
-returns-in_default c t h = c.in_default.ensures t.version t.expires h.head
+pub returns-in_err-version : goal.returns-in_err-version
+returns-in_err-version c = rw c.from_residual.ensures (λ t h. c.in_err-version.ensures t.version t.expires h.head)
 
-pub returns-in-None : goal.returns-in-None
-returns-in-None c t h = c.in-None.ensures t.snapshot h.meta
+pub returns-in_err-snapshot : goal.returns-in_err-snapshot
+returns-in_err-snapshot c = rw c.from_residual-in_err-snapshot.ensures (λ t h. c.in_err-snapshot.ensures t.snapshot h.meta)
