@@ -10,12 +10,12 @@ ghost use Rattle.machine.specs.Views.{documents_view, draft_view};
 
 use crate::calls::offer_one;
 use crate::compared::are_coherent;
-use denials::Denial;
 use crate::draft::Draft;
 use crate::laws::stays_valid;
 use crate::outcome::{Batched, Offer};
 use crate::refusal::{BatchRefusal, Refusal};
 use crate::state::State;
+use denials::Denial;
 use metadata::Moment;
 use std::alloc::Global;
 
@@ -32,14 +32,12 @@ pub fn batch(
 {
     stays_valid();
     let draft = Draft::new(alloc, state.parts());
+    let progress = judge_all(alloc, draft, documents, now)?;
     let Progress {
         draft,
         accepted,
         same,
-    } = match judge_all(alloc, draft, documents, now) {
-        Ok(progress) => progress,
-        Err(refusal) => return Err(refusal),
-    };
+    } = progress;
     if !is_coherent(&draft) {
         return Err(BatchRefusal::Denied(Denial::Incoherent, documents.len()));
     }

@@ -12,13 +12,13 @@ ghost use Rattle.limits.specs.Limits.{blob_limit, most_held};
 ghost use Rattle.machine.specs.Views.{blob_views, effects_view, parts_view};
 
 use crate::checks::are_same;
-use denials::Denial;
 use crate::effects::{Blob, Effects};
 use crate::laws::stays_valid;
 use crate::outcome::Outcome;
 use crate::parts::Parts;
 use crate::refusal::Refusal;
 use crate::state::State;
+use denials::Denial;
 use limits::{BLOB_LIMIT, MOST_HELD};
 use metadata::digest_of;
 use path_patterns::Digest;
@@ -35,15 +35,11 @@ pub fn put_blob(
     ensures { Answers state.now.state (commands.put_blob state.now.state digest.now.0 bytes.now) result }
 {
     stays_valid();
-    match judge_blob(state.parts(), digest, bytes) {
-        Ok(true) => {}
-        Ok(false) => return Ok(Outcome::Same),
-        Err(refusal) => return Err(refusal),
+    if !judge_blob(state.parts(), digest, bytes)? {
+        return Ok(Outcome::Same);
     }
-    match one_blob(alloc, digest, bytes) {
-        Ok(effects) => Ok(Outcome::Changed(effects)),
-        Err(_) => Err(Refusal::OutOfMemory),
-    }
+    let effects = one_blob(alloc, digest, bytes)?;
+    Ok(Outcome::Changed(effects))
 }
 
 /// The blob with this digest.

@@ -8,7 +8,6 @@ ghost use Rattle.machine.specs.Effects.{no_effects, on_state};
 ghost use Rattle.machine.specs.Views.{draft_view, effects_view, offer_view};
 
 use crate::checks::is_signed;
-use denials::Denial;
 use crate::draft::Draft;
 use crate::effects::Effects;
 use crate::files::new_root;
@@ -20,6 +19,7 @@ use crate::snapshots::offer_snapshot;
 use crate::state::State;
 use crate::targets_metadata::offer_targets;
 use crate::timestamps::offer_timestamp;
+use denials::Denial;
 use metadata::{File, Moment, Root};
 use std::alloc::{AllocError, Global};
 
@@ -32,17 +32,12 @@ pub fn init(alloc: Global, state: &State, bytes: &[u8]) -> Result<Outcome, Refus
     if state.parts().root.is_some() {
         return Err(Refusal::Denied(Denial::RootExists));
     }
-    let new = match new_root(alloc, bytes) {
-        Ok(new) => new,
-        Err(refusal) => return Err(refusal),
-    };
+    let new = new_root(alloc, bytes)?;
     if !is_signed(&new.body.root, &new.body.keys, &new.source) {
         return Err(Refusal::Denied(Denial::NewThreshold));
     }
-    match first_root(alloc, new) {
-        Ok(effects) => Ok(Outcome::Changed(effects)),
-        Err(_) => Err(Refusal::OutOfMemory),
-    }
+    let effects = first_root(alloc, new)?;
+    Ok(Outcome::Changed(effects))
 }
 
 // A root alone.
@@ -73,11 +68,10 @@ pub fn offer(
 {
     stays_valid();
     let mut draft = Draft::new(alloc, state.parts());
-    match offer_one(alloc, &mut draft, offer, bytes, now) {
-        Ok(true) => Ok(Outcome::Changed(draft.into_effects())),
-        Ok(false) => Ok(Outcome::Same),
-        Err(refusal) => Err(refusal),
+    if !offer_one(alloc, &mut draft, offer, bytes, now)? {
+        return Ok(Outcome::Same);
     }
+    Ok(Outcome::Changed(draft.into_effects()))
 }
 
 // Offers one document to a draft. The answer is whether it was taken.

@@ -12,13 +12,13 @@ ghost use Rattle.machine.specs.Views.{parts_view};
 
 use crate::blobs::blob_of;
 use crate::checks::are_same;
-use denials::Denial;
 use crate::effects::Blob;
 use crate::liveness::live_snapshot;
 use crate::parts::Parts;
 use crate::refusal::Refusal;
 use crate::state::State;
 use delegations::{Found, Rows, SearchDenial, Shelf, search};
+use denials::Denial;
 use metadata::{File, Listing, Moment, Root, Snapshot};
 use path_patterns::{Digest, TargetPath};
 use std::alloc::Global;
@@ -50,11 +50,10 @@ pub fn target<'a>(
 ) -> Result<&'a [u8], Refusal>
     ensures { Gives (commands.grants state.now.state path.now (option_map (λ d. d.0) asked) now) (λ b. b.now) result }
 {
-    match TargetPath::read(alloc, path) {
-        Ok(Some(path)) => granted(alloc, state, &path, asked, now),
-        Ok(None) => Err(Refusal::Denied(Denial::BadPath)),
-        Err(_) => Err(Refusal::OutOfMemory),
-    }
+    let Some(path) = TargetPath::read(alloc, path)? else {
+        return Err(Refusal::Denied(Denial::BadPath));
+    };
+    granted(alloc, state, &path, asked, now)
 }
 
 // The file of a target, with the digest that is asked for, if one is.
@@ -72,19 +71,8 @@ fn granted<'a>(
     let Some(root) = parts.root.as_ref() else {
         return Err(Refusal::Denied(Denial::NoRoot));
     };
-    let snapshot = match live_snapshot(
-        parts.timestamp.as_ref(),
-        parts.snapshot.as_ref(),
-        root,
-        now,
-    ) {
-        Ok(snapshot) => snapshot,
-        Err(refusal) => return Err(refusal),
-    };
-    let found = match find(alloc, parts, root, snapshot, path, now) {
-        Ok(found) => found,
-        Err(refusal) => return Err(refusal),
-    };
+    let snapshot = live_snapshot(parts.timestamp.as_ref(), parts.snapshot.as_ref(), root, now)?;
+    let found = find(alloc, parts, root, snapshot, path, now)?;
     asked_blob(alloc, parts, path, found.listing, asked)
 }
 
@@ -159,10 +147,7 @@ fn asked_blob<'a>(
 ) -> Result<&'a [u8], Refusal>
     ensures { Gives (commands.asked_blob_of (parts_view parts.now) path.now (listing_view listing.now) (option_map (λ d. d.0) asked)) (λ b. b.now) result }
 {
-    let blob = match listed_blob(alloc, parts, path, listing) {
-        Ok(blob) => blob,
-        Err(refusal) => return Err(refusal),
-    };
+    let blob = listed_blob(alloc, parts, path, listing)?;
     if !is_asked(listing, asked) {
         return Err(Refusal::Denied(Denial::DigestMismatch));
     }

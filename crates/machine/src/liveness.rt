@@ -5,8 +5,8 @@ ghost use Rattle.machine.specs.Commands as commands;
 ghost use Rattle.std.specs.Option.{option_map};
 
 use crate::checks::names_snapshot;
-use denials::Denial;
 use crate::refusal::Refusal;
+use denials::Denial;
 use metadata::{File, Moment, Root, Snapshot, Timestamp, live};
 
 // The held timestamp, where root and timestamp are live.
@@ -39,10 +39,7 @@ pub(crate) fn live_snapshot<'a>(
     ensures { Gives (commands.live_snapshot (option_map (λ f. timestamp_file f.now) timestamp.entry) (option_map (λ f. snapshot_file f.now) snapshot.entry) (root_file root.now) now)
         (λ f. snapshot_file f.now) result }
 {
-    let timestamp = match live_timestamp(timestamp, root, now) {
-        Ok(timestamp) => timestamp,
-        Err(refusal) => return Err(refusal),
-    };
+    let timestamp = live_timestamp(timestamp, root, now)?;
     let Some(snapshot) = snapshot else {
         return Err(Refusal::Denied(Denial::NoSnapshot));
     };

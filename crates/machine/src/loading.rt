@@ -290,10 +290,7 @@ pub(crate) fn settle(alloc: Global, files: Effects) -> Result<Option<State>, All
         return Ok(None);
     }
     let mut state = State::new(alloc);
-    match state.room(&files) {
-        Ok(()) => {}
-        Err(fault) => return Err(fault),
-    }
+    state.room(&files)?;
     state.take(files);
     Ok(Some(state))
 }

@@ -9,10 +9,10 @@ ghost use Rattle.machine.specs.Views.{draft_view};
 
 use crate::checks::{are_same, is_next, is_signed};
 use crate::compared::keeps_roles;
-use denials::Denial;
 use crate::draft::Draft;
 use crate::files::new_root;
 use crate::refusal::Refusal;
+use denials::Denial;
 use metadata::{File, Root};
 use std::alloc::Global;
 
@@ -51,16 +51,8 @@ pub(crate) fn offer_root(
     if are_same(bytes, old.source.bytes()) {
         return Ok(false);
     }
-    let new = match new_root(alloc, bytes) {
-        Ok(new) => new,
-        Err(refusal) => return Err(refusal),
-    };
-    let keeps = match judge_root(draft, old, &new) {
-        Ok(keeps) => keeps,
-        Err(refusal) => return Err(refusal),
-    };
-    match draft.put_root(new, keeps) {
-        Ok(()) => Ok(true),
-        Err(_) => Err(Refusal::OutOfMemory),
-    }
+    let new = new_root(alloc, bytes)?;
+    let keeps = judge_root(draft, old, &new)?;
+    draft.put_root(new, keeps)?;
+    Ok(true)
 }

@@ -9,12 +9,12 @@ ghost use Rattle.std.specs.Option.{option_map};
 
 use crate::checks::{has_bytes, is_signed};
 use crate::compared::{has_no_drop, has_no_rollback};
-use denials::Denial;
 use crate::draft::Draft;
 use crate::files::new_snapshot;
 use crate::liveness::live_timestamp;
 use crate::refusal::Refusal;
 use delegations::{has_hash, has_length};
+use denials::Denial;
 use metadata::{File, Moment, Root, Snapshot, Timestamp, live};
 use std::alloc::Global;
 
@@ -67,18 +67,9 @@ fn judge_snapshot(
     ensures { Judges (commands.renew_snapshot (draft_view draft.now) (root_file root.now) (snapshot_file new.now) now)
         (record (draft_view draft.now) { snapshot = Some (snapshot_file new.now) }) result }
 {
-    let timestamp = match live_timestamp(draft.timestamp(), root, now) {
-        Ok(timestamp) => timestamp,
-        Err(refusal) => return Err(refusal),
-    };
-    match named_snapshot(timestamp, root, new) {
-        Ok(()) => {}
-        Err(refusal) => return Err(refusal),
-    }
-    match after_snapshot(draft.snapshot(), new) {
-        Ok(()) => {}
-        Err(refusal) => return Err(refusal),
-    }
+    let timestamp = live_timestamp(draft.timestamp(), root, now)?;
+    named_snapshot(timestamp, root, new)?;
+    after_snapshot(draft.snapshot(), new)?;
     if !live(new.body.expires, now) {
         return Err(Refusal::Denied(Denial::SnapshotExpired));
     }
@@ -101,16 +92,10 @@ pub(crate) fn offer_snapshot(
     let Some(root) = draft.root() else {
         return Err(Refusal::Denied(Denial::NoRoot));
     };
-    let new = match new_snapshot(alloc, bytes) {
-        Ok(new) => new,
-        Err(refusal) => return Err(refusal),
-    };
-    match judge_snapshot(draft, root, &new, now) {
-        Ok(true) => {
-            draft.put_snapshot(new);
-            Ok(true)
-        }
-        Ok(false) => Ok(false),
-        Err(refusal) => Err(refusal),
+    let new = new_snapshot(alloc, bytes)?;
+    if !judge_snapshot(draft, root, &new, now)? {
+        return Ok(false);
     }
+    draft.put_snapshot(new);
+    Ok(true)
 }

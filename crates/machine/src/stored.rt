@@ -13,10 +13,10 @@ ghost use Rattle.machine.specs.Effects as changes;
 ghost use Rattle.machine.specs.Views.{blob_views, effects_view};
 ghost use Rattle.contents.specs.Contents.{contents_view};
 
-use contents::Contents;
 use crate::effects::{Blob, Effects};
 use crate::loading::settle;
 use crate::state::State;
+use contents::Contents;
 use delegations::Row;
 use metadata::{
     File, Root, ShapeFault, Snapshot, Timestamp, one_document, one_shape, read_root_file,
@@ -33,10 +33,8 @@ impl State {
     {
         one_document();
         one_shape();
-        let files = match read_files(alloc, contents) {
-            Ok(Some(files)) => files,
-            Ok(None) => return Ok(None),
-            Err(fault) => return Err(fault),
+        let Some(files) = read_files(alloc, contents)? else {
+            return Ok(None);
         };
         settle(alloc, files)
     }
@@ -54,30 +52,19 @@ fn read_files(alloc: Global, contents: Contents) -> Result<Option<Effects>, Allo
         shelf,
         blobs,
     } = contents;
-    let roots = match read_roots(alloc, &roots) {
-        Ok(Some(roots)) => roots,
-        Ok(None) => return Ok(None),
-        Err(fault) => return Err(fault),
+    let Some(roots) = read_roots(alloc, &roots)? else {
+        return Ok(None);
     };
-    let timestamp = match read_timestamp(alloc, &timestamp) {
-        Ok(Some(timestamp)) => timestamp,
-        Ok(None) => return Ok(None),
-        Err(fault) => return Err(fault),
+    let Some(timestamp) = read_timestamp(alloc, &timestamp)? else {
+        return Ok(None);
     };
-    let snapshot = match read_snapshot(alloc, &snapshot) {
-        Ok(Some(snapshot)) => snapshot,
-        Ok(None) => return Ok(None),
-        Err(fault) => return Err(fault),
+    let Some(snapshot) = read_snapshot(alloc, &snapshot)? else {
+        return Ok(None);
     };
-    let rows = match read_rows(alloc, &shelf) {
-        Ok(Some(rows)) => rows,
-        Ok(None) => return Ok(None),
-        Err(fault) => return Err(fault),
+    let Some(rows) = read_rows(alloc, &shelf)? else {
+        return Ok(None);
     };
-    let blobs = match all_blobs(alloc, blobs) {
-        Ok(blobs) => blobs,
-        Err(fault) => return Err(fault),
-    };
+    let blobs = all_blobs(alloc, blobs)?;
     Ok(Some(Effects {
         roots,
         emptied: false,
@@ -183,11 +170,10 @@ fn read_timestamp(
     let Some((version, bytes)) = row else {
         return Ok(Some(None));
     };
-    match stored_timestamp(alloc, *version, bytes) {
-        Ok(Some(file)) => Ok(Some(Some(file))),
-        Ok(None) => Ok(None),
-        Err(fault) => Err(fault),
-    }
+    let Some(file) = stored_timestamp(alloc, *version, bytes)? else {
+        return Ok(None);
+    };
+    Ok(Some(Some(file)))
 }
 
 // The snapshot of the row that is there, if it is one of its version.
@@ -201,11 +187,10 @@ fn read_snapshot(
     let Some((version, bytes)) = row else {
         return Ok(Some(None));
     };
-    match stored_snapshot(alloc, *version, bytes) {
-        Ok(Some(file)) => Ok(Some(Some(file))),
-        Ok(None) => Ok(None),
-        Err(fault) => Err(fault),
-    }
+    let Some(file) = stored_snapshot(alloc, *version, bytes)? else {
+        return Ok(None);
+    };
+    Ok(Some(Some(file)))
 }
 
 // The roots of all rows, if each is one of its version.
@@ -216,10 +201,8 @@ fn read_roots(alloc: Global, rows: &[(u32, Vec<u8>)]) -> Result<Option<Vec<File<
     let mut files = Vec::new(alloc);
     let mut rest = rows;
     'rows: while let Some((row, later)) = rest.split_first() {
-        let file = match stored_root(alloc, row.0, &row.1) {
-            Ok(Some(file)) => file,
-            Ok(None) => return Ok(None),
-            Err(fault) => return Err(fault),
+        let Some(file) = stored_root(alloc, row.0, &row.1)? else {
+            return Ok(None);
         };
         files.push(file)?;
         rest = later;
@@ -239,10 +222,8 @@ fn stored_row(
 {
     one_document();
     one_shape();
-    let role = match RoleName::read(alloc, role) {
-        Ok(Some(role)) => role,
-        Ok(None) => return Ok(None),
-        Err(fault) => return Err(fault),
+    let Some(role) = RoleName::read(alloc, role)? else {
+        return Ok(None);
     };
     match read_targets_file(alloc, bytes) {
         Ok(file) => Ok(Some(Row {
@@ -267,10 +248,8 @@ fn read_rows(alloc: Global, rows: &[(String, u32, Vec<u8>)]) -> Result<Option<Ve
     let mut held = Vec::new(alloc);
     let mut rest = rows;
     'rows: while let Some((row, later)) = rest.split_first() {
-        let new = match stored_row(alloc, &row.0, row.1, &row.2) {
-            Ok(Some(new)) => new,
-            Ok(None) => return Ok(None),
-            Err(fault) => return Err(fault),
+        let Some(new) = stored_row(alloc, &row.0, row.1, &row.2)? else {
+            return Ok(None);
         };
         held.push(new)?;
         rest = later;

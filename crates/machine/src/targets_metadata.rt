@@ -10,12 +10,12 @@ ghost use Rattle.machine.specs.Commands as commands;
 ghost use Rattle.machine.specs.Views.{draft_view};
 
 use crate::checks::are_same;
-use denials::Denial;
 use crate::draft::Draft;
 use crate::files::new_targets;
 use crate::liveness::live_snapshot;
 use crate::refusal::Refusal;
 use delegations::{Row, Shelf, has_hash, has_length, vouched};
+use denials::Denial;
 use metadata::{File, Meta, Moment, Root, Targets, live};
 use path_patterns::RoleName;
 use std::alloc::{AllocError, Global};
@@ -69,17 +69,11 @@ fn judge_targets(
     ensures { Judges (commands.renew_targets (draft_view draft.now) (root_file root.now) role.now (targets_file new.now) now)
         (record (draft_view draft.now) { shelf = with_row place_before (draft_view draft.now).shelf (role.now, new.now.body.version) (targets_file new.now) }) result }
 {
-    let snapshot = match live_snapshot(draft.timestamp(), draft.snapshot(), root, now) {
-        Ok(snapshot) => snapshot,
-        Err(refusal) => return Err(refusal),
-    };
+    let snapshot = live_snapshot(draft.timestamp(), draft.snapshot(), root, now)?;
     let Some(entry) = snapshot.body.entry(role.as_str()) else {
         return Err(Refusal::Denied(Denial::RoleUnlisted));
     };
-    match named_targets(entry, new) {
-        Ok(()) => {}
-        Err(refusal) => return Err(refusal),
-    }
+    named_targets(entry, new)?;
     let shelf = Shelf::new(&root.body, &snapshot.body, draft.rows());
     if !vouched(&shelf, role, new, now) {
         return Err(Refusal::Denied(Denial::RoleThreshold));
@@ -123,16 +117,10 @@ pub(crate) fn offer_targets(
     let Some(root) = draft.root() else {
         return Err(Refusal::Denied(Denial::NoRoot));
     };
-    let new = match new_targets(alloc, bytes) {
-        Ok(new) => new,
-        Err(refusal) => return Err(refusal),
-    };
-    match judge_targets(draft, root, role, &new, now) {
-        Ok(true) => match put_targets(draft, role, new) {
-            Ok(()) => Ok(true),
-            Err(_) => Err(Refusal::OutOfMemory),
-        },
-        Ok(false) => Ok(false),
-        Err(refusal) => Err(refusal),
+    let new = new_targets(alloc, bytes)?;
+    if !judge_targets(draft, root, role, &new, now)? {
+        return Ok(false);
     }
+    put_targets(draft, role, new)?;
+    Ok(true)
 }

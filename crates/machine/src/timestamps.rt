@@ -7,10 +7,10 @@ ghost use Rattle.machine.specs.Views.{draft_view};
 ghost use Rattle.std.specs.Option.{option_map};
 
 use crate::checks::is_signed;
-use denials::Denial;
 use crate::draft::Draft;
 use crate::files::new_timestamp;
 use crate::refusal::Refusal;
+use denials::Denial;
 use metadata::{File, Moment, Root, Timestamp, live};
 use std::alloc::Global;
 
@@ -49,10 +49,8 @@ fn judge_timestamp(
     if !is_signed(&root.body.timestamp, &root.body.keys, &new.source) {
         return Err(Refusal::Denied(Denial::TimestampThreshold));
     }
-    match after_timestamp(draft.timestamp(), new) {
-        Ok(true) => {}
-        Ok(false) => return Ok(false),
-        Err(refusal) => return Err(refusal),
+    if !after_timestamp(draft.timestamp(), new)? {
+        return Ok(false);
     }
     if !live(new.body.expires, now) {
         return Err(Refusal::Denied(Denial::TimestampExpired));
@@ -73,16 +71,10 @@ pub(crate) fn offer_timestamp(
     let Some(root) = draft.root() else {
         return Err(Refusal::Denied(Denial::NoRoot));
     };
-    let new = match new_timestamp(alloc, bytes) {
-        Ok(new) => new,
-        Err(refusal) => return Err(refusal),
-    };
-    match judge_timestamp(draft, root, &new, now) {
-        Ok(true) => {
-            draft.put_timestamp(new);
-            Ok(true)
-        }
-        Ok(false) => Ok(false),
-        Err(refusal) => Err(refusal),
+    let new = new_timestamp(alloc, bytes)?;
+    if !judge_timestamp(draft, root, &new, now)? {
+        return Ok(false);
     }
+    draft.put_timestamp(new);
+    Ok(true)
 }

@@ -1,4 +1,5 @@
 use Rattle.std.proofs.Common.{◌≡◌, [], Ok, ap}
+use Rattle.std.proofs.lemmas.Result.{err_from_is_err_and}
 use Rattle.std.specs.Prelude.{IsNone}
 use Rattle.metadata.specs.FileViews.{root_file}
 use Rattle.denials.specs.Orders.{pass, decide, holds, fails, given}
@@ -16,25 +17,28 @@ pub returns-then-is_some : goal.returns-then-is_some
 returns-then-is_some c =
     refused (decide (fails (root_there root_file c.parts.result.now.root c.args.state.now.state.trusted.root (ap (λ S. S.trusted.root) c.parts.ensures.view) c.if-is_some.ensures)))
 
-pub returns-in-Err : goal.returns-in-Err
-returns-in-Err c =
-    answered_behind tt (holds (no_root root_file c.parts.result.now.root c.args.state.now.state.trusted.root (ap (λ S. S.trusted.root) c.parts.ensures.view) c.if-is_some.ensures))
-    (answered_in c.in-Err.ensures.shape)
+pub returns-in_err-new : goal.returns-in_err-new
+returns-in_err-new c =
+    let p = err_from_is_err_and c.from_residual.result c.from_residual.ensures.1 in
+    rw (p.1, p.2) (answered_behind tt (holds (no_root root_file c.parts.result.now.root c.args.state.now.state.trusted.root (ap (λ S. S.trusted.root) c.parts.ensures.view) c.if-is_some.ensures))
+    (answered_in c.in_err-new.ensures.shape))
 
 pub returns-then-not-is_signed : goal.returns-then-not-is_signed
 returns-then-not-is_signed c =
     refused (pass (holds (no_root root_file c.parts.result.now.root c.args.state.now.state.trusted.root (ap (λ S. S.trusted.root) c.parts.ensures.view) c.if-is_some.ensures))
-    (pass (given_by c.in-Ok.ensures.shape) (decide (fails (no c.if-not-is_signed.ensures)))))
+    (pass (given_by c.in_ok-new.ensures.shape) (decide (fails (no c.if-not-is_signed.ensures)))))
 
-pub returns-in-Ok-first_root : goal.returns-in-Ok-first_root
-returns-in-Ok-first_root c =
+pub returns : goal.returns
+returns c =
     let none : IsNone c.args.state.now.state.trusted.root = no_root root_file c.parts.result.now.root c.args.state.now.state.trusted.root (ap (λ S. S.trusted.root) c.parts.ensures.view) c.if-is_some.ensures in
     let bare : c.args.state.now.state.trusted ≡ nothing_trusted = if_none _ _ none c.parts.ensures.valid.trusted.none in
     let empty : c.args.state.now.state.blobs ≡ [] = if_none _ _ none c.parts.ensures.valid.none in
-    let made : commands.init c.args.state.now.state c.args.bytes.now (Ok (applied c.args.state.now.state (effects_view c.in-Ok-first_root.effects))) =
-    began c.args.state.now.state c.args.bytes.now (root_file c.in-Ok.new) (effects_view c.in-Ok-first_root.effects) bare empty c.in-Ok-first_root.ensures
-    (pass (holds none) (pass (given_by c.in-Ok.ensures.shape) (pass (holds (yes c.if-not-is_signed.ensures)) given))) in
+    let made : commands.init c.args.state.now.state c.args.bytes.now (Ok (applied c.args.state.now.state (effects_view c.in_ok-effects.effects))) =
+    began c.args.state.now.state c.args.bytes.now (root_file c.in_ok-new.new) (effects_view c.in_ok-effects.effects) bare empty c.in_ok-effects.ensures
+    (pass (holds none) (pass (given_by c.in_ok-new.ensures.shape) (pass (holds (yes c.if-not-is_signed.ensures)) given))) in
     changes made (c.stays_valid.ensures.begins c.args.state.now.state _ _ made)
 
-pub returns-in-Err-first_root : goal.returns-in-Err-first_root
-returns-in-Err-first_root c = unanswered
+pub returns-in_err-effects : goal.returns-in_err-effects
+returns-in_err-effects c =
+    let p = err_from_is_err_and c.from_residual-in_err-effects.result c.from_residual-in_err-effects.ensures.1 in
+    rw (p.1, p.2) (unanswered)

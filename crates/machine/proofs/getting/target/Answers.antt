@@ -1,9 +1,12 @@
+use Rattle.std.proofs.lemmas.Result.{err_from_is_err_and}
 use Rattle.denials.specs.Orders.{decide, fails}
 use Rattle.machine.specs.Answers.{denies, forgoes}
 use Rattle.machine.proofs.getting.target.Goals as goal
 
-pub returns-in-Ok-None : goal.returns-in-Ok-None
-returns-in-Ok-None c = denies (decide (fails (rw (c.in-Ok-None.field-0-is) at c.in-Ok-None.ensures.none)))
+pub returns-in_default : goal.returns-in_default
+returns-in_default c = denies (decide (fails (rw (c.in_default.is) at c.in_ok-path.ensures.none)))
 
-pub returns-in-Err : goal.returns-in-Err
-returns-in-Err c = forgoes
+pub returns-in_err-path : goal.returns-in_err-path
+returns-in_err-path c =
+    let p = err_from_is_err_and c.from_residual.result c.from_residual.ensures.1 in
+    rw (p.1, p.2) (forgoes)

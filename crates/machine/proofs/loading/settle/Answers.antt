@@ -9,10 +9,10 @@ pub take-requires-clause-valid : goal.take-requires-clause-valid
 take-requires-clause-valid c =
     let E = effects_view c.args.files in
     let s = c.is_state.ensures.0 c.if-not-is_state.false in
-    subst IsState (sym (ap (λ (S : State). applied S E) (c.in-Ok.ensures.kept ∙ c.new-state.ensures) ∙ applied_to_nothing E s)) s
+    subst IsState (sym (ap (λ (S : State). applied S E) (c.in_ok-room.ensures.kept ∙ c.new-state.ensures) ∙ applied_to_nothing E s)) s
 
 pub returns-clause-some : goal.returns-clause-some
 returns-clause-some c =
     let E = effects_view c.args.files in
     let s = c.is_state.ensures.0 c.if-not-is_state.false in
-    (c.take.ensures ∙ (ap (λ (S : State). applied S E) (c.in-Ok.ensures.kept ∙ c.new-state.ensures) ∙ applied_to_nothing E s), s)
+    (c.take.ensures ∙ (ap (λ (S : State). applied S E) (c.in_ok-room.ensures.kept ∙ c.new-state.ensures) ∙ applied_to_nothing E s), s)

@@ -6,18 +6,18 @@ use Rattle.machine.specs.steps.Stored.{IsStored}
 use Rattle.machine.proofs.ItemByItem.{reading_goes, reading_fails, reading_ends}
 use Rattle.machine.proofs.stored.read_roots.Goals as goal
 
-pub returns-in-Ok-None-clause-none : goal.returns-in-Ok-None-clause-none
-returns-in-Ok-None-clause-none c =
+pub returns-in_default-2-clause-none : goal.returns-in_default-2-clause-none
+returns-in_default-2-clause-none c =
     reading_fails (IsStored root_form (λ r. r.version)) (c.in-Some.row.now.0, c.in-Some.row.now.1.items) (map (λ r. (r.0, r.1.items)) c.in-Some.later.now)
     (map (λ r. (r.0, r.1.items)) c.args.rows.now) (map (λ r. (r.0, r.1.items)) c.rows.rest.now) (map root_file c.rows.files.items)
-    (ap (map (λ r. (r.0, r.1.items))) c.in-Some.ensures.cases.0) (rw (c.deref.ensures.value, c.in-Ok-None.field-0-is) at c.in-Ok-None.ensures.none) c.rows.invariant
+    (ap (map (λ r. (r.0, r.1.items))) c.in-Some.ensures.cases.0) (rw (c.deref.ensures.value, c.in_default-2.is) at c.in_ok-file.ensures.none) c.rows.invariant
 
 pub rows-preserved : goal.rows-preserved
 rows-preserved c =
     rw (c.in_ok-push.ensures.items, map-append)
-    (reading_goes (IsStored root_form (λ r. r.version)) (c.in-Some.row.now.0, c.in-Some.row.now.1.items) (root_file c.in-Ok-Some.file) (map (λ r. (r.0, r.1.items)) c.in-Some.later.now)
+    (reading_goes (IsStored root_form (λ r. r.version)) (c.in-Some.row.now.0, c.in-Some.row.now.1.items) (root_file c.in-Some-2.file) (map (λ r. (r.0, r.1.items)) c.in-Some.later.now)
     (map (λ r. (r.0, r.1.items)) c.args.rows.now) (map (λ r. (r.0, r.1.items)) c.rows.rest.now) (map root_file c.rows.files.items)
-    (ap (map (λ r. (r.0, r.1.items))) c.in-Some.ensures.cases.0) (rw (c.deref.ensures.value, c.in-Ok-Some.field-0-is) at c.in-Ok-Some.ensures.some) c.rows.invariant)
+    (ap (map (λ r. (r.0, r.1.items))) c.in-Some.ensures.cases.0) (rw (c.deref.ensures.value, c.in-Some-2.is) at c.in_ok-file.ensures.some) c.rows.invariant)
 
 pub returns-clause-some : goal.returns-clause-some
 returns-clause-some c =

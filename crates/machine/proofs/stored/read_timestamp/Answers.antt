@@ -3,6 +3,6 @@ use Rattle.machine.specs.steps.Stored.{IsStored}
 use Rattle.machine.proofs.RowsOfOneState.{nothing_together}
 use Rattle.machine.proofs.stored.read_timestamp.Goals as goal
 
-pub returns-in-Ok-None-clause-none : goal.returns-in-Ok-None-clause-none
-returns-in-Ok-None-clause-none c o =
-    rw (c.in-Some.is) (nothing_together (IsStored timestamp_form (λ b. b.version)) _ (rw (c.deref.ensures.value, c.in-Ok-None.field-0-is) at c.in-Ok-None.ensures.none) o)
+pub returns-in_default-2-clause-none : goal.returns-in_default-2-clause-none
+returns-in_default-2-clause-none c o =
+    rw (c.in-Some.is) (nothing_together (IsStored timestamp_form (λ b. b.version)) _ (rw (c.deref.ensures.value, c.in_default-2.is) at c.in_ok-file.ensures.none) o)

@@ -1,4 +1,5 @@
 use Rattle.std.proofs.Common.{refl}
+use Rattle.std.proofs.lemmas.Result.{err_from_is_err_and}
 use Rattle.metadata.specs.FileViews.{root_file}
 use Rattle.denials.specs.Orders.{pass, decide}
 use Rattle.machine.specs.steps.Judging.{takes, stays, ends}
@@ -8,19 +9,22 @@ use Rattle.machine.proofs.timestamps.offer_timestamp.Goals as goal
 pub returns-in_default-clause-ends : goal.returns-in_default-clause-ends
 returns-in_default-clause-ends c = ends (decide (lacking _ _ c.in_default.ensures))
 
-pub returns-in-Err-clause-ends : goal.returns-in-Err-clause-ends
-returns-in-Err-clause-ends c = ends_behind _ (needed _ _ (root_file c.in-Some.root.now) c.in-Some.ensures) (ends_in c.in-Err.ensures.shape)
+pub returns-in_err-new-clause-ends : goal.returns-in_err-new-clause-ends
+returns-in_err-new-clause-ends c =
+    let p = err_from_is_err_and c.from_residual.result c.from_residual.ensures.1 in
+    rw (p.1, p.2) (ends_behind _ (needed _ _ (root_file c.in-Some.root.now) c.in-Some.ensures) (ends_in c.in_err-new.ensures.shape))
 
-pub returns-in-Ok-true-clause-ends : goal.returns-in-Ok-true-clause-ends
-returns-in-Ok-true-clause-ends c =
+pub returns-clause-ends : goal.returns-clause-ends
+returns-clause-ends c =
     rw (c.put_timestamp.ensures.view)
-    (takes (pass (needed _ _ (root_file c.in-Some.root.now) c.in-Some.ensures) (pass (given_by c.in-Ok.ensures.shape) (accepted c.in-Ok-true.field-0-test c.in-Ok-true.ensures))))
+    (takes (pass (needed _ _ (root_file c.in-Some.root.now) c.in-Some.ensures) (pass (given_by c.in_ok-new.ensures.shape) (accepted c.if-not-branch.false c.in_ok-judge_timestamp.ensures))))
 
-pub returns-in-Ok-false-clause-ends : goal.returns-in-Ok-false-clause-ends
-returns-in-Ok-false-clause-ends c =
-    stays (pass (needed _ _ (root_file c.in-Some.root.now) c.in-Some.ensures) (pass (given_by c.in-Ok.ensures.shape) (kept_same c.in-Ok-false.field-0-test c.in-Ok-false.ensures))) refl
+pub returns-then-not-branch-clause-ends : goal.returns-then-not-branch-clause-ends
+returns-then-not-branch-clause-ends c =
+    stays (pass (needed _ _ (root_file c.in-Some.root.now) c.in-Some.ensures) (pass (given_by c.in_ok-new.ensures.shape) (kept_same c.if-not-branch.true c.in_ok-judge_timestamp.ensures))) refl
 
-pub returns-in-Err-judge_timestamp-clause-ends : goal.returns-in-Err-judge_timestamp-clause-ends
-returns-in-Err-judge_timestamp-clause-ends c =
-    ends_behind _ (needed _ _ (root_file c.in-Some.root.now) c.in-Some.ensures)
-    (ends_behind _ (given_by c.in-Ok.ensures.shape) (ends_rejected c.in-Err-judge_timestamp.ensures))
+pub returns-in_err-judge_timestamp-clause-ends : goal.returns-in_err-judge_timestamp-clause-ends
+returns-in_err-judge_timestamp-clause-ends c =
+    let p = err_from_is_err_and c.from_residual-in_err-judge_timestamp.result c.from_residual-in_err-judge_timestamp.ensures.1 in
+    rw (p.1, p.2) (ends_behind _ (needed _ _ (root_file c.in-Some.root.now) c.in-Some.ensures)
+    (ends_behind _ (given_by c.in_ok-new.ensures.shape) (ends_rejected c.in_err-judge_timestamp.ensures)))
