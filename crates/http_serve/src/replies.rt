@@ -10,8 +10,8 @@ ghost use Rattle.http_serve.specs.Serving.{Wrote};
 ghost use Rattle.http_serve.specs.steps.Views.{IsSaid, Told};
 
 use http_messages::{
-    Cut, Fault, Kind, Status, Transmit, accepted_body, denial_body, stored_body,
-    write_fault, write_response,
+    Cut, Fault, Kind, Status, Transmit, accepted_body, denial_body, stored_body, write_fault,
+    write_response,
 };
 use machine::Denial;
 use std::alloc::Global;
@@ -73,13 +73,7 @@ fn write_denial<W: Transmit>(
     ensures told { Told Kind.Json (Refused (denial_view denial.now) index) (W.contents writer.old) (W.contents writer.new) result }
 {
     match denial_body(alloc, denial.number(), index, denial.name()) {
-        Ok(body) => write_response(
-            writer,
-            status_of(denial),
-            Kind::Json,
-            None,
-            body.as_bytes(),
-        ),
+        Ok(body) => write_response(writer, status_of(denial), Kind::Json, None, body.as_bytes()),
         Err(_) => write_fault(writer, Fault::Memory),
     }
 }

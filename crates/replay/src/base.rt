@@ -3,7 +3,7 @@ use metadata::Moment;
 use sqlite::{Connection, Error, MemStore, Row};
 use std::alloc::{AllocError, Global};
 use std::mem::replace;
-use store::{Command, StoreFault, Reply, Store};
+use store::{Command, Reply, Store, StoreFault};
 
 /// The database of a case: a store, a connection to tables that something else may have changed, or nothing.
 #[derive(Drop)]

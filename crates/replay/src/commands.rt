@@ -9,7 +9,7 @@ use crate::words::{byte_of, digest_word};
 use machine::Offer;
 use path_patterns::RoleName;
 use std::alloc::Global;
-use store::{Command, StoreFault, Reply};
+use store::{Command, Reply, StoreFault};
 
 /// What a document is offered as: `root`, `timestamp`, `snapshot`, or the name of another role.
 fn offer_of(alloc: Global, role: &str) -> Result<Offer, LineFault> {

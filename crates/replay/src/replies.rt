@@ -8,7 +8,7 @@ use machine::Denial;
 use metadata::digest_of;
 use std::alloc::{AllocError, Global};
 use std::fmt::Write;
-use store::{StoreFault, Reply};
+use store::{Reply, StoreFault};
 
 /// A fixed text.
 pub fn told(alloc: Global, text: &str) -> Result<String, AllocError> {

@@ -8,7 +8,7 @@ use sqlite_pager::Options;
 use std::alloc::Global;
 use std::process::Abort;
 use std::test::Fail;
-use store::{Command, StoreFault, Reply, Store, apply_and_close};
+use store::{Command, Reply, Store, StoreFault, apply_and_close};
 
 type Disks = FileStore<Fuse<Memory>>;
 

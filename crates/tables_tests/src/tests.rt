@@ -114,7 +114,9 @@ fn reads_what_was_put(rt: HostRuntime) -> Result<(), Fail> {
     put(&mut conn, &[Change::Emptied])?;
     let contents = read(alloc, &mut conn)?;
     assert!(rt; are_roots(&contents) && are_blobs(&contents));
-    assert!(rt; contents.shelf.is_empty() && contents.timestamp.is_none() && contents.snapshot.is_none());
+    assert!(rt;
+        contents.shelf.is_empty() && contents.timestamp.is_none() && contents.snapshot.is_none()
+    );
     Ok(())
 }
 

@@ -1,8 +1,7 @@
 //! Whole answers, their statuses and their bodies.
 use crate::tests::answers::{NOT_ALLOWED, NOT_FOUND, answer_to};
 use http_messages::{
-    Fault, Kind, Status, accepted_body, denial_body, stored_body, write_fault,
-    write_response,
+    Fault, Kind, Status, accepted_body, denial_body, stored_body, write_fault, write_response,
 };
 use std::test::Fail;
 

@@ -44,7 +44,9 @@ returns-in-Ok-None-clause-damaged g c clean opens numbered same =
     let law : Shapes = record { document = c.one_document.ensures; none = c.one_shape.ensures.none; one = c.one_shape.ensures.one } in
     let none = rw (c.in-Ok-None.field-0-is) at c.in-Ok-None.ensures.none in
     let db = (state g.S.Store c.args.conn.now).now in
-    let trees = counted db.schema db.trees in
-    (c.in-Ok.ensures.schema, λ U valid stands.
-      none U valid (one_stands trees (rows_of U) (contents_view c.in-Ok.contents) (c.one_contents.ensures trees) (state_fits law U valid) c.in-Ok.ensures.fit
-      (state_rises law U valid) c.in-Ok.ensures.rising stands.1 (c.in-Ok.ensures.loaded clean opens numbered).0.1))
+    let trees = counted db.schema db.trees in (
+      c.in-Ok.ensures.schema,
+      λ U valid stands.
+          none U valid (one_stands trees (rows_of U) (contents_view c.in-Ok.contents) (c.one_contents.ensures trees) (state_fits law U valid) c.in-Ok.ensures.fit
+          (state_rises law U valid) c.in-Ok.ensures.rising stands.1 (c.in-Ok.ensures.loaded clean opens numbered).0.1),
+    )
