@@ -64,6 +64,11 @@ fn statuses(rt: HostRuntime) -> Result<(), Fail> {
             b"{\"fault\":\"database\"}"
         )
     );
+    Ok(())
+}
+
+#[test]
+fn forbidden(rt: HostRuntime) -> Result<(), Fail> {
     let mut denied = Vec::new(rt.alloc());
     write_response(&mut denied, Status::Forbidden, Kind::Json, None, b"{}")?;
     assert!(rt; is_fault(&denied, b"HTTP/1.1 403 Forbidden\r\n", b"{}"));
