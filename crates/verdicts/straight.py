@@ -4,7 +4,7 @@
     straight.py    reads `stdin` and `stdout` beside it, and compares each line of the one but `json` and `document` with
                    the line of the other. LMS (RFC 8554): the verdict and the hashes by section 5.4.2, the id as SHA-256
                    of the key's canonical object, the key and the signature by sections 4 and 5 and appendix A. Dates:
-                   Python's calendar. Names: TUF 1.0, section 6.2
+                   Python's calendar. Names: TUF 1.0, section 6.2. Patterns and prefixes: TUF 1.0, section 4.5
 
 It prints how many lines agree, and each that does not.
 """
@@ -139,6 +139,42 @@ def asked(text):
     return f"{path.hex() or '-'} {digits}"
 
 
+def is_path(text):
+    """1 to 200 bytes, of segments that are not empty, `.` or `..`."""
+    if re.fullmatch(rb"[A-Za-z0-9._/-]{1,200}", text) is None:
+        return False
+    return not any(segment in (b"", b".", b"..") for segment in text.split(b"/"))
+
+
+def takes(pattern, text, free):
+    """Whether the pattern takes the whole text, by the places in the text that each of its bytes can end at."""
+    ends = {0}
+    for wanted in pattern:
+        if wanted == ord("*"):
+            for place, byte in enumerate(text):
+                if place in ends and free(byte):
+                    ends.add(place + 1)
+        elif wanted == ord("?"):
+            ends = {place + 1 for place in ends if place < len(text) and free(text[place])}
+        else:
+            ends = {place + 1 for place in ends if place < len(text) and text[place] == wanted}
+    return len(text) in ends
+
+
+def covers(kind, pattern, path):
+    """Whether the pattern, or the prefix of a digest, covers the path."""
+    grammar = rb"[0-9a-f]{1,64}" if kind == "prefix" else rb"[A-Za-z0-9._/*?-]{1,200}"
+    if re.fullmatch(grammar, pattern) is None or not is_path(path):
+        return "ill"
+    if kind == "prefix":
+        covered = hashlib.sha256(path).hexdigest().startswith(pattern.decode())
+    elif kind == "flat":
+        covered = takes(pattern, path, lambda byte: True)
+    else:
+        covered = takes(pattern, path, lambda byte: byte != ord("/"))
+    return "yes" if covered else "no"
+
+
 def bytes_of(word):
     return b"" if word == "-" else bytes.fromhex(word)
 
@@ -156,6 +192,8 @@ def expected(line):
         return seconds(*map(bytes_of, words))
     if kind == "asked":
         return asked(*map(bytes_of, words))
+    if kind == "match":
+        return covers(words[0], *map(bytes_of, words[1:]))
     return None
 
 

@@ -1,10 +1,10 @@
 -- The command line, in the definitions of `clap`: the arguments that each subcommand has, and what words say with them.
-use Rattle.std.specs.Prelude.{◌≡◌, ℕ, ◌≤◌, List, Option, Some, None, true, codes, length, map, string_bytes, String}
+use Rattle.std.specs.Prelude.{◌≡◌, ℕ, ◌≤◌, Bool, List, Option, Some, None, nat_lt, true, codes, length, map, string_bytes, String}
 use Rattle.std.specs.declared.alloc.Global.{Global}
 use Rattle.std.specs.Str.Parse.{digits_value, without_leading_plus}
 use Rattle.limits.specs.Limits.{most_documents}
-use Rattle.clap.specs.Words.{App, Rule, Row, Text, all_of, first_of, new_app, new_rule, subcommand_of, with_rule, with_subcommand}
-use Rattle.clap.specs.declared.builder.action.ArgAction.TheVariants.{Append, Set}
+use Rattle.clap.specs.Words.{App, Rule, Row, Text, all_of, count_of, first_of, new_app, new_rule, subcommand_of, with_rule, with_subcommand}
+use Rattle.clap.specs.declared.builder.action.ArgAction.TheVariants.{Append, Count, Set}
 use Rattle.clap.specs.declared.builder.value_parser.ValueParser.TheVariants.{Unsigned}
 use Rattle.command_line.specs.declared.tasks.Task.{Task}
 use Rattle.command_line.specs.declared.tasks.Subcommand.{Subcommand}
@@ -23,6 +23,10 @@ last_moment = 253402300799
 -- `--at SECONDS`
 abbrev pub moment_rule : Rule
 moment_rule = record (option_rule (codes "at")) { parser = Some (Unsigned 0 last_moment) }
+
+-- `--verbose` or `-v`, which takes no value and may stand more than once
+abbrev pub verbose_rule : Rule
+verbose_rule = record (new_rule (codes "verbose")) { long = Some (codes "verbose"); short = Some 118; action = Some Count }
 
 -- `--db FILE`, which has to be there
 abbrev pub db_rule : Rule
@@ -57,7 +61,7 @@ count_rule = record (option_rule (codes "count")) { parser = Some (Unsigned 1 mo
 -- ---- the subcommands
 
 abbrev pub begun_line : Text → App
-begun_line name = with_rule (new_app name) moment_rule
+begun_line name = with_rule (with_rule (new_app name) moment_rule) verbose_rule
 
 abbrev pub stored_line : Text → App
 stored_line name = with_rule (begun_line name) db_rule
@@ -83,12 +87,19 @@ needs_subcommand a = record a { top = record a.top { subcommand_required = true 
 abbrev pub with_command : App → App → App
 with_command a c = with_subcommand a c.top
 
+abbrev pub with_version : App → App
+with_version a = record a { top = record a.top { has_version = true } }
+
 -- the whole command line
 abbrev pub release_line : App
-release_line = with_command (with_command (with_command (with_command (with_command (needs_subcommand (new_app (codes "release")))
+release_line = with_command (with_command (with_command (with_command (with_command (needs_subcommand (with_version (new_app (codes "release"))))
     canon_line) init_line) publish_line) put_line) serve_line
 
 -- ---- what is found for a subcommand's arguments
+
+-- whether an argument that takes no value is there
+abbrev pub is_used : List Row → Text → Bool
+is_used rows id = nat_lt 0 (count_of id rows)
 
 -- the text of an argument
 abbrev pub HasText : List Row → Text → String Global → Type 0
@@ -133,6 +144,7 @@ IsAsked name rows s = (name_of s ≡ name) × HasArguments rows s
 -- what was found for a subcommand's arguments is this task
 abbrev pub IsTask : Text → List Row → Task → Type 0
 IsTask name rows task = IsAsked name rows task.subcommand × MayHaveNumber rows (codes "at") 0 last_moment task.at
+    × (task.verbose ≡ is_used rows (codes "verbose"))
 
 -- the line has the subcommand of the task, with its options and operands
 abbrev pub Says : Option (Text × List Row) → Task → Type 0

@@ -2,81 +2,94 @@
 ghost use Rattle.std.specs.Prelude.{◌≡◌, IfOk, codes, false};
 ghost use Rattle.clap.specs.Words.{app_of, rule_of, with_rule};
 ghost use Rattle.clap.specs.declared.builder.command.Command.TheViews.{out-Command};
-ghost use Rattle.command_line.specs.CommandLine.{begun_line, canon_line, count_rule, db_rule, documents_rule, init_line, moment_rule, operand_rule, port_rule, publish_line, put_line, serve_line, stored_line};
+ghost use Rattle.command_line.specs.CommandLine.{begun_line, canon_line, count_rule, db_rule, documents_rule, init_line, moment_rule, operand_rule, port_rule, publish_line, put_line, serve_line, stored_line, verbose_rule};
 
+use crate::help;
 use clap::{Arg, ArgAction, Command, value_parser};
 use limits::MOST_DOCUMENTS;
 use std::alloc::{AllocError, Global};
 
-/// `canon [--at SECONDS] FILE`
+/// `canon [--at SECONDS] [--verbose] FILE`
 pub fn canon<'a>(alloc: Global) -> Result<Command<'a>, AllocError>
     ensures line { IfOk result (λ c. app_of c ≡ canon_line) }
     ensures local { IfOk result (λ c. (out-Command c).has_globals ≡ false) }
 {
-    let command = begun(alloc, "canon", "Print the canonical form of any JSON")?;
+    let about = "Print the canonical form of any JSON";
+    let command = begun(alloc, "canon", about, help::CANON)?;
     with(command, operand(alloc, "file", "FILE", "The file to read"))
 }
 
-/// `init [--at SECONDS] --db FILE ROOT`
+/// `init [--at SECONDS] [--verbose] --db FILE ROOT`
 pub fn init<'a>(alloc: Global) -> Result<Command<'a>, AllocError>
     ensures line { IfOk result (λ c. app_of c ≡ init_line) }
     ensures local { IfOk result (λ c. (out-Command c).has_globals ≡ false) }
 {
-    let command = stored(alloc, "init", "Begin the trust with a first root")?;
+    let about = "Begin the trust with a first root";
+    let command = stored(alloc, "init", about, help::INIT)?;
     with(
         command,
         operand(alloc, "root", "ROOT", "The file of the root metadata"),
     )
 }
 
-/// `publish [--at SECONDS] --db FILE ROLE:FILE ..`
+/// `publish [--at SECONDS] [--verbose] --db FILE ROLE:FILE ..`
 pub fn publish<'a>(alloc: Global) -> Result<Command<'a>, AllocError>
     ensures line { IfOk result (λ c. app_of c ≡ publish_line) }
     ensures local { IfOk result (λ c. (out-Command c).has_globals ≡ false) }
 {
-    let command = stored(
-        alloc,
-        "publish",
-        "Take documents in the order given, all or none",
-    )?;
+    let about = "Take documents in the order given, all or none";
+    let command = stored(alloc, "publish", about, help::PUBLISH)?;
     with(command, documents(alloc))
 }
 
-/// `put [--at SECONDS] --db FILE FILE`
+/// `put [--at SECONDS] [--verbose] --db FILE FILE`
 pub fn put<'a>(alloc: Global) -> Result<Command<'a>, AllocError>
     ensures line { IfOk result (λ c. app_of c ≡ put_line) }
     ensures local { IfOk result (λ c. (out-Command c).has_globals ≡ false) }
 {
-    let command = stored(alloc, "put", "Store a target file under its SHA-256")?;
+    let about = "Store a target file under its SHA-256";
+    let command = stored(alloc, "put", about, help::PUT)?;
     with(command, operand(alloc, "file", "FILE", "The file to store"))
 }
 
-/// `serve [--at SECONDS] --db FILE --port P [--count N]`
+/// `serve [--at SECONDS] [--verbose] --db FILE --port P [--count N]`
 pub fn serve<'a>(alloc: Global) -> Result<Command<'a>, AllocError>
     ensures line { IfOk result (λ c. app_of c ≡ serve_line) }
     ensures local { IfOk result (λ c. (out-Command c).has_globals ≡ false) }
 {
-    let command = stored(alloc, "serve", "Answer HTTP requests on 127.0.0.1")?;
+    let about = "Answer HTTP requests on 127.0.0.1";
+    let command = stored(alloc, "serve", about, help::SERVE)?;
     let command = with(command, port(alloc))?;
     with(command, count(alloc))
 }
 
 // A subcommand over a database.
-fn stored<'a>(alloc: Global, name: &'a str, about: &'a str) -> Result<Command<'a>, AllocError>
+fn stored<'a>(
+    alloc: Global,
+    name: &'a str,
+    about: &'a str,
+    behind: &'a str,
+) -> Result<Command<'a>, AllocError>
     ensures line { IfOk result (λ c. app_of c ≡ stored_line name.entry.now) }
     ensures local { IfOk result (λ c. (out-Command c).has_globals ≡ false) }
 {
-    let command = begun(alloc, name, about)?;
+    let command = begun(alloc, name, about, behind)?;
     with(command, db(alloc))
 }
 
-// A subcommand, which takes a moment.
-fn begun<'a>(alloc: Global, name: &'a str, about: &'a str) -> Result<Command<'a>, AllocError>
+// A subcommand, which takes a moment, and may tell more. Behind its help stands a text.
+fn begun<'a>(
+    alloc: Global,
+    name: &'a str,
+    about: &'a str,
+    behind: &'a str,
+) -> Result<Command<'a>, AllocError>
     ensures line { IfOk result (λ c. app_of c ≡ begun_line name.entry.now) }
     ensures local { IfOk result (λ c. (out-Command c).has_globals ≡ false) }
 {
-    let command = Command::new(alloc, name).about(about);
-    with(command, at(alloc))
+    let command = Command::new(alloc, name).about(about).after_help(behind);
+    let command = with(command, at(alloc))?;
+    with(command, verbose(alloc))
 }
 
 // The command with one more argument.
@@ -99,6 +112,17 @@ fn at<'a>(alloc: Global) -> Arg<'a>
         .help("The moment, in seconds since 1970-01-01T00:00:00Z, in place of the clock's")
         .action(ArgAction::Set)
         .value_parser(value_parser!(u64).range(0..=253402300799))
+}
+
+fn verbose<'a>(alloc: Global) -> Arg<'a>
+    ensures rule { rule_of result ≡ verbose_rule }
+    ensures local { result.global ≡ false }
+{
+    Arg::new(alloc, "verbose")
+        .long("verbose")
+        .short('v')
+        .help("Tell what is done, and what faults are about, on standard error")
+        .action(ArgAction::Count)
 }
 
 fn db<'a>(alloc: Global) -> Arg<'a>

@@ -2,7 +2,7 @@
 ghost use Rattle.std.specs.Prelude.{◌≡◌, ◌≤◌, IfOk, Some, codes, map, string_bytes};
 ghost use Rattle.std.specs.Str.Parse.{digits_value, without_leading_plus};
 ghost use Rattle.clap.specs.Words.{found_of, rows_of};
-ghost use Rattle.command_line.specs.CommandLine.{HasNumber, HasText, HasTexts, MayHaveNumber, last_moment, last_port, most_connections};
+ghost use Rattle.command_line.specs.CommandLine.{HasNumber, HasText, HasTexts, MayHaveNumber, is_used, last_moment, last_port, most_connections};
 ghost use Rattle.limits.specs.Limits.{most_documents};
 
 use crate::tasks::{LAST_MOMENT, LAST_PORT, MOST_CONNECTIONS, Usage};
@@ -54,6 +54,13 @@ pub fn moment_of(alloc: Global, given: &ArgMatches<'_>) -> Result<Option<u64>, U
     ensures { IfOk result (MayHaveNumber (rows_of (found_of given.now)) (codes "at") 0 last_moment) }
 {
     number_of(alloc, given, "at", 0, LAST_MOMENT)
+}
+
+/// Whether more is to be told.
+pub fn is_verbose(given: &ArgMatches<'_>) -> bool
+    ensures { result ≡ is_used (rows_of (found_of given.now)) (codes "verbose") }
+{
+    0 < given.get_count("verbose")
 }
 
 /// The count of connections that is given, if there is one.

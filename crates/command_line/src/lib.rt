@@ -4,16 +4,17 @@
 ghost use Rattle.std.specs.Prelude.{◌≡◌, IfOk, codes, false, map, string_bytes};
 ghost use Rattle.clap.specs.Words.{app_of, found_of, new_app, rows_of, subcommand_rows_of};
 ghost use Rattle.clap.specs.declared.builder.command.Command.TheViews.{out-Command};
-ghost use Rattle.command_line.specs.CommandLine.{IsAsked, IsTask, IsTaskOf, Says, needs_subcommand, release_line, with_command};
+ghost use Rattle.command_line.specs.CommandLine.{IsAsked, IsTask, IsTaskOf, Says, needs_subcommand, release_line, with_command, with_version};
 
 mod arguments;
 mod given;
+mod help;
 mod tasks;
 
 use arguments::{canon, init, publish, put, serve};
 use clap::error::ErrorKind;
 use clap::{ArgMatches, Command};
-use given::{count_of, fault, moment_of, port_of, text_of, texts_of};
+use given::{count_of, fault, is_verbose, moment_of, port_of, text_of, texts_of};
 use std::alloc::{AllocError, Global};
 pub use tasks::{Subcommand, Task, Usage};
 
@@ -22,6 +23,9 @@ pub use tasks::{Subcommand, Task, Usage};
 pub fn task(alloc: Global, words: &[String]) -> Result<Task, Usage>
     ensures { IfOk result (IsTaskOf (map (λ w. string_bytes w) words.now)) }
 {
+    if help::asks_for_denials(words) {
+        return Err(help::denials(alloc));
+    }
     let command = release(alloc)?;
     match command.try_get_matches_from(words) {
         Ok(matches) => task_of(alloc, &matches),
@@ -43,10 +47,12 @@ fn release<'a>(alloc: Global) -> Result<Command<'a>, AllocError>
 
 // The program, before its subcommands.
 fn begun<'a>(alloc: Global) -> Command<'a>
-    ensures { app_of result ≡ needs_subcommand (new_app (codes "release")) }
+    ensures { app_of result ≡ needs_subcommand (with_version (new_app (codes "release"))) }
 {
     Command::new(alloc, "release")
         .about("A release repository after The Update Framework 1.0")
+        .version(help::VERSION)
+        .after_help(help::PROGRAM)
         .subcommand_required(true)
 }
 
@@ -72,7 +78,11 @@ fn named_task(alloc: Global, name: &str, given: &ArgMatches<'_>) -> Result<Task,
 {
     let at = moment_of(alloc, given)?;
     let subcommand = asked(alloc, name, given)?;
-    Ok(Task { at, subcommand })
+    Ok(Task {
+        at,
+        verbose: is_verbose(given),
+        subcommand,
+    })
 }
 
 fn asked(alloc: Global, name: &str, given: &ArgMatches<'_>) -> Result<Subcommand, Usage>

@@ -16,6 +16,8 @@ pub const MOST_CONNECTIONS: u64 = 4294967295;
 pub struct Task {
     /// The moment that was handed in, in seconds since 1970-01-01T00:00:00Z.
     pub at: Option<u64>,
+    /// Whether facts are told on standard error besides.
+    pub verbose: bool,
     pub subcommand: Subcommand,
 }
 

@@ -25,7 +25,7 @@ fn says_a_task(rt: HostRuntime) -> Result<(), Fail> {
         let found = asked(rt, &["release", "canon", at, "--", "a"])?;
         assert!(rt;
             matches!(&found,
-            Ok(Task { at: Some(253402300799), subcommand: Subcommand::Canon { file } })
+            Ok(Task { at: Some(253402300799), verbose: false, subcommand: Subcommand::Canon { file } })
                 if file.as_str() == "a"
         ),
             "{at}"
@@ -37,7 +37,7 @@ fn says_a_task(rt: HostRuntime) -> Result<(), Fail> {
     )?;
     assert!(rt;
         matches!(&found,
-        Ok(Task { at: None, subcommand: Subcommand::Serve { db, port: 80, count: Some(3) } })
+        Ok(Task { at: None, verbose: false, subcommand: Subcommand::Serve { db, port: 80, count: Some(3) } })
             if db.as_str() == "d"
     )
     );
@@ -56,8 +56,34 @@ fn refuses_other_words(rt: HostRuntime) -> Result<(), Fail> {
     ] {
         assert!(rt; is_usage(rt, &words, "")?, "{words:?}");
     }
-    let help = asked(rt, &["release", "--help"])?;
-    assert!(rt; matches!(&help, Err(Usage::Help(text)) if text.contains("canon")));
+    Ok(())
+}
+
+#[test]
+fn tells_more_where_it_is_asked_for(rt: HostRuntime) -> Result<(), Fail> {
+    for word in ["-v", "--verbose", "-vv"] {
+        let found = asked(rt, &["release", "canon", word, "a"])?;
+        assert!(rt; matches!(&found, Ok(Task { verbose: true, .. })), "{word}");
+    }
+    assert!(rt; is_usage(rt, &["release", "canon", "--verbose=1", "a"], "")?);
+    Ok(())
+}
+
+// Whether the words ask for help, which says this.
+fn is_help(rt: HostRuntime, words: &[&str], text: &str) -> Result<bool, Fail> {
+    match asked(rt, words)? {
+        Err(Usage::Help(said)) => Ok(said.contains(text)),
+        _ => Ok(false),
+    }
+}
+
+#[test]
+fn helps(rt: HostRuntime) -> Result<(), Fail> {
+    assert!(rt; is_help(rt, &["release", "--help"], "canon")?);
+    assert!(rt; is_help(rt, &["release", "serve", "--help"], "--count")?);
+    assert!(rt; is_help(rt, &["release", "help", "put"], "Exit status:")?);
+    assert!(rt; is_help(rt, &["release", "help", "denials"], "51  Incoherent")?);
+    assert!(rt; is_help(rt, &["release", "--version"], "release ")?);
     Ok(())
 }
 
@@ -109,7 +135,7 @@ fn publishes_up_to_160_documents(rt: HostRuntime) -> Result<(), Fail> {
     let most = published(rt, 160)?;
     assert!(rt;
         matches!(&most,
-        Ok(Task { at: Some(5), subcommand: Subcommand::Publish { documents, .. } }) if documents.len() == 160
+        Ok(Task { at: Some(5), subcommand: Subcommand::Publish { documents, .. }, .. }) if documents.len() == 160
     )
     );
     let more = published(rt, 161)?;

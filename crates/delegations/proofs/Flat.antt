@@ -1,5 +1,5 @@
 -- The search where no document delegates: it visits the top role, and no other.
-use Rattle.std.proofs.Common.{◌≡◌, ◌↔◌, IsTrue, ℕ, zero, suc, Bool, true, false, cond, not, ◌&&◌, ◌||◌, List, [], ◌∷◌, length, Option, Some, None, Ok, Err, refl, ap, sym, subst, ◌∙◌, arith, nat_lt}
+use Rattle.std.proofs.Common.{◌≡◌, ◌↔◌, IsTrue, ℕ, zero, suc, Bool, true, false, cond, not, ◌&&◌, ◌||◌, List, [], ◌∷◌, ◌≤◌, length, Option, Some, None, Ok, Err, refl, ap, sym, subst, ◌∙◌, arith, nat_lt}
 use Rattle.std.specs.Prelude.{option_map, option_and_then, slice_get, take, unwrap_or, filter, bytes_eq, IfSome}
 use Rattle.std.specs.List.{AllByRecursion, cons_option, filter_map, list_any, list_all}
 use Rattle.std.specs.Option.{option_flatten}
@@ -11,6 +11,7 @@ use Rattle.denials.specs.Orders.{pass, decide, given, stopped, Judged, Stop, Den
 use Rattle.metadata.specs.Covers.{covers}
 use Rattle.delegations.specs.Delegation.{Edge, Hops, Graph, hops_in, unmet, leads, chain_end, before, index_lists, all_index_lists, longest, places_from, chains, firsts, visits, is_chain, is_first, same_end, cuts, cut}
 use Rattle.delegations.specs.Search.{Shelf, Found, graph_of, hops_of, visit, search, find_in, found_or, visited, listing_of, most_visits, Vouches, Vouched, MeetsEdge}
+use Rattle.delegations.specs.Verdicts.{Table, lacking, AreVisited, Costs}
 use Rattle.delegations.specs.Views.{row_views, shelf_view}
 use Rattle.delegations.specs.declared.rows.Row.{Row}
 use Rattle.delegations.specs.declared.shelf.Shelf.{Shelf as CodeShelf}
@@ -21,7 +22,7 @@ use Rattle.delegations.proofs.Files.{all_rows, all_at}
 abbrev pub AreFlat : Rows → Type 0
 AreFlat rows = AllFiles (λ file. file.body.delegations ≡ None) rows
 
-flat_named : (rows : Rows) (role : Name) (m : MetaFile) → AreFlat rows → IfSome (named_row rows role m) (λ file. file.body.delegations ≡ None)
+pub flat_named : (rows : Rows) (role : Name) (m : MetaFile) → AreFlat rows → IfSome (named_row rows role m) (λ file. file.body.delegations ≡ None)
 flat_named rows role m h = split (row_at rows role m.version) (all_at (λ file. file.body.delegations ≡ None) rows (role, m.version) h)
   where
     tested : (file : File Targets) → file.body.delegations ≡ None → (b : Bool) → IfSome (cond b (Some file) None) (λ file. file.body.delegations ≡ None)
@@ -148,6 +149,14 @@ module _ (V : Shelf) (flat : AreFlat V.rows) where
     search_none file h e =
         search_top path now (Err (Denied (Plain no.not_found)))
         (pass h (subst (λ (o : Option Listing). found_or V V.top.role o (find_in V [] path now (denied no.not_found)) (Err (Denied (Plain no.not_found)))) e stopped))
+
+  -- the visit of the top role is the only one
+  pub costs_top : (T : Table) (path : Bytes) (now count : ℕ) → count ≤ lacking V T V.top → Costs V T path now count
+  costs_top T path now count most = record {
+    edges = V.top ∷ [];
+    visited = record { passed = []; last = V.top ∷ []; rest = []; are = refl; one = omega arith; few = omega arith; first = visited_top path; on = tt };
+    most = omega (arith, most);
+  }
 
   -- the top role alone is vouched for, by the top edge
   pub vouched_top : (role : Name) (new : File Targets) (now : ℕ) → V.top.role ≡ role → MeetsEdge V V.top new → Vouched V role new now

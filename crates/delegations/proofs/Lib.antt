@@ -2,6 +2,7 @@ pub mod Walk
 pub mod Chains
 pub mod Complete
 pub mod Files
+pub mod Knowing
 pub mod Flat
 pub mod GoodVisits
 pub mod Places

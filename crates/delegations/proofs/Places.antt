@@ -107,6 +107,20 @@ found_from (row ∷ rows) later q = split (found_from rows later q) (same_place 
     split rest false e true = rw e refl
     split rest false e false = rest
 
+-- where the first row from a place on stands there, it is the one that a look-up finds
+pub from_same : (rows : Rows) (role : Name) (version : ℕ) → begins_at (from_place rows (role, version)) (role, version) ≡ true
+    → row_at (from_place rows (role, version)) role version ≡ row_at rows role version
+from_same [] role version h = refl
+from_same (row ∷ rows) role version h = split (from_same rows role version) (same_place row.0 (role, version)) refl (place_before (role, version) row.0) h
+  where
+    split : (begins_at (from_place rows (role, version)) (role, version) ≡ true → row_at (from_place rows (role, version)) role version ≡ row_at rows role version)
+        → (s : Bool) → same_place row.0 (role, version) ≡ s → (b : Bool)
+        → begins_at (cond (s || b) (row ∷ rows) (from_place rows (role, version))) (role, version) ≡ true
+        → row_at (cond (s || b) (row ∷ rows) (from_place rows (role, version))) role version ≡ cond s (Some row.1) (row_at rows role version)
+    split rest true e b h = rw e refl
+    split rest false e true h = absurd (let no = sym e ∙ h in cc)
+    split rest false e false h = rest h
+
 -- what a look-up answers, where it goes on at `rest`
 module _ (held more rest : Rows) (role : Name) (version : ℕ) (at : rest ≡ from_place held (role, version)) where
   looked_up : row_at (with_rows held more) role version

@@ -1,5 +1,6 @@
 pub mod Delegation
 pub mod Rows
 pub mod Search
+pub mod Verdicts
 pub mod Views
 pub mod steps

@@ -1,6 +1,7 @@
 -- What the code's shelf and answers stand for.
-use Rattle.std.specs.Prelude.{false, map, List, Result, Ok, Err}
-use Rattle.keys_roles.specs.Views.{rule_view, table_view}
+use Rattle.std.specs.Prelude.{false, map, List, Result, Ok, Err, string_bytes}
+use Rattle.keys_roles.specs.Views as keys
+use Rattle.keys_roles.specs.Views.{rule_view, verdict_views}
 use Rattle.metadata.specs.FileViews.{targets_file}
 use Rattle.denials.specs.Numbers as no
 use Rattle.denials.specs.Orders.{Denial, Plain, RoleMissing, Denied, Judged}
@@ -9,6 +10,7 @@ use Rattle.delegations.specs.Delegation as graph
 use Rattle.delegations.specs.Search as plain
 use Rattle.delegations.specs.Search.{top_name}
 use Rattle.delegations.specs.Rows as shelves
+use Rattle.delegations.specs.Verdicts as verdicts
 use Rattle.delegations.specs.declared.rows.Row.{Row}
 use Rattle.delegations.specs.declared.rows.Rows.{Rows}
 use Rattle.delegations.specs.declared.shelf.Shelf.{Shelf}
@@ -16,6 +18,7 @@ use Rattle.delegations.specs.declared.shelf.Edge.{Edge}
 use Rattle.delegations.specs.declared.shelf.Found.{Found}
 use Rattle.delegations.specs.declared.shelf.SearchDenial.{SearchDenial}
 use Rattle.delegations.specs.declared.shelf.SearchDenial.TheVariants as denials
+use Rattle.delegations.specs.declared.verdicts.RowVerdicts.{RowVerdicts}
 
 abbrev pub row_views : List Row → shelves.Rows
 row_views rows = map (λ r. ((r.role, r.version), targets_file r.file)) rows
@@ -25,13 +28,17 @@ rows_view r = shelves.with_rows (row_views r.held.now) (row_views r.added.now)
 
 abbrev pub shelf_view : Shelf → plain.Shelf
 shelf_view s = record {
-  top = record { role = top_name; terminating = false; rule = rule_view s.rule.now; table = table_view s.keys.now };
+  top = record { role = top_name; terminating = false; rule = rule_view s.rule.now; table = keys.table_view s.keys.now };
   listing = (snapshot_view s.snapshot.now).meta;
   rows = rows_view s.rows;
 }
 
+-- the rows that are held, without those that were put on the shelf later
+abbrev pub held_rows : Shelf → shelves.Rows
+held_rows s = row_views s.rows.held.now
+
 abbrev pub edge_view : Edge → graph.Edge
-edge_view e = record { role = e.role.now; terminating = e.terminating; rule = rule_view e.rule.now; table = table_view e.keys.now }
+edge_view e = record { role = e.role.now; terminating = e.terminating; rule = rule_view e.rule.now; table = keys.table_view e.keys.now }
 
 abbrev pub found_view : Found → plain.Found
 found_view f = record { role = f.role.now; listing = listing_view f.listing.now }
@@ -50,3 +57,7 @@ denial_view denials.NotFound = Plain no.not_found
 abbrev pub answer_view : {A B : Type 0} → (A → B) → Result A SearchDenial → Judged B
 answer_view view (Ok a) = Ok (view a)
 answer_view view (Err d) = Err (Denied (denial_view d))
+
+-- a table of verdicts
+abbrev pub table_view : List RowVerdicts → verdicts.Table
+table_view rows = map (λ r. ((string_bytes r.role, r.version), verdict_views r.verdicts.items)) rows

@@ -4,8 +4,10 @@
 mod laws;
 mod rows;
 mod shelf;
+mod verdicts;
 mod visiting;
 
+pub use keys_roles::Steps;
 pub use laws::{good_documents_are_visited, index_lists_rise, no_chain_left_out};
 pub use metadata::{
     File, KeyTable, Listing, Meta, Moment, RoleName, RoleRule, Root, Snapshot, Source, TargetPath,
@@ -13,4 +15,5 @@ pub use metadata::{
 };
 pub use rows::{Row, Rows};
 pub use shelf::{Found, SearchDenial, Shelf};
-pub use visiting::{has_hash, has_length, search, vouched};
+pub use verdicts::{Verdicts, all_verdicts};
+pub use visiting::{has_hash, has_length, search, search_with, search_with_counted, vouched};

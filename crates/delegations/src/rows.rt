@@ -1,5 +1,5 @@
 //! The shelf of targets documents.
-ghost use Rattle.std.specs.Prelude.{◌≡◌, ◌<◌, ◌^◌, length, option_map};
+ghost use Rattle.std.specs.Prelude.{◌≡◌, ◌<◌, ◌^◌, Some, IfSome, length, option_map};
 ghost use Rattle.metadata.specs.FileViews.{targets_file};
 ghost use Rattle.delegations.specs.Delegation.{before};
 ghost use Rattle.delegations.specs.steps.Places.{from_place, begins_at};
@@ -45,6 +45,20 @@ impl<'a> Rows<'a> {
             Some(file) => Some(file),
             None => first_at(rest, role, version),
         }
+    }
+}
+
+impl<'a> Rows<'a> {
+    /// The document of the role with this version, where it stands among the rows that are held.
+    pub(crate) fn held_at(&self, role: &str, version: u32) -> Option<&'a File<Targets>>
+        ensures held { IfSome result (λ f. row_at (row_views self.now.held.now) role.now version ≡ Some (targets_file f.now)) }
+        ensures there { IfSome result (λ f. row_at (rows_view self.now) role.now version ≡ Some (targets_file f.now)) }
+    {
+        let rest = rows_from(self.held, role, version);
+        if is_first(rest, role, version) {
+            return first_at(rest, role, version);
+        }
+        None
     }
 }
 

@@ -2,7 +2,7 @@
 ghost use Rattle.std.specs.Prelude.{◌≡◌};
 ghost use Rattle.metadata.specs.Views.{root_view, snapshot_view};
 ghost use Rattle.delegations.specs.Search.{top_of};
-ghost use Rattle.delegations.specs.Views.{rows_view, shelf_view, edge_view};
+ghost use Rattle.delegations.specs.Views.{edge_view, held_rows, row_views, rows_view, shelf_view};
 
 use crate::rows::Rows;
 use keys_roles::{KeyTable, RoleRule};
@@ -29,7 +29,8 @@ pub(crate) struct Edge<'a> {
 impl<'a> Shelf<'a> {
     /// The shelf under a root and a snapshot. It takes no memory.
     pub fn new(root: &'a Root, snapshot: &'a Snapshot, rows: Rows<'a>) -> Shelf<'a>
-        ensures { shelf_view result ≡ record { top = top_of (root_view root.now); listing = (snapshot_view snapshot.now).meta; rows = rows_view rows.entry } }
+        ensures shelf { shelf_view result ≡ record { top = top_of (root_view root.now); listing = (snapshot_view snapshot.now).meta; rows = rows_view rows.entry } }
+        ensures held { held_rows result ≡ row_views rows.entry.held.now }
     {
         Shelf {
             rule: &root.targets,

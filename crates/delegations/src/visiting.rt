@@ -1,15 +1,18 @@
 //! The visit of a role, the search for a target, and which new documents are vouched for (TUF 1.0, section 5.6.7).
-ghost use Rattle.std.specs.Prelude.{◌≡◌, ◌↔◌, ◌+◌, ◌<◌, ◌≤◌, ◌^◌, ℕ, length, IsTrue};
+ghost use Rattle.std.specs.Prelude.{◌≡◌, ◌↔◌, ◌+◌, ◌-◌, ◌<◌, ◌≤◌, ◌^◌, ℕ, length, IsTrue};
 ghost use Rattle.keys_roles.specs.Rules.{Meets};
+ghost use Rattle.keys_roles.specs.Verdicts.{AreVerdicts, pairs, unknown};
+ghost use Rattle.keys_roles.specs.Views.{verdict_views};
 ghost use Rattle.metadata.specs.FileViews.{targets_file};
 ghost use Rattle.metadata.specs.Views.{meta_view};
 ghost use Rattle.delegations.specs.Search.{visit, search, Vouched};
 ghost use Rattle.delegations.specs.Rows.{AllFiles, HasLength, HasHash};
-ghost use Rattle.delegations.specs.Views.{shelf_view, edge_view, found_view, answer_view};
+ghost use Rattle.delegations.specs.Verdicts.{AreTrue, Costs, lacking};
+ghost use Rattle.delegations.specs.Views.{shelf_view, edge_view, found_view, answer_view, table_view};
 
 use crate::shelf::{Edge, Found, SearchDenial, Shelf};
-use keys_roles::meets_counted;
-use lms::Steps;
+use crate::verdicts::{RowVerdicts, Verdicts, of_row};
+use keys_roles::{Steps, Verdict, meets_with_counted};
 use metadata::{File, Meta, Moment, Source, Targets, live};
 use path_patterns::{RoleName, TargetPath};
 
@@ -43,8 +46,63 @@ pub fn search<'a>(
 ) -> Result<Found<'a>, SearchDenial<'a>>
     ensures { search (shelf_view shelf.now) path.now now (answer_view found_view result) }
 {
+    search_over(shelf, &[], path, now, &mut Steps::new())
+}
+
+/// The same where something is known of the signatures on the shelf, and how many of them were checked: at most 512, and at most
+/// as many as there are pairs that the search meets and of which nothing is known. A pair is met where the search visits a role's
+/// document: it is a signature of the document, and the key that its id names in the rule of the edge. It takes no memory.
+pub fn search_with<'a>(
+    shelf: &Shelf<'a>,
+    verdicts: &Verdicts,
+    path: &TargetPath,
+    now: Moment,
+) -> (Result<Found<'a>, SearchDenial<'a>>, u32)
+    requires sound { AreTrue (shelf_view shelf.now).rows verdicts.now }
+    requires few { AllFiles (λ f. length f.entries ≤ 16) (shelf_view shelf.now).rows }
+    ensures answer { search (shelf_view shelf.now) path.now now (answer_view found_view result.0) }
+    ensures most { result.1 ≤ 512 }
+    ensures costs { Costs (shelf_view shelf.now) verdicts.now path.now now result.1 }
+{
+    let mut checks = Steps::new();
+    let answer = search_over(shelf, verdicts.rows(), path, now, &mut checks);
+    (answer, checks.count() as u32)
+}
+
+/// The same, with one tick for each signature that is checked.
+pub fn search_with_counted<'a>(
+    shelf: &Shelf<'a>,
+    verdicts: &Verdicts,
+    path: &TargetPath,
+    now: Moment,
+    checks: &mut Steps,
+) -> Result<Found<'a>, SearchDenial<'a>>
+    requires sound { AreTrue (shelf_view shelf.now).rows verdicts.now }
+    requires room { checks.old < 2 ^ 63 }
+    ensures answer { search (shelf_view shelf.now) path.now now (answer_view found_view result) }
+    ensures grows { checks.old ≤ checks.new }
+    ensures costs { Costs (shelf_view shelf.now) verdicts.now path.now now (checks.new - checks.old) }
+{
+    search_over(shelf, verdicts.rows(), path, now, checks)
+}
+
+// The search, with what is known of some rows, and one tick for each signature that is checked.
+fn search_over<'a>(
+    shelf: &Shelf<'a>,
+    known: &[RowVerdicts],
+    path: &TargetPath,
+    now: Moment,
+    checks: &mut Steps,
+) -> Result<Found<'a>, SearchDenial<'a>>
+    requires sound { AreTrue (shelf_view shelf.now).rows (table_view known.now) }
+    requires room { checks.old < 2 ^ 63 }
+    ensures answer { search (shelf_view shelf.now) path.now now (answer_view found_view result) }
+    ensures grows { checks.old ≤ checks.new }
+    ensures most { (n : ℕ) → AllFiles (λ f. length f.entries ≤ n) (shelf_view shelf.now).rows → checks.new ≤ checks.old + n }
+    ensures costs { Costs (shelf_view shelf.now) (table_view known.now) path.now now (checks.new - checks.old) }
+{
     let top = shelf.top();
-    let file = match visit(shelf, &top, now, &mut Steps::new()) {
+    let file = match visit(shelf, &top, known, now, checks) {
         Ok(file) => file,
         Err(denial) => return Err(denial),
     };
@@ -64,7 +122,7 @@ pub fn vouched(shelf: &Shelf, role: &RoleName, document: &File<Targets>, now: Mo
 {
     let _ = now;
     let top = shelf.top();
-    *role.as_str() == *top.role && meets_edge(&top, document, &mut Steps::new())
+    *role.as_str() == *top.role && meets_edge(&top, document, &[], &mut Steps::new())
 }
 
 // The document of the role at the end of the edge, or the first check of it that fails, with one tick for each signature
@@ -72,12 +130,15 @@ pub fn vouched(shelf: &Shelf, role: &RoleName, document: &File<Targets>, now: Mo
 fn visit<'a>(
     shelf: &Shelf<'a>,
     edge: &Edge<'a>,
+    known: &[RowVerdicts],
     now: Moment,
     checks: &mut Steps,
 ) -> Result<&'a File<Targets>, SearchDenial<'a>>
-    requires { checks.old < 2 ^ 63 }
+    requires sound { AreTrue (shelf_view shelf.now).rows (table_view known.now) }
+    requires room { checks.old < 2 ^ 63 }
     ensures grows { checks.old ≤ checks.new }
     ensures most { (n : ℕ) → AllFiles (λ f. length f.entries ≤ n) (shelf_view shelf.now).rows → checks.new ≤ checks.old + n }
+    ensures lacking { checks.new ≤ checks.old + lacking (shelf_view shelf.now) (table_view known.now) (edge_view edge.now) }
     ensures answer { visit (shelf_view shelf.now) (edge_view edge.now) now (answer_view (λ f. targets_file f.now) result) }
 {
     let Some(entry) = shelf.snapshot.entry(edge.role) else {
@@ -95,7 +156,8 @@ fn visit<'a>(
     if !has_hash(entry, &file.source) {
         return Err(SearchDenial::RoleHash);
     }
-    if !meets_edge(edge, file, checks) {
+    let known = of_row(known, edge.role, entry.version);
+    if !meets_edge(edge, file, known, checks) {
         return Err(SearchDenial::RoleThreshold);
     }
     if live(file.body.expires, now) {
@@ -105,18 +167,21 @@ fn visit<'a>(
     }
 }
 
-// Whether the document meets the edge's rule, with one tick for each signature check.
-fn meets_edge(edge: &Edge, file: &File<Targets>, checks: &mut Steps) -> bool
-    requires { checks.old < 2 ^ 63 }
+// Whether the document meets the edge's rule, with one tick for each signature that is checked.
+fn meets_edge(edge: &Edge, file: &File<Targets>, known: &[Verdict], checks: &mut Steps) -> bool
+    requires sound { AreVerdicts (targets_file file.now).signed (targets_file file.now).entries (verdict_views known.now) }
+    requires room { checks.old < 2 ^ 63 }
     ensures met { IsTrue result ↔ (Meets (edge_view edge.now).rule (edge_view edge.now).table (targets_file file.now).signed (targets_file file.now).entries) }
     ensures grows { checks.old ≤ checks.new }
     ensures most { checks.new ≤ checks.old + length (targets_file file.now).entries }
+    ensures unknown { checks.new ≤ checks.old + unknown (verdict_views known.now) (pairs (edge_view edge.now).rule (edge_view edge.now).table (targets_file file.now).entries) }
 {
-    meets_counted(
+    meets_with_counted(
         edge.rule,
         edge.keys,
         file.source.signed(),
         file.source.signatures(),
+        known,
         checks,
     )
 }

@@ -1,7 +1,6 @@
 mod answers;
 mod batches;
 mod connections;
-mod ends;
 mod failures;
 mod laws;
 mod requests;

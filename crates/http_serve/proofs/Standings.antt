@@ -11,8 +11,8 @@ use Rattle.machine.specs.Runs.{Command, Batch, PutBlob, Metadata, Target, Init, 
 use Rattle.denials.specs.Orders as orders
 use Rattle.store.specs.StateRows.{rows_of}
 use Rattle.store.specs.Applies.{Applies}
-use Rattle.store.specs.declared.command.StoreFault.{StoreFault}
-use Rattle.store.specs.declared.command.StoreFault.TheVariants.{OutOfMemory, Database, Damaged}
+use Rattle.tables.specs.declared.faults.StoreFault.{StoreFault}
+use Rattle.tables.specs.declared.faults.StoreFault.TheVariants.{OutOfMemory, Database, Damaged}
 use Rattle.store.specs.Views.{reply_view}
 use Rattle.store.specs.declared.command.Reply.{Reply as Answer}
 use Rattle.http_messages.specs.Faults.{fault_response}

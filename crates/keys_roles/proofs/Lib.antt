@@ -1,4 +1,5 @@
 pub mod Elements
+pub mod Knowing
 pub mod Examples
 pub mod KeyObjects
 pub mod LookingUp

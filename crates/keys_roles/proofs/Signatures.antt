@@ -14,8 +14,7 @@ use Rattle.lms.proofs.Bytes.{signature_length}
 use Rattle.lms.specs.Parts.{IsSignatureOf}
 use Rattle.keys_roles.specs.Plain.{Key, lms}
 use Rattle.keys_roles.specs.Keys.{VerifiesUnder}
-use Rattle.keys_roles.specs.Rules.{AreDigitsOf}
-use Rattle.keys_roles.specs.steps.Counting.{SpellsSignature}
+use Rattle.keys_roles.specs.Rules.{AreDigitsOf, SpellsSignature}
 
 chains_most : (ots : OtsType) → chain_count ots ≤ 265
 chains_most W1 = omega arith

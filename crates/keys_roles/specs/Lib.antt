@@ -1,5 +1,6 @@
 pub mod Plain
 pub mod Keys
 pub mod Rules
+pub mod Verdicts
 pub mod Views
 pub mod steps

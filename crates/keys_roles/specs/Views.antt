@@ -2,12 +2,14 @@
 use Rattle.std.specs.Prelude.{ℕ, List, map, string_bytes}
 use Rattle.hex.specs.Hex.{encode_lower}
 use Rattle.keys_roles.specs.Plain as plain
+use Rattle.keys_roles.specs.Verdicts as known
 use Rattle.keys_roles.specs.declared.KeyId.{KeyId}
 use Rattle.keys_roles.specs.declared.Key.{Key}
 use Rattle.keys_roles.specs.declared.Key.TheVariants.{Lms}
 use Rattle.keys_roles.specs.declared.KeyTable.{KeyTable}
 use Rattle.keys_roles.specs.declared.RoleRule.{RoleRule}
 use Rattle.keys_roles.specs.declared.Signature.{Signature}
+use Rattle.keys_roles.specs.declared.Verdict.{Verdict}
 
 abbrev pub id_text : KeyId → List ℕ
 id_text id = encode_lower id.0
@@ -32,3 +34,9 @@ entry_view s = record { keyid = id_text s.keyid; sig = string_bytes s.sig }
 
 abbrev pub entries_view : List Signature → List plain.Signature
 entries_view ss = map entry_view ss
+
+abbrev pub verdict_view : Verdict → known.Verdict
+verdict_view v = record { pair = (v.place, key_view v.key); verifies = v.verifies }
+
+abbrev pub verdict_views : List Verdict → List known.Verdict
+verdict_views vs = map verdict_view vs

@@ -1,8 +1,7 @@
 // Signatures in hex digits, and whether they verify.
 ghost use Rattle.std.specs.Prelude.{◌≡◌, ◌↔◌, ◌+◌, ◌*◌, ◌<◌, ◌≤◌, ◌^◌, List, ℕ, length, IsTrue};
 ghost use Rattle.keys_roles.specs.Keys.{VerifiesUnder};
-ghost use Rattle.keys_roles.specs.Rules.{AreDigitsOf};
-ghost use Rattle.keys_roles.specs.steps.Counting.{SpellsSignature};
+ghost use Rattle.keys_roles.specs.Rules.{AreDigitsOf, SpellsSignature};
 ghost use Rattle.keys_roles.specs.Views.{key_view};
 
 use crate::Key;

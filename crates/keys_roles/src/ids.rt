@@ -1,5 +1,6 @@
 // Key ids, and keys by their ids (TUF 1.0, section 4.2).
 ghost use Rattle.std.specs.Prelude.{◌≡◌, ◌↔◌, ◌++◌, List, ℕ, Some, None, IsTrue, IsOkAnd, MatchOption};
+ghost use Rattle.std.specs.List.{list_any};
 ghost use Rattle.std.specs.Str.{bytes_eq};
 ghost use Rattle.sha2.specs.Sha256.{sha256};
 ghost use Rattle.hex.specs.Hex.{encode_lower};
@@ -81,7 +82,8 @@ fn same_digits(a: &[u8], b: &[u8]) -> bool
 
 /// Whether the id stands in the list.
 pub(crate) fn is_listed(ids: &[KeyId], id: &KeyId) -> bool
-    ensures { IsTrue result ↔ (IsIn (ids_view ids.now) (id_text id.now)) }
+    ensures text { result ≡ list_any (λ own. bytes_eq own (id_text id.now)) (ids_view ids.now) }
+    ensures listed { IsTrue result ↔ (IsIn (ids_view ids.now) (id_text id.now)) }
 {
     let mut rest = ids;
     'ids: while let Some((first, later)) = rest.split_first() {

@@ -36,12 +36,23 @@ pub struct Signature {
     pub sig: String,
 }
 
+/// Whether the signature at a place of a file's list verifies under a public key, as a check has told.
+#[derive(Debug, Clone, Copy, PartialEq, Eq)]
+pub struct Verdict {
+    /// The place of the signature in the list, from 0.
+    pub place: usize,
+    pub key: Key,
+    pub verifies: bool,
+}
+
 mod digits;
 mod ids;
 mod meeting;
 mod rotation;
+mod verdicts;
 
 pub use ids::key_id;
 pub use lms::Steps;
-pub use meeting::{meets, meets_counted};
+pub use meeting::{meets, meets_counted, meets_with, meets_with_counted};
 pub use rotation::same_rule;
+pub use verdicts::verdicts_of;

@@ -1,12 +1,13 @@
 // When a rule of keys and a threshold is met (TUF 1.0, sections 4.2 and 5).
 ghost use Rattle.std.specs.Prelude.{◌≡◌, ◌↔◌, ◌⊎◌, ◌∷◌, [], ◌++◌, ◌+◌, ◌<◌, ◌≤◌, ◌^◌, List, ℕ, Some, length, take, IsTrue, IfSome};
 ghost use Rattle.keys_roles.specs.Rules.{Meets};
-ghost use Rattle.keys_roles.specs.steps.Counting.{IsIn, CountsBy, IsTaken};
-ghost use Rattle.keys_roles.specs.Views.{rule_view, table_view, entry_view, entries_view};
+ghost use Rattle.keys_roles.specs.Verdicts.{AreVerdicts, named_key, pairs, unknown, with_pair};
+ghost use Rattle.keys_roles.specs.steps.Counting.{IsIn, CountsBy, IsTaken, TellOf};
+ghost use Rattle.keys_roles.specs.Views.{rule_view, table_view, entry_view, entries_view, verdict_views};
 
-use crate::digits::digits_verify;
-use crate::ids::{is_listed, key_of, top};
-use crate::{KeyTable, RoleRule, Signature};
+use crate::ids::top;
+use crate::verdicts::{named, verdict};
+use crate::{KeyTable, RoleRule, Signature, Verdict};
 use lms::Steps;
 
 // The most keys that a threshold asks for.
@@ -34,41 +35,80 @@ pub fn meets_counted(
     ensures grows { steps.old ≤ steps.new }
     ensures most { steps.new ≤ steps.old + length signatures.now }
 {
+    meets_with_counted(rule, table, signed, signatures, &[], steps)
+}
+
+/// The same as `meets`, where something is known of some of the signatures: what a verdict says of one is not checked again. It
+/// takes no memory.
+pub fn meets_with(
+    rule: &RoleRule,
+    table: &KeyTable,
+    signed: &[u8],
+    signatures: &[Signature],
+    known: &[Verdict],
+) -> bool
+    requires { AreVerdicts signed.now (entries_view signatures.now) (verdict_views known.now) }
+    ensures { IsTrue result ↔ (Meets (rule_view rule.now) (table_view table.now) signed.now (entries_view signatures.now)) }
+{
+    meets_with_counted(rule, table, signed, signatures, known, &mut Steps::new())
+}
+
+/// The same, with one tick for each signature check: at most one for each listed signature, and at most one for each listed
+/// signature whose id names a key in the rule, and of which nothing is known with this key.
+pub fn meets_with_counted(
+    rule: &RoleRule,
+    table: &KeyTable,
+    signed: &[u8],
+    signatures: &[Signature],
+    known: &[Verdict],
+    steps: &mut Steps,
+) -> bool
+    requires sound { AreVerdicts signed.now (entries_view signatures.now) (verdict_views known.now) }
+    requires room { steps.old < 2 ^ 63 }
+    ensures met { IsTrue result ↔ (Meets (rule_view rule.now) (table_view table.now) signed.now (entries_view signatures.now)) }
+    ensures grows { steps.old ≤ steps.new }
+    ensures most { steps.new ≤ steps.old + length signatures.now }
+    ensures unknown { steps.new ≤ steps.old + unknown (verdict_views known.now) (pairs (rule_view rule.now) (table_view table.now) (entries_view signatures.now)) }
+{
     let threshold = usize::from(rule.threshold);
     let mut tops = [[0; 56]; MOST];
     let mut count = 0usize;
+    let mut place = 0usize;
     let mut rest = signatures;
     'entries: while let Some((entry, later)) = rest.split_first() {
         if count >= threshold {
             return true;
         }
-        if let Some(top) = counted(rule, table, signed, entry, steps) {
+        let next = place + 1;
+        if let Some(top) = counted(rule, table, signed, (place, entry), known, steps) {
             count = take_in(&mut tops, count, &top);
         }
         rest = later;
+        place = next;
     }
     count >= threshold
 }
 
-// The public key that the entry makes count.
+// The public key that the entry at this place makes count.
 fn counted(
     rule: &RoleRule,
     table: &KeyTable,
     signed: &[u8],
-    entry: &Signature,
+    entry: (usize, &Signature),
+    known: &[Verdict],
     steps: &mut Steps,
 ) -> Option<[u8; 56]>
-    requires { steps.old + 1 < 2 ^ 64 }
-    ensures found { IfSome result (λ top. CountsBy (rule_view rule.now) (table_view table.now) signed.now (entry_view entry.now) top) }
-    ensures all { (top : List ℕ) → CountsBy (rule_view rule.now) (table_view table.now) signed.now (entry_view entry.now) top → result ≡ Some top }
+    requires sound { TellOf signed.now entry.0 (entry_view entry.1.now) (verdict_views known.now) }
+    requires room { steps.old + 1 < 2 ^ 64 }
+    ensures found { IfSome result (λ top. CountsBy (rule_view rule.now) (table_view table.now) signed.now (entry_view entry.entry.1.now) top) }
+    ensures all { (top : List ℕ) → CountsBy (rule_view rule.now) (table_view table.now) signed.now (entry_view entry.entry.1.now) top → result ≡ Some top }
     ensures grows { steps.old ≤ steps.new }
     ensures most { steps.new ≤ steps.old + 1 }
+    ensures unknown { steps.new ≤ steps.old + unknown (verdict_views known.now) (with_pair entry.entry.0 (named_key (rule_view rule.now) (table_view table.now) (entry_view entry.entry.1.now).keyid) []) }
 {
-    if !is_listed(&rule.keyids, &entry.keyid) {
-        return None;
-    }
-    let key = key_of(&table.entries, &entry.keyid)?;
-    if digits_verify(key, signed, entry.sig.as_bytes(), steps) {
+    let (place, entry) = entry;
+    let key = named(rule, table, &entry.keyid)?;
+    if verdict(key, signed, place, entry, known, steps) {
         Some(*top(key))
     } else {
         None

@@ -16,3 +16,5 @@ mod lms_tests;
 mod metadata_tests;
 #[cfg(test)]
 mod path_patterns_tests;
+#[cfg(test)]
+mod sha256_lanes_tests;

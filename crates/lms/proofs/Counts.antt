@@ -76,7 +76,7 @@ height_small H15 = omega arith
 height_small H20 = omega arith
 height_small H25 = omega arith
 
-sum_below : (f : ℕ → ℕ) (b : ℕ) → ((i : ℕ) → f i ≤ b) → (i n : ℕ) → sum_by f (range_with_len i n) ≤ n * b
+pub sum_below : (f : ℕ → ℕ) (b : ℕ) → ((i : ℕ) → f i ≤ b) → (i n : ℕ) → sum_by f (range_with_len i n) ≤ n * b
 sum_below f b h i zero = omega arith
 sum_below f b h i (suc n) =
     let rest = sum_below f b h (i + 1) n in

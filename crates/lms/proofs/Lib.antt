@@ -1,6 +1,5 @@
 pub mod Nodes
 pub mod Readings
-pub mod Ends
 pub mod Placed
 pub mod Counts
 pub mod Bytes
@@ -8,3 +7,5 @@ pub mod Runs
 pub mod SignLaws
 pub mod TreeLaws
 pub mod Rows
+pub mod Advances
+pub mod Started

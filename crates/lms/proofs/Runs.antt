@@ -17,7 +17,7 @@ fold-append : {A : Type 0} (f : A → ℕ → A) (a : A) (xs ys : List ℕ) → 
 fold-append f a [] ys = refl
 fold-append f a (x ∷ xs) ys = fold-append f (f a x) xs ys
 
-range-add : (start m n : ℕ) → range_with_len start (m + n) ≡ range_with_len start m ++ range_with_len (start + m) n
+pub range-add : (start m n : ℕ) → range_with_len start (m + n) ≡ range_with_len start m ++ range_with_len (start + m) n
 range-add start zero n = rw (zero-add n, add-zero) refl
 range-add start (suc m) n =
     let e : suc m + n ≡ suc (m + n) = omega arith in

@@ -5,3 +5,4 @@ pub mod Chains
 pub mod Tree
 pub mod Verifies
 pub mod Keys
+pub mod steps

@@ -7,7 +7,8 @@ ghost use Rattle.lms.specs.Chains.{coef as coef_at, checksum, checksum_sum as ch
 ghost use Rattle.sha2.specs.Sha256.{sha256};
 
 use crate::arrays::place;
-use crate::hashes::{ENDS, MESSAGE, finish, marked};
+use crate::hashes::{MESSAGE, finish, marked};
+use crate::lanes::{cut_chains, key_of};
 use crate::{OtsType, Steps};
 use sha2::{Digest, Sha256};
 
@@ -47,8 +48,9 @@ pub fn with_checksum(ots: OtsType, hash: &[u8; 32]) -> [u8; 34]
     cut
 }
 
-// The bytes that the steps of chain `i` of leaf `q` hash, with a place for the step's number, at 22.
-fn chain_input(identifier: &[u8; 16], q: u32, i: u16, start: &[u8; 32]) -> [u8; 55]
+/// The bytes that the steps of chain `i` of leaf `q` hash, with a place for the step's number, at 22.
+#[inline(always)]
+pub fn chain_input(identifier: &[u8; 16], q: u32, i: u16, start: &[u8; 32]) -> [u8; 55]
     ensures front { take 22 result ≡ identifier.now ++ u32 q ++ u16 i }
     ensures back { drop 23 result ≡ start.now }
 {
@@ -130,19 +132,6 @@ pub fn candidate(
     ensures value { result ≡ candidate_of ots identifier.now q hash.now elements.now }
     ensures count { steps.new ≡ steps.old + (chain_steps ots hash.now + 1) }
 {
-    let cut = with_checksum(ots, hash);
-    let mut ends = marked(identifier, q, ENDS);
-    for (i, element) in elements.iter().enumerate() {
-        let from = coef(&cut, i, ots);
-        ends.update(chain(
-            identifier,
-            q,
-            i as u16,
-            from,
-            ots.chain_end(),
-            element,
-            steps,
-        ));
-    }
-    finish(ends, steps)
+    let mut chains = cut_chains(ots, hash, elements);
+    key_of(identifier, q, &mut chains[..elements.len()], steps)
 }

@@ -1,12 +1,13 @@
 // SHA-256 with a counter, and the bytes that each hash begins with (RFC 8554, sections 4.3, 4.5, 5.3).
 
-ghost use Rattle.std.specs.Prelude.{◌≡◌, ℕ, List, ◌++◌, ◌+◌, ◌<◌, ◌^◌};
+ghost use Rattle.std.specs.Prelude.{◌≡◌, ℕ, List, ◌++◌, ◌+◌, ◌<◌, ◌^◌, map};
 ghost use Rattle.lms.specs.Text.{u16, u32};
 ghost use Rattle.sha2.specs.Hashers.{Holds256};
 ghost use Rattle.sha2.specs.Sha256.{sha256};
 
 use crate::Steps;
 use sha2::{Digest, Sha256};
+use sha256_lanes::digests;
 
 /// What the hash of a message begins with, after the identifier and the leaf.
 pub const MESSAGE: u16 = 0x8181;
@@ -40,4 +41,18 @@ pub fn finish(hasher: Sha256, steps: &mut Steps) -> [u8; 32]
 {
     steps.tick();
     hasher.finalize()
+}
+
+/// Hashes four messages of a chain's step side by side, with one tick for each.
+#[inline]
+pub fn finish_lanes(messages: &[[u8; 55]; 4], steps: &mut Steps) -> [[u8; 32]; 4]
+    requires { steps.old + 4 < 2 ^ 64 }
+    ensures value { result ≡ map sha256 messages.now }
+    ensures count { steps.new ≡ steps.old + 4 }
+{
+    steps.tick();
+    steps.tick();
+    steps.tick();
+    steps.tick();
+    digests(messages)
 }

@@ -1,11 +1,12 @@
 // The tree of a seed (RFC 8554, section 5.3 and appendix A).
 
-ghost use Rattle.std.specs.Prelude.{◌≡◌, ◌+◌, ◌*◌, ◌^◌, ◌≤◌};
+ghost use Rattle.std.specs.Prelude.{◌≡◌, ◌+◌, ◌*◌, ◌^◌, ◌≤◌, take};
+ghost use Rattle.lms.specs.Parameters.{chain_count};
 ghost use Rattle.lms.specs.Keys.{derived as derived_of, leaf_key as leaf_key_of, node_hash as node_hash_of, public_of as public_key_of};
+ghost use Rattle.lms.specs.steps.Lanes.{secret_chains as secret_chains_of};
 
 use crate::arrays::place;
-use crate::chains::chain;
-use crate::hashes::{ENDS, finish, marked};
+use crate::lanes::{Chain, MOST_CHAINS, NO_CHAIN, key_of};
 use crate::tree::{inner_hash, leaf_hash};
 use crate::{OtsType, Params, Seed, Steps};
 use sha2::{Digest, Sha256};
@@ -23,26 +24,31 @@ pub fn derived(seed: &Seed, q: u32, i: u16) -> [u8; 32]
     hasher.finalize()
 }
 
+// The chains of leaf `q` from their private elements, first in the array.
+fn secret_chains(ots: OtsType, seed: &Seed, q: u32) -> [Chain; MOST_CHAINS]
+    ensures { take (chain_count ots) result ≡ secret_chains_of ots seed.now.identifier seed.now.secret q }
+{
+    let to = ots.chain_end();
+    let count = ots.chain_count();
+    let mut chains = [NO_CHAIN; MOST_CHAINS];
+    for i in 0..count {
+        chains[usize::from(i)] = Chain {
+            index: i,
+            from: 0,
+            to,
+            value: derived(seed, q, i),
+        };
+    }
+    chains
+}
+
 // The one-time public key of leaf `q`.
 fn leaf_key(ots: OtsType, seed: &Seed, q: u32) -> [u8; 32]
     ensures { result ≡ leaf_key_of ots seed.now.identifier seed.now.secret q }
 {
-    let mut ends = marked(&seed.identifier, q, ENDS);
-    let count = ots.chain_count();
-    for i in 0..count {
-        let start = derived(seed, q, i);
-        let end = chain(
-            &seed.identifier,
-            q,
-            i,
-            0,
-            ots.chain_end(),
-            &start,
-            &mut Steps::new(),
-        );
-        ends.update(end);
-    }
-    finish(ends, &mut Steps::new())
+    let mut chains = secret_chains(ots, seed, q);
+    let count = usize::from(ots.chain_count());
+    key_of(&seed.identifier, q, &mut chains[..count], &mut Steps::new())
 }
 
 /// The hash of a node with so many levels below it, in a tree with so many leaves. Each node below is hashed once.

@@ -72,6 +72,7 @@ mod arrays;
 mod chains;
 mod hashes;
 mod keys;
+mod lanes;
 mod parameters;
 mod parts;
 mod signing;

@@ -1,14 +1,16 @@
 // Signatures of a seed (RFC 8554, sections 4.5 and 5.4.1).
 
-ghost use Rattle.std.specs.Prelude.{◌≡◌, ◌⊎◌, ◌++◌, ◌+◌, ◌*◌, ◌<◌, ◌≤◌, ◌^◌, map, vec_len, vec_capacity, Err, IfErr, OnOk, OnErr, length};
+ghost use Rattle.std.specs.Prelude.{◌≡◌, ◌⊎◌, ◌++◌, ◌+◌, ◌*◌, ◌<◌, ◌≤◌, ◌^◌, map, vec_len, vec_capacity, Err, IfErr, OnOk, OnErr, length, take};
 ghost use Rattle.std.specs.List.{concat};
 ghost use Rattle.lms.specs.Parameters.{chain_count, height, signature_len as signature_len_of, signing_type};
 ghost use Rattle.lms.specs.Chains.{below};
 ghost use Rattle.lms.specs.Verifies.{Verifies};
 ghost use Rattle.lms.specs.Keys.{element, path_hash, public_of, signature_of, signature_bytes, leaf_count};
+ghost use Rattle.lms.specs.steps.Lanes.{all_ends, element_chains as element_chains_of};
 
 use crate::chains::{chain, coef, message_hash, with_checksum};
 use crate::keys::{derived, node_hash};
+use crate::lanes::{Chain, MOST_CHAINS, NO_CHAIN, run_lanes};
 use crate::parts::signature_len;
 use crate::{LmsType, OtsType, Params, Seed, SignFault, Steps};
 
@@ -25,6 +27,45 @@ fn put(out: &mut Vec<u8>, bytes: &[u8])
     let _ = out.extend_from_slice(bytes);
 }
 
+// The chains of leaf `q` from their private elements to where a hash cuts them, first in the array.
+fn element_chains(ots: OtsType, seed: &Seed, q: u32, hash: &[u8; 32]) -> [Chain; MOST_CHAINS]
+    ensures { take (chain_count ots) result ≡ element_chains_of ots seed.now.identifier seed.now.secret q hash.now }
+{
+    let cut = with_checksum(ots, hash);
+    let count = ots.chain_count();
+    let mut chains = [NO_CHAIN; MOST_CHAINS];
+    for i in 0..count {
+        chains[usize::from(i)] = Chain {
+            index: i,
+            from: 0,
+            to: coef(&cut, usize::from(i), ots),
+            value: derived(seed, q, i),
+        };
+    }
+    chains
+}
+
+// Appends the ends of the chains.
+fn put_ends(identifier: &[u8; 16], q: u32, chains: &[Chain], out: &mut Vec<u8>)
+    requires { vec_len out.old + 32 * length chains.now ≤ vec_capacity out.old }
+    ensures items { out.new.items ≡ out.old.items ++ all_ends identifier.now q chains.now }
+    ensures len { vec_len out.new ≡ vec_len out.old + 32 * length chains.now }
+    ensures capacity { vec_capacity out.old ≤ vec_capacity out.new }
+{
+    'ends: for c in chains {
+        let end = chain(
+            identifier,
+            q,
+            c.index,
+            c.from,
+            c.to,
+            &c.value,
+            &mut Steps::new(),
+        );
+        put(out, &end);
+    }
+}
+
 // Appends the elements of leaf `q` for a hash.
 fn put_elements(ots: OtsType, seed: &Seed, q: u32, hash: &[u8; 32], out: &mut Vec<u8>)
     requires { vec_len out.old + 32 * chain_count ots ≤ vec_capacity out.old }
@@ -32,14 +73,11 @@ fn put_elements(ots: OtsType, seed: &Seed, q: u32, hash: &[u8; 32], out: &mut Ve
     ensures len { vec_len out.new ≡ vec_len out.old + 32 * chain_count ots }
     ensures capacity { vec_capacity out.old ≤ vec_capacity out.new }
 {
-    let cut = with_checksum(ots, hash);
-    let count = ots.chain_count();
-    for i in 0..count {
-        let to = coef(&cut, usize::from(i), ots);
-        let start = derived(seed, q, i);
-        let element = chain(&seed.identifier, q, i, 0, to, &start, &mut Steps::new());
-        put(out, &element);
-    }
+    let mut all = element_chains(ots, seed, q, hash);
+    let count = usize::from(ots.chain_count());
+    let chains = &mut all[..count];
+    run_lanes(&seed.identifier, q, chains, &mut Steps::new());
+    put_ends(&seed.identifier, q, chains, out);
 }
 
 // Appends the siblings on the way from leaf `q` to the root. Each node of the tree beside the way is hashed once.

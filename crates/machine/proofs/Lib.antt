@@ -1,5 +1,6 @@
 pub mod AnswersMakeStates
 pub mod BatchOneByOne
+pub mod Carrying
 pub mod ChangesMake
 pub mod CoherentSteps
 pub mod DefiniteOrders

@@ -3,6 +3,7 @@ pub mod Commands
 pub mod Contents
 pub mod Effects
 pub mod Room
+pub mod Knowing
 pub mod Runs
 pub mod State
 pub mod Views

@@ -1,4 +1,5 @@
 -- Definitions that contracts of private functions cite.
+pub mod Carrying
 pub mod Judging
 pub mod Loading
 pub mod NamedFiles

@@ -2,6 +2,7 @@
 ghost use Rattle.std.specs.Prelude.{◌≡◌, ◌↔◌, cond, ℕ, Result, IsTrue, IfOk, IfErr, length};
 ghost use Rattle.denials.specs.Orders as orders;
 ghost use Rattle.machine.specs.Answers.{AnswersBatch};
+ghost use Rattle.machine.specs.Knowing.{BatchCarriesKnown};
 ghost use Rattle.machine.specs.steps.Judging.{IsDeniedAt, IsRefusedAt};
 ghost use Rattle.machine.specs.Commands as commands;
 ghost use Rattle.machine.specs.Commands.{Ended};
@@ -11,6 +12,7 @@ ghost use Rattle.machine.specs.Views.{documents_view, draft_view};
 use crate::calls::offer_one;
 use crate::compared::are_coherent;
 use crate::draft::Draft;
+use crate::knowing::batch_with_verdicts;
 use crate::laws::stays_valid;
 use crate::outcome::{Batched, Offer};
 use crate::refusal::{BatchRefusal, Refusal};
@@ -23,6 +25,20 @@ use std::alloc::Global;
 /// together: timestamp and snapshot are both absent, or the timestamp names the snapshot and the shelf holds the document of
 /// each role that it lists. A denial has the index of its document, and that of the whole batch the number of its documents.
 pub fn batch(
+    alloc: Global,
+    state: &State,
+    documents: &[(Offer, &[u8])],
+    now: Moment,
+) -> Result<Batched, BatchRefusal>
+    ensures answers { AnswersBatch state.now.state (commands.batch state.now.state.trusted (documents_view documents.now) now) result }
+    ensures known { BatchCarriesKnown state.now.state result }
+{
+    let batched = judge_batch(alloc, state, documents, now)?;
+    batch_with_verdicts(alloc, state, batched)
+}
+
+// Offers documents in order to a state.
+fn judge_batch(
     alloc: Global,
     state: &State,
     documents: &[(Offer, &[u8])],

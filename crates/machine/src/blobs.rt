@@ -4,6 +4,7 @@ ghost use Rattle.sha2.specs.Sha256.{sha256};
 ghost use Rattle.delegations.specs.Delegation.{before};
 ghost use Rattle.delegations.specs.Rows.{with_row};
 ghost use Rattle.machine.specs.Answers.{Answers};
+ghost use Rattle.machine.specs.Knowing.{CarriesKnown};
 ghost use Rattle.machine.specs.steps.Judging.{Judges};
 ghost use Rattle.machine.specs.Commands as commands;
 ghost use Rattle.machine.specs.Effects.{no_effects};
@@ -13,6 +14,7 @@ ghost use Rattle.machine.specs.Views.{blob_views, effects_view, parts_view};
 
 use crate::checks::are_same;
 use crate::effects::{Blob, Effects};
+use crate::knowing::with_verdicts;
 use crate::laws::stays_valid;
 use crate::outcome::Outcome;
 use crate::parts::Parts;
@@ -27,6 +29,20 @@ use std::alloc::{AllocError, Global};
 /// Stores the file of a target under its digest: at most 1,048,576 bytes, and at most 4,096 blobs. Denials in their order: no
 /// root is trusted; the length; another digest than that of the bytes; where the blob is not held already, the number of blobs.
 pub fn put_blob(
+    alloc: Global,
+    state: &State,
+    digest: &Digest,
+    bytes: &[u8],
+) -> Result<Outcome, Refusal>
+    ensures answers { Answers state.now.state (commands.put_blob state.now.state digest.now.0 bytes.now) result }
+    ensures known { CarriesKnown state.now.state result }
+{
+    let outcome = judge_put(alloc, state, digest, bytes)?;
+    with_verdicts(alloc, state, outcome)
+}
+
+// Stores the file of a target in a state.
+fn judge_put(
     alloc: Global,
     state: &State,
     digest: &Digest,

@@ -2,6 +2,7 @@
 ghost use Rattle.std.specs.Prelude.{◌≡◌, ◌∷◌, [], IfOk};
 ghost use Rattle.metadata.specs.FileViews.{root_file};
 ghost use Rattle.machine.specs.Answers.{Answers};
+ghost use Rattle.machine.specs.Knowing.{CarriesKnown};
 ghost use Rattle.machine.specs.steps.Judging.{Ends};
 ghost use Rattle.machine.specs.Commands as commands;
 ghost use Rattle.machine.specs.Effects.{no_effects, on_state};
@@ -11,6 +12,7 @@ use crate::checks::is_signed;
 use crate::draft::Draft;
 use crate::effects::Effects;
 use crate::files::new_root;
+use crate::knowing::with_verdicts;
 use crate::laws::stays_valid;
 use crate::outcome::{Offer, Outcome};
 use crate::refusal::Refusal;
@@ -19,6 +21,7 @@ use crate::snapshots::offer_snapshot;
 use crate::state::State;
 use crate::targets_metadata::offer_targets;
 use crate::timestamps::offer_timestamp;
+use delegations::Verdicts;
 use denials::Denial;
 use metadata::{File, Moment, Root};
 use std::alloc::{AllocError, Global};
@@ -26,6 +29,15 @@ use std::alloc::{AllocError, Global};
 /// Begins the trust with a first root, which must meet its own rule for roots (TUF 1.0, section 5.2). Denials in their order:
 /// a root is trusted already; the file's shape; the root's own threshold.
 pub fn init(alloc: Global, state: &State, bytes: &[u8]) -> Result<Outcome, Refusal>
+    ensures answers { Answers state.now.state (commands.init state.now.state bytes.now) result }
+    ensures known { CarriesKnown state.now.state result }
+{
+    let outcome = judge_first(alloc, state, bytes)?;
+    with_verdicts(alloc, state, outcome)
+}
+
+// Begins the trust with a first root.
+fn judge_first(alloc: Global, state: &State, bytes: &[u8]) -> Result<Outcome, Refusal>
     ensures { Answers state.now.state (commands.init state.now.state bytes.now) result }
 {
     stays_valid();
@@ -53,11 +65,27 @@ fn first_root(alloc: Global, root: File<Root>) -> Result<Effects, AllocError>
         snapshot: None,
         rows: Vec::new(alloc),
         blobs: Vec::new(alloc),
+        verdicts: Verdicts::new(alloc),
     })
 }
 
 /// Offers one document at a moment (TUF 1.0, sections 5.3 to 5.6).
 pub fn offer(
+    alloc: Global,
+    state: &State,
+    offer: &Offer,
+    bytes: &[u8],
+    now: Moment,
+) -> Result<Outcome, Refusal>
+    ensures answers { Answers state.now.state (on_state state.now.state (commands.offer state.now.state.trusted (offer_view offer.now) bytes.now now)) result }
+    ensures known { CarriesKnown state.now.state result }
+{
+    let outcome = judge_offer(alloc, state, offer, bytes, now)?;
+    with_verdicts(alloc, state, outcome)
+}
+
+// Offers one document to a state.
+fn judge_offer(
     alloc: Global,
     state: &State,
     offer: &Offer,

@@ -1,9 +1,9 @@
 // What is trusted after the changes that a command has made so far.
-ghost use Rattle.std.specs.Prelude.{◌≡◌, ◌↔◌, ◌<◌, ◌+◌, ◌^◌, None, Some, MatchOption, IfOk, IsTrue, length, cond};
+ghost use Rattle.std.specs.Prelude.{◌≡◌, ◌↔◌, ◌<◌, ◌+◌, ◌^◌, [], None, Some, MatchOption, IfOk, IsTrue, length, cond};
 ghost use Rattle.std.specs.Option.{option_map};
 ghost use Rattle.metadata.specs.FileViews.{root_file, timestamp_file, snapshot_file, targets_file};
 ghost use Rattle.delegations.specs.Rows.{row_at, with_row, place_before};
-ghost use Rattle.delegations.specs.Views.{rows_view};
+ghost use Rattle.delegations.specs.Views.{row_views, rows_view};
 ghost use Rattle.limits.specs.Limits.{most_held};
 ghost use Rattle.machine.specs.Commands.{with_root, emptied};
 ghost use Rattle.machine.specs.Views.{draft_view, effects_view, parts_view};
@@ -33,6 +33,14 @@ impl<'a> Draft<'a> {
             base,
             effects: Effects::new(alloc),
         }
+    }
+
+    /// The state with these changes.
+    pub fn over(base: &'a Parts, effects: Effects) -> Draft<'a>
+        ensures base { result.base.now ≡ base.now }
+        ensures effects { result.effects ≡ effects }
+    {
+        Draft { base, effects }
     }
 
     /// The changes.
@@ -77,7 +85,8 @@ impl<'a> Draft<'a> {
 
     /// The shelf.
     pub fn rows(&self) -> Rows<'_>
-        ensures { rows_view result ≡ (draft_view self.now).shelf }
+        ensures view { rows_view result ≡ (draft_view self.now).shelf }
+        ensures held { row_views result.held.now ≡ cond self.now.effects.emptied [] (parts_view self.now.base.now).trusted.shelf }
     {
         let held = if self.effects.emptied {
             &self.base.shelf[..0]

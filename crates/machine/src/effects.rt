@@ -3,7 +3,7 @@ ghost use Rattle.std.specs.Prelude.{◌≡◌};
 ghost use Rattle.machine.specs.Effects.{no_effects};
 ghost use Rattle.machine.specs.Views.{effects_view};
 
-use delegations::Row;
+use delegations::{Row, Verdicts};
 use metadata::{File, Root, Snapshot, Timestamp};
 use path_patterns::Digest;
 use std::alloc::Global;
@@ -16,7 +16,8 @@ pub struct Blob {
 }
 
 /// What a command changes: new roots in order; whether a rotation empties timestamp, snapshot and shelf; the timestamp, the
-/// snapshot and the shelf rows that are put there after that; new blobs.
+/// snapshot and the shelf rows that are put there after that; new blobs; and what is known of the signatures on the shelf after all
+/// this.
 #[derive(Drop)]
 pub struct Effects {
     pub roots: Vec<File<Root>>,
@@ -25,6 +26,7 @@ pub struct Effects {
     pub snapshot: Option<File<Snapshot>>,
     pub rows: Vec<Row>,
     pub blobs: Vec<Blob>,
+    pub verdicts: Verdicts,
 }
 
 impl Effects {
@@ -39,6 +41,7 @@ impl Effects {
             snapshot: None,
             rows: Vec::new(alloc),
             blobs: Vec::new(alloc),
+            verdicts: Verdicts::new(alloc),
         }
     }
 }

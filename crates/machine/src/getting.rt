@@ -1,6 +1,7 @@
 //! What a target is (TUF 1.0, section 5.7).
-ghost use Rattle.std.specs.Prelude.{◌≡◌, ◌↔◌, None, Err, IfSome, IsTrue, length, option_map};
-ghost use Rattle.delegations.specs.Search.{search, shelf_of};
+ghost use Rattle.std.specs.Prelude.{◌≡◌, ◌↔◌, ◌-◌, ◌≤◌, ◌<◌, ◌^◌, None, Err, IfSome, IsTrue, length, option_map};
+ghost use Rattle.delegations.specs.Search.{search};
+ghost use Rattle.delegations.specs.Verdicts.{AreTrue, Costs};
 ghost use Rattle.delegations.specs.Views as searches;
 ghost use Rattle.metadata.specs.FileViews.{root_file, snapshot_file};
 ghost use Rattle.denials.specs.Orders as orders;
@@ -8,6 +9,7 @@ ghost use Rattle.metadata.specs.Views.{listing_view};
 ghost use Rattle.path_patterns.specs.Grammar.{IsTargetPath};
 ghost use Rattle.machine.specs.Answers.{Gives};
 ghost use Rattle.machine.specs.Commands as commands;
+ghost use Rattle.machine.specs.Knowing.{ChecksFew};
 ghost use Rattle.machine.specs.Views.{parts_view};
 
 use crate::blobs::blob_of;
@@ -17,7 +19,7 @@ use crate::liveness::live_snapshot;
 use crate::parts::Parts;
 use crate::refusal::Refusal;
 use crate::state::State;
-use delegations::{Found, Rows, SearchDenial, Shelf, search};
+use delegations::{Found, Rows, SearchDenial, Shelf, Steps, Verdicts, search_with_counted};
 use denials::Denial;
 use metadata::{File, Listing, Moment, Root, Snapshot};
 use path_patterns::{Digest, TargetPath};
@@ -35,7 +37,23 @@ pub fn get<'a>(
 ) -> Result<&'a [u8], Refusal>
     ensures { Gives (commands.grants state.now.state path.now None now) (λ b. b.now) result }
 {
-    granted(alloc, state, path, None, now)
+    get_counted(alloc, state, path, now, &mut Steps::new())
+}
+
+/// The same, with one tick for each signature that is checked: at most as many as the search meets of which nothing is known.
+pub fn get_counted<'a>(
+    alloc: Global,
+    state: &'a State,
+    path: &TargetPath,
+    now: Moment,
+    checks: &mut Steps,
+) -> Result<&'a [u8], Refusal>
+    requires { checks.old < 2 ^ 63 }
+    ensures answer { Gives (commands.grants state.now.state path.now None now) (λ b. b.now) result }
+    ensures grows { checks.old ≤ checks.new }
+    ensures few { ChecksFew state.now.state.trusted.root state.now.state.trusted.snapshot state.now.state.trusted.shelf state.now.verdicts path.now now (checks.new - checks.old) }
+{
+    granted(alloc, state, path, None, now, checks)
 }
 
 /// The file of a target that a text names, at a moment, as `get` finds it; and where a digest is asked for, only the file of a
@@ -53,7 +71,7 @@ pub fn target<'a>(
     let Some(path) = TargetPath::read(alloc, path)? else {
         return Err(Refusal::Denied(Denial::BadPath));
     };
-    granted(alloc, state, &path, asked, now)
+    granted(alloc, state, &path, asked, now, &mut Steps::new())
 }
 
 // The file of a target, with the digest that is asked for, if one is.
@@ -63,8 +81,12 @@ fn granted<'a>(
     path: &TargetPath,
     asked: Option<Digest>,
     now: Moment,
+    checks: &mut Steps,
 ) -> Result<&'a [u8], Refusal>
-    ensures { Gives (commands.grants state.now.state path.now (option_map (λ d. d.0) asked) now) (λ b. b.now) result }
+    requires { checks.old < 2 ^ 63 }
+    ensures answer { Gives (commands.grants state.now.state path.now (option_map (λ d. d.0) asked) now) (λ b. b.now) result }
+    ensures grows { checks.old ≤ checks.new }
+    ensures few { ChecksFew state.now.state.trusted.root state.now.state.trusted.snapshot state.now.state.trusted.shelf state.now.verdicts path.now now (checks.new - checks.old) }
 {
     is_path(path);
     let parts = state.parts();
@@ -72,7 +94,8 @@ fn granted<'a>(
         return Err(Refusal::Denied(Denial::NoRoot));
     };
     let snapshot = live_snapshot(parts.timestamp.as_ref(), parts.snapshot.as_ref(), root, now)?;
-    let found = find(alloc, parts, root, snapshot, path, now)?;
+    let shelf = Shelf::new(&root.body, &snapshot.body, held_rows(parts));
+    let found = find(alloc, &shelf, state.verdicts(), path, now, checks)?;
     asked_blob(alloc, parts, path, found.listing, asked)
 }
 
@@ -83,19 +106,22 @@ fn is_path(path: &TargetPath)
     path.as_str();
 }
 
-// What the search finds under a root and a snapshot.
+// What the search finds on the shelf.
 fn find<'a>(
     alloc: Global,
-    parts: &'a Parts,
-    root: &'a File<Root>,
-    snapshot: &'a File<Snapshot>,
+    shelf: &Shelf<'a>,
+    known: &Verdicts,
     path: &TargetPath,
     now: Moment,
+    checks: &mut Steps,
 ) -> Result<Found<'a>, Refusal>
-    ensures { Gives (search (shelf_of (root_file root.now) (snapshot_file snapshot.now) (parts_view parts.now).trusted.shelf) path.now now) searches.found_view result }
+    requires sound { AreTrue (searches.shelf_view shelf.now).rows known.now }
+    requires room { checks.old < 2 ^ 63 }
+    ensures answer { Gives (search (searches.shelf_view shelf.now) path.now now) searches.found_view result }
+    ensures grows { checks.old ≤ checks.new }
+    ensures costs { Costs (searches.shelf_view shelf.now) known.now path.now now (checks.new - checks.old) }
 {
-    let shelf = Shelf::new(&root.body, &snapshot.body, held_rows(parts));
-    match search(&shelf, path, now) {
+    match search_with_counted(shelf, known, path, now, checks) {
         Ok(found) => Ok(found),
         Err(denial) => Err(search_refusal(alloc, denial)),
     }

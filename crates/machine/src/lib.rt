@@ -10,6 +10,7 @@ mod draft;
 mod effects;
 mod files;
 mod getting;
+mod knowing;
 mod laws;
 mod liveness;
 mod loading;
@@ -30,10 +31,12 @@ pub use batches::batch;
 pub use blobs::put_blob;
 pub use calls::{init, offer};
 pub use contents::Contents;
-pub use delegations::{File, Moment, RoleName, Root, Row, Snapshot, TargetPath, Targets};
+pub use delegations::{
+    File, Moment, RoleName, Root, Row, Snapshot, Steps, TargetPath, Targets, Verdicts,
+};
 pub use denials::Denial;
 pub use effects::{Blob, Effects};
-pub use getting::{get, target};
+pub use getting::{get, get_counted, target};
 pub use laws::{nothing_is_valid, one_judgement, rows_stay, stays_coherent, stays_valid};
 pub use metadata::{Digest, Timestamp};
 pub use names::metadata_file;

@@ -2,6 +2,7 @@
 ghost use Rattle.metadata.specs.FileViews.{root_file, timestamp_file, snapshot_file};
 ghost use Rattle.machine.specs.Answers.{Gives};
 ghost use Rattle.machine.specs.Commands as commands;
+ghost use Rattle.std.specs.Prelude.{◌≡◌, Some, IfOk};
 ghost use Rattle.std.specs.Option.{option_map};
 
 use crate::checks::names_snapshot;
@@ -36,8 +37,9 @@ pub(crate) fn live_snapshot<'a>(
     root: &File<Root>,
     now: Moment,
 ) -> Result<&'a File<Snapshot>, Refusal>
-    ensures { Gives (commands.live_snapshot (option_map (λ f. timestamp_file f.now) timestamp.entry) (option_map (λ f. snapshot_file f.now) snapshot.entry) (root_file root.now) now)
+    ensures answer { Gives (commands.live_snapshot (option_map (λ f. timestamp_file f.now) timestamp.entry) (option_map (λ f. snapshot_file f.now) snapshot.entry) (root_file root.now) now)
         (λ f. snapshot_file f.now) result }
+    ensures held { IfOk result (λ f. snapshot.entry ≡ Some f) }
 {
     let timestamp = live_timestamp(timestamp, root, now)?;
     let Some(snapshot) = snapshot else {

@@ -13,6 +13,7 @@ ghost use Rattle.machine.specs.Views.{blob_views, effects_view};
 use crate::blobs::{is_digest_of, is_short};
 use crate::checks::is_signed;
 use crate::effects::{Blob, Effects};
+use crate::knowing::effects_with_verdicts;
 use crate::state::State;
 use crate::taking::{is_before, is_place_before};
 use delegations::Row;
@@ -290,6 +291,7 @@ pub(crate) fn settle(alloc: Global, files: Effects) -> Result<Option<State>, All
         return Ok(None);
     }
     let mut state = State::new(alloc);
+    let files = effects_with_verdicts(alloc, &state, files)?;
     state.room(&files)?;
     state.take(files);
     Ok(Some(state))

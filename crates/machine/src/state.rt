@@ -2,6 +2,7 @@
 ghost use Rattle.std.specs.Prelude.{◌≡◌, ◌≤◌, ◌<◌, IfOk, OnOk};
 ghost use Rattle.machine.specs.State.{IsState, nothing};
 ghost use Rattle.machine.specs.Effects.{applied};
+ghost use Rattle.machine.specs.Knowing.{IsKnown};
 ghost use Rattle.machine.specs.Views.{parts_view, effects_view};
 ghost use Rattle.machine.specs.Room.{places, room_of};
 
@@ -9,25 +10,29 @@ use crate::effects::Effects;
 use crate::laws::nothing_is_valid;
 use crate::parts::Parts;
 use crate::taking::take_all;
+use delegations::Verdicts;
 use std::alloc::{AllocError, Global};
 use std::marker::Model;
 
-/// What a repository trusts, and the blobs that it holds. A clause sees that, and how much more can be kept without memory.
+/// What a repository trusts, and the blobs that it holds. A clause sees that, how much more can be kept without memory, and what is
+/// known of the signatures on the shelf: the truth, of each that a search may meet where these are at most 2,048.
 #[derive(Drop)]
 pub struct State {
     parts: Parts,
+    verdicts: Verdicts,
 }
 
 impl Model for State {
+    ghost use Rattle.machine.specs.Knowing.{IsKnown};
     ghost use Rattle.machine.specs.State.{IsState};
     ghost use Rattle.machine.specs.Views.{parts_view};
     ghost use Rattle.machine.specs.Room.{WithRoom, with_room};
 
     ghost Value = { WithRoom };
 
-    ghost view = { λ s. with_room s.parts };
+    ghost view = { λ s. with_room s.parts s.verdicts };
 
-    ghost invariant = { λ s. IsState (parts_view s.parts) };
+    ghost invariant = { λ s. (IsState (parts_view s.parts)) × (IsKnown (parts_view s.parts).trusted s.verdicts) };
 }
 
 impl State {
@@ -38,6 +43,7 @@ impl State {
         nothing_is_valid();
         State {
             parts: no_parts(alloc),
+            verdicts: Verdicts::new(alloc),
         }
     }
 
@@ -52,10 +58,12 @@ impl State {
     /// Makes these changes, for which there is room. It takes no memory.
     pub fn take(&mut self, effects: Effects)
         requires valid { IsState (applied self.old.state (effects_view effects)) }
+        requires known { IsKnown (applied self.old.state (effects_view effects)).trusted effects.verdicts }
         requires room { places (effects_view effects) ≤ self.old.room }
-        ensures { self.new.state ≡ applied self.old.state (effects_view effects) }
+        ensures state { self.new.state ≡ applied self.old.state (effects_view effects) }
+        ensures verdicts { self.new.verdicts ≡ effects.verdicts }
     {
-        take_all(&mut self.parts, effects);
+        self.verdicts = take_all(&mut self.parts, effects);
     }
 
     /// A law, which does nothing: what a state holds is valid.
@@ -63,6 +71,20 @@ impl State {
         ensures { IsState self.now.state }
     {
         self.parts();
+    }
+
+    /// A law, which does nothing: what is known of the signatures on the shelf is true, and is all that a search may meet.
+    pub fn is_known(&self)
+        ensures { IsKnown self.now.state.trusted self.now.verdicts }
+    {
+        self.verdicts();
+    }
+
+    pub(crate) fn verdicts(&self) -> &Verdicts
+        ensures view { result.now ≡ self.now.verdicts }
+        ensures known { IsKnown self.now.state.trusted self.now.verdicts }
+    {
+        &self.verdicts
     }
 
     pub(crate) fn parts(&self) -> &Parts

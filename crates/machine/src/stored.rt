@@ -17,7 +17,7 @@ use crate::effects::{Blob, Effects};
 use crate::loading::settle;
 use crate::state::State;
 use contents::Contents;
-use delegations::Row;
+use delegations::{Row, Verdicts};
 use metadata::{
     File, Root, ShapeFault, Snapshot, Timestamp, one_document, one_shape, read_root_file,
     read_snapshot_file, read_targets_file, read_timestamp_file,
@@ -72,6 +72,7 @@ fn read_files(alloc: Global, contents: Contents) -> Result<Option<Effects>, Allo
         snapshot,
         rows,
         blobs,
+        verdicts: Verdicts::new(alloc),
     }))
 }
 

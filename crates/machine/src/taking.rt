@@ -11,7 +11,7 @@ ghost use Rattle.machine.specs.Room.{places, room_of};
 
 use crate::effects::{Blob, Effects};
 use crate::parts::Parts;
-use delegations::Row;
+use delegations::{Row, Verdicts};
 use metadata::{File, Root};
 use path_patterns::{Digest, RoleName};
 
@@ -186,10 +186,11 @@ fn take_blobs(blobs: &mut Vec<Blob>, more: Vec<Blob>)
     }
 }
 
-/// Puts changes into what is kept, for which there is room.
-pub(crate) fn take_all(parts: &mut Parts, effects: Effects)
+/// Puts changes into what is kept, for which there is room. The answer is what is known after them.
+pub(crate) fn take_all(parts: &mut Parts, effects: Effects) -> Verdicts
     requires { places (effects_view effects) ≤ room_of parts.old }
-    ensures { parts_view parts.new ≡ applied (parts_view parts.old) (effects_view effects) }
+    ensures parts { parts_view parts.new ≡ applied (parts_view parts.old) (effects_view effects) }
+    ensures verdicts { result ≡ effects.verdicts }
 {
     let Effects {
         roots,
@@ -198,6 +199,7 @@ pub(crate) fn take_all(parts: &mut Parts, effects: Effects)
         snapshot,
         rows,
         blobs,
+        verdicts,
     } = effects;
     take_roots(&mut parts.earlier, &mut parts.root, roots);
     renew(&mut parts.timestamp, emptied, timestamp);
@@ -205,4 +207,5 @@ pub(crate) fn take_all(parts: &mut Parts, effects: Effects)
     empty_if(emptied, &mut parts.shelf);
     take_rows(&mut parts.shelf, rows);
     take_blobs(&mut parts.blobs, blobs);
+    verdicts
 }

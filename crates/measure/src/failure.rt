@@ -9,7 +9,8 @@ use std::alloc::AllocError;
 use std::{fmt, io};
 
 const USAGE: &str =
-    "usage: measure canon FILE N | measure lms N | measure documents N | measure get N   (N from 1 to 4294967295)
+    "usage: measure canon FILE N | measure lms N | measure documents N | measure get N | measure patterns N
+    (N from 1 to 4294967295)
   canon FILE N   reads and writes the canonical JSON of FILE, each N times, and prints the bytes per second of
                  each: `read B` and `write B`
   lms N          signs once and verifies N times with each LM-OTS type at height 5, and prints the signings,
@@ -23,7 +24,10 @@ const USAGE: &str =
                  signature checks of a search, the searches without that check, the findings of the held file, the last
                  two together (so a target without its signature check), and the share of the check in the time of a
                  target in hundredths:
-                 `w4 listings L blobs B get G search S check C lookups U held H without W share P`";
+                 `w4 listings L blobs B get G search S check C lookups U held H without W share P`
+  patterns N     holds a usual pattern against a usual path, and `*a*a*a*b` and the pattern of 99 such stars against a path
+                 of 200 letters a, each N times, and prints how many times per second: `usual match R`, `three match R`
+                 and `most match R`";
 
 /// Why nothing was measured.
 #[derive(Debug, Clone, Copy, PartialEq, Eq)]

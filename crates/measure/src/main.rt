@@ -6,6 +6,7 @@ mod documents;
 mod failure;
 mod get_rates;
 mod lms_rates;
+mod pattern_rates;
 mod rate;
 mod repository;
 mod task;
@@ -34,5 +35,6 @@ fn run(rt: &(impl Env + Files + Clock + Print + AllocGlobal)) -> Result<(), Fail
         Task::Lms { rounds } => lms_rates::measure(rt, rounds),
         Task::Documents { rounds } => documents::measure(rt, rounds),
         Task::Get { rounds } => get_rates::measure(rt, rounds),
+        Task::Patterns { rounds } => pattern_rates::measure(rt, rounds),
     }
 }

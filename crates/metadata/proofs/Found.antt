@@ -1,7 +1,7 @@
 -- What the members that are found say of all of their name, and of the whole.
 use Rattle.std.proofs.Common.{◌≡◌, ℕ, List, [], ◌∷◌, Option, Some, None, codes, sym, ap, subst, ◌∙◌}
 use Rattle.std.proofs.lemmas.List.{append_cancel_right}
-use Rattle.canonical_json.specs.Json.{Json, object, Members, no_members, member, HasMember, EachMember, names}
+use Rattle.canonical_json.specs.Json.{Json, object, Items, item, Members, no_members, member, HasMember, EachItem, EachMember, names}
 use Rattle.canonical_json.specs.Spelling.{IsProper, IsSound}
 use Rattle.metadata.specs.Documents.{LayoutReference}
 use Rattle.metadata.specs.Members.{Has, HasJust}
@@ -29,6 +29,9 @@ just_one v name h =
 -- each is of the grammar, and so the first and those behind it
 pub each_proper : (rest later : Members) (n : List ℕ) (v : Json) → rest ≡ member n v later → EachMember IsSound rest → IsProper v × EachMember IsSound later
 each_proper rest later n v at p = subst (λ (ms : Members). EachMember IsSound ms) at p
+
+pub each_item_proper : (rest later : Items) (v : Json) → rest ≡ item v later → EachItem IsSound rest → IsProper v × EachItem IsSound later
+each_item_proper rest later v at p = subst (λ (vs : Items). EachItem IsSound vs) at p
 
 -- ---- rows and listings
 

@@ -7,7 +7,7 @@ use Rattle.std.proofs.Math.Seq.{append_snoc}
 use Rattle.canonical_json.specs.Json.{Json, array, object, Items, no_items, item, Members, no_members, member}
 use Rattle.canonical_json.specs.View.{items_view, members_view}
 use Rattle.canonical_json.specs.declared.Value.{Value}
-use Rattle.metadata.specs.Members.{ItemsAre, MembersAre}
+use Rattle.metadata.specs.Members.{ItemsAre, IsArray, MembersAre}
 
 module _ {A : Type 0} (R : Json → A → Type 0) where
   -- what is read so far, followed by what the rest is read as, is what all is read as
@@ -118,3 +118,8 @@ pub same_items : (v : Json) (vs ws : Items) → v ≡ array vs → v ≡ array w
 same_items v vs ws h k =
     let both : array vs ≡ array ws = sym h ∙ k in
     cc
+
+-- a list has as many items as it is read as
+pub array_len : {A : Type 0} (R : Json → A → Type 0) (v : Json) (items : List Value) (xs : List A) → v ≡ array (items_view items) → IsArray R v xs → length xs ≡ length items
+array_len R v items xs is h =
+    items_len R items xs (subst (λ (vs : Items). ItemsAre R vs xs) (same_items v h.0 (items_view items) h.1 is) h.2)

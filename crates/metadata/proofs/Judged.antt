@@ -25,42 +25,42 @@ AreNamed b = AllByRecursion NamesAreIds (tables b)
 
 -- ---- bodies by their kinds
 
-root_in : (v : Json) (b : Body) → IsBody kinds.Root v b → (r : Root) × IsRoot v r
-root_in v (root r) h = (r, h)
-root_in v (timestamp t) h = absurd h
-root_in v (snapshot s) h = absurd h
-root_in v (targets t) h = absurd h
+root_in : (es : List Signature) (v : Json) (b : Body) → IsBody kinds.Root es v b → (r : Root) × IsRoot v r
+root_in es v (root r) h = (r, h)
+root_in es v (timestamp t) h = absurd h
+root_in es v (snapshot s) h = absurd h
+root_in es v (targets t) h = absurd h
 
-timestamp_in : (v : Json) (b : Body) → IsBody kinds.Timestamp v b → (t : Timestamp) × IsTimestamp v t
-timestamp_in v (root r) h = absurd h
-timestamp_in v (timestamp t) h = (t, h)
-timestamp_in v (snapshot s) h = absurd h
-timestamp_in v (targets t) h = absurd h
+timestamp_in : (es : List Signature) (v : Json) (b : Body) → IsBody kinds.Timestamp es v b → (t : Timestamp) × IsTimestamp v t
+timestamp_in es v (root r) h = absurd h
+timestamp_in es v (timestamp t) h = (t, h)
+timestamp_in es v (snapshot s) h = absurd h
+timestamp_in es v (targets t) h = absurd h
 
-snapshot_in : (v : Json) (b : Body) → IsBody kinds.Snapshot v b → (s : Snapshot) × IsSnapshot v s
-snapshot_in v (root r) h = absurd h
-snapshot_in v (timestamp t) h = absurd h
-snapshot_in v (snapshot s) h = (s, h)
-snapshot_in v (targets t) h = absurd h
+snapshot_in : (es : List Signature) (v : Json) (b : Body) → IsBody kinds.Snapshot es v b → (s : Snapshot) × IsSnapshot v s
+snapshot_in es v (root r) h = absurd h
+snapshot_in es v (timestamp t) h = absurd h
+snapshot_in es v (snapshot s) h = (s, h)
+snapshot_in es v (targets t) h = absurd h
 
-targets_in : (v : Json) (b : Body) → IsBody kinds.Targets v b → (t : Targets) × IsTargets v t
-targets_in v (root r) h = absurd h
-targets_in v (timestamp t) h = absurd h
-targets_in v (snapshot s) h = absurd h
-targets_in v (targets t) h = (t, h)
+targets_in : (es : List Signature) (v : Json) (b : Body) → IsBody kinds.Targets es v b → (t : Targets) × IsTargets v t
+targets_in es v (root r) h = absurd h
+targets_in es v (timestamp t) h = absurd h
+targets_in es v (snapshot s) h = absurd h
+targets_in es v (targets t) h = (t, h)
 
-pub root_faulty : (v : Json) (e : ShapeFault) → IsFaulty (IsRoot v) (λ r. NamesAreIds r.keys) e → IsFaulty (IsBody kinds.Root v) AreNamed e
-root_faulty v e (inl h) = inl (ill_again e h (λ b. root_in v b.0 b.1))
-root_faulty v e (inr h) = inr (h.0, (root h.1.0, h.1.1, λ all. h.1.2 all.0))
+pub root_faulty : (es : List Signature) (v : Json) (e : ShapeFault) → IsFaulty (IsRoot v) (λ r. NamesAreIds r.keys) e → IsFaulty (IsBody kinds.Root es v) AreNamed e
+root_faulty es v e (inl h) = inl (ill_again e h (λ b. root_in es v b.0 b.1))
+root_faulty es v e (inr h) = inr (h.0, (root h.1.0, h.1.1, λ all. h.1.2 all.0))
 
-pub timestamp_faulty : (v : Json) → ((t : Timestamp) → IsTimestamp v t → ⊥) → IsFaulty (IsBody kinds.Timestamp v) AreNamed WrongShape
-timestamp_faulty v none = inl (inr (refl, λ b. let t = timestamp_in v b.0 b.1 in none t.0 t.1))
+pub timestamp_faulty : (es : List Signature) (v : Json) → ((t : Timestamp) → IsTimestamp v t → ⊥) → IsFaulty (IsBody kinds.Timestamp es v) AreNamed WrongShape
+timestamp_faulty es v none = inl (inr (refl, λ b. let t = timestamp_in es v b.0 b.1 in none t.0 t.1))
 
-pub snapshot_faulty : (v : Json) (e : ShapeFault) → IsIll ((s : Snapshot) × IsSnapshot v s) e → IsFaulty (IsBody kinds.Snapshot v) AreNamed e
-snapshot_faulty v e h = inl (ill_again e h (λ b. snapshot_in v b.0 b.1))
+pub snapshot_faulty : (es : List Signature) (v : Json) (e : ShapeFault) → IsIll ((s : Snapshot) × IsSnapshot v s) e → IsFaulty (IsBody kinds.Snapshot es v) AreNamed e
+snapshot_faulty es v e h = inl (ill_again e h (λ b. snapshot_in es v b.0 b.1))
 
-pub targets_faulty : (v : Json) (e : ShapeFault) → IsIll ((t : Targets) × IsTargets v t) e → IsFaulty (IsBody kinds.Targets v) AreNamed e
-targets_faulty v e h = inl (ill_again e h (λ b. targets_in v b.0 b.1))
+pub targets_faulty : (es : List Signature) (v : Json) (e : ShapeFault) → IsIll ((t : Targets) × IsTargets v t) e → IsFaulty (IsBody kinds.Targets es v) AreNamed e
+targets_faulty es v e h = inl (ill_again e h (λ b. targets_in es v b.0 b.1))
 
 -- listings without layouts have no tables
 pub no_tables : (ls : List Listing) → AllByRecursion NamesAreIds (flat_map (λ l. reference_tables l.layout) (map listing_view ls))
@@ -81,14 +81,15 @@ other_type kind v entries signed type_name envelope other =
     inr (λ bytes file. (entries, signed, type_name, record { value = v; file = file; envelope = envelope }, other))
 
 pub bad_body : (kind : Kind) (v : Json) (entries : List Signature) (signed : Json) (type_name : List ℕ) (e : ShapeFault)
-    → IsProper v → IsEnvelope v entries signed type_name → type_name ≡ kind_name kind → IsFaulty (IsBody kind signed) AreNamed e → IsFaultOf kind v e
+    → IsProper v → IsEnvelope v entries signed type_name → type_name ≡ kind_name kind → IsFaulty (IsBody kind entries signed) AreNamed e → IsFaultOf kind v e
 bad_body kind v entries signed type_name e proper envelope same (inl (inl h)) = inl h
 bad_body kind v entries signed type_name e proper envelope same (inl (inr h)) = inr (λ bytes file. subst (λ (f : ShapeFault). IsShapeFault kind bytes f) (sym h.0) (
   v,
   file,
   (λ entries' signed' envelope' body is.
       let one = envelope-once v entries entries' signed signed' type_name (kind_name kind) proper envelope envelope' in
-      h.1 (body, subst (λ (z : Json). IsBody kind z body) (sym one.part) is)),
+      let part = subst (λ (z : Json). IsBody kind entries' z body) (sym one.part) is in
+      h.1 (body, subst (λ (z : List Signature). IsBody kind z signed body) (sym one.entries) part)),
   (λ entries' signed' type_name' envelope'.
       let one = envelope-once v entries entries' signed signed' type_name type_name' proper envelope envelope' in
       sym one.type_name ∙ same),

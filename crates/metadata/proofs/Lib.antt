@@ -1,6 +1,8 @@
 pub mod BodiesOnce
 pub mod Congruence
+pub mod CoversLaw
 pub mod DateTexts
+pub mod DelegationsOnce
 pub mod DeniedShapes
 pub mod Elements
 pub mod Found
@@ -16,4 +18,5 @@ pub mod Once
 pub mod OneDocument
 pub mod PartsOnce
 pub mod RootRoles
+pub mod OneOfTwo
 pub mod SnapshotNames

@@ -1,12 +1,12 @@
 -- Ids, and the names of a table.
-use Rattle.std.proofs.Common.{◌≡◌, ℕ, List, [], ◌∷◌, map, codes, inl, inr, subst, refl, sym, Bool, true, false, not}
+use Rattle.std.proofs.Common.{◌≡◌, ◌<◌, ℕ, zero, suc, List, [], ◌∷◌, length, get_or, arith, map, codes, inl, inr, subst, refl, sym, Bool, true, false, not}
 use Rattle.std.specs.List.{AllByRecursion, Contains}
 use Rattle.keys_roles.specs.Plain.{Table, RoleRule}
 use Rattle.keys_roles.specs.steps.Counting.{IsIn}
 use Rattle.path_patterns.specs.Grammar.{IsHex}
 use Rattle.canonical_json.specs.Json.{Json}
 use Rattle.canonical_json.specs.Spelling.{IsProper}
-use Rattle.metadata.specs.Documents.{Root}
+use Rattle.metadata.specs.Documents.{Root, Delegation}
 use Rattle.metadata.specs.steps.Faults.{IsMisnamed, IsFaulty}
 use Rattle.metadata.specs.Members.{Has}
 use Rattle.metadata.specs.Parts.{IsTable, NamesAreIds, NamesAreHex, IsRuleOver}
@@ -47,3 +47,15 @@ same_roles v keys r p h is =
 pub not_false : (b : Bool) → not b ≡ false → b ≡ true
 not_false true h = refl
 not_false false h = sym h
+
+-- the rules of delegations over a table of hex names have hex ids
+pub each_ids_hex : (table : Table) (ds : List Delegation) → AllByRecursion (λ d. IsRuleOver table d.rule) ds → NamesAreHex table
+    → AllByRecursion (λ d. AllByRecursion (IsHex 64) d.rule.keyids) ds
+each_ids_hex table [] over all = tt
+each_ids_hex table (d ∷ ds) over all = (ids_hex table d.rule over.0 all, each_ids_hex table ds over.1 all)
+
+-- what holds of each holds of the one at a place
+pub each_at : {A B : Type 0} (f : A → B) (P : B → Type 0) (xs : List A) (n : ℕ) (x : A) → AllByRecursion P (map f xs) → n < length xs → x ≡ get_or xs n x → P (f x)
+each_at f P [] n x all below e = absurd (omega (arith, below))
+each_at f P (y ∷ ys) zero x all below e = subst (λ z. P (f z)) (sym e) all.0
+each_at f P (y ∷ ys) (suc n) x all below e = each_at f P ys n x all.1 (omega (arith, below)) e

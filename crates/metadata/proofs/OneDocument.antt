@@ -17,35 +17,35 @@ use Rattle.metadata.proofs.Once.{has-once, array-once, text-once}
 use Rattle.metadata.proofs.PartsOnce.{signature-once}
 use Rattle.metadata.proofs.BodiesOnce.{root-once, timestamp-once, snapshot-once, targets-once}
 
-body-once : (kind : Kind) (signed : Json) (a b : Body) → IsProper signed → IsBody kind signed a → IsBody kind signed b → a ≡ b
-body-once kinds.Root signed (root a) (root b) p h k = ap root (root-once signed a b p h k)
-body-once kinds.Root signed (root a) (timestamp b) p h k = absurd k
-body-once kinds.Root signed (root a) (snapshot b) p h k = absurd k
-body-once kinds.Root signed (root a) (targets b) p h k = absurd k
-body-once kinds.Root signed (timestamp a) b p h k = absurd h
-body-once kinds.Root signed (snapshot a) b p h k = absurd h
-body-once kinds.Root signed (targets a) b p h k = absurd h
-body-once kinds.Timestamp signed (root a) b p h k = absurd h
-body-once kinds.Timestamp signed (timestamp a) (root b) p h k = absurd k
-body-once kinds.Timestamp signed (timestamp a) (timestamp b) p h k = ap timestamp (timestamp-once signed a b p h k)
-body-once kinds.Timestamp signed (timestamp a) (snapshot b) p h k = absurd k
-body-once kinds.Timestamp signed (timestamp a) (targets b) p h k = absurd k
-body-once kinds.Timestamp signed (snapshot a) b p h k = absurd h
-body-once kinds.Timestamp signed (targets a) b p h k = absurd h
-body-once kinds.Snapshot signed (root a) b p h k = absurd h
-body-once kinds.Snapshot signed (timestamp a) b p h k = absurd h
-body-once kinds.Snapshot signed (snapshot a) (root b) p h k = absurd k
-body-once kinds.Snapshot signed (snapshot a) (timestamp b) p h k = absurd k
-body-once kinds.Snapshot signed (snapshot a) (snapshot b) p h k = ap snapshot (snapshot-once signed a b p h k)
-body-once kinds.Snapshot signed (snapshot a) (targets b) p h k = absurd k
-body-once kinds.Snapshot signed (targets a) b p h k = absurd h
-body-once kinds.Targets signed (root a) b p h k = absurd h
-body-once kinds.Targets signed (timestamp a) b p h k = absurd h
-body-once kinds.Targets signed (snapshot a) b p h k = absurd h
-body-once kinds.Targets signed (targets a) (root b) p h k = absurd k
-body-once kinds.Targets signed (targets a) (timestamp b) p h k = absurd k
-body-once kinds.Targets signed (targets a) (snapshot b) p h k = absurd k
-body-once kinds.Targets signed (targets a) (targets b) p h k = ap targets (targets-once signed a b p h k)
+body-once : (kind : Kind) (entries : List Signature) (signed : Json) (a b : Body) → IsProper signed → IsBody kind entries signed a → IsBody kind entries signed b → a ≡ b
+body-once kinds.Root entries signed (root a) (root b) p h k = ap root (root-once signed a b p h k)
+body-once kinds.Root entries signed (root a) (timestamp b) p h k = absurd k
+body-once kinds.Root entries signed (root a) (snapshot b) p h k = absurd k
+body-once kinds.Root entries signed (root a) (targets b) p h k = absurd k
+body-once kinds.Root entries signed (timestamp a) b p h k = absurd h
+body-once kinds.Root entries signed (snapshot a) b p h k = absurd h
+body-once kinds.Root entries signed (targets a) b p h k = absurd h
+body-once kinds.Timestamp entries signed (root a) b p h k = absurd h
+body-once kinds.Timestamp entries signed (timestamp a) (root b) p h k = absurd k
+body-once kinds.Timestamp entries signed (timestamp a) (timestamp b) p h k = ap timestamp (timestamp-once signed a b p h k)
+body-once kinds.Timestamp entries signed (timestamp a) (snapshot b) p h k = absurd k
+body-once kinds.Timestamp entries signed (timestamp a) (targets b) p h k = absurd k
+body-once kinds.Timestamp entries signed (snapshot a) b p h k = absurd h
+body-once kinds.Timestamp entries signed (targets a) b p h k = absurd h
+body-once kinds.Snapshot entries signed (root a) b p h k = absurd h
+body-once kinds.Snapshot entries signed (timestamp a) b p h k = absurd h
+body-once kinds.Snapshot entries signed (snapshot a) (root b) p h k = absurd k
+body-once kinds.Snapshot entries signed (snapshot a) (timestamp b) p h k = absurd k
+body-once kinds.Snapshot entries signed (snapshot a) (snapshot b) p h k = ap snapshot (snapshot-once signed a b p h k)
+body-once kinds.Snapshot entries signed (snapshot a) (targets b) p h k = absurd k
+body-once kinds.Snapshot entries signed (targets a) b p h k = absurd h
+body-once kinds.Targets entries signed (root a) b p h k = absurd h
+body-once kinds.Targets entries signed (timestamp a) b p h k = absurd h
+body-once kinds.Targets entries signed (snapshot a) b p h k = absurd h
+body-once kinds.Targets entries signed (targets a) (root b) p h k = absurd k
+body-once kinds.Targets entries signed (targets a) (timestamp b) p h k = absurd k
+body-once kinds.Targets entries signed (targets a) (snapshot b) p h k = absurd k
+body-once kinds.Targets entries signed (targets a) (targets b) p h k = ap targets (targets-once signed a b p h k)
 
 -- the parts of a file's envelope
 pub record SameEnvelope (es fs : List Signature) (x y : Json) (t u : List ℕ) : Type 0 where
@@ -91,8 +91,9 @@ module _ (one_value : OneValue) where
   reading-once kind bytes d e h k =
       let same = signed-once bytes d.entries e.entries h.part k.part (kind_name kind) (kind_name kind) h.file k.file in
       let signed : d.signed ≡ e.signed = h.signed ∙ (ap spelling same.part ∙ sym k.signed) in
-      let other : IsBody kind h.part e.body = subst (λ (z : Json). IsBody kind z e.body) (sym same.part) k.body in
-      same3 make same.entries signed (body-once kind h.part d.body e.body same.proper h.body other)
+      let part : IsBody kind e.entries h.part e.body = subst (λ (z : Json). IsBody kind e.entries z e.body) (sym same.part) k.body in
+      let other : IsBody kind d.entries h.part e.body = subst (λ (z : List Signature). IsBody kind z h.part e.body) (sym same.entries) part in
+      same3 make same.entries signed (body-once kind d.entries h.part d.body e.body same.proper h.body other)
 
   pub document-once : (kind : Kind) (bytes : List ℕ) (d e : Document) → IsDocument kind bytes d → IsDocument kind bytes e → d ≡ e
   document-once kind bytes d e h k = reading-once kind bytes d e h.read k.read

@@ -1,13 +1,14 @@
 -- What the signed part of each kind of document is (TUF 1.0, sections 4.3 to 4.6; this project's profile). Members that are
 -- not named here may stand beside those that are, except where `HasJust` or an equation says otherwise. No delegations and
 -- no layouts are judged yet: a document that has any is none.
-use Rattle.std.specs.Prelude.{◌≡◌, ◌≢◌, ℕ, ◌≤◌, List, [], ◌∷◌, ◌++◌, length, codes, true, Option, Some, None, map, Contains, ◌⊎◌}
+use Rattle.std.specs.Prelude.{◌≡◌, ◌≢◌, ℕ, ◌<◌, ◌≤◌, List, [], ◌∷◌, ◌++◌, length, codes, true, Option, Some, None, map, Contains, ◌⊎◌}
 use Rattle.std.specs.List.{AllByRecursion}
 use Rattle.canonical_json.specs.Json.{Json, boolean, HasMember, object, Members}
-use Rattle.path_patterns.specs.Grammar.{IsTargetPath, IsName}
+use Rattle.path_patterns.specs.Grammar.{IsTargetPath, IsName, IsPattern, IsHashPrefix}
 use Rattle.keys_roles.specs.Plain.{Table, RoleRule}
-use Rattle.metadata.specs.Documents.{Root, Timestamp, Snapshot, MetaFile, LayoutReference, Listing, Targets}
-use Rattle.metadata.specs.Members.{Has, HasJust, IsObject}
+use Rattle.keys_roles.specs.Rules.{AreDistinct}
+use Rattle.metadata.specs.Documents.{Root, Timestamp, Snapshot, MetaFile, LayoutReference, Listing, Scope, patterns, prefixes, Delegation, Delegations, Targets}
+use Rattle.metadata.specs.Members.{Has, HasJust, IsArray, IsObject, IsText}
 use Rattle.metadata.specs.Parts.{IsVersion, IsLength, HasExpires, IsSpecVersion, IsHashes, IsTable, HasRule, IsMetaFile}
 
 -- the names of the four roles that delegations can't give
@@ -94,6 +95,49 @@ IsListing path v l =
     × Has v (codes "length") (λ x. IsLength x l.len)
     × Has v (codes "hashes") (λ x. IsHashes x l.digest)
     × HasLayoutReference v l.layout
+
+-- a text of a grammar
+abbrev pub IsTextOf : (List ℕ → Type 0) → Json → List ℕ → Type 0
+IsTextOf Grammar v t = IsText v t × Grammar t
+
+-- the most patterns, or prefixes, of a delegation
+abbrev pub max_scope : ℕ
+max_scope = 64
+
+-- a list of such texts, neither empty nor too long
+abbrev pub AreTextsOf : (List ℕ → Type 0) → Json → List (List ℕ) → Type 0
+AreTextsOf Grammar v ts = IsArray (IsTextOf Grammar) v ts × (0 < length ts) × (length ts ≤ max_scope)
+
+-- what a delegation covers: just one of the two members
+abbrev pub HasScope : Json → Scope → Type 0
+HasScope v (patterns ps) = Has v (codes "paths") (λ x. AreTextsOf IsPattern x ps) × NoMember v (codes "path_hash_prefixes")
+HasScope v (prefixes ps) = Has v (codes "path_hash_prefixes") (λ x. AreTextsOf IsHashPrefix x ps) × NoMember v (codes "paths")
+
+-- the names of the roles that delegations can give: all but four
+abbrev pub IsDelegable : List ℕ → Type 0
+IsDelegable role = IsName role × IsListable role × (role ≢ codes "targets")
+
+-- a delegation, over a table of keys
+abbrev pub IsDelegation : Table → Json → Delegation → Type 0
+IsDelegation keys v d =
+    Has v (codes "name") (λ x. IsTextOf IsDelegable x d.name)
+    × HasRule (codes "keyids") v keys d.rule
+    × Has v (codes "terminating") (λ x. x ≡ boolean d.terminating)
+    × HasScope v d.scope
+
+-- the most delegations of one list
+abbrev pub max_delegations : ℕ
+max_delegations = 64
+
+-- delegations in their order, no role twice
+abbrev pub AreDelegations : Table → Json → List Delegation → Type 0
+AreDelegations keys v ds =
+    IsArray (IsDelegation keys) v ds × (length ds ≤ max_delegations) × AreDistinct (map (λ d. d.name) ds)
+
+-- {"keys":..,"roles":..}
+abbrev pub HasDelegations : Json → Delegations → Type 0
+HasDelegations v d =
+    Has v (codes "keys") (λ x. IsTable x d.keys) × Has v (codes "roles") (λ x. AreDelegations d.keys x d.roles)
 
 pub record IsTargets (signed : Json) (t : Targets) : Type 0 where
   pub head : HasHead signed t.version t.expires

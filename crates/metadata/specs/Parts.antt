@@ -81,6 +81,10 @@ IsMetaFile v e =
     × MayHave v (codes "length") IsLength e.len
     × MayHave v (codes "hashes") IsHashes e.digest
 
+-- the most signatures of a file
+abbrev pub max_signatures : ℕ
+max_signatures = 16
+
 -- the longest signature, in hex digits
 abbrev pub max_signature_digits : ℕ
 max_signature_digits = 18648
@@ -98,9 +102,9 @@ IsEntry v e = (v ≡ signature_object e.keyid e.sig) × IsHex 64 e.keyid × AreS
 abbrev pub ids_of : List Signature → List (List ℕ)
 ids_of entries = map (λ e. e.keyid) entries
 
--- at most 16, no id twice
+-- no more than the most, no id twice
 abbrev pub AreSignatures : Json → List Signature → Type 0
-AreSignatures v entries = IsArray IsEntry v entries × (length entries ≤ 16) × AreDistinct (ids_of entries)
+AreSignatures v entries = IsArray IsEntry v entries × (length entries ≤ max_signatures) × AreDistinct (ids_of entries)
 
 -- {"signatures":[..],"signed":{..}}, where `signed` has a text `_type`
 pub record IsEnvelope (v : Json) (entries : List Signature) (signed : Json) (type_name : List ℕ) : Type 0 where

@@ -18,13 +18,14 @@ kind_name kinds.Timestamp = codes "timestamp"
 kind_name kinds.Snapshot = codes "snapshot"
 kind_name kinds.Targets = codes "targets"
 
--- the signed part has the members of its kind, and they say this
-abbrev pub IsBody : Kind → Json → Body → Type 0
-IsBody kinds.Root signed (root r) = IsRoot signed r
-IsBody kinds.Timestamp signed (timestamp t) = IsTimestamp signed t
-IsBody kinds.Snapshot signed (snapshot s) = IsSnapshot signed s
-IsBody kinds.Targets signed (targets t) = IsTargets signed t
-IsBody kind signed body = ⊥
+-- the signed part has the members of its kind, and they say this. A kind may ask something of the signatures too: none of
+-- these four does
+abbrev pub IsBody : Kind → List Signature → Json → Body → Type 0
+IsBody kinds.Root entries signed (root r) = IsRoot signed r
+IsBody kinds.Timestamp entries signed (timestamp t) = IsTimestamp signed t
+IsBody kinds.Snapshot entries signed (snapshot s) = IsSnapshot signed s
+IsBody kinds.Targets entries signed (targets t) = IsTargets signed t
+IsBody kind entries signed body = ⊥
 
 abbrev pub reference_tables : Option LayoutReference → List Table
 reference_tables None = []
@@ -37,8 +38,9 @@ delegation_tables (Some d) = d.keys ∷ []
 -- the key tables of a document
 abbrev pub tables : Body → List Table
 tables (root r) = r.keys ∷ []
+tables (timestamp t) = []
+tables (snapshot s) = []
 tables (targets t) = delegation_tables t.delegations ++ flat_map (λ l. reference_tables l.layout) t.targets
-tables body = []
 
 abbrev pub max_file : ℕ
 max_file = 262144
@@ -59,7 +61,7 @@ pub record IsReadAs (kind : Kind) (bytes : List ℕ) (d : Document) : Type 0 whe
   pub part : Json
   pub file : IsSignedFile bytes d.entries part (kind_name kind)
   pub signed : d.signed ≡ spelling part
-  pub body : IsBody kind part d.body
+  pub body : IsBody kind d.entries part d.body
 
 -- the file is this document
 pub record IsDocument (kind : Kind) (bytes : List ℕ) (d : Document) : Type 0 where
@@ -71,7 +73,7 @@ abbrev pub IsShapeFault : Kind → List ℕ → ShapeFault → Type 0
 IsShapeFault kind bytes TooLong = max_file < length bytes
 IsShapeFault kind bytes NotCanonical = (length bytes ≤ max_file) × ((v : Json) → IsCanonical v bytes → ⊥)
 IsShapeFault kind bytes WrongShape = (v : Json) × IsFile bytes v
-    × ((entries : List Signature) (signed : Json) → IsEnvelope v entries signed (kind_name kind) → (body : Body) → IsBody kind signed body → ⊥)
+    × ((entries : List Signature) (signed : Json) → IsEnvelope v entries signed (kind_name kind) → (body : Body) → IsBody kind entries signed body → ⊥)
     × ((entries : List Signature) (signed : Json) (type_name : List ℕ) → IsEnvelope v entries signed type_name → type_name ≡ kind_name kind)
 IsShapeFault kind bytes WrongType = (entries : List Signature) × (signed : Json) × (type_name : List ℕ)
     × IsSignedFile bytes entries signed type_name × (type_name ≢ kind_name kind)

@@ -1,5 +1,5 @@
 -- What the code's documents stand for.
-use Rattle.std.specs.Prelude.{map, option_map, None}
+use Rattle.std.specs.Prelude.{map, option_map, None, string_bytes}
 use Rattle.keys_roles.specs.Views.{table_view, rule_view as role_view, entries_view}
 use Rattle.metadata.specs.Documents as plain
 use Rattle.metadata.specs.declared.documents.Meta.{Meta}
@@ -7,6 +7,10 @@ use Rattle.metadata.specs.declared.documents.Root.{Root}
 use Rattle.metadata.specs.declared.documents.Timestamp.{Timestamp}
 use Rattle.metadata.specs.declared.documents.Snapshot.{Snapshot}
 use Rattle.metadata.specs.declared.documents.Listing.{Listing}
+use Rattle.metadata.specs.declared.documents.Delegation.{Delegation}
+use Rattle.metadata.specs.declared.documents.Delegations.{Delegations}
+use Rattle.metadata.specs.declared.documents.Scope.{Scope}
+use Rattle.metadata.specs.declared.documents.Scope.TheVariants as scopes
 use Rattle.metadata.specs.declared.documents.Targets.{Targets}
 use Rattle.metadata.specs.declared.documents.Body.{Body}
 use Rattle.metadata.specs.declared.documents.Body.TheVariants as bodies
@@ -31,6 +35,16 @@ timestamp_view t = record { version = t.version; expires = t.expires; snapshot =
 
 abbrev pub snapshot_view : Snapshot → plain.Snapshot
 snapshot_view s = record { version = s.version; expires = s.expires; meta = map (λ e. (e.0, meta_view e.1)) s.meta.items }
+
+abbrev pub scope_view : Scope → plain.Scope
+scope_view (scopes.Patterns ps) = plain.patterns ps.items
+scope_view (scopes.Prefixes ps) = plain.prefixes (map string_bytes ps.items)
+
+abbrev pub delegation_view : Delegation → plain.Delegation
+delegation_view d = record { name = d.name; rule = role_view d.rule; terminating = d.terminating; scope = scope_view d.scope }
+
+abbrev pub delegations_view : Delegations → plain.Delegations
+delegations_view d = record { keys = table_view d.keys; roles = map delegation_view d.roles.items }
 
 abbrev pub listing_view : Listing → plain.Listing
 listing_view l = record { path = l.path; len = l.length; digest = l.digest.0; layout = None }

@@ -11,7 +11,7 @@ ghost use Rattle.metadata.specs.steps.Reads.{IsSignedAs, IsFaultOf};
 ghost use Rattle.metadata.specs.Views.{body_view, document_view};
 
 use crate::documents::{Body, Document, Kind, ShapeFault};
-use crate::envelope::read_envelope;
+use crate::envelope::{Envelope, read_envelope};
 use crate::root::read_root;
 use crate::snapshot::read_snapshot;
 use crate::targets::read_targets;
@@ -79,7 +79,7 @@ fn read_value(
     if !is_kind(kind, envelope.type_name) {
         return Err(ShapeFault::WrongType);
     }
-    let body = read_body(alloc, kind, envelope.part)?;
+    let body = read_body(alloc, kind, &envelope)?;
     Ok((envelope.signatures, body))
 }
 
@@ -96,12 +96,15 @@ fn is_kind(kind: Kind, type_name: &str) -> bool
     *type_name == *name
 }
 
-// What the signed part says, by its kind.
-fn read_body(alloc: Global, kind: Kind, part: &Value) -> Result<Body, ShapeFault>
-    requires { IsProper (view part.now) }
-    ensures ok { IfOk result (λ b. IsBody kind (view part.now) (body_view b) × AllByRecursion NamesAreIds (tables (body_view b))) }
-    ensures err { IfErr result (IsFaulty (IsBody kind (view part.now)) (λ b. AllByRecursion NamesAreIds (tables b))) }
+// What the signed part of the envelope says, by its kind.
+fn read_body(alloc: Global, kind: Kind, envelope: &Envelope) -> Result<Body, ShapeFault>
+    requires { IsProper (view envelope.now.part.now) }
+    ensures ok { IfOk result (λ b. IsBody kind (entries_view envelope.now.signatures.items) (view envelope.now.part.now) (body_view b)
+        × AllByRecursion NamesAreIds (tables (body_view b))) }
+    ensures err { IfErr result (IsFaulty (IsBody kind (entries_view envelope.now.signatures.items) (view envelope.now.part.now))
+        (λ b. AllByRecursion NamesAreIds (tables b))) }
 {
+    let part = envelope.part;
     match kind {
         Kind::Root => Ok(Body::Root(read_root(alloc, part)?)),
         Kind::Timestamp => match read_timestamp(part) {

@@ -4,7 +4,7 @@ ghost use Rattle.metadata.specs.Sorted.{AreInOrder};
 
 use crate::moment::Moment;
 use keys_roles::{KeyTable, RoleRule, Signature};
-use path_patterns::{Digest, RoleName, TargetPath};
+use path_patterns::{Digest, Pattern, RoleName, TargetPath};
 use std::alloc::{AllocError, AllocFailed};
 use thiserror::Error;
 
@@ -112,6 +112,32 @@ pub struct Listing {
     pub path: TargetPath,
     pub length: u32,
     pub digest: Digest,
+}
+
+/// What a delegation covers (TUF 1.0, section 4.5, PATHPATTERN and path_hash_prefixes): paths that one of 1 to 64 patterns
+/// matches, with wildcards that stand for no slash, or whose digests begin with one of 1 to 64 prefixes, each of 1 to 64 hex
+/// digits of lower case.
+#[derive(Debug, Drop)]
+pub enum Scope {
+    Patterns(Vec<Pattern>),
+    Prefixes(Vec<String>),
+}
+
+/// A delegation (TUF 1.0, section 4.5, ROLENAME): a role, its rule over the keys of its list, whether nothing behind it is
+/// searched for a path that it covers, and what it covers.
+#[derive(Debug, Drop)]
+pub struct Delegation {
+    pub name: RoleName,
+    pub rule: RoleRule,
+    pub terminating: bool,
+    pub scope: Scope,
+}
+
+/// The delegations of targets metadata (TUF 1.0, section 4.5, DELEGATIONS): at most 64 in their order, with their keys.
+#[derive(Debug, Drop)]
+pub struct Delegations {
+    pub keys: KeyTable,
+    pub roles: Vec<Delegation>,
 }
 
 /// Targets metadata (TUF 1.0, section 4.5): the listings in the order of their paths.

@@ -1,14 +1,17 @@
 //! Laws of documents, in functions that do nothing.
-ghost use Rattle.std.specs.Prelude.{◌↔◌, ℕ, map, Err};
+ghost use Rattle.std.specs.Prelude.{◌↔◌, ℕ, map, Err, IsTrue};
 ghost use Rattle.std.specs.List.{AllByRecursion};
 ghost use Rattle.path_patterns.specs.Grammar.{IsName};
 ghost use Rattle.keys_roles.specs.Rules.{AreDistinct};
-ghost use Rattle.metadata.specs.Documents.{Snapshot};
+ghost use Rattle.metadata.specs.Covers.{Covers, covers};
+ghost use Rattle.metadata.specs.Documents.{Delegation, Snapshot};
 ghost use Rattle.metadata.specs.Bodies.{IsListable};
 ghost use Rattle.metadata.specs.File.{Bytes, File, IsFileOf, IsDeniedShape, root_form, timestamp_form, snapshot_form, targets_form};
 ghost use Rattle.denials.specs.Orders.{Denied, Plain};
 ghost use Rattle.metadata.specs.Shaped.{shaped};
 ghost use Rattle.metadata.specs.declared.documents.Kind.TheVariants as kinds;
+
+use path_patterns::tests_tell;
 
 /// A law, which does nothing: a snapshot lists roles by their names, each once, and none whose document no snapshot lists.
 pub fn snapshot_names()
@@ -23,3 +26,11 @@ pub fn denied_shapes()
     ensures snapshots { (b : Bytes) (n : ℕ) → shaped snapshot_form b (Err (Denied (Plain n))) ↔ IsDeniedShape kinds.Snapshot b n }
     ensures targets { (b : Bytes) (n : ℕ) → shaped targets_form b (Err (Denied (Plain n))) ↔ IsDeniedShape kinds.Targets b n }
 {}
+
+/// A law, which does nothing: the test by which a search follows a delegation holds exactly where one of its patterns
+/// matches the path, its wildcards standing for no slash, or one of its prefixes covers it.
+pub fn covers_tell()
+    ensures { (d : Delegation) (path : Bytes) → IsTrue (covers d path) ↔ (Covers d path) }
+{
+    tests_tell();
+}

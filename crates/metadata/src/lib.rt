@@ -5,6 +5,7 @@
 #![tactic(auto)]
 
 mod dates;
+mod delegations;
 mod document;
 mod documents;
 mod envelope;
@@ -17,6 +18,7 @@ mod members;
 mod moment;
 mod parts;
 mod root;
+mod scopes;
 mod snapshot;
 mod source;
 mod targets;
@@ -32,13 +34,14 @@ use canonical_json::one_spelling;
 pub use dates::read_date_time;
 pub use document::read_document;
 pub use documents::{
-    Body, Document, Kind, Listing, Meta, Root, ShapeFault, Snapshot, Targets, Timestamp,
+    Body, Delegation, Delegations, Document, Kind, Listing, Meta, Root, Scope, ShapeFault,
+    Snapshot, Targets, Timestamp,
 };
 pub use file::{File, read_root_file, read_snapshot_file, read_targets_file, read_timestamp_file};
 pub use keys_roles::{Key, KeyId, KeyTable, RoleRule, Signature};
-pub use laws::{denied_shapes, snapshot_names};
+pub use laws::{covers_tell, denied_shapes, snapshot_names};
 pub use moment::{Moment, live};
-pub use path_patterns::{Digest, RoleName, TargetPath};
+pub use path_patterns::{Digest, Pattern, RoleName, TargetPath};
 pub use snapshot::is_listable;
 pub use source::{Source, digest_of};
 

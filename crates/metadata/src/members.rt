@@ -1,5 +1,5 @@
 // The parts of a JSON value by their kinds, and the members of objects by their names.
-ghost use Rattle.std.specs.Prelude.{◌≡◌, ◌↔◌, ℕ, List, MatchOption, IfSome, IsTrue, true};
+ghost use Rattle.std.specs.Prelude.{◌≡◌, ◌↔◌, ℕ, Bool, List, MatchOption, IfSome, IsTrue, true};
 ghost use Rattle.canonical_json.specs.Json.{Json, boolean, array, object, Items, Members, HasMember, member, no_members};
 ghost use Rattle.canonical_json.specs.Spelling.{IsProper};
 ghost use Rattle.canonical_json.specs.View.{view, items_view, members_view};
@@ -209,5 +209,24 @@ fn is_true(value: &Value) -> bool
     match value {
         Value::Bool(b) => *b,
         _ => false,
+    }
+}
+
+/// Whether the member of this name is `true` or `false`.
+pub(crate) fn bool_at(value: &Value, name: &str) -> Option<bool>
+    requires { IsProper (view value.now) }
+    ensures { MatchOption result ((b : Bool) → Has (view value.now) name.now (λ x. x ≡ boolean b) → ⊥)
+        (λ b. Has (view value.now) name.now (λ x. x ≡ boolean b)) }
+{
+    let found = member_of(value, name)?;
+    bool_of(found)
+}
+
+fn bool_of(value: &Value) -> Option<bool>
+    ensures { MatchOption result ((b : Bool) → view value.now ≡ boolean b → ⊥) (λ b. view value.now ≡ boolean b) }
+{
+    match value {
+        Value::Bool(b) => Some(*b),
+        _ => None,
     }
 }

@@ -1,7 +1,8 @@
 //! The bytes of a file, with what it costs to find in them.
-ghost use Rattle.std.specs.Prelude.{◌≡◌, IfOk};
+ghost use Rattle.std.specs.Prelude.{◌≡◌, ◌≤◌, IfOk, length};
 ghost use Rattle.sha2.specs.Sha256.{sha256};
 ghost use Rattle.keys_roles.specs.Views.{entries_view};
+ghost use Rattle.metadata.specs.Parts.{max_signatures};
 ghost use Rattle.metadata.specs.Signed.{Signed};
 
 use keys_roles::Signature;
@@ -10,8 +11,8 @@ use sha2::{Digest as _, Sha256};
 use std::alloc::{AllocError, Global};
 use std::marker::Model;
 
-/// The bytes of a file, with its digest, its signatures, and the bytes that these are over. A clause sees bytes, signed bytes
-/// and signatures.
+/// The bytes of a file, with its digest, its signatures, at most 16, and the bytes that these are over (TUF 1.0, section
+/// 4.2). A clause sees bytes, signed bytes and signatures.
 #[derive(Drop)]
 pub struct Source {
     bytes: Vec<u8>,
@@ -21,16 +22,17 @@ pub struct Source {
 }
 
 impl Model for Source {
-    ghost use Rattle.std.specs.Prelude.{◌≡◌};
+    ghost use Rattle.std.specs.Prelude.{◌≡◌, ◌≤◌, length};
     ghost use Rattle.sha2.specs.Sha256.{sha256};
     ghost use Rattle.keys_roles.specs.Views.{entries_view};
+    ghost use Rattle.metadata.specs.Parts.{max_signatures};
     ghost use Rattle.metadata.specs.Signed.{Signed};
 
     ghost Value = { Signed };
 
     ghost view = { λ s. record { bytes = s.bytes.items; signed = s.signed.items; entries = entries_view s.signatures.items } };
 
-    ghost invariant = { λ s. s.digest.0 ≡ sha256 s.bytes.items };
+    ghost invariant = { λ s. (s.digest.0 ≡ sha256 s.bytes.items) × (length s.signatures.items ≤ max_signatures) };
 }
 
 impl Source {
@@ -40,6 +42,7 @@ impl Source {
         signed: &[u8],
         signatures: Vec<Signature>,
     ) -> Result<Source, AllocError>
+        requires { length signatures.items ≤ max_signatures }
         ensures { IfOk result (λ s. s ≡ record { bytes = bytes.now; signed = signed.now; entries = entries_view signatures.items }) }
     {
         let digest = digest_of(bytes);
@@ -67,9 +70,10 @@ impl Source {
         &self.signed
     }
 
-    /// The signatures.
+    /// The signatures, at most 16.
     pub fn signatures(&self) -> &[Signature]
-        ensures { entries_view result.now ≡ self.now.entries }
+        ensures value { entries_view result.now ≡ self.now.entries }
+        ensures few { length result.now ≤ max_signatures }
     {
         &self.signatures
     }

@@ -41,8 +41,8 @@ pub(crate) fn read_targets(alloc: Global, signed: &Value) -> Result<Targets, Sha
     })
 }
 
-// Whether the value has no member of this name.
-fn lacks(value: &Value, name: &str) -> bool
+/// Whether the value has no member of this name.
+pub(crate) fn lacks(value: &Value, name: &str) -> bool
     requires { IsProper (view value.now) }
     ensures { IsTrue result ↔ (NoMember (view value.now) name.now) }
 {

@@ -2,6 +2,8 @@ pub mod ConsistentNames
 pub mod Covering
 pub mod Digits
 pub mod Examples
+pub mod Greedy
+pub mod LastRun
 pub mod LastSegment
 pub mod Segments
 pub mod TestLaws

@@ -1,4 +1,4 @@
--- Which texts are target paths, names, patterns and hex digits (this project's profile of TUF 1.0, sections 4.3 and
+-- Which texts are target paths, names, patterns, prefixes of digests and hex digits (this project's profile of TUF 1.0, sections 4.3 and
 -- 4.5).
 use Rattle.std.specs.Prelude.{◌≡◌, ◌≢◌, ℕ, ◌<◌, ◌≤◌, List, [], ◌∷◌, length, IsTrue, codes}
 use Rattle.std.specs.List.{join_with_byte, list_all, AllByRecursion}
@@ -24,6 +24,10 @@ IsName (c ∷ cs) = IsTrue (is_name_start c) × IsTrue (list_all is_name_byte cs
 -- the bytes of a path, `*` and `?`
 abbrev pub IsPattern : List ℕ → Type 0
 IsPattern p = (0 < length p) × (length p ≤ 200) × IsTrue (list_all is_pattern_byte p)
+
+-- the beginning of a digest in hex: 1 to 64 digits in lower case
+abbrev pub IsHashPrefix : List ℕ → Type 0
+IsHashPrefix p = (0 < length p) × (length p ≤ 64) × IsTrue (list_all is_hex p)
 
 -- so many hex digits in lower case
 abbrev pub IsHex : ℕ → List ℕ → Type 0

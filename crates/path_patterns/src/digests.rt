@@ -78,7 +78,7 @@ fn are_bytes(bytes: &[u8])
 }
 
 // Whether each byte is a hex digit of lower case.
-fn are_hex_digits(text: &[u8]) -> bool
+pub(crate) fn are_hex_digits(text: &[u8]) -> bool
     ensures { result ≡ list_all is_hex text.now }
 {
     text.iter()

@@ -1,9 +1,9 @@
-//! Target paths, the names of roles and the digests of files, with their grammars, and the names of files in a consistent
-//! snapshot (TUF 1.0, sections 4.5 and 6.2).
+//! Target paths, patterns of paths, the names of roles and the digests of files, with their grammars, which paths a pattern
+//! or a prefix covers, and the names of files in a consistent snapshot (TUF 1.0, sections 4.5 and 6.2).
 #![tactic(auto)]
 
 ghost use Rattle.std.specs.Prelude.{◌≡◌, ◌↔◌, IfOk, IfSome, IfNone, OnErr};
-ghost use Rattle.path_patterns.specs.Grammar.{IsTargetPath, IsName};
+ghost use Rattle.path_patterns.specs.Grammar.{IsTargetPath, IsName, IsPattern};
 
 use std::alloc::{AllocError, Global};
 use std::marker::Model;
@@ -13,10 +13,11 @@ mod digests;
 mod grammar;
 mod matching;
 mod names;
+mod wildcards;
 
 pub use digests::one_digest;
-pub use grammar::{is_role_name, is_target_path};
-pub use matching::tests_tell;
+pub use grammar::{is_hash_prefix, is_pattern, is_role_name, is_target_path};
+pub use matching::{matches_flat, matches_segmented, prefix_covers, tests_tell};
 pub use names::{consistent_name, names_undo, read_asked};
 
 /// The error of a call that has no other: no memory.
@@ -57,6 +58,25 @@ impl Model for RoleName {
     ghost view = { λ n. string_bytes n.text };
 
     ghost invariant = { λ n. IsName (string_bytes n.text) };
+}
+
+/// A pattern of target paths: 1 to 200 bytes of `A-Z a-z 0-9 . _ - /`, of `*`, which stands for any run of bytes, and of `?`,
+/// which stands for one (TUF 1.0, section 4.5, PATHPATTERN). A pattern need not look like a path: `a//b` is one, and covers
+/// none. A clause sees the bytes.
+#[derive(Debug, Drop)]
+pub struct Pattern {
+    text: String,
+}
+
+impl Model for Pattern {
+    ghost use Rattle.std.specs.Prelude.{ℕ, List, string_bytes};
+    ghost use Rattle.path_patterns.specs.Grammar.{IsPattern};
+
+    ghost Value = { List ℕ };
+
+    ghost view = { λ p. string_bytes p.text };
+
+    ghost invariant = { λ p. IsPattern (string_bytes p.text) };
 }
 
 /// A SHA-256 digest: 32 bytes (FIPS 180-4, section 6.2). Digests are ordered by their bytes.
@@ -104,6 +124,29 @@ impl RoleName {
     pub fn as_str(&self) -> &str
         ensures value { result.now ≡ self.now }
         ensures name { IsName self.now }
+    {
+        self.text.as_str()
+    }
+}
+
+impl Pattern {
+    /// The text as a pattern, and `None` where it is none. Only for a pattern it takes memory.
+    pub fn read(alloc: Global, text: &str) -> Result<Option<Pattern>, NoMemory>
+        ensures some { IfOk result (λ o. IfSome o (λ p. (p ≡ text.now) × IsPattern text.now)) }
+        ensures none { IfOk result (λ o. IfNone o (IsPattern text.now → ⊥)) }
+        ensures memory { OnErr result (IsPattern text.now) }
+    {
+        if !is_pattern(text) {
+            return Ok(None);
+        }
+        let text = String::from_str(alloc, text)?;
+        Ok(Some(Pattern { text }))
+    }
+
+    /// The pattern's text. It takes no memory.
+    pub fn as_str(&self) -> &str
+        ensures value { result.now ≡ self.now }
+        ensures pattern { IsPattern self.now }
     {
         self.text.as_str()
     }

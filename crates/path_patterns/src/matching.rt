@@ -1,7 +1,47 @@
 // What patterns and prefixes cover.
-ghost use Rattle.std.specs.Prelude.{◌↔◌, ℕ, List, IsTrue};
+ghost use Rattle.std.specs.Prelude.{◌≡◌, ◌↔◌, ℕ, List, IsTrue};
+ghost use Rattle.hex.specs.Hex.{encode_lower};
+ghost use Rattle.sha2.specs.Sha256.{sha256};
 ghost use Rattle.path_patterns.specs.Matching.{MatchesSegmented, MatchesFlat, PrefixCovers};
 ghost use Rattle.path_patterns.specs.Tests as tests;
+
+use crate::wildcards::Wildcards;
+use crate::{Digest, Pattern, TargetPath};
+use sha2::{Digest as _, Sha256};
+
+/// Whether the pattern covers the path where its wildcards stand for no slash, as in a delegation: `*` stands for any run
+/// of bytes within a segment, the empty run too, `?` for one byte of a segment, and every other byte for itself (TUF 1.0,
+/// section 4.5, PATHPATTERN). It takes no memory, and at most as many steps as the product of the two lengths, each one
+/// more.
+pub fn matches_segmented(pattern: &Pattern, path: &TargetPath) -> bool
+    ensures { IsTrue result ↔ (MatchesSegmented pattern.now path.now) }
+{
+    Wildcards::Segmented.matches(pattern.as_str().as_bytes(), path.as_str().as_bytes())
+}
+
+/// Whether the pattern covers the path where its wildcards stand for slashes too, as in an artifact rule (in-toto 1.0,
+/// section 4.3.3). It takes no memory, and as many steps as `matches_segmented`.
+pub fn matches_flat(pattern: &Pattern, path: &TargetPath) -> bool
+    ensures { IsTrue result ↔ (MatchesFlat pattern.now path.now) }
+{
+    Wildcards::Flat.matches(pattern.as_str().as_bytes(), path.as_str().as_bytes())
+}
+
+/// Whether the SHA-256 of the path, in hex digits of lower case, begins with the prefix (TUF 1.0, section 4.5,
+/// path_hash_prefixes). Any text may be asked: the empty prefix covers every path, and one of more than 64 bytes none. It
+/// takes no memory.
+pub fn prefix_covers(prefix: &str, path: &TargetPath) -> bool
+    ensures { IsTrue result ↔ (PrefixCovers prefix.now path.now) }
+{
+    digits_of(path).starts_with(prefix.as_bytes())
+}
+
+// The hex digits of the path's digest.
+fn digits_of(path: &TargetPath) -> [u8; 64]
+    ensures { result ≡ encode_lower (sha256 path.now) }
+{
+    Digest(Sha256::digest(path.as_str().as_bytes())).digits()
+}
 
 /// A law, which does nothing: the tests of the definitions hold exactly where the relations do (TUF 1.0, section 4.5,
 /// PATHPATTERN and path_hash_prefixes; in-toto 1.0, section 4.3.3, for patterns whose wildcards stand for slashes too).

@@ -7,8 +7,8 @@ use Rattle.command_line.specs.declared.tasks.Usage.{Usage as Usages}
 use Rattle.command_line.specs.declared.tasks.Usage.TheVariants as usages
 use Rattle.canon.specs.declared.CanonFault.{CanonFault}
 use Rattle.canon.specs.declared.CanonFault.TheVariants as canon_faults
-use Rattle.store.specs.declared.command.StoreFault.{StoreFault}
-use Rattle.store.specs.declared.command.StoreFault.TheVariants as store_faults
+use Rattle.tables.specs.declared.faults.StoreFault.{StoreFault}
+use Rattle.tables.specs.declared.faults.StoreFault.TheVariants as store_faults
 
 -- help is no fault: it is printed as asked
 abbrev pub status_of : Fault → ℕ

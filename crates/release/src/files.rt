@@ -2,8 +2,12 @@
 ghost use Rattle.std.specs.Prelude.{◌≡◌, IfOk};
 
 use crate::fault::{Fault, file_fault};
-use std::fs;
-use std::io::Write;
+use crate::notes::Notes;
+use std::fs::{self, File};
+use std::io::{self, Read, Write};
+
+/// The most bytes of a metadata file.
+pub const DOCUMENT_LIMIT: usize = 262_144;
 
 /// A file that was read: its path, and its bytes.
 #[derive(Drop)]
@@ -13,26 +17,71 @@ pub struct InputFile<'a> {
 }
 
 /// The bytes of a file.
-pub fn read(rt: &HostRuntime, file: &str) -> Result<Vec<u8>, Fault> {
-    fs::read(rt, file).map_err(|e| file_fault(&e))
+pub fn read<E: Write>(
+    rt: &HostRuntime,
+    path: &str,
+    notes: &mut Notes<'_, E>,
+) -> Result<Vec<u8>, Fault> {
+    match fs::read(rt, path) {
+        Ok(bytes) => Ok(bytes),
+        Err(error) => Err(unread(path, &error, notes)),
+    }
 }
 
-/// The file at a path.
-pub fn read_file<'a>(rt: &HostRuntime, path: &'a str) -> Result<InputFile<'a>, Fault>
+/// The bytes of a file that may have so many: of a longer one these and one more, by which it can be told.
+pub fn read_at_most<E: Write>(
+    rt: &HostRuntime,
+    path: &str,
+    limit: usize,
+    notes: &mut Notes<'_, E>,
+) -> Result<Vec<u8>, Fault> {
+    match beginning(rt, path, limit) {
+        Ok(bytes) => Ok(bytes),
+        Err(error) => Err(unread(path, &error, notes)),
+    }
+}
+
+fn beginning(rt: &HostRuntime, path: &str, limit: usize) -> io::Result<Vec<u8>> {
+    let file = File::open(rt, path)?;
+    let mut bytes = Vec::new(rt.alloc());
+    let most = (limit as u64).saturating_add(1);
+    file.take(most).read_to_end(&mut bytes)?;
+    Ok(bytes)
+}
+
+fn unread<E: Write>(path: &str, error: &io::Error, notes: &mut Notes<'_, E>) -> Fault {
+    notes.tell(&path, error);
+    file_fault(error)
+}
+
+/// The metadata file at a path, as far as one may go and one byte more.
+pub fn read_file<'a, E: Write>(
+    rt: &HostRuntime,
+    path: &'a str,
+    notes: &mut Notes<'_, E>,
+) -> Result<InputFile<'a>, Fault>
     ensures { IfOk result (λ file. file.path.now ≡ path.now) }
 {
-    let bytes = read(rt, path)?;
+    let bytes = read_at_most(rt, path, DOCUMENT_LIMIT, notes)?;
     Ok(InputFile { path, bytes })
 }
 
 /// Prints these bytes. A write that fails is a fault of a file.
-pub fn print<O: Write>(out: &mut O, bytes: &[u8]) -> Result<(), Fault> {
-    match out.write_all(bytes) {
-        Ok(()) => flush(out),
-        Err(_) => Err(Fault::File),
+pub fn print<O: Write, E: Write>(
+    out: &mut O,
+    bytes: &[u8],
+    notes: &mut Notes<'_, E>,
+) -> Result<(), Fault> {
+    match write_flushed(out, bytes) {
+        Ok(()) => Ok(()),
+        Err(error) => {
+            notes.tell(&"standard output", &error);
+            Err(Fault::File)
+        }
     }
 }
 
-fn flush<O: Write>(out: &mut O) -> Result<(), Fault> {
-    out.flush().map_err(|_| Fault::File)
+fn write_flushed<O: Write>(out: &mut O, bytes: &[u8]) -> io::Result<()> {
+    out.write_all(bytes)?;
+    out.flush()
 }

@@ -1,16 +1,25 @@
 //! The program `release`: one subcommand for each task of a release repository.
 #![tactic(auto)]
 
+mod accepting;
+mod answering;
 mod arguments;
+mod deadlines;
+mod ending;
 mod fault;
 mod files;
+mod incoming;
 mod init;
+mod lines;
 mod moments;
+mod notes;
+mod outgoing;
 mod publish;
 mod put;
 mod repository;
 mod run;
 mod serve;
+mod standing;
 
 use fault::Fault;
 use run::{report, run};

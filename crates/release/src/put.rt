@@ -1,29 +1,41 @@
 //! `put`: stores a target file.
 use crate::fault::Fault;
-use crate::files::{print, read};
+use crate::files::{print, read_at_most};
 use crate::moments::moment;
+use crate::notes::Notes;
 use crate::repository::{applied, refused};
+use http_messages::BLOB_LIMIT;
 use metadata::digest_of;
 use std::io::Write;
-use store::{Command, Reply};
+use store::{Command, Digest, Reply};
 
 /// Stores the file under its SHA-256 in the repository in the database file, and prints its 64 hex digits, also where it was
 /// stored already.
-pub fn put<O: Write>(
+pub fn put<O: Write, E: Write>(
     rt: &HostRuntime,
     db: &str,
     file: &str,
     at: Option<u64>,
     out: &mut O,
+    notes: &mut Notes<'_, E>,
 ) -> Result<(), Fault> {
     let now = moment(rt, at)?;
-    let bytes = read(rt, file)?;
+    let bytes = read_at_most(rt, file, BLOB_LIMIT, notes)?;
     let digest = digest_of(&bytes);
-    match applied(rt, db, Command::PutBlob(digest, &bytes), now)? {
-        Reply::Stored(_) => {
-            print(out, &digest.digits())?;
-            print(out, b"\n")
+    match applied(rt, db, Command::PutBlob(digest, &bytes), now, notes)? {
+        Reply::Stored(_) => print_digest(digest, out, notes),
+        other => {
+            notes.tell(&file, &"denied");
+            Err(refused(other))
         }
-        other => Err(refused(other)),
     }
+}
+
+fn print_digest<O: Write, E: Write>(
+    digest: Digest,
+    out: &mut O,
+    notes: &mut Notes<'_, E>,
+) -> Result<(), Fault> {
+    print(out, &digest.digits(), notes)?;
+    print(out, b"\n", notes)
 }

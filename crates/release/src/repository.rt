@@ -3,19 +3,76 @@ ghost use Rattle.std.specs.Prelude.{◌≡◌, ℕ, Option};
 ghost use Rattle.denials.specs.declared.denial.Denial.{Denial as Denials};
 
 use crate::fault::Fault;
+use crate::notes::Notes;
 use metadata::Moment;
 use sqlite::{Connection, Error, ErrorCode, FileFrom, FileStore, Wary};
-use store::{Command, Reply, Store};
+use std::fs::File;
+use std::io::Write;
+use store::{Command, Reply, Store, StoreFault};
 
 /// The store of a repository in a file. Of what a torn write leaves, nothing is supposed.
 pub type Repository = Store<FileStore<FileFrom<Wary>>>;
 
 /// Opens the repository in the file, which is made where there is none.
-pub fn opened(rt: &HostRuntime, db: &str) -> Result<Repository, Fault> {
+pub fn opened<E: Write>(
+    rt: &HostRuntime,
+    db: &str,
+    notes: &mut Notes<'_, E>,
+) -> Result<Repository, Fault> {
     match Connection::open_from(rt, db, false, Wary) {
-        Ok(conn) => Ok(Store::open(rt.alloc(), conn)?),
-        Err((Error::SqliteFailure(ErrorCode::OutOfMemory), _)) => Err(Fault::Memory),
-        Err(_) => Err(Fault::Database),
+        Ok(conn) => told(Store::open(rt.alloc(), conn), db, notes),
+        Err((error, _)) => Err(unopened(rt, db, &error, notes)),
+    }
+}
+
+// A store, or its fault, which is told.
+fn told<T: Drop, E: Write>(
+    done: Result<T, StoreFault>,
+    db: &str,
+    notes: &mut Notes<'_, E>,
+) -> Result<T, Fault> {
+    match done {
+        Ok(done) => Ok(done),
+        Err(fault) => {
+            notes.tell(&db, &fault);
+            Err(Fault::from(fault))
+        }
+    }
+}
+
+// What a database file that was not opened comes to. Where the system refused to open it, its own error is told.
+fn unopened<E: Write>(
+    rt: &HostRuntime,
+    db: &str,
+    error: &Error,
+    notes: &mut Notes<'_, E>,
+) -> Fault {
+    match error {
+        Error::SqliteFailure(ErrorCode::OutOfMemory) => return Fault::Memory,
+        Error::SqliteFailure(ErrorCode::DatabaseBusy) => notes.tell(
+            &db,
+            &"in use by another process",
+        ),
+        Error::SqliteFailure(ErrorCode::CannotOpen) => tell_why(rt, db, notes),
+        other => notes.tell(&db, other),
+    }
+    Fault::Database
+}
+
+fn tell_why<E: Write>(rt: &HostRuntime, db: &str, notes: &mut Notes<'_, E>) {
+    if notes.are_told() {
+        match File::options().read(true).write(true).open(rt, db) {
+            Ok(_) => notes.tell(&db, &"not opened"),
+            Err(error) => notes.tell(&db, &error),
+        }
+    }
+}
+
+/// Whether an earlier fault has shut the database, so that every command would be answered a fault.
+pub fn is_shut(repository: &mut Repository, now: Moment) -> bool {
+    match repository.apply(Command::Metadata(""), now) {
+        Err(StoreFault::Database) => true,
+        _ => false,
     }
 }
 
@@ -26,16 +83,17 @@ pub fn close(repository: Repository) {
 }
 
 /// Makes one command over the repository in the file.
-pub fn applied(
+pub fn applied<E: Write>(
     rt: &HostRuntime,
     db: &str,
     command: Command<'_>,
     now: Moment,
+    notes: &mut Notes<'_, E>,
 ) -> Result<Reply, Fault> {
-    let mut repository = opened(rt, db)?;
+    let mut repository = opened(rt, db, notes)?;
     let reply = repository.apply(command, now);
     close(repository);
-    Ok(reply?)
+    told(reply, db, notes)
 }
 
 /// Why a command was not done, by its reply. A command has no other reply than a denial or its own.

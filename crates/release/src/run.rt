@@ -3,9 +3,10 @@ use crate::fault::Fault;
 use crate::files::{print, read};
 use crate::init::init;
 use crate::moments::moment;
+use crate::notes::Notes;
 use crate::publish::publish;
 use crate::put::put;
-use crate::serve::serve;
+use crate::serve::Server;
 use canon::canon;
 use command_line::{Subcommand, Task, task};
 use std::io::Write;
@@ -13,7 +14,7 @@ use std::io::Write;
 /// Does what the words ask for. What it prints goes to `out`, why it was not done to `err`, and the exit status is
 /// answered: 0 done, 1 denied, 2 a fault of the command line, 3 all else.
 pub fn run<O: Write, E: Write>(rt: &HostRuntime, words: &[String], out: &mut O, err: &mut E) -> u8 {
-    match perform(rt, words, out) {
+    match perform(rt, words, out, err) {
         Ok(()) => 0,
         Err(fault) => report(&fault, out, err),
     }
@@ -35,26 +36,52 @@ fn report_to<E: Write>(fault: &Fault, err: &mut E) -> u8 {
     fault.status()
 }
 
-fn perform<O: Write>(rt: &HostRuntime, words: &[String], out: &mut O) -> Result<(), Fault> {
-    let Task { at, subcommand } = task(rt.alloc(), words)?;
+fn perform<O: Write, E: Write>(
+    rt: &HostRuntime,
+    words: &[String],
+    out: &mut O,
+    err: &mut E,
+) -> Result<(), Fault> {
+    let Task {
+        at,
+        verbose,
+        subcommand,
+    } = task(rt.alloc(), words)?;
+    let notes = &mut Notes::new(err, verbose);
     match subcommand {
-        Subcommand::Canon { file } => print_canon(rt, file.as_str(), at, out),
-        Subcommand::Init { db, root } => init(rt, db.as_str(), root.as_str(), at, out),
-        Subcommand::Publish { db, documents } => publish(rt, db.as_str(), &documents, at, out),
-        Subcommand::Put { db, file } => put(rt, db.as_str(), file.as_str(), at, out),
-        Subcommand::Serve { db, port, count } => serve(rt, db.as_str(), port, count, at, out),
+        Subcommand::Canon { file } => print_canon(rt, file.as_str(), at, out, notes),
+        Subcommand::Init { db, root } => init(rt, db.as_str(), root.as_str(), at, out, notes),
+        Subcommand::Publish { db, documents } => publish(
+            rt,
+            db.as_str(),
+            &documents,
+            at,
+            out,
+            notes,
+        ),
+        Subcommand::Put { db, file } => put(rt, db.as_str(), file.as_str(), at, out, notes),
+        Subcommand::Serve { db, port, count } => {
+            let server = Server::new(rt, db.as_str(), port, count, at);
+            server.run(out, notes)
+        }
     }
 }
 
 // The moment of no use is judged, too.
-fn print_canon<O: Write>(
+fn print_canon<O: Write, E: Write>(
     rt: &HostRuntime,
     file: &str,
     at: Option<u64>,
     out: &mut O,
+    notes: &mut Notes<'_, E>,
 ) -> Result<(), Fault> {
     let _now = moment(rt, at)?;
-    let bytes = read(rt, file)?;
-    let text = canon(rt.alloc(), &bytes)?;
-    print(out, &text)
+    let bytes = read(rt, file, notes)?;
+    match canon(rt.alloc(), &bytes) {
+        Ok(text) => print(out, &text, notes),
+        Err(fault) => {
+            notes.tell(&file, &fault);
+            Err(Fault::from(fault))
+        }
+    }
 }

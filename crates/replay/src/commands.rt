@@ -6,7 +6,7 @@ use crate::files::find;
 use crate::replies::{fault_text, reply_text, row_text, told};
 use crate::session::Session;
 use crate::words::{byte_of, digest_word};
-use machine::Offer;
+use machine::{Offer, Steps, TargetPath, get_counted};
 use path_patterns::RoleName;
 use std::alloc::Global;
 use store::{Command, Reply, StoreFault};
@@ -123,6 +123,22 @@ impl Session {
             text.push_str(due.as_str())?;
         }
         Ok(text)
+    }
+
+    /// `checks PATH`: how many signatures a request for the target checks.
+    pub fn checks(&mut self, text: &str) -> Result<String, LineFault> {
+        let alloc = self.alloc;
+        let now = self.now;
+        let Some(path) = TargetPath::read(alloc, text)? else {
+            return Err(LineFault::NotUnderstood);
+        };
+        let Some(store) = self.base.store() else {
+            return Ok(told(alloc, "shut")?);
+        };
+        let mut checks = Steps::new();
+        let _ = get_counted(alloc, store.state(), &path, now, &mut checks);
+        let count = checks.count();
+        Ok(format!(in alloc; "{count} checks")?)
     }
 
     /// `equal NAME NAME`: whether two files have the same bytes.

@@ -142,6 +142,7 @@ fn answer_line(session: &mut Session, line: &str) -> Result<String, LineFault> {
         "metadata" => session.metadata(rest),
         "http" => session.request(rest),
         "update" => session.update(),
+        "checks" => session.checks(rest),
         "rows" => session.look(),
         "reopen" => session.reopen(),
         "sql" => session.execute(rest),

@@ -27,8 +27,8 @@ use Rattle.store.specs.Applies.{Applies}
 use Rattle.store.specs.steps.Replies.{IsBatchRefusal, IsCopied, copied, wanting, IsRefusal}
 use Rattle.store.specs.StateRows.{rows_of}
 use Rattle.store.specs.Views.{reply_view}
-use Rattle.store.specs.declared.command.StoreFault.{StoreFault}
-use Rattle.store.specs.declared.command.StoreFault.TheVariants.{Damaged, OutOfMemory}
+use Rattle.tables.specs.declared.faults.StoreFault.{StoreFault}
+use Rattle.tables.specs.declared.faults.StoreFault.TheVariants.{Damaged, OutOfMemory}
 use Rattle.store.specs.declared.command.Reply.{Reply as Answer}
 use Rattle.store.specs.declared.command.Reply.TheVariants as answers
 

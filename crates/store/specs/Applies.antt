@@ -8,8 +8,8 @@ use Rattle.machine.specs.Runs.{Command, Reply, Steps}
 use Rattle.tables.specs.Tables.{HoldsTables}
 use Rattle.store.specs.StateRows.{rows_of}
 use Rattle.store.specs.Views.{reply_view}
-use Rattle.store.specs.declared.command.StoreFault.{StoreFault}
-use Rattle.store.specs.declared.command.StoreFault.TheVariants.{Damaged, OutOfMemory}
+use Rattle.tables.specs.declared.faults.StoreFault.{StoreFault}
+use Rattle.tables.specs.declared.faults.StoreFault.TheVariants.{Damaged, OutOfMemory}
 use Rattle.store.specs.declared.command.Reply.{Reply as Answer}
 use Rattle.store.specs.declared.command.Reply.TheVariants as answers
 use Rattle.metadata.specs.File.{Bytes}

@@ -22,7 +22,7 @@ pub record Shown (S : Type 0) : Type 0 where
 
 abbrev pub shown_code : {S : Type 0} → Coded S → Coded WithRoom → Coded (Shown S)
 shown_code {S} store kept =
-    code_by (Connection S × WithRoom) (coded× (held_code store) kept) (λ s. (s.conn, record { state = s.state; room = 0 }))
+    code_by (Connection S × WithRoom) (coded× (held_code store) kept) (λ s. (s.conn, record { state = s.state; room = 0; verdicts = [] }))
     (λ p. record { conn = p.0; state = p.1.state }) (λ _. refl)
 
 -- the rows of a state

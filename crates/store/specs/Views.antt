@@ -3,10 +3,6 @@ use Rattle.std.specs.Prelude.{option_map}
 use Rattle.machine.specs.Runs as steps
 use Rattle.denials.specs.Views.{denial_view}
 use Rattle.machine.specs.Views.{documents_view, offer_view}
-use Rattle.tables.specs.declared.faults.Fault.{Fault}
-use Rattle.tables.specs.declared.faults.Fault.TheVariants as faults
-use Rattle.store.specs.declared.command.StoreFault.{StoreFault}
-use Rattle.store.specs.declared.command.StoreFault.TheVariants as stores
 use Rattle.store.specs.declared.command.Command.{Command}
 use Rattle.store.specs.declared.command.Command.TheVariants as commands
 use Rattle.store.specs.declared.command.Reply.{Reply}
@@ -28,9 +24,3 @@ reply_view (replies.Stored new) = steps.Stored new
 reply_view (replies.Bytes bytes) = steps.FileBytes bytes.items
 reply_view replies.Absent = steps.Absent
 reply_view (replies.Denied denial index) = steps.Refused (denial_view denial) index
-
--- a fault of the tables, as the store tells it
-abbrev pub fault_view : Fault → StoreFault
-fault_view faults.Damaged = stores.Damaged
-fault_view faults.Database = stores.Database
-fault_view faults.OutOfMemory = stores.OutOfMemory

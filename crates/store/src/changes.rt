@@ -11,17 +11,15 @@ ghost use Rattle.machine.specs.State.{IsState};
 ghost use Rattle.machine.specs.Effects.{applied};
 ghost use Rattle.tables.specs.Tables.{HoldsTables, IsStore, after_all};
 ghost use Rattle.contents.specs.Contents.{Contents};
-ghost use Rattle.store.specs.Views.{fault_view};
 ghost use Rattle.store.specs.StateRows.{rows_of};
 ghost use Rattle.store.specs.steps.Changed.{changed, emptied_if, last_version, more_blobs, more_roots, more_rows, new_roots, new_snapshot, new_timestamp};
 
-use crate::command::StoreFault;
 use delegations::Row;
 use machine::{Blob, Effects, State, rows_stay};
 use metadata::{File, Root, Snapshot, Timestamp};
 use sqlite::{Alter, Connection};
 use std::alloc::{AllocError, Global};
-use tables::{Change, write_all};
+use tables::{Change, StoreFault, write_all};
 
 /// The changes of the rows, in the order in which they are made.
 pub(crate) fn changes_of(alloc: Global, effects: &Effects) -> Result<Vec<Change<'_>>, AllocError>
@@ -151,23 +149,6 @@ pub(crate) fn write<S: Alter>(
 {
     held.is_valid();
     rows_stay();
-    let changes = match changes_of(alloc, effects) {
-        Ok(changes) => changes,
-        Err(_) => return Err(StoreFault::OutOfMemory),
-    };
-    match write_all(conn, &changes) {
-        Ok(()) => Ok(()),
-        Err(fault) => Err(fault_of(fault)),
-    }
-}
-
-// A fault of the tables as one of the store.
-pub(crate) fn fault_of(fault: tables::Fault) -> StoreFault
-    ensures { result ≡ fault_view fault }
-{
-    match fault {
-        tables::Fault::Damaged => StoreFault::Damaged,
-        tables::Fault::Database => StoreFault::Database,
-        tables::Fault::OutOfMemory => StoreFault::OutOfMemory,
-    }
+    let changes = changes_of(alloc, effects)?;
+    write_all(conn, &changes)
 }

@@ -12,11 +12,12 @@ ghost use Rattle.store.specs.StateRows.{rows_of};
 ghost use Rattle.store.specs.Next.{IsFound};
 ghost use Rattle.store.specs.Views.{command_view, reply_view};
 
-use crate::command::{Command, Reply, StoreFault};
+use crate::command::{Command, Reply};
 use crate::store::Store;
 use metadata::Moment;
 use sqlite::{Connection, FileStore, Files};
 use sqlite_disk::Disk;
+use tables::StoreFault;
 
 // Hands back the files of a connection. What the next open of an image finds that a crash may leave of them is what the
 // connection may leave.

@@ -1,8 +1,6 @@
 //! What a store is asked, and what it answers.
 use machine::{Denial, Offer};
 use path_patterns::Digest;
-use std::alloc::AllocError;
-use thiserror::Error;
 
 /// A command of the trust machine (TUF 1.0, section 5).
 #[derive(Clone, Copy)]
@@ -38,29 +36,4 @@ pub enum Reply {
     Absent,
     /// The first rule that fails, and of a batch the index of its document.
     Denied(Denial, Option<usize>),
-}
-
-/// Why a command was not made, or a store not opened.
-#[derive(Debug, Clone, Copy, PartialEq, Eq, Error)]
-pub enum StoreFault {
-    /// The rows are those of no state. It is answered by `open` alone.
-    #[error("damaged")]
-    Damaged,
-    /// A call of the database answered a fault, or its tables are not those of a store.
-    #[error("database")]
-    Database,
-    /// Memory was refused.
-    #[error("out of memory")]
-    OutOfMemory,
-}
-
-impl From<AllocError> for StoreFault {
-    ghost use Rattle.std.specs.Prelude.{◌≡◌};
-    ghost use Rattle.store.specs.declared.command.StoreFault.TheVariants.{OutOfMemory};
-
-    ghost from_gives = { λ _ e. e ≡ OutOfMemory };
-
-    fn from(_: AllocError) -> Self {
-        StoreFault::OutOfMemory
-    }
 }

@@ -8,7 +8,8 @@ mod opening;
 mod store;
 
 pub use closing::apply_and_close;
-pub use command::{Command, Reply, StoreFault};
+pub use command::{Command, Reply};
 pub use machine::{Denial, Digest, Moment, Offer, RoleName, State, TargetPath, get, metadata_file};
 pub use opening::Unopened;
 pub use store::Store;
+pub use tables::StoreFault;

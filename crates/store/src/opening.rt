@@ -10,14 +10,12 @@ ghost use Rattle.store.specs.StateRows.{HoldsNoState, TreesStand, rows_of};
 ghost use Rattle.machine.specs.State as trust;
 ghost use Rattle.machine.specs.State.{IsState};
 
-use crate::changes::fault_of;
-use crate::command::StoreFault;
 use crate::store::Store;
 use machine::State;
 use metadata::{one_document, one_shape};
 use sqlite::{Alter, Connection};
 use std::alloc::Global;
-use tables::{one_contents, prepare, renew};
+use tables::{StoreFault, one_contents, prepare, renew};
 
 /// Why no store was opened, and the connection, where there still is one.
 #[derive(Drop)]
@@ -56,10 +54,7 @@ impl<S: Alter + Drop> Store<S> {
         let mut conn = match renew(alloc, conn) {
             Ok(conn) => conn,
             Err(fault) => {
-                return Err(Unopened {
-                    fault: fault_of(fault),
-                    conn: None,
-                });
+                return Err(Unopened { fault, conn: None });
             }
         };
         match read_state(alloc, &mut conn) {
@@ -88,10 +83,7 @@ fn read_state<S: Alter>(alloc: Global, conn: &mut Connection<S>) -> Result<State
     one_document();
     one_shape();
     one_contents();
-    let contents = match prepare(alloc, conn) {
-        Ok(contents) => contents,
-        Err(fault) => return Err(fault_of(fault)),
-    };
+    let contents = prepare(alloc, conn)?;
     match State::load(alloc, contents) {
         Ok(Some(held)) => Ok(held),
         Ok(None) => Err(StoreFault::Damaged),

@@ -6,6 +6,7 @@ ghost use Rattle.sqlite_trees.specs.Tree.{Trees};
 ghost use Rattle.tables.specs.Tables.{HoldsTables, IsStore};
 ghost use Rattle.machine.specs.State.{IsSnapshotDue, IsState};
 ghost use Rattle.machine.specs.Effects.{applied};
+ghost use Rattle.machine.specs.Knowing.{IsKnown};
 ghost use Rattle.machine.specs.Views.{documents_view, effects_view, offer_view};
 ghost use Rattle.machine.specs.Runs as steps;
 ghost use Rattle.store.specs.Applies.{Applies};
@@ -13,8 +14,8 @@ ghost use Rattle.store.specs.steps.Replies.{IsBatchRefusal, IsCopied, IsRefusal}
 ghost use Rattle.store.specs.StateRows.{rows_of};
 ghost use Rattle.store.specs.Views.{command_view};
 
-use crate::changes::{fault_of, write};
-use crate::command::{Command, Reply, StoreFault};
+use crate::changes::write;
+use crate::command::{Command, Reply};
 use machine::{
     BatchRefusal, Batched, Effects, Offer, Outcome, Refusal, State, batch, init, metadata_file,
     offer, put_blob, root_version, snapshot_due, target,
@@ -24,7 +25,7 @@ use path_patterns::Digest;
 use sqlite::{Alter, Connection};
 use std::alloc::Global;
 use std::marker::Model;
-use tables::check_open;
+use tables::{StoreFault, check_open};
 
 /// A state of the trust machine, and the connection to the tables that hold its rows. A clause sees the connection and the
 /// state. While the connection is open, and unless a wrong answer of the disk was taken as true, the rows are those of the state.
@@ -91,6 +92,13 @@ impl<S: Alter> Store<S> {
         ensures { IsSnapshotDue self.now.state.trusted result }
     {
         snapshot_due(self.state())
+    }
+
+    /// The state, with what is known of the signatures on its shelf.
+    pub fn state(&self) -> &State
+        ensures { result.now.state ≡ self.now.state }
+    {
+        &self.held
     }
 
     /// A law, which does nothing: while the connection is open, and unless a wrong answer of the disk was taken as true, the tables
@@ -232,10 +240,7 @@ impl<S: Alter> Store<S> {
         ensures survives { Survives (state S.Store self.old.conn) (state S.Store self.new.conn) (λ _. ⊥) }
         ensures sound { result ≢ Err StoreFault.Damaged }
     {
-        match check_open(&mut self.conn) {
-            Ok(()) => Ok(()),
-            Err(fault) => Err(fault_of(fault)),
-        }
+        check_open(&mut self.conn)
     }
 
     // A law, which does nothing: the rows are those of the state, and a crash leaves just these.
@@ -247,19 +252,14 @@ impl<S: Alter> Store<S> {
         let _ = &self.held;
     }
 
-    fn state(&self) -> &State
-        ensures { result.now.state ≡ self.now.state }
-    {
-        &self.held
-    }
-
     fn alloc(&self) -> Global {
         self.alloc
     }
 
     // Makes these changes: all memory first, then the rows and their commit, then the state with no memory.
     fn keep(&mut self, effects: Effects) -> Result<(), StoreFault>
-        requires { IsState (applied self.old.state (effects_view effects)) }
+        requires valid { IsState (applied self.old.state (effects_view effects)) }
+        requires known { IsKnown (applied self.old.state (effects_view effects)).trusted effects.verdicts }
         ensures done { OnOk result (self.new.state ≡ applied self.old.state (effects_view effects)) }
         ensures kept { OnErr result (self.new.state ≡ self.old.state) }
         ensures live { HasCleanDisk (state S.Store self.new.conn) → IsTrue (state S.Store self.old.conn).is_open → OnOk result (IsTrue (state S.Store self.new.conn).is_open) }

@@ -7,7 +7,7 @@ ghost use Rattle.sqlite.specs.declared.types.Value.TheVariants.{Int, Text, Blob}
 ghost use Rattle.tables.specs.Tables.{IsVersion};
 ghost use Rattle.tables.specs.steps.Loading.{place_of};
 
-use crate::faults::Fault;
+use crate::faults::StoreFault;
 use sqlite::Row;
 use sqlite_value::value::ValueRef;
 use std::alloc::Global;
@@ -56,9 +56,9 @@ pub(crate) fn version_at(row: &Row, at: usize) -> Option<u32>
 }
 
 // A copy of the bytes.
-pub(crate) fn copied(alloc: Global, bytes: &[u8]) -> Result<Vec<u8>, Fault>
+pub(crate) fn copied(alloc: Global, bytes: &[u8]) -> Result<Vec<u8>, StoreFault>
     ensures value { IfOk result (λ v. v.items ≡ bytes.now) }
-    ensures fault { IfErr result (λ f. f ≡ Fault.OutOfMemory) }
+    ensures fault { IfErr result (λ f. f ≡ StoreFault.OutOfMemory) }
 {
     Ok(Vec::from_slice(alloc, bytes)?)
 }

@@ -6,7 +6,7 @@ ghost use Rattle.contents.specs.Contents.{slot_view, value_view};
 ghost use Rattle.tables.specs.steps.Loading.{AreRead, AreSpoiled, FitsSlot, IsOne, IsSlotRow, current_items, slot_name};
 
 use crate::cells::{blob_at, copied, is_same, text_at, version_at};
-use crate::faults::Fault;
+use crate::faults::StoreFault;
 use sqlite::Row;
 use std::alloc::Global;
 
@@ -19,24 +19,24 @@ pub(crate) struct Current {
 
 // The slot of a row of `current`, whether `timestamp` or `snapshot`, with its version and bytes; `Damaged` exactly where
 // it is that of none.
-fn slot_of(alloc: Global, row: &Row) -> Result<(bool, (u32, Vec<u8>)), Fault>
+fn slot_of(alloc: Global, row: &Row) -> Result<(bool, (u32, Vec<u8>)), StoreFault>
     ensures read { IfOk result (λ r. IsSlotRow row.now (slot_name r.0, (r.1.0, r.1.1.items)) × FitsSlot (slot_name r.0, (r.1.0, r.1.1.items))) }
-    ensures damaged { result ≡ Err Fault.Damaged → (r : List ℕ × (ℕ × List ℕ)) → FitsSlot r → IsSlotRow row.now r → ⊥ }
-    ensures told { ((r : List ℕ × (ℕ × List ℕ)) → FitsSlot r → IsSlotRow row.now r → ⊥) → result ≡ Err Fault.Damaged }
-    ensures fault { result ≢ Err Fault.Database }
+    ensures damaged { result ≡ Err StoreFault.Damaged → (r : List ℕ × (ℕ × List ℕ)) → FitsSlot r → IsSlotRow row.now r → ⊥ }
+    ensures told { ((r : List ℕ × (ℕ × List ℕ)) → FitsSlot r → IsSlotRow row.now r → ⊥) → result ≡ Err StoreFault.Damaged }
+    ensures fault { result ≢ Err StoreFault.Database }
 {
     let Some(slot) = text_at(row, 0) else {
-        return Err(Fault::Damaged);
+        return Err(StoreFault::Damaged);
     };
     let Some(version) = version_at(row, 1) else {
-        return Err(Fault::Damaged);
+        return Err(StoreFault::Damaged);
     };
     let Some(bytes) = blob_at(row, 2) else {
-        return Err(Fault::Damaged);
+        return Err(StoreFault::Damaged);
     };
     let is_timestamp = is_same(slot, b"timestamp");
     if !is_timestamp && !is_same(slot, b"snapshot") {
-        return Err(Fault::Damaged);
+        return Err(StoreFault::Damaged);
     }
     Ok((is_timestamp, (version, copied(alloc, bytes)?)))
 }
@@ -65,10 +65,10 @@ fn fill(slot: &mut Option<(u32, Vec<u8>)>, item: (u32, Vec<u8>)) -> bool
 }
 
 // The rows of `current`, each slot at most once. Rows of the same cells are one.
-pub(crate) fn current_of(alloc: Global, rows: &[Row]) -> Result<Current, Fault>
+pub(crate) fn current_of(alloc: Global, rows: &[Row]) -> Result<Current, StoreFault>
     ensures read { IfOk result (λ v. AreRead IsSlotRow FitsSlot rows.now (current_items (slot_view v.timestamp) (slot_view v.snapshot))) }
-    ensures damaged { result ≡ Err Fault.Damaged → AreSpoiled IsSlotRow FitsSlot rows.now }
-    ensures fault { result ≢ Err Fault.Database }
+    ensures damaged { result ≡ Err StoreFault.Damaged → AreSpoiled IsSlotRow FitsSlot rows.now }
+    ensures fault { result ≢ Err StoreFault.Database }
 {
     let mut timestamp = None;
     let mut snapshot = None;
@@ -80,7 +80,7 @@ pub(crate) fn current_of(alloc: Global, rows: &[Row]) -> Result<Current, Fault>
             fill(&mut snapshot, item)
         };
         if !filled {
-            return Err(Fault::Damaged);
+            return Err(StoreFault::Damaged);
         }
     }
     Ok(Current {
@@ -97,16 +97,16 @@ fn is_one(row: &Row) -> bool
 }
 
 // Whether `schema` holds version 1, and `Damaged` where it holds another. There may be none.
-pub(crate) fn is_begun(rows: &[Row]) -> Result<bool, Fault>
+pub(crate) fn is_begun(rows: &[Row]) -> Result<bool, StoreFault>
     ensures one { IfOk result (λ b. (r : Row) → Has rows.now r → IsOne r) }
     ensures some { IfOk result (λ b. IsTrue b → rows.now ≢ []) }
     ensures none { IfOk result (λ b. b ≡ false → rows.now ≡ []) }
-    ensures damaged { result ≡ Err Fault.Damaged → (r : Row) × Has rows.now r × (IsOne r → ⊥) }
-    ensures fault { IfErr result (λ f. f ≡ Fault.Damaged) }
+    ensures damaged { result ≡ Err StoreFault.Damaged → (r : Row) × Has rows.now r × (IsOne r → ⊥) }
+    ensures fault { IfErr result (λ f. f ≡ StoreFault.Damaged) }
 {
     'rows: for row in rows {
         if !is_one(row) {
-            return Err(Fault::Damaged);
+            return Err(StoreFault::Damaged);
         }
     }
     Ok(!rows.is_empty())

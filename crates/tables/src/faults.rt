@@ -6,7 +6,7 @@ use thiserror::Error;
 
 /// Why the rows were not read or written.
 #[derive(Debug, Clone, Copy, PartialEq, Eq, Error)]
-pub enum Fault {
+pub enum StoreFault {
     /// The rows are those of no contents that fit. No fault of the database stands for it.
     #[error("damaged")]
     Damaged,
@@ -18,56 +18,56 @@ pub enum Fault {
     OutOfMemory,
 }
 
-impl From<AllocError> for Fault {
+impl From<AllocError> for StoreFault {
     ghost use Rattle.std.specs.Prelude.{◌≡◌};
-    ghost use Rattle.tables.specs.declared.faults.Fault.TheVariants.{OutOfMemory};
+    ghost use Rattle.tables.specs.declared.faults.StoreFault.TheVariants.{OutOfMemory};
 
     ghost from_gives = { λ _ f. f ≡ OutOfMemory };
 
-    fn from(_error: AllocError) -> Fault {
-        Fault::OutOfMemory
+    fn from(_error: AllocError) -> StoreFault {
+        StoreFault::OutOfMemory
     }
 }
 
-impl<T: Drop> From<AllocFailed<T>> for Fault {
+impl<T: Drop> From<AllocFailed<T>> for StoreFault {
     ghost use Rattle.std.specs.Prelude.{◌≡◌};
-    ghost use Rattle.tables.specs.declared.faults.Fault.TheVariants.{OutOfMemory};
+    ghost use Rattle.tables.specs.declared.faults.StoreFault.TheVariants.{OutOfMemory};
 
     ghost from_gives = { λ _ f. f ≡ OutOfMemory };
 
-    fn from(_error: AllocFailed<T>) -> Fault {
-        Fault::OutOfMemory
+    fn from(_error: AllocFailed<T>) -> StoreFault {
+        StoreFault::OutOfMemory
     }
 }
 
 // Want of memory stays what it is, and all else is a fault of the database.
-impl From<sqlite::Error> for Fault {
+impl From<sqlite::Error> for StoreFault {
     ghost use Rattle.std.specs.Prelude.{◌≡◌, ◌≢◌};
-    ghost use Rattle.tables.specs.declared.faults.Fault.TheVariants.{Damaged};
+    ghost use Rattle.tables.specs.declared.faults.StoreFault.TheVariants.{Damaged};
     ghost use Rattle.tables.specs.Faults.{fault_of};
 
     ghost from_gives = { λ error f. (f ≡ fault_of error) × (f ≢ Damaged) };
 
-    fn from(error: sqlite::Error) -> Fault {
+    fn from(error: sqlite::Error) -> StoreFault {
         match error {
-            sqlite::Error::SqliteFailure(ErrorCode::OutOfMemory) => Fault::OutOfMemory,
-            _ => Fault::Database,
+            sqlite::Error::SqliteFailure(ErrorCode::OutOfMemory) => StoreFault::OutOfMemory,
+            _ => StoreFault::Database,
         }
     }
 }
 
 // The same of the database's store.
-impl From<StoreError> for Fault {
+impl From<StoreError> for StoreFault {
     ghost use Rattle.std.specs.Prelude.{◌≡◌, ◌≢◌};
-    ghost use Rattle.tables.specs.declared.faults.Fault.TheVariants.{Damaged};
+    ghost use Rattle.tables.specs.declared.faults.StoreFault.TheVariants.{Damaged};
     ghost use Rattle.tables.specs.Faults.{fault_of_store};
 
     ghost from_gives = { λ error f. (f ≡ fault_of_store error) × (f ≢ Damaged) };
 
-    fn from(error: StoreError) -> Fault {
+    fn from(error: StoreError) -> StoreFault {
         match error {
-            StoreError::OutOfMemory => Fault::OutOfMemory,
-            _ => Fault::Database,
+            StoreError::OutOfMemory => StoreFault::OutOfMemory,
+            _ => StoreFault::Database,
         }
     }
 }

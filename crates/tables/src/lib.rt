@@ -16,7 +16,7 @@ mod writing;
 
 pub use change::Change;
 pub use contents::Contents;
-pub use faults::Fault;
+pub use faults::StoreFault;
 pub use laws::{one_contents, rows_are_sets};
 pub use making::renew;
 pub use opening::{check_open, prepare};

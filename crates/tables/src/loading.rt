@@ -8,17 +8,17 @@ ghost use Rattle.contents.specs.Contents.{contents_view};
 ghost use Rattle.tables.specs.steps.Loading.{AreLoaded, AreAnswers, AreItems, AreSorted, AreDamaged, rises};
 
 use crate::current::current_of;
-use crate::faults::Fault;
+use crate::faults::StoreFault;
 use crate::reading::{blobs_of, documents_of, roots_of};
 use contents::Contents;
 use sqlite::{Alter, Connection, Row};
 use std::alloc::Global;
 
 // The rows of `root`, by version.
-fn root_rows<S: Alter>(conn: &mut Connection<S>) -> Result<Vec<Row>, Fault>
+fn root_rows<S: Alter>(conn: &mut Connection<S>) -> Result<Vec<Row>, StoreFault>
     ensures rows { HasCleanDisk (state S.Store conn.new) → (state S.Store conn.old).now.schema ≡ the_schema → IfOk result (λ rows. AreLoaded root_cells (rises ∷ []) ((state S.Store conn.old).now.trees 0) rows.items) }
     ensures unchanged { HasCleanDisk (state S.Store conn.new) → (state S.Store conn.old).now.schema ≡ the_schema → OnOk result (IsUnchanged (state S.Store conn.old) (state S.Store conn.new)) }
-    ensures fault { result ≢ Err Fault.Damaged }
+    ensures fault { result ≢ Err StoreFault.Damaged }
     ensures mode { conn.old.in_transaction ≡ false → conn.new.in_transaction ≡ false }
     ensures survives { Survives (state S.Store conn.old) (state S.Store conn.new) (λ _. ⊥) }
 {
@@ -26,10 +26,10 @@ fn root_rows<S: Alter>(conn: &mut Connection<S>) -> Result<Vec<Row>, Fault>
 }
 
 // The rows of `current`.
-fn current_rows<S: Alter>(conn: &mut Connection<S>) -> Result<Vec<Row>, Fault>
+fn current_rows<S: Alter>(conn: &mut Connection<S>) -> Result<Vec<Row>, StoreFault>
     ensures rows { HasCleanDisk (state S.Store conn.new) → (state S.Store conn.old).now.schema ≡ the_schema → IfOk result (λ rows. AreLoaded current_cells [] ((state S.Store conn.old).now.trees 1) rows.items) }
     ensures unchanged { HasCleanDisk (state S.Store conn.new) → (state S.Store conn.old).now.schema ≡ the_schema → OnOk result (IsUnchanged (state S.Store conn.old) (state S.Store conn.new)) }
-    ensures fault { result ≢ Err Fault.Damaged }
+    ensures fault { result ≢ Err StoreFault.Damaged }
     ensures mode { conn.old.in_transaction ≡ false → conn.new.in_transaction ≡ false }
     ensures survives { Survives (state S.Store conn.old) (state S.Store conn.new) (λ _. ⊥) }
 {
@@ -37,10 +37,10 @@ fn current_rows<S: Alter>(conn: &mut Connection<S>) -> Result<Vec<Row>, Fault>
 }
 
 // The rows of `shelf`, by role and version.
-fn shelf_rows<S: Alter>(conn: &mut Connection<S>) -> Result<Vec<Row>, Fault>
+fn shelf_rows<S: Alter>(conn: &mut Connection<S>) -> Result<Vec<Row>, StoreFault>
     ensures rows { HasCleanDisk (state S.Store conn.new) → (state S.Store conn.old).now.schema ≡ the_schema → IfOk result (λ rows. AreLoaded shelf_cells (rises ∷ rises ∷ []) ((state S.Store conn.old).now.trees 3) rows.items) }
     ensures unchanged { HasCleanDisk (state S.Store conn.new) → (state S.Store conn.old).now.schema ≡ the_schema → OnOk result (IsUnchanged (state S.Store conn.old) (state S.Store conn.new)) }
-    ensures fault { result ≢ Err Fault.Damaged }
+    ensures fault { result ≢ Err StoreFault.Damaged }
     ensures mode { conn.old.in_transaction ≡ false → conn.new.in_transaction ≡ false }
     ensures survives { Survives (state S.Store conn.old) (state S.Store conn.new) (λ _. ⊥) }
 {
@@ -51,10 +51,10 @@ fn shelf_rows<S: Alter>(conn: &mut Connection<S>) -> Result<Vec<Row>, Fault>
 }
 
 // The rows of `blob`, by digest.
-fn blob_rows<S: Alter>(conn: &mut Connection<S>) -> Result<Vec<Row>, Fault>
+fn blob_rows<S: Alter>(conn: &mut Connection<S>) -> Result<Vec<Row>, StoreFault>
     ensures rows { HasCleanDisk (state S.Store conn.new) → (state S.Store conn.old).now.schema ≡ the_schema → IfOk result (λ rows. AreLoaded blob_cells (rises ∷ []) ((state S.Store conn.old).now.trees 5) rows.items) }
     ensures unchanged { HasCleanDisk (state S.Store conn.new) → (state S.Store conn.old).now.schema ≡ the_schema → OnOk result (IsUnchanged (state S.Store conn.old) (state S.Store conn.new)) }
-    ensures fault { result ≢ Err Fault.Damaged }
+    ensures fault { result ≢ Err StoreFault.Damaged }
     ensures mode { conn.old.in_transaction ≡ false → conn.new.in_transaction ≡ false }
     ensures survives { Survives (state S.Store conn.old) (state S.Store conn.new) (λ _. ⊥) }
 {
@@ -62,10 +62,10 @@ fn blob_rows<S: Alter>(conn: &mut Connection<S>) -> Result<Vec<Row>, Fault>
 }
 
 // The rows of `schema`.
-fn version_rows<S: Alter>(conn: &mut Connection<S>) -> Result<Vec<Row>, Fault>
+fn version_rows<S: Alter>(conn: &mut Connection<S>) -> Result<Vec<Row>, StoreFault>
     ensures rows { HasCleanDisk (state S.Store conn.new) → (state S.Store conn.old).now.schema ≡ the_schema → IfOk result (λ rows. AreLoaded version_cells [] ((state S.Store conn.old).now.trees 7) rows.items) }
     ensures unchanged { HasCleanDisk (state S.Store conn.new) → (state S.Store conn.old).now.schema ≡ the_schema → OnOk result (IsUnchanged (state S.Store conn.old) (state S.Store conn.new)) }
-    ensures fault { result ≢ Err Fault.Damaged }
+    ensures fault { result ≢ Err StoreFault.Damaged }
     ensures mode { conn.old.in_transaction ≡ false → conn.new.in_transaction ≡ false }
     ensures survives { Survives (state S.Store conn.old) (state S.Store conn.new) (λ _. ⊥) }
 {
@@ -83,10 +83,10 @@ pub(crate) struct Answers {
 }
 
 // Asks for the rows of all tables.
-pub(crate) fn ask<S: Alter>(conn: &mut Connection<S>) -> Result<Answers, Fault>
+pub(crate) fn ask<S: Alter>(conn: &mut Connection<S>) -> Result<Answers, StoreFault>
     ensures rows { HasCleanDisk (state S.Store conn.new) → (state S.Store conn.old).now.schema ≡ the_schema → IfOk result (λ a. AreAnswers (state S.Store conn.old).now.trees a) }
     ensures unchanged { HasCleanDisk (state S.Store conn.new) → (state S.Store conn.old).now.schema ≡ the_schema → OnOk result (IsUnchanged (state S.Store conn.old) (state S.Store conn.new)) }
-    ensures fault { result ≢ Err Fault.Damaged }
+    ensures fault { result ≢ Err StoreFault.Damaged }
     ensures mode { conn.old.in_transaction ≡ false → conn.new.in_transaction ≡ false }
     ensures survives { Survives (state S.Store conn.old) (state S.Store conn.new) (λ _. ⊥) }
 {
@@ -105,10 +105,10 @@ pub(crate) fn ask<S: Alter>(conn: &mut Connection<S>) -> Result<Answers, Fault>
 }
 
 // The items of the rows, but for those of `schema`.
-pub(crate) fn contents_of(alloc: Global, answers: &Answers) -> Result<Contents, Fault>
+pub(crate) fn contents_of(alloc: Global, answers: &Answers) -> Result<Contents, StoreFault>
     ensures read { IfOk result (λ t. AreItems answers.now (contents_view t)) }
-    ensures damaged { result ≡ Err Fault.Damaged → AreSorted answers.now → AreDamaged answers.now }
-    ensures fault { result ≢ Err Fault.Database }
+    ensures damaged { result ≡ Err StoreFault.Damaged → AreSorted answers.now → AreDamaged answers.now }
+    ensures fault { result ≢ Err StoreFault.Database }
 {
     let roots = roots_of(alloc, answers.roots.as_slice())?;
     let current = current_of(alloc, answers.current.as_slice())?;

@@ -11,7 +11,7 @@ ghost use Rattle.tables.specs.steps.Writing.{IsInside, no_cells};
 ghost use Rattle.tables.specs.Opening.{AreNumbered};
 ghost use Rattle.tables.specs.steps.Making.{IsMade, Makes, LacksRest};
 
-use crate::faults::Fault;
+use crate::faults::StoreFault;
 use sqlite::{Alter, Connection, Error, Transaction};
 use sqlite_trees::store::Store;
 use std::alloc::Global;
@@ -98,17 +98,20 @@ pub(crate) fn begin<S: Alter>(conn: &mut Connection<S>) -> Result<(), Error>
 
 /// The connection over the same store, of which the laws of the store say that the rowids of each table come once: call it
 /// once, before `prepare`. What was not committed is undone, and the connection's clock and step limit are lost.
-pub fn renew<S: Alter + Drop>(alloc: Global, conn: Connection<S>) -> Result<Connection<S>, Fault>
+pub fn renew<S: Alter + Drop>(
+    alloc: Global,
+    conn: Connection<S>,
+) -> Result<Connection<S>, StoreFault>
     ensures opened { IfOk result (λ c. HasCleanDisk (state S.Store c) → Opens (state S.Store c) × IsLive (state S.Store c)) }
     ensures numbered { IfOk result (λ c. HasCleanDisk (state S.Store c) → AreNumbered (state S.Store c).now.schema (state S.Store c).now.trees) }
     ensures same { IfOk result (λ c. HasCleanDisk (state S.Store c) → (state S.Store c).now.trees ≡ (state S.Store conn).committed.trees) }
     ensures fresh { IfOk result IsNew }
-    ensures fault { result ≢ Err Fault.Damaged }
+    ensures fault { result ≢ Err StoreFault.Damaged }
 {
     let mut store = conn.into_store();
     store.commit()?;
     match Connection::over(alloc, store) {
         Ok(conn) => Ok(conn),
-        Err((error, _)) => Err(Fault::from(error)),
+        Err((error, _)) => Err(StoreFault::from(error)),
     }
 }

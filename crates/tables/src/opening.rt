@@ -11,7 +11,7 @@ ghost use Rattle.tables.specs.steps.Loading.{IsUnbegun};
 
 use crate::completing::complete;
 use crate::current::is_begun;
-use crate::faults::Fault;
+use crate::faults::StoreFault;
 use crate::loading::{ask, contents_of};
 use crate::making::begin;
 use crate::shape::beginning_of;
@@ -20,15 +20,15 @@ use sqlite::{Alter, Connection};
 use std::alloc::Global;
 
 // What the five tables hold, and whether `schema` has its row.
-fn gather<S: Alter>(alloc: Global, conn: &mut Connection<S>) -> Result<(Contents, bool), Fault>
+fn gather<S: Alter>(alloc: Global, conn: &mut Connection<S>) -> Result<(Contents, bool), StoreFault>
     ensures begun { HasCleanDisk (state S.Store conn.new) → (state S.Store conn.old).now.schema ≡ the_schema → AreNumbered the_schema (state S.Store conn.old).now.trees
         → IfOk result (λ p. p.1 ≡ true → HoldsTables (state S.Store conn.old).now.trees (contents_view p.0)) }
     ensures unbegun { HasCleanDisk (state S.Store conn.new) → (state S.Store conn.old).now.schema ≡ the_schema
         → IfOk result (λ p. p.1 ≡ false → IsUnbegun (state S.Store conn.old).now.trees (contents_view p.0)) }
     ensures fit { IfOk result (λ p. IsFit (contents_view p.0) × AreRising (contents_view p.0)) }
-    ensures damaged { HasCleanDisk (state S.Store conn.new) → (state S.Store conn.old).now.schema ≡ the_schema → result ≡ Err Fault.Damaged
+    ensures damaged { HasCleanDisk (state S.Store conn.new) → (state S.Store conn.old).now.schema ≡ the_schema → result ≡ Err StoreFault.Damaged
         → (t : plain.Contents) → IsFit t → StandsFor (state S.Store conn.old).now.trees t → ⊥ }
-    ensures kept { HasCleanDisk (state S.Store conn.new) → (state S.Store conn.old).now.schema ≡ the_schema → result ≡ Err Fault.Damaged → KeepsCommit (state S.Store conn.old) (state S.Store conn.new) }
+    ensures kept { HasCleanDisk (state S.Store conn.new) → (state S.Store conn.old).now.schema ≡ the_schema → result ≡ Err StoreFault.Damaged → KeepsCommit (state S.Store conn.old) (state S.Store conn.new) }
     ensures unchanged { HasCleanDisk (state S.Store conn.new) → (state S.Store conn.old).now.schema ≡ the_schema → OnOk result (IsUnchanged (state S.Store conn.old) (state S.Store conn.new)) }
     ensures mode { conn.old.in_transaction ≡ false → conn.new.in_transaction ≡ false }
     ensures survives { Survives (state S.Store conn.old) (state S.Store conn.new) (λ _. ⊥) }
@@ -39,33 +39,36 @@ fn gather<S: Alter>(alloc: Global, conn: &mut Connection<S>) -> Result<(Contents
 }
 
 // Puts the row of `schema` where nothing was read.
-fn begin_bare<S: Alter>(conn: &mut Connection<S>, contents: Contents) -> Result<Contents, Fault>
+fn begin_bare<S: Alter>(
+    conn: &mut Connection<S>,
+    contents: Contents,
+) -> Result<Contents, StoreFault>
     requires { conn.old.in_transaction ≡ false }
     ensures autocommit { conn.new.in_transaction ≡ false }
     ensures same { IfOk result (λ t. (contents_view t ≡ contents_view contents) × (contents_view t ≡ no_rows)) }
     ensures begun { HasCleanDisk (state S.Store conn.new) → (state S.Store conn.old).now.schema ≡ the_schema → AreBare (state S.Store conn.old).now.trees → OnOk result (IsStore (state S.Store conn.new) no_rows) }
-    ensures damaged { result ≡ Err Fault.Damaged → contents_view contents ≢ no_rows }
-    ensures told { contents_view contents ≢ no_rows → (result ≡ Err Fault.Damaged) × (conn.new ≡ conn.old) }
+    ensures damaged { result ≡ Err StoreFault.Damaged → contents_view contents ≢ no_rows }
+    ensures told { contents_view contents ≢ no_rows → (result ≡ Err StoreFault.Damaged) × (conn.new ≡ conn.old) }
     ensures crash { Survives (state S.Store conn.old) (state S.Store conn.new) (λ trees. IsTrue (state S.Store conn.old).is_open → (state S.Store conn.old).now.schema ≡ the_schema
         → (contents_view contents ≡ no_rows) × (AreBare (state S.Store conn.old).now.trees → HoldsTables trees no_rows)) }
 {
     if !contents.is_empty() {
-        return Err(Fault::Damaged);
+        return Err(StoreFault::Damaged);
     }
     begin(conn)?;
     Ok(contents)
 }
 
 // What the five tables hold. Where all are empty, the row of `schema` is put.
-fn load<S: Alter>(alloc: Global, conn: &mut Connection<S>) -> Result<Contents, Fault>
+fn load<S: Alter>(alloc: Global, conn: &mut Connection<S>) -> Result<Contents, StoreFault>
     requires { conn.old.in_transaction ≡ false }
     ensures autocommit { conn.new.in_transaction ≡ false }
     ensures loaded { HasCleanDisk (state S.Store conn.new) → Opens (state S.Store conn.old) → (state S.Store conn.old).now.schema ≡ the_schema → AreNumbered the_schema (state S.Store conn.old).now.trees
         → IfOk result (λ t. StandsFor (state S.Store conn.old).now.trees (contents_view t) × IsStore (state S.Store conn.new) (contents_view t)) }
     ensures fit { IfOk result (λ t. IsFit (contents_view t) × AreRising (contents_view t)) }
-    ensures damaged { HasCleanDisk (state S.Store conn.new) → (state S.Store conn.old).now.schema ≡ the_schema → result ≡ Err Fault.Damaged
+    ensures damaged { HasCleanDisk (state S.Store conn.new) → (state S.Store conn.old).now.schema ≡ the_schema → result ≡ Err StoreFault.Damaged
         → (t : plain.Contents) → IsFit t → StandsFor (state S.Store conn.old).now.trees t → ⊥ }
-    ensures kept { HasCleanDisk (state S.Store conn.new) → (state S.Store conn.old).now.schema ≡ the_schema → result ≡ Err Fault.Damaged → KeepsCommit (state S.Store conn.old) (state S.Store conn.new) }
+    ensures kept { HasCleanDisk (state S.Store conn.new) → (state S.Store conn.old).now.schema ≡ the_schema → result ≡ Err StoreFault.Damaged → KeepsCommit (state S.Store conn.old) (state S.Store conn.new) }
     ensures crash { Survives (state S.Store conn.old) (state S.Store conn.new) (λ trees. IsTrue (state S.Store conn.old).is_open → (state S.Store conn.old).now.schema ≡ the_schema
         → AreBare (state S.Store conn.old).now.trees × HoldsTables trees no_rows) }
 {
@@ -81,23 +84,23 @@ fn complete_bare<S: Alter>(
     alloc: Global,
     conn: &mut Connection<S>,
     count: usize,
-) -> Result<Contents, Fault>
+) -> Result<Contents, StoreFault>
     requires autocommit { conn.old.in_transaction ≡ false }
     requires few { count < 5 }
     ensures autocommit { conn.new.in_transaction ≡ false }
     ensures made { HasCleanDisk (state S.Store conn.new) → (state S.Store conn.old).now.schema ≡ beginning count
         → IfOk result (λ t. (contents_view t ≡ no_rows) × AreBare (counted (beginning count) (state S.Store conn.old).now.trees) × IsStore (state S.Store conn.new) no_rows) }
     ensures empty { IfOk result (λ t. contents_view t ≡ no_rows) }
-    ensures damaged { HasCleanDisk (state S.Store conn.new) → (state S.Store conn.old).now.schema ≡ beginning count → result ≡ Err Fault.Damaged
+    ensures damaged { HasCleanDisk (state S.Store conn.new) → (state S.Store conn.old).now.schema ≡ beginning count → result ≡ Err StoreFault.Damaged
         → (t : plain.Contents) → StandsFor (counted (beginning count) (state S.Store conn.old).now.trees) t → ⊥ }
-    ensures kept { HasCleanDisk (state S.Store conn.new) → (state S.Store conn.old).now.schema ≡ beginning count → result ≡ Err Fault.Damaged → KeepsCommit (state S.Store conn.old) (state S.Store conn.new) }
+    ensures kept { HasCleanDisk (state S.Store conn.new) → (state S.Store conn.old).now.schema ≡ beginning count → result ≡ Err StoreFault.Damaged → KeepsCommit (state S.Store conn.old) (state S.Store conn.new) }
     ensures crash { Survives (state S.Store conn.old) (state S.Store conn.new) (λ trees. IsTrue (state S.Store conn.old).is_open → (state S.Store conn.old).now.schema ≡ beginning count
         → AreBare (counted (beginning count) (state S.Store conn.old).now.trees) × HoldsTables trees no_rows) }
 {
     if complete(conn, count)? {
         Ok(Contents::empty(alloc))
     } else {
-        Err(Fault::Damaged)
+        Err(StoreFault::Damaged)
     }
 }
 
@@ -111,24 +114,24 @@ fn complete_bare<S: Alter>(
 /// - `Database`: a call of the database answered a fault, or the database has other tables than the first of these five in
 ///   their order. No other is tried.
 /// - `OutOfMemory`: memory was refused.
-pub fn prepare<S: Alter>(alloc: Global, conn: &mut Connection<S>) -> Result<Contents, Fault>
+pub fn prepare<S: Alter>(alloc: Global, conn: &mut Connection<S>) -> Result<Contents, StoreFault>
     requires { conn.old.in_transaction ≡ false }
     ensures autocommit { conn.new.in_transaction ≡ false }
     ensures schema { IfOk result (λ _. IsBeginning conn.old.schema) }
-    ensures ours { result ≡ Err Fault.Damaged → IsBeginning conn.old.schema }
-    ensures foreign { (IsBeginning conn.old.schema → ⊥) → (result ≡ Err Fault.Database) × (conn.new ≡ conn.old) }
+    ensures ours { result ≡ Err StoreFault.Damaged → IsBeginning conn.old.schema }
+    ensures foreign { (IsBeginning conn.old.schema → ⊥) → (result ≡ Err StoreFault.Database) × (conn.new ≡ conn.old) }
     ensures made { HasCleanDisk (state S.Store conn.new) → (count : ℕ) → count < 5 → conn.old.schema ≡ beginning count → IfOk result (λ t. (contents_view t ≡ no_rows) × StandsEmpty (state S.Store conn.old) × IsStore (state S.Store conn.new) no_rows) }
     ensures loaded { HasCleanDisk (state S.Store conn.new) → Opens (state S.Store conn.old) → AreNumbered conn.old.schema (state S.Store conn.old).now.trees
         → IfOk result (λ t. Stands (state S.Store conn.old).now (contents_view t) × IsStore (state S.Store conn.new) (contents_view t)) }
     ensures fit { IfOk result (λ t. IsFit (contents_view t)) }
     ensures rising { IfOk result (λ t. AreRising (contents_view t)) }
-    ensures damaged { HasCleanDisk (state S.Store conn.new) → result ≡ Err Fault.Damaged
+    ensures damaged { HasCleanDisk (state S.Store conn.new) → result ≡ Err StoreFault.Damaged
         → IsBeginning conn.old.schema × ((t : plain.Contents) → IsFit t → Stands (state S.Store conn.old).now t → ⊥) }
-    ensures kept { HasCleanDisk (state S.Store conn.new) → result ≡ Err Fault.Damaged → KeepsCommit (state S.Store conn.old) (state S.Store conn.new) }
+    ensures kept { HasCleanDisk (state S.Store conn.new) → result ≡ Err StoreFault.Damaged → KeepsCommit (state S.Store conn.old) (state S.Store conn.new) }
     ensures crash { Survives (state S.Store conn.old) (state S.Store conn.new) (λ trees. IsTrue (state S.Store conn.old).is_open → StandsEmpty (state S.Store conn.old) × HoldsTables trees no_rows) }
 {
     let Some(count) = beginning_of(conn.schema()) else {
-        return Err(Fault::Database);
+        return Err(StoreFault::Database);
     };
     if count == 5 {
         return load(alloc, conn);
@@ -138,13 +141,13 @@ pub fn prepare<S: Alter>(alloc: Global, conn: &mut Connection<S>) -> Result<Cont
 
 /// Whether the connection still answers, by one small query. After a fault has shut it, no reply may be given from memory
 /// alone: a crash may still leave what stood before or after the faulty call. `Damaged` is never answered.
-pub fn check_open<S: Alter>(conn: &mut Connection<S>) -> Result<(), Fault>
+pub fn check_open<S: Alter>(conn: &mut Connection<S>) -> Result<(), StoreFault>
     ensures open { HasCleanDisk (state S.Store conn.new) → OnOk result (IsTrue (state S.Store conn.old).is_open × IsTrue (state S.Store conn.new).is_open) }
     ensures was_open { HasCleanDisk (state S.Store conn.new) → IsTrue (state S.Store conn.new).is_open → IsTrue (state S.Store conn.old).is_open }
     ensures kept { HasCleanDisk (state S.Store conn.new) → IsTrue (state S.Store conn.new).is_open → (t : plain.Contents) → IsStore (state S.Store conn.old) t → IsStore (state S.Store conn.new) t }
     ensures mode { conn.old.in_transaction ≡ false → conn.new.in_transaction ≡ false }
     ensures survives { Survives (state S.Store conn.old) (state S.Store conn.new) (λ _. ⊥) }
-    ensures fault { result ≢ Err Fault.Damaged }
+    ensures fault { result ≢ Err StoreFault.Damaged }
 {
     conn.query_row("SELECT version FROM schema", &[])?;
     Ok(())

@@ -8,23 +8,23 @@ ghost use Rattle.tables.specs.Tables.{IsDigest, row_cmp};
 ghost use Rattle.tables.specs.steps.Loading.{AreGathered, AreOrdered, AreSpoiled, FitsBlob, FitsRoot, FitsShelf, IsBlobRow, IsPlace, IsRootRow, IsShelfRow};
 
 use crate::cells::{Place, blob_at, copied, is_same, place_by, text_at, text_order, version_at};
-use crate::faults::Fault;
+use crate::faults::StoreFault;
 use sqlite::Row;
 use std::alloc::Global;
 use std::cmp::Ordering;
 
 // The root of a row, and `Damaged` exactly where it is that of none.
-fn root_of(alloc: Global, row: &Row) -> Result<(u32, Vec<u8>), Fault>
+fn root_of(alloc: Global, row: &Row) -> Result<(u32, Vec<u8>), StoreFault>
     ensures read { IfOk result (λ r. IsRootRow row.now (r.0, r.1.items) × FitsRoot (r.0, r.1.items)) }
-    ensures damaged { result ≡ Err Fault.Damaged → (r : ℕ × List ℕ) → FitsRoot r → IsRootRow row.now r → ⊥ }
-    ensures told { ((r : ℕ × List ℕ) → FitsRoot r → IsRootRow row.now r → ⊥) → result ≡ Err Fault.Damaged }
-    ensures fault { result ≢ Err Fault.Database }
+    ensures damaged { result ≡ Err StoreFault.Damaged → (r : ℕ × List ℕ) → FitsRoot r → IsRootRow row.now r → ⊥ }
+    ensures told { ((r : ℕ × List ℕ) → FitsRoot r → IsRootRow row.now r → ⊥) → result ≡ Err StoreFault.Damaged }
+    ensures fault { result ≢ Err StoreFault.Database }
 {
     let Some(version) = version_at(row, 0) else {
-        return Err(Fault::Damaged);
+        return Err(StoreFault::Damaged);
     };
     let Some(bytes) = blob_at(row, 1) else {
-        return Err(Fault::Damaged);
+        return Err(StoreFault::Damaged);
     };
     Ok((version, copied(alloc, bytes)?))
 }
@@ -40,10 +40,10 @@ fn root_place(roots: &[(u32, Vec<u8>)], root: &(u32, Vec<u8>)) -> Place
 }
 
 // The roots of the rows, by version. Rows of the same cells are one.
-pub(crate) fn roots_of(alloc: Global, rows: &[Row]) -> Result<Vec<(u32, Vec<u8>)>, Fault>
+pub(crate) fn roots_of(alloc: Global, rows: &[Row]) -> Result<Vec<(u32, Vec<u8>)>, StoreFault>
     ensures read { IfOk result (λ v. AreGathered nat_cmp IsRootRow FitsRoot rows.now (map (λ r. (r.0, r.1.items)) v.items)) }
-    ensures damaged { result ≡ Err Fault.Damaged → AreOrdered nat_cmp IsRootRow FitsRoot rows.now → AreSpoiled IsRootRow FitsRoot rows.now }
-    ensures fault { result ≢ Err Fault.Database }
+    ensures damaged { result ≡ Err StoreFault.Damaged → AreOrdered nat_cmp IsRootRow FitsRoot rows.now → AreSpoiled IsRootRow FitsRoot rows.now }
+    ensures fault { result ≢ Err StoreFault.Database }
 {
     let mut roots = Vec::new(alloc);
     'rows: for row in rows {
@@ -51,30 +51,30 @@ pub(crate) fn roots_of(alloc: Global, rows: &[Row]) -> Result<Vec<(u32, Vec<u8>)
         match root_place(roots.as_slice(), &root) {
             Place::Behind => roots.push(root)?,
             Place::Same => {}
-            Place::Neither => return Err(Fault::Damaged),
+            Place::Neither => return Err(StoreFault::Damaged),
         }
     }
     Ok(roots)
 }
 
 // The targets document of a row, and `Damaged` exactly where it is that of none.
-fn document_of(alloc: Global, row: &Row) -> Result<(String, u32, Vec<u8>), Fault>
+fn document_of(alloc: Global, row: &Row) -> Result<(String, u32, Vec<u8>), StoreFault>
     ensures read { IfOk result (λ r. IsShelfRow row.now ((string_bytes r.0, r.1), r.2.items) × FitsShelf ((string_bytes r.0, r.1), r.2.items)) }
-    ensures damaged { result ≡ Err Fault.Damaged → (r : (List ℕ × ℕ) × List ℕ) → FitsShelf r → IsShelfRow row.now r → ⊥ }
-    ensures told { ((r : (List ℕ × ℕ) × List ℕ) → FitsShelf r → IsShelfRow row.now r → ⊥) → result ≡ Err Fault.Damaged }
-    ensures fault { result ≢ Err Fault.Database }
+    ensures damaged { result ≡ Err StoreFault.Damaged → (r : (List ℕ × ℕ) × List ℕ) → FitsShelf r → IsShelfRow row.now r → ⊥ }
+    ensures told { ((r : (List ℕ × ℕ) × List ℕ) → FitsShelf r → IsShelfRow row.now r → ⊥) → result ≡ Err StoreFault.Damaged }
+    ensures fault { result ≢ Err StoreFault.Database }
 {
     let Some(role) = text_at(row, 0) else {
-        return Err(Fault::Damaged);
+        return Err(StoreFault::Damaged);
     };
     let Some(version) = version_at(row, 1) else {
-        return Err(Fault::Damaged);
+        return Err(StoreFault::Damaged);
     };
     let Some(bytes) = blob_at(row, 2) else {
-        return Err(Fault::Damaged);
+        return Err(StoreFault::Damaged);
     };
     let Ok(role) = std::str::from_utf8(role) else {
-        return Err(Fault::Damaged);
+        return Err(StoreFault::Damaged);
     };
     let role = String::from_str(alloc, role)?;
     Ok((role, version, copied(alloc, bytes)?))
@@ -101,10 +101,10 @@ fn document_place(shelf: &[(String, u32, Vec<u8>)], row: &(String, u32, Vec<u8>)
 pub(crate) fn documents_of(
     alloc: Global,
     rows: &[Row],
-) -> Result<Vec<(String, u32, Vec<u8>)>, Fault>
+) -> Result<Vec<(String, u32, Vec<u8>)>, StoreFault>
     ensures read { IfOk result (λ v. AreGathered row_cmp IsShelfRow FitsShelf rows.now (map (λ r. ((string_bytes r.0, r.1), r.2.items)) v.items)) }
-    ensures damaged { result ≡ Err Fault.Damaged → AreOrdered row_cmp IsShelfRow FitsShelf rows.now → AreSpoiled IsShelfRow FitsShelf rows.now }
-    ensures fault { result ≢ Err Fault.Database }
+    ensures damaged { result ≡ Err StoreFault.Damaged → AreOrdered row_cmp IsShelfRow FitsShelf rows.now → AreSpoiled IsShelfRow FitsShelf rows.now }
+    ensures fault { result ≢ Err StoreFault.Database }
 {
     let mut documents = Vec::new(alloc);
     'rows: for row in rows {
@@ -112,7 +112,7 @@ pub(crate) fn documents_of(
         match document_place(documents.as_slice(), &document) {
             Place::Behind => documents.push(document)?,
             Place::Same => {}
-            Place::Neither => return Err(Fault::Damaged),
+            Place::Neither => return Err(StoreFault::Damaged),
         }
     }
     Ok(documents)
@@ -144,20 +144,20 @@ fn are_bytes(bytes: &[u8])
 }
 
 // The target file of a row, and `Damaged` exactly where it is that of none.
-fn blob_of(alloc: Global, row: &Row) -> Result<([u8; 32], Vec<u8>), Fault>
+fn blob_of(alloc: Global, row: &Row) -> Result<([u8; 32], Vec<u8>), StoreFault>
     ensures read { IfOk result (λ r. IsBlobRow row.now (r.0, r.1.items) × FitsBlob (r.0, r.1.items)) }
-    ensures damaged { result ≡ Err Fault.Damaged → (r : List ℕ × List ℕ) → FitsBlob r → IsBlobRow row.now r → ⊥ }
-    ensures told { ((r : List ℕ × List ℕ) → FitsBlob r → IsBlobRow row.now r → ⊥) → result ≡ Err Fault.Damaged }
-    ensures fault { result ≢ Err Fault.Database }
+    ensures damaged { result ≡ Err StoreFault.Damaged → (r : List ℕ × List ℕ) → FitsBlob r → IsBlobRow row.now r → ⊥ }
+    ensures told { ((r : List ℕ × List ℕ) → FitsBlob r → IsBlobRow row.now r → ⊥) → result ≡ Err StoreFault.Damaged }
+    ensures fault { result ≢ Err StoreFault.Database }
 {
     let Some(digits) = text_at(row, 0) else {
-        return Err(Fault::Damaged);
+        return Err(StoreFault::Damaged);
     };
     let Some(bytes) = blob_at(row, 1) else {
-        return Err(Fault::Damaged);
+        return Err(StoreFault::Damaged);
     };
     let Some(digest) = digest_of(digits) else {
-        return Err(Fault::Damaged);
+        return Err(StoreFault::Damaged);
     };
     Ok((digest, copied(alloc, bytes)?))
 }
@@ -173,10 +173,10 @@ fn blob_place(blobs: &[([u8; 32], Vec<u8>)], blob: &([u8; 32], Vec<u8>)) -> Plac
 }
 
 // The target files of the rows, by digest. Rows of the same cells are one.
-pub(crate) fn blobs_of(alloc: Global, rows: &[Row]) -> Result<Vec<([u8; 32], Vec<u8>)>, Fault>
+pub(crate) fn blobs_of(alloc: Global, rows: &[Row]) -> Result<Vec<([u8; 32], Vec<u8>)>, StoreFault>
     ensures read { IfOk result (λ v. AreGathered (slice_cmp nat_cmp) IsBlobRow FitsBlob rows.now (map (λ r. (r.0, r.1.items)) v.items)) }
-    ensures damaged { result ≡ Err Fault.Damaged → AreOrdered (slice_cmp nat_cmp) IsBlobRow FitsBlob rows.now → AreSpoiled IsBlobRow FitsBlob rows.now }
-    ensures fault { result ≢ Err Fault.Database }
+    ensures damaged { result ≡ Err StoreFault.Damaged → AreOrdered (slice_cmp nat_cmp) IsBlobRow FitsBlob rows.now → AreSpoiled IsBlobRow FitsBlob rows.now }
+    ensures fault { result ≢ Err StoreFault.Database }
 {
     let mut blobs = Vec::new(alloc);
     'rows: for row in rows {
@@ -184,7 +184,7 @@ pub(crate) fn blobs_of(alloc: Global, rows: &[Row]) -> Result<Vec<([u8; 32], Vec
         match blob_place(blobs.as_slice(), &blob) {
             Place::Behind => blobs.push(blob)?,
             Place::Same => {}
-            Place::Neither => return Err(Fault::Damaged),
+            Place::Neither => return Err(StoreFault::Damaged),
         }
     }
     Ok(blobs)

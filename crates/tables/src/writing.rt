@@ -8,7 +8,7 @@ ghost use Rattle.tables.specs.Tables.{IsStore, HoldsTables, after, after_all, sl
 ghost use Rattle.tables.specs.steps.Writing.{Cells, IsInside, cells_of, without_text};
 
 use crate::change::Change;
-use crate::faults::Fault;
+use crate::faults::StoreFault;
 use sqlite::{Alter, Connection, Error, Transaction, params};
 use sqlite_value::value::ValueRef;
 
@@ -207,14 +207,17 @@ fn write_changes<S: Alter>(conn: &mut Connection<S>, changes: &[Change<'_>]) -> 
 ///
 /// On any fault the rows are as they were, if the connection is still open: a commit that fails may shut it. `Damaged`
 /// is never answered.
-pub fn write_all<S: Alter>(conn: &mut Connection<S>, changes: &[Change<'_>]) -> Result<(), Fault>
+pub fn write_all<S: Alter>(
+    conn: &mut Connection<S>,
+    changes: &[Change<'_>],
+) -> Result<(), StoreFault>
     requires { conn.old.in_transaction ≡ false }
     ensures autocommit { conn.new.in_transaction ≡ false }
     ensures wrote { HasCleanDisk (state S.Store conn.new) → (t : Contents) → IsStore (state S.Store conn.old) t → OnOk result (IsStore (state S.Store conn.new) (after_all changes.now t)) }
     ensures kept { HasCleanDisk (state S.Store conn.new) → IsTrue (state S.Store conn.new).is_open → (t : Contents) → IsStore (state S.Store conn.old) t → OnErr result (IsStore (state S.Store conn.new) t) }
     ensures was_open { HasCleanDisk (state S.Store conn.new) → IsTrue (state S.Store conn.new).is_open → IsTrue (state S.Store conn.old).is_open }
     ensures crash { Survives (state S.Store conn.old) (state S.Store conn.new) (λ trees. (t : Contents) → IsStore (state S.Store conn.old) t → HoldsTables trees (after_all changes.now t)) }
-    ensures fault { result ≢ Err Fault.Damaged }
+    ensures fault { result ≢ Err StoreFault.Damaged }
 {
     write_changes(conn, changes)?;
     Ok(())

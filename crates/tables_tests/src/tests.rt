@@ -2,24 +2,24 @@ use sqlite::{Alter, Connection, MemStore};
 use sqlite_value::value::ValueRef;
 use std::alloc::Global;
 use std::test::Fail;
-use tables::{Change, Contents, Fault, check_open, prepare, renew, write_all};
+use tables::{Change, Contents, StoreFault, check_open, prepare, renew, write_all};
 
-fn read<S: Alter>(alloc: Global, conn: &mut Connection<S>) -> Result<Contents, Fault> {
+fn read<S: Alter>(alloc: Global, conn: &mut Connection<S>) -> Result<Contents, StoreFault> {
     if !conn.is_autocommit() {
-        return Err(Fault::Database);
+        return Err(StoreFault::Database);
     }
     prepare(alloc, conn)
 }
 
-fn put<S: Alter>(conn: &mut Connection<S>, changes: &[Change<'_>]) -> Result<(), Fault> {
+fn put<S: Alter>(conn: &mut Connection<S>, changes: &[Change<'_>]) -> Result<(), StoreFault> {
     if !conn.is_autocommit() {
-        return Err(Fault::Database);
+        return Err(StoreFault::Database);
     }
     write_all(conn, changes)
 }
 
 // Not in the order of the keys.
-fn put_some<S: Alter>(conn: &mut Connection<S>) -> Result<(), Fault> {
+fn put_some<S: Alter>(conn: &mut Connection<S>) -> Result<(), StoreFault> {
     put(
         conn,
         &[
@@ -93,7 +93,7 @@ fn is_some(contents: &Contents) -> bool {
 }
 
 // A database in memory with the five tables and the rows.
-fn made(alloc: Global) -> Result<Connection<MemStore>, Fault> {
+fn made(alloc: Global) -> Result<Connection<MemStore>, StoreFault> {
     let mut conn = renew(alloc, Connection::open_in_memory(alloc)?)?;
     read(alloc, &mut conn)?;
     put_some(&mut conn)?;
@@ -132,13 +132,13 @@ fn a_refused_change_takes_the_others_back(rt: HostRuntime) -> Result<(), Fail> {
             Change::PutRoot(1, b"root 1"),
         ],
     );
-    assert!(rt; twice == Err(Fault::Database));
+    assert!(rt; twice == Err(StoreFault::Database));
     assert!(rt; is_some(&read(alloc, &mut conn)?));
     Ok(())
 }
 
 // What a statement makes of the rows for the next opening.
-fn after(alloc: Global, text: &str) -> Result<Result<Contents, Fault>, Fail> {
+fn after(alloc: Global, text: &str) -> Result<Result<Contents, StoreFault>, Fail> {
     let mut conn = made(alloc)?;
     conn.execute_batch(text)?;
     let mut conn = renew(alloc, conn)?;
@@ -171,7 +171,7 @@ const DAMAGED: [&str; 19] = [
 fn each_damage_is_told(rt: HostRuntime) -> Result<(), Fail> {
     for text in DAMAGED {
         assert!(rt;
-            matches!(after(rt.alloc(), text)?, Err(Fault::Damaged)),
+            matches!(after(rt.alloc(), text)?, Err(StoreFault::Damaged)),
             "{text}"
         );
     }
@@ -179,7 +179,7 @@ fn each_damage_is_told(rt: HostRuntime) -> Result<(), Fail> {
 }
 
 // What a targets document with a role of these bytes makes of the rows for the next opening.
-fn with_role(alloc: Global, role: &[u8]) -> Result<Result<Contents, Fault>, Fail> {
+fn with_role(alloc: Global, role: &[u8]) -> Result<Result<Contents, StoreFault>, Fail> {
     let mut conn = made(alloc)?;
     conn.execute(
         "INSERT INTO shelf (role, version, bytes) VALUES (?1, 1, x'00')",
@@ -191,7 +191,7 @@ fn with_role(alloc: Global, role: &[u8]) -> Result<Result<Contents, Fault>, Fail
 
 #[test]
 fn a_role_that_is_not_utf8_is_damage(rt: HostRuntime) -> Result<(), Fail> {
-    assert!(rt; matches!(with_role(rt.alloc(), &[255])?, Err(Fault::Damaged)));
+    assert!(rt; matches!(with_role(rt.alloc(), &[255])?, Err(StoreFault::Damaged)));
     assert!(rt; matches!(with_role(rt.alloc(), b"b")?, Ok(_)));
     Ok(())
 }
@@ -207,7 +207,7 @@ const FOREIGN: [&str; 4] = [
 fn other_tables_are_refused(rt: HostRuntime) -> Result<(), Fail> {
     for text in FOREIGN {
         assert!(rt;
-            matches!(after(rt.alloc(), text)?, Err(Fault::Database)),
+            matches!(after(rt.alloc(), text)?, Err(StoreFault::Database)),
             "{text}"
         );
     }
@@ -294,7 +294,7 @@ fn the_first_four_tables_are_completed(rt: HostRuntime) -> Result<(), Fail> {
 }
 
 // What the opening of the database that the texts made answers, and how many tables there are afterwards.
-fn opened(alloc: Global, texts: &[&str]) -> Result<(Result<Contents, Fault>, usize), Fail> {
+fn opened(alloc: Global, texts: &[&str]) -> Result<(Result<Contents, StoreFault>, usize), Fail> {
     let mut conn = holding(alloc, texts)?;
     let found = read(alloc, &mut conn);
     Ok((found, conn.schema().tables.len()))
@@ -307,7 +307,7 @@ fn rows_without_the_table_of_the_version_are_damage(rt: HostRuntime) -> Result<(
         rt.alloc(),
         &[ROOT, "INSERT INTO root (version, bytes) VALUES (1, x'00')"],
     )?;
-    assert!(rt; matches!(found, Err(Fault::Damaged)) && count == 1);
+    assert!(rt; matches!(found, Err(StoreFault::Damaged)) && count == 1);
     let (found, count) = opened(
         rt.alloc(),
         &[
@@ -316,23 +316,23 @@ fn rows_without_the_table_of_the_version_are_damage(rt: HostRuntime) -> Result<(
             "INSERT INTO current (slot, version, bytes) VALUES ('timestamp', 1, x'00')",
         ],
     )?;
-    assert!(rt; matches!(found, Err(Fault::Damaged)) && count == 2);
+    assert!(rt; matches!(found, Err(StoreFault::Damaged)) && count == 2);
     Ok(())
 }
 
 #[test]
 fn another_order_of_the_tables_is_refused(rt: HostRuntime) -> Result<(), Fail> {
     let (found, count) = opened(rt.alloc(), &[CURRENT, ROOT])?;
-    assert!(rt; matches!(found, Err(Fault::Database)) && count == 2);
+    assert!(rt; matches!(found, Err(StoreFault::Database)) && count == 2);
     let (found, count) = opened(rt.alloc(), &[CURRENT])?;
-    assert!(rt; matches!(found, Err(Fault::Database)) && count == 1);
+    assert!(rt; matches!(found, Err(StoreFault::Database)) && count == 1);
     Ok(())
 }
 
 #[test]
 fn a_foreign_table_beside_the_first_is_refused(rt: HostRuntime) -> Result<(), Fail> {
     let (found, count) = opened(rt.alloc(), &[ROOT, "CREATE TABLE other (a)"])?;
-    assert!(rt; matches!(found, Err(Fault::Database)) && count == 2);
+    assert!(rt; matches!(found, Err(StoreFault::Database)) && count == 2);
     Ok(())
 }
 
@@ -350,14 +350,14 @@ fn goes_on_after_a_refused_allocation(rt: HostRuntime) -> Result<(), Fail> {
     match read(alloc, &mut conn) {
         Ok(contents) => assert!(rt; contents.is_empty()),
         Err(fault) => {
-            assert_eq!(rt; fault, Fault::OutOfMemory);
+            assert_eq!(rt; fault, StoreFault::OutOfMemory);
             assert!(rt; read(alloc, &mut conn)?.is_empty());
         }
     }
     match put_some(&mut conn) {
         Ok(()) => {}
         Err(fault) => {
-            assert_eq!(rt; fault, Fault::OutOfMemory);
+            assert_eq!(rt; fault, StoreFault::OutOfMemory);
             assert!(rt; read(alloc, &mut conn)?.is_empty());
             put_some(&mut conn)?;
         }
@@ -365,7 +365,7 @@ fn goes_on_after_a_refused_allocation(rt: HostRuntime) -> Result<(), Fail> {
     match read(alloc, &mut conn) {
         Ok(contents) => assert!(rt; is_some(&contents)),
         Err(fault) => {
-            assert_eq!(rt; fault, Fault::OutOfMemory);
+            assert_eq!(rt; fault, StoreFault::OutOfMemory);
             assert!(rt; is_some(&read(alloc, &mut conn)?));
         }
     }

@@ -5,10 +5,10 @@ use Rattle.std.specs.Str.{IsUtf8}
 use Rattle.hex.specs.Hex.{IsBytes}
 use Rattle.metadata.specs.Shape.{kind_name}
 use Rattle.verdicts.specs.declared.case.Case.{Case}
-use Rattle.verdicts.specs.declared.case.Case.TheVariants.{Json, Lms, Key, Sign, Calendar, Document, Asked}
+use Rattle.verdicts.specs.declared.case.Case.TheVariants.{Json, Lms, Key, Sign, Calendar, Document, Asked, Match}
 use Rattle.verdicts.specs.declared.case.CaseFault.{CaseFault}
 use Rattle.verdicts.specs.declared.case.CaseFault.TheVariants.{NotUnderstood, OutOfMemory}
-use Rattle.verdicts.specs.Words.{hex_word, ots_word, height_word}
+use Rattle.verdicts.specs.Words.{hex_word, ots_word, height_word, covering_word}
 
 -- the words of a line, parted at each space
 abbrev pub words_of : List ℕ → List (List ℕ)
@@ -36,6 +36,9 @@ IsCase words (Sign seed params leaf message) =
 IsCase words (Calendar text) = (words ≡ codes "calendar" ∷ hex_word (string_bytes text) ∷ []) × IsText (string_bytes text)
 IsCase words (Document kind bytes) = (words ≡ codes "document" ∷ kind_name kind ∷ hex_word bytes.items ∷ []) × IsBytes bytes.items
 IsCase words (Asked text) = (words ≡ codes "asked" ∷ hex_word (string_bytes text) ∷ []) × IsText (string_bytes text)
+IsCase words (Match covering pattern path) =
+    (words ≡ codes "match" ∷ covering_word covering ∷ hex_word (string_bytes pattern) ∷ hex_word (string_bytes path) ∷ [])
+    × IsText (string_bytes pattern) × IsText (string_bytes path)
 
 -- why words are no case
 abbrev pub IsCaseFault : List (List ℕ) → CaseFault → Type 0

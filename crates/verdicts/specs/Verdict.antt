@@ -19,11 +19,15 @@ use Rattle.metadata.specs.Documents as documents
 use Rattle.metadata.specs.File.{fault_number}
 use Rattle.metadata.specs.Shape.{IsDocument, IsShapeFault}
 use Rattle.metadata.specs.declared.documents.Kind.{Kind}
+use Rattle.path_patterns.specs.Grammar.{IsTargetPath, IsPattern, IsHashPrefix}
+use Rattle.path_patterns.specs.Matching.{MatchesSegmented, MatchesFlat, PrefixCovers}
 use Rattle.path_patterns.specs.Names.{Asks}
 use Rattle.verdicts.specs.declared.case.Case.{Case}
 use Rattle.verdicts.specs.declared.case.Case.TheVariants as cases
+use Rattle.verdicts.specs.declared.case.Covering.{Covering}
+use Rattle.verdicts.specs.declared.case.Covering.TheVariants.{Segmented, Flat, Prefix}
 use Rattle.verdicts.specs.declared.verdict.Verdict.{Verdict}
-use Rattle.verdicts.specs.declared.verdict.Verdict.TheVariants.{Canonical, NotCanonical, TooDeep, IntegerRange, Valid, Invalid, KeyId, Signed, LeafRange, Moment, NoMoment, Document, NoDocument, AsksFor}
+use Rattle.verdicts.specs.declared.verdict.Verdict.TheVariants.{Canonical, NotCanonical, TooDeep, IntegerRange, Valid, Invalid, KeyId, Signed, LeafRange, Moment, NoMoment, Document, NoDocument, AsksFor, Covered, NotCovered, IllFormed}
 use Rattle.verdicts.specs.Case.{IsCase, words_of}
 use Rattle.verdicts.specs.Words.{hex_word, digest_word}
 
@@ -81,6 +85,25 @@ IsAsking text (AsksFor path digest) =
     (p : List ℕ) × (d : Option (List ℕ)) × Asks text p d × (string_bytes path ≡ hex_word p) × (string_bytes digest ≡ digest_word d)
 IsAsking text verdict = ⊥
 
+-- whether the text is of the grammar of what covers so
+abbrev pub IsCovering : Covering → List ℕ → Type 0
+IsCovering Segmented text = IsPattern text
+IsCovering Flat text = IsPattern text
+IsCovering Prefix text = IsHashPrefix text
+
+abbrev pub CoversSo : Covering → List ℕ → List ℕ → Type 0
+CoversSo Segmented pattern path = MatchesSegmented pattern path
+CoversSo Flat pattern path = MatchesFlat pattern path
+CoversSo Prefix prefix path = PrefixCovers prefix path
+
+-- whether the first text covers the second, or that one of them is not of its grammar
+abbrev pub IsMatching : Covering → List ℕ → List ℕ → Verdict → Type 0
+IsMatching covering pattern path Covered = IsCovering covering pattern × IsTargetPath path × CoversSo covering pattern path
+IsMatching covering pattern path NotCovered =
+    IsCovering covering pattern × IsTargetPath path × (CoversSo covering pattern path → ⊥)
+IsMatching covering pattern path IllFormed = IsCovering covering pattern × IsTargetPath path → ⊥
+IsMatching covering pattern path verdict = ⊥
+
 -- the verdict on a case
 abbrev pub IsVerdict : Case → Verdict → Type 0
 IsVerdict (cases.Json part) verdict = IsReading part.items verdict
@@ -90,6 +113,8 @@ IsVerdict (cases.Sign seed params leaf message) verdict = IsSigning seed params 
 IsVerdict (cases.Calendar text) verdict = IsDating (string_bytes text) verdict
 IsVerdict (cases.Document kind bytes) verdict = IsShaping kind bytes.items verdict
 IsVerdict (cases.Asked text) verdict = IsAsking (string_bytes text) verdict
+IsVerdict (cases.Match covering pattern path) verdict =
+    IsMatching covering (string_bytes pattern) (string_bytes path) verdict
 
 -- the line writes a case down, and this is the verdict on it
 abbrev pub IsAnswer : List ℕ → Verdict → Type 0
@@ -111,3 +136,6 @@ text_of NoMoment = codes "ill"
 text_of Document = codes "ok"
 text_of (NoDocument fault) = decimal (fault_number fault)
 text_of (AsksFor path digest) = string_bytes path ++ (codes " " ++ string_bytes digest)
+text_of Covered = codes "yes"
+text_of NotCovered = codes "no"
+text_of IllFormed = codes "ill"

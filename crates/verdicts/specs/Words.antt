@@ -7,6 +7,8 @@ use Rattle.lms.specs.declared.OtsType.{OtsType}
 use Rattle.lms.specs.declared.OtsType.TheVariants.{W1, W2, W4, W8}
 use Rattle.lms.specs.declared.SigningHeight.{SigningHeight}
 use Rattle.lms.specs.declared.SigningHeight.TheVariants.{H5, H10}
+use Rattle.verdicts.specs.declared.case.Covering.{Covering}
+use Rattle.verdicts.specs.declared.case.Covering.TheVariants.{Segmented, Flat, Prefix}
 use Rattle.verdicts.specs.declared.case.CaseFault.{CaseFault}
 use Rattle.verdicts.specs.declared.case.CaseFault.TheVariants.{NotUnderstood, OutOfMemory}
 
@@ -30,6 +32,12 @@ ots_word W8 = codes "8"
 abbrev pub height_word : SigningHeight → List ℕ
 height_word H5 = codes "5"
 height_word H10 = codes "10"
+
+-- the name of how a path is covered
+abbrev pub covering_word : Covering → List ℕ
+covering_word Segmented = codes "segmented"
+covering_word Flat = codes "flat"
+covering_word Prefix = codes "prefix"
 
 -- what an error of the hex decoder comes to
 abbrev pub fault_of : FromHexError → CaseFault

@@ -1,7 +1,7 @@
 ghost use Rattle.std.specs.Prelude.{◌≡◌, ◌∷◌, IfOk, IfErr, codes, map};
 ghost use Rattle.verdicts.specs.Case.{words_of, IsCase, IsCaseFault};
 
-use crate::words::{array_of, bytes_of, height_of, kind_of, leaf_of, ots_of, text_of};
+use crate::words::{array_of, bytes_of, covering_of, height_of, kind_of, leaf_of, ots_of, text_of};
 use hex::FromHexError;
 use lms::{Params, Seed};
 use metadata::Kind;
@@ -36,6 +36,23 @@ pub enum Case {
     },
     /// `asked HEX`: which path does this text ask for, and which digest?
     Asked(String),
+    /// `match KIND PATTERN PATH`: does this pattern, or this prefix of a digest, cover the path?
+    Match {
+        covering: Covering,
+        pattern: String,
+        path: String,
+    },
+}
+
+/// How a path is covered.
+#[derive(Debug, Clone, Copy, PartialEq, Eq)]
+pub enum Covering {
+    /// By a pattern whose wildcards stand for no slash.
+    Segmented,
+    /// By a pattern whose wildcards stand for any byte.
+    Flat,
+    /// By a prefix of its digest.
+    Prefix,
 }
 
 /// Why a line is not taken apart.
@@ -94,6 +111,8 @@ impl Case {
             document_case(alloc, parts)
         } else if *kind == b"asked".as_slice() {
             asked_case(alloc, parts)
+        } else if *kind == b"match".as_slice() {
+            match_case(alloc, parts)
         } else {
             Err(CaseFault::NotUnderstood)
         }
@@ -202,4 +221,19 @@ fn asked_case(alloc: Global, parts: &[&[u8]]) -> Result<Case, CaseFault>
         return Err(CaseFault::NotUnderstood);
     };
     Ok(Case::Asked(text_of(alloc, text)?))
+}
+
+// The same for `match`.
+fn match_case(alloc: Global, parts: &[&[u8]]) -> Result<Case, CaseFault>
+    ensures case { IfOk result (IsCase (codes "match" ∷ map (λ w. w.now) parts.now)) }
+    ensures fault { IfErr result (IsCaseFault (codes "match" ∷ map (λ w. w.now) parts.now)) }
+{
+    let [covering, pattern, path] = parts else {
+        return Err(CaseFault::NotUnderstood);
+    };
+    Ok(Case::Match {
+        covering: covering_of(covering)?,
+        pattern: text_of(alloc, pattern)?,
+        path: text_of(alloc, path)?,
+    })
 }

@@ -2,6 +2,7 @@
 #![tactic(auto)]
 
 mod case;
+mod covering;
 mod failure;
 mod lines;
 mod verdict;

@@ -5,6 +5,7 @@ ghost use Rattle.verdicts.specs.Verdict.{IsReading, IsVerifying, IsIdentifying, 
 ghost use Rattle.verdicts.specs.Words.{hex_word};
 
 use crate::case::{Case, CaseFault};
+use crate::covering::matching;
 use canonical_json::ReadFault;
 use keys_roles::{Key, key_id};
 use lms::{Params, Seed, SignFault, Steps, public_of, sign, verify_counted};
@@ -39,6 +40,10 @@ pub enum Verdict {
     NoDocument(ShapeFault),
     /// The path in hex digits, and the digest in hex digits. Where there is nothing to write, it is a dash.
     AsksFor { path: String, digest: String },
+    Covered,
+    NotCovered,
+    /// One of the texts is no pattern, no prefix or no path.
+    IllFormed,
 }
 
 impl fmt::Display for Verdict {
@@ -63,6 +68,9 @@ impl fmt::Display for Verdict {
             Verdict::Document => f.write_str("ok"),
             Verdict::NoDocument(fault) => write!(f, "{}", number_of(*fault)),
             Verdict::AsksFor { path, digest } => write!(f, "{path} {digest}"),
+            Verdict::Covered => f.write_str("yes"),
+            Verdict::NotCovered => f.write_str("no"),
+            Verdict::IllFormed => f.write_str("ill"),
         }
     }
 }
@@ -111,6 +119,11 @@ pub fn judge(alloc: Global, case: &Case) -> Result<Verdict, AllocError>
         Case::Calendar(text) => Ok(dating(text)),
         Case::Document { kind, bytes } => shaping(alloc, *kind, bytes),
         Case::Asked(text) => asking(alloc, text),
+        Case::Match {
+            covering,
+            pattern,
+            path,
+        } => matching(alloc, *covering, pattern, path),
     }
 }
 

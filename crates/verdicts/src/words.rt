@@ -7,9 +7,10 @@ ghost use Rattle.lms.specs.declared.SigningHeight.{SigningHeight};
 ghost use Rattle.metadata.specs.Shape.{kind_name};
 ghost use Rattle.metadata.specs.declared.documents.Kind.{Kind};
 ghost use Rattle.verdicts.specs.Case.{IsText};
-ghost use Rattle.verdicts.specs.Words.{hex_word, ots_word, height_word};
+ghost use Rattle.verdicts.specs.Words.{hex_word, ots_word, height_word, covering_word};
+ghost use Rattle.verdicts.specs.declared.case.Covering.{Covering};
 
-use crate::case::CaseFault;
+use crate::case::{CaseFault, Covering};
 use lms::{OtsType, SigningHeight};
 use metadata::Kind;
 use std::alloc::{AllocError, Global};
@@ -78,6 +79,23 @@ pub fn kind_of(word: &[u8]) -> Result<Kind, CaseFault>
         Ok(Kind::Snapshot)
     } else if word == b"targets".as_slice() {
         Ok(Kind::Targets)
+    } else {
+        Err(CaseFault::NotUnderstood)
+    }
+}
+
+/// How a path is covered, by its name.
+pub fn covering_of(word: &[u8]) -> Result<Covering, CaseFault>
+    ensures covering { IfOk result (λ covering. word.now ≡ covering_word covering) }
+    ensures fault { IfErr result (λ e. (e ≡ CaseFault.NotUnderstood)
+        × ((covering : Covering) → word.now ≡ covering_word covering → ⊥)) }
+{
+    if word == b"segmented".as_slice() {
+        Ok(Covering::Segmented)
+    } else if word == b"flat".as_slice() {
+        Ok(Covering::Flat)
+    } else if word == b"prefix".as_slice() {
+        Ok(Covering::Prefix)
     } else {
         Err(CaseFault::NotUnderstood)
     }

@@ -1,8 +1,8 @@
 //! Reads, writes and allocations that fail, and a writer that never does.
 ghost use Rattle.std.specs.Prelude.{IsOk};
 
+use crate::ends::{Narrow, Slow};
 use crate::tests::answers::NOT_FOUND;
-use crate::tests::ends::{Narrow, Slow};
 use http_messages::{
     Cut, Fault, Kind, ReceiveFault, Received, Routes, Sink, Status, denial_body, read_request,
     write_fault, write_response,
@@ -18,11 +18,7 @@ fn each_read_fails(rt: HostRuntime) -> Result<(), Fail> {
     let alloc = rt.alloc();
     let routes = Routes::new(alloc)?;
     for fails_at in 1..UPLOAD.len() + 3 {
-        let mut reader = Slow {
-            bytes: UPLOAD,
-            calls: 0,
-            fails_at,
-        };
+        let mut reader = Slow::new(UPLOAD, 1, fails_at);
         let received = read_request(alloc, &routes, &mut reader);
         if fails_at <= UPLOAD.len() {
             assert!(rt; matches!(received, Err(ReceiveFault::Read)));
@@ -38,12 +34,7 @@ fn each_read_fails(rt: HostRuntime) -> Result<(), Fail> {
 fn each_write_fails(rt: HostRuntime) -> Result<(), Fail> {
     for stops_at in 1..NOT_FOUND.len() + 3 {
         for fails in [true, false] {
-            let mut writer = Narrow {
-                taken: Vec::new(rt.alloc()),
-                calls: 0,
-                stops_at,
-                fails,
-            };
+            let mut writer = Narrow::new(rt.alloc(), 1, stops_at, fails);
             let written = write_fault(&mut writer, Fault::Route);
             assert_eq!(rt; written.is_ok(), stops_at > NOT_FOUND.len());
             assert!(rt; NOT_FOUND.starts_with(&writer.taken));

@@ -5,8 +5,8 @@ use Rattle.machine.specs.Runs.{Command, Init, OfferOne, Batch, PutBlob, Metadata
 use Rattle.machine.specs.Commands.{Offer, offer_of}
 use Rattle.http_messages.specs.Faults.{fault_response}
 use Rattle.http_messages.specs.Request.{Request, Asks}
-use Rattle.store.specs.declared.command.StoreFault.{StoreFault}
-use Rattle.store.specs.declared.command.StoreFault.TheVariants as store
+use Rattle.tables.specs.declared.faults.StoreFault.{StoreFault}
+use Rattle.tables.specs.declared.faults.StoreFault.TheVariants as store
 use Rattle.http_messages.specs.declared.faults.Fault.{Fault}
 use Rattle.http_messages.specs.declared.faults.Fault.TheVariants.{Memory, Database}
 use Rattle.http_messages.specs.declared.reply.Kind.{Kind}

@@ -1,92 +1,14 @@
 // Readers and writers that fail at some call.
-ghost use Rattle.std.specs.Prelude.{false};
-
 use super::{Case, is_put, is_well, json, now, put_abc};
-use http_serve::{Receive, Routes, ServeFault, Transmit, serve_list, serve_one};
+use http_messages_tests::ends::{Narrow, Slow};
+use http_serve::{Routes, ServeFault, serve_list, serve_one};
 use sqlite::MemStore;
 use std::alloc::Global;
-use std::io;
-use std::io::{ErrorKind, Read, Write};
 use std::test::Fail;
 use store::Store;
 
-// A reader that gives at most three bytes at a time, and fails at a call.
-#[derive(Drop)]
-struct Slow<'a> {
-    bytes: &'a [u8],
-    calls: usize,
-    fails_at: usize,
-}
-
-impl Read for Slow<'_> {
-    fn read(&mut self, buf: &mut [u8]) -> io::Result<usize> {
-        self.calls = self.calls.saturating_add(1);
-        if self.calls == self.fails_at {
-            return Err(io::Error::from(ErrorKind::ConnectionReset));
-        }
-        let count = self.bytes.len().min(buf.len()).min(3);
-        buf[..count].copy_from_slice(&self.bytes[..count]);
-        self.bytes = &self.bytes[count..];
-        Ok(count)
-    }
-}
-
-impl Receive for Slow<'_> {
-    ghost sound = { λ _. false };
-
-    fn receive(&mut self, buf: &mut [u8]) -> io::Result<usize> {
-        self.read(buf)
-    }
-}
-
-// A writer that takes at most seven bytes at a time, and takes none from some call on.
-#[derive(Drop)]
-struct Narrow {
-    taken: Vec<u8>,
-    calls: usize,
-    stops_at: usize,
-}
-
-impl Write for Narrow {
-    fn write(&mut self, buf: &[u8]) -> io::Result<usize> {
-        self.calls = self.calls.saturating_add(1);
-        if self.calls >= self.stops_at {
-            return Ok(0);
-        }
-        let count = buf.len().min(7);
-        match self.taken.extend_from_slice(&buf[..count]) {
-            Ok(()) => Ok(count),
-            Err(_) => Err(io::Error::from(ErrorKind::OutOfMemory)),
-        }
-    }
-
-    fn flush(&mut self) -> io::Result<()> {
-        Ok(())
-    }
-}
-
-impl Transmit for Narrow {
-    ghost sound = { λ _. false };
-
-    fn transmit(&mut self, buf: &[u8]) -> io::Result<usize> {
-        self.write(buf)
-    }
-}
-
 fn reader_of(bytes: &[u8], fails_at: usize) -> Slow<'_> {
-    Slow {
-        bytes,
-        calls: 0,
-        fails_at,
-    }
-}
-
-fn writer_of(alloc: Global, stops_at: usize) -> Narrow {
-    Narrow {
-        taken: Vec::new(alloc),
-        calls: 0,
-        stops_at,
-    }
+    Slow::new(bytes, 3, fails_at)
 }
 
 // Whether a reader that fails at this call ends the connection as one that failed, with nothing written.
@@ -132,7 +54,7 @@ fn is_cut(
     let request = put_abc(alloc)?;
     let wanted = json(alloc, "200 OK", body)?;
     let mut reader = request.as_slice();
-    let mut writer = writer_of(alloc, stops_at);
+    let mut writer = Narrow::new(alloc, 7, stops_at, false);
     let ended = serve_one(alloc, &routes, &mut reader, &mut writer, store, now()?);
     Ok(ended == Err(ServeFault::Write) && wanted.as_slice().starts_with(&writer.taken))
 }

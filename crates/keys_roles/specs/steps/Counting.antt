@@ -1,19 +1,15 @@
 -- What single entries make count. The parts of `Rules` that one call judges.
-use Rattle.std.specs.Prelude.{◌≡◌, ℕ, ◌⊎◌, ◌++◌, List, [], ◌∷◌, Some}
+use Rattle.std.specs.Prelude.{◌≡◌, ◌↔◌, ℕ, ◌⊎◌, ◌++◌, List, [], ◌∷◌, Some, IsTrue}
+use Rattle.std.specs.List.{AllByRecursion}
 use Rattle.keys_roles.specs.Plain.{Key, Table, RoleRule, Signature, look_up}
-use Rattle.keys_roles.specs.Keys.{top_key, VerifiesUnder}
-use Rattle.keys_roles.specs.Rules.{AreDigitsOf}
+use Rattle.keys_roles.specs.Keys.{top_key}
+use Rattle.keys_roles.specs.Rules.{SpellsSignature}
+use Rattle.keys_roles.specs.Verdicts.{Verdict}
 
 -- x is an element of the list, by recursion
 abbrev pub IsIn : {X : Type 0} → List X → X → Type 0
 IsIn [] x = ⊥
 IsIn (y ∷ ys) x = (y ≡ x) ⊎ IsIn ys x
-
--- the digits are those of a signature that verifies under the key
-pub record SpellsSignature (key : Key) (signed digits : List ℕ) : Type 0 where
-  pub signature : List ℕ
-  pub spelled : AreDigitsOf digits signature
-  pub verifies : VerifiesUnder key signed signature
 
 -- the entry makes the public key count
 pub record CountsBy (rule : RoleRule) (table : Table) (signed : List ℕ) (entry : Signature) (top : List ℕ) : Type 0 where
@@ -30,3 +26,7 @@ IsTaken x xs ys = (IsIn xs x × (ys ≡ xs)) ⊎ ((IsIn xs x → ⊥) × (ys ≡
 -- the id is among the new ones, and names in their table what it names in the old one
 abbrev pub IsKept : Table → List (List ℕ) → Table → List ℕ → Type 0
 IsKept old_keys new new_keys id = IsIn new id × (look_up old_keys id ≡ look_up new_keys id)
+
+-- what the verdicts say of the entry at the place is true
+abbrev pub TellOf : List ℕ → ℕ → Signature → List Verdict → Type 0
+TellOf signed place e known = AllByRecursion (λ v. v.pair.0 ≡ place → IsTrue v.verifies ↔ SpellsSignature v.pair.1 signed e.sig) known

@@ -14,7 +14,7 @@ use Rattle.metadata.specs.declared.documents.ShapeFault.TheVariants.{OutOfMemory
 pub record IsSignedAs (kind : Kind) (v : Json) (entries : List Signature) (body : Body) : Type 0 where
   pub part : Json
   pub envelope : IsEnvelope v entries part (kind_name kind)
-  pub says : IsBody kind part body
+  pub says : IsBody kind entries part body
   pub ids : AllByRecursion NamesAreIds (tables body)
 
 -- memory was refused, or each file that spells the value has this fault

@@ -1,16 +1,20 @@
 -- Tables and rules as a file spells them: their ids are texts of any form.
 use Rattle.std.specs.Prelude.{ℕ, List, map, String, string_bytes}
+use Rattle.std.specs.List.{AllByRecursion}
 use Rattle.std.specs.declared.alloc.Global.{Global}
 use Rattle.keys_roles.specs.Plain as plain
 use Rattle.keys_roles.specs.Views.{key_view, table_view, rule_view}
 use Rattle.keys_roles.specs.declared.Key.{Key}
 use Rattle.metadata.specs.declared.keys.SpelledTable.{SpelledTable}
 use Rattle.metadata.specs.declared.keys.SpelledRule.{SpelledRule}
+use Rattle.metadata.specs.declared.delegations.SpelledDelegation.{SpelledDelegation}
+use Rattle.metadata.specs.declared.delegations.SpelledDelegations.{SpelledDelegations}
 use Rattle.metadata.specs.declared.root.SpelledRoles.{SpelledRoles}
 use Rattle.metadata.specs.declared.root.Keyed.{Keyed}
 use Rattle.metadata.specs.Parts.{IsRuleOver}
 use Rattle.metadata.specs.Bodies as bodies
 use Rattle.metadata.specs.Documents as documents
+use Rattle.metadata.specs.Views.{scope_view}
 
 abbrev pub texts_view : List (String Global) → List (List ℕ)
 texts_view ts = map string_bytes ts
@@ -31,6 +35,18 @@ spelled_roles r = record {
   targets = spelled_rule r.targets;
   timestamp = spelled_rule r.timestamp;
 }
+
+abbrev pub spelled_delegation : SpelledDelegation → documents.Delegation
+spelled_delegation d = record { name = d.name; rule = spelled_rule d.rule; terminating = d.terminating; scope = scope_view d.scope }
+
+abbrev pub spelled_list : List SpelledDelegation → List documents.Delegation
+spelled_list ds = map spelled_delegation ds
+
+abbrev pub spelled_delegations : SpelledDelegations → documents.Delegations
+spelled_delegations d = record { keys = spelled_table d.keys; roles = spelled_list d.roles.items }
+
+abbrev pub names_of : List documents.Delegation → List (List ℕ)
+names_of ds = map (λ d. d.name) ds
 
 -- the keys and the roles of a root
 abbrev pub keyed_view : Keyed → plain.Table × bodies.Roles
@@ -54,3 +70,7 @@ pub record AreOver (keys : SpelledTable) (roles : SpelledRoles) : Type 0 where
   pub snapshot : IsRuleOver (spelled_table keys) (spelled_rule roles.snapshot)
   pub targets : IsRuleOver (spelled_table keys) (spelled_rule roles.targets)
   pub timestamp : IsRuleOver (spelled_table keys) (spelled_rule roles.timestamp)
+
+-- each delegation's rule is one over the table
+abbrev pub AreAllOver : SpelledDelegations → Type 0
+AreAllOver d = AllByRecursion (λ r. IsRuleOver (spelled_table d.keys) r.rule) (spelled_list d.roles.items)

@@ -1,45 +1,37 @@
-use Rattle.std.proofs.Common.{◌≡◌, ◌-◌, ◌+◌, ◌++◌, ℕ, List, flat_map, ap, ◌∙◌, arith}
-use Rattle.std.specs.List.{range_with_len}
-use Rattle.lms.specs.Parameters.{width, chain_count}
-use Rattle.lms.specs.Chains.{below, chain, coef, coefficient}
-use Rattle.lms.specs.Keys.{element}
-use Rattle.lms.proofs.Nodes.{flat_more, flat_done, flat_is_concat}
+use Rattle.std.proofs.Common.{◌≡◌, ℕ, List, ◌++◌, take, length-take-le, ap, sym, ◌∙◌, arith}
+use Rattle.std.specs.List.{concat}
+use Rattle.lms.specs.declared.lanes.Chain.{Chain}
+use Rattle.lms.specs.steps.Lanes.{all_ends, all_left, element_chains}
+use Rattle.lms.proofs.Counts.{count_small}
+use Rattle.lms.proofs.Started.{element_ends, element_left}
 use Rattle.lms.proofs.signing.put_elements.Goals as goal
 
-pub loop-i-init : goal.loop-i-init
-loop-i-init c =
-    let seed = c.args.seed.now in
-    let f = element c.args.ots seed.identifier seed.secret c.args.q c.args.hash.now in
-    let n : c.chain_count-count.result - 0 ≡ c.chain_count-count.result = omega arith in
-    record {
-      items = ap (λ (k : ℕ). c.args.out.now.items ++ flat_map f (range_with_len 0 k)) n;
-      len = omega arith;
-      capacity = omega arith;
-    }
+pub slice_bounds-chains-end : goal.slice_bounds-chains-end
+slice_bounds-chains-end c =
+    sym (length-take-le c.from-count.result c.element_chains-all.result (omega (arith, count_small c.args.ots, c.from-count.ensures, c.chain_count.ensures)))
 
-pub loop-i-preserved : goal.loop-i-preserved
-loop-i-preserved c =
+pub run_lanes-requires : goal.run_lanes-requires
+run_lanes-requires c =
+    let cs = c.element_chains-all.result in
     let seed = c.args.seed.now in
-    let f = element c.args.ots seed.identifier seed.secret c.args.q c.args.hash.now in
-    let to : c.coef-to.result ≡ coefficient c.args.ots c.args.hash.now c.loop-i.i
-    = c.coef-to.ensures
-    ∙ ap (λ (k : ℕ). coef c.with_checksum-cut.result k (width c.args.ots)) c.from.ensures
-    ∙ ap (λ (xs : List ℕ). coef xs c.loop-i.i (width c.args.ots)) c.with_checksum-cut.ensures in
-    let end : c.chain-element.result ≡ f c.loop-i.i
-    = c.chain-element.ensures.value
-    ∙ ap (λ (b : ℕ). chain seed.identifier c.args.q c.loop-i.i 0 b c.derived-start.result) to
-    ∙ ap (chain seed.identifier c.args.q c.loop-i.i 0 (coefficient c.args.ots c.args.hash.now c.loop-i.i)) c.derived-start.ensures in
-    record {
-      items = ap (λ (xs : List ℕ). xs ++ flat_map f (range_with_len (c.loop-i.i + 1) (c.chain_count-count.result - (c.loop-i.i + 1)))) c.put.ensures.items
-          ∙ flat_more f c.loop-i.i c.chain_count-count.result c.loop-i.out.items c.chain-element.result _ c.loop-i-test.true end c.loop-i.invariant.items;
-      len = omega (arith, c.put.ensures.len, c.loop-i.invariant.len);
-      capacity = omega (arith, c.put.ensures.capacity, c.loop-i.invariant.capacity);
-    }
+    let started : take c.from-count.result cs ≡ element_chains c.args.ots seed.identifier seed.secret c.args.q c.args.hash.now
+    = ap (λ (k : ℕ). take k cs) (c.from-count.ensures ∙ c.chain_count.ensures) ∙ c.element_chains-all.ensures in
+    omega (arith, ap all_left started, element_left c.args.ots seed.identifier seed.secret c.args.q c.args.hash.now)
 
 pub returns-clause-items : goal.returns-clause-items
 returns-clause-items c =
+    let cs = c.element_chains-all.result in
     let seed = c.args.seed.now in
-    let f = element c.args.ots seed.identifier seed.secret c.args.q c.args.hash.now in
-    flat_done f c.loop-i.i c.chain_count-count.result c.loop-i.out.items _ c.loop-i-test.false c.loop-i.invariant.items
-    ∙ ap (λ (n : ℕ). c.args.out.now.items ++ flat_map f (below n)) c.chain_count-count.ensures
-    ∙ ap (λ (xs : List ℕ). c.args.out.now.items ++ xs) (flat_is_concat f (below (chain_count c.args.ots)))
+    let id = seed.identifier in
+    let items = c.args.out.now.items in
+    let started : take c.from-count.result cs ≡ element_chains c.args.ots id seed.secret c.args.q c.args.hash.now
+    = ap (λ (k : ℕ). take k cs) (c.from-count.ensures ∙ c.chain_count.ensures) ∙ c.element_chains-all.ensures in
+    c.put_ends.ensures.items
+    ∙ ap (λ (xs : List (List ℕ)). items ++ concat xs) c.run_lanes.ensures.ends
+    ∙ ap (λ (xs : List Chain). items ++ all_ends id c.args.q xs) started
+    ∙ ap (λ (xs : List ℕ). items ++ xs) (element_ends c.args.ots id seed.secret c.args.q c.args.hash.now)
+
+pub returns-clause-len : goal.returns-clause-len
+returns-clause-len c =
+    let n = length-take-le c.from-count.result c.element_chains-all.result (omega (arith, count_small c.args.ots, c.from-count.ensures, c.chain_count.ensures)) in
+    omega (arith, n, c.put_ends.ensures.len, c.from-count.ensures, c.chain_count.ensures)

@@ -7,8 +7,8 @@ use Rattle.machine.specs.Views.{last_bytes}
 use Rattle.machine.proofs.PutInRoom.{map_twice, map_emptied, last_seen, renewed_seen, same_state}
 use Rattle.machine.proofs.taking.take_all.Goals as goal
 
-pub returns : goal.returns
-returns c =
+pub returns-clause-parts : goal.returns-clause-parts
+returns-clause-parts c =
     let was = c.args.parts.now in
     let e = c.args.effects in
     same_state _ _ _ _ _ _ _ _ _ _ _ _

@@ -16,31 +16,31 @@ use Rattle.machine.proofs.targets_metadata.judge_targets.Goals as goal
 pub returns-in_err-snapshot : goal.returns-in_err-snapshot
 returns-in_err-snapshot c =
     let p = err_from_is_err_and c.from_residual.result c.from_residual.ensures.1 in
-    rw (p.1, p.2) (rejected_in (live_as (root_file c.args.root.now) c.timestamp.ensures c.snapshot.ensures c.in_err-snapshot.ensures))
+    rw (p.1, p.2) (rejected_in (live_as (root_file c.args.root.now) c.timestamp.ensures c.snapshot.ensures c.in_err-snapshot.ensures.answer))
 
 pub returns-in_default : goal.returns-in_default
-returns-in_default c = rejects (pass (given_by (live_as (root_file c.args.root.now) c.timestamp.ensures c.snapshot.ensures c.in_ok-snapshot.ensures)) (decide (lacking _ _ (rw (← c.as_str.ensures.value) (sym c.in_default.ensures)))))
+returns-in_default c = rejects (pass (given_by (live_as (root_file c.args.root.now) c.timestamp.ensures c.snapshot.ensures c.in_ok-snapshot.ensures.answer)) (decide (lacking _ _ (rw (← c.as_str.ensures.value) (sym c.in_default.ensures)))))
 
 pub returns-in_err-named_targets : goal.returns-in_err-named_targets
 returns-in_err-named_targets c =
     let p = err_from_is_err_and c.from_residual-in_err-named_targets.result c.from_residual-in_err-named_targets.ensures.1 in
-    rw (p.1, p.2) (rejected_behind _ (given_by (live_as (root_file c.args.root.now) c.timestamp.ensures c.snapshot.ensures c.in_ok-snapshot.ensures)) (rejected_behind _ (needed _ _ (meta_view c.in-Some.entry.now) (rw (← c.as_str.ensures.value) (sym c.in-Some.ensures))) (rejected_in c.in_err-named_targets.ensures)))
+    rw (p.1, p.2) (rejected_behind _ (given_by (live_as (root_file c.args.root.now) c.timestamp.ensures c.snapshot.ensures c.in_ok-snapshot.ensures.answer)) (rejected_behind _ (needed _ _ (meta_view c.in-Some.entry.now) (rw (← c.as_str.ensures.value) (sym c.in-Some.ensures))) (rejected_in c.in_err-named_targets.ensures)))
 
 pub returns-then-not-vouched : goal.returns-then-not-vouched
 returns-then-not-vouched c =
-    rejects (pass (given_by (live_as (root_file c.args.root.now) c.timestamp.ensures c.snapshot.ensures c.in_ok-snapshot.ensures)) (pass (needed _ _ (meta_view c.in-Some.entry.now) (rw (← c.as_str.ensures.value) (sym c.in-Some.ensures))) (pass (given_by c.in_ok-named_targets.ensures)
-    (decide (fails (subst (λ (V : Shelf). ¬ Vouched V c.args.role.now (targets_file c.args.new.now) c.args.now) (c.new-shelf.ensures ∙ ap (λ (r : shelves.Rows). shelf_of (root_file c.args.root.now) (snapshot_file c.in_ok-snapshot.snapshot.now) r) c.rows.ensures) (no c.if-not-vouched.ensures)))))))
+    rejects (pass (given_by (live_as (root_file c.args.root.now) c.timestamp.ensures c.snapshot.ensures c.in_ok-snapshot.ensures.answer)) (pass (needed _ _ (meta_view c.in-Some.entry.now) (rw (← c.as_str.ensures.value) (sym c.in-Some.ensures))) (pass (given_by c.in_ok-named_targets.ensures)
+    (decide (fails (subst (λ (V : Shelf). ¬ Vouched V c.args.role.now (targets_file c.args.new.now) c.args.now) (c.new-shelf.ensures.shelf ∙ ap (λ (r : shelves.Rows). shelf_of (root_file c.args.root.now) (snapshot_file c.in_ok-snapshot.snapshot.now) r) c.rows.ensures.view) (no c.if-not-vouched.ensures)))))))
 
 pub returns-then-not-live : goal.returns-then-not-live
 returns-then-not-live c =
-    rejects (pass (given_by (live_as (root_file c.args.root.now) c.timestamp.ensures c.snapshot.ensures c.in_ok-snapshot.ensures)) (pass (needed _ _ (meta_view c.in-Some.entry.now) (rw (← c.as_str.ensures.value) (sym c.in-Some.ensures))) (pass (given_by c.in_ok-named_targets.ensures)
-    (pass (holds (subst (λ (V : Shelf). Vouched V c.args.role.now (targets_file c.args.new.now) c.args.now) (c.new-shelf.ensures ∙ ap (λ (r : shelves.Rows). shelf_of (root_file c.args.root.now) (snapshot_file c.in_ok-snapshot.snapshot.now) r) c.rows.ensures) (yes c.if-not-vouched.ensures)))
+    rejects (pass (given_by (live_as (root_file c.args.root.now) c.timestamp.ensures c.snapshot.ensures c.in_ok-snapshot.ensures.answer)) (pass (needed _ _ (meta_view c.in-Some.entry.now) (rw (← c.as_str.ensures.value) (sym c.in-Some.ensures))) (pass (given_by c.in_ok-named_targets.ensures)
+    (pass (holds (subst (λ (V : Shelf). Vouched V c.args.role.now (targets_file c.args.new.now) c.args.now) (c.new-shelf.ensures.shelf ∙ ap (λ (r : shelves.Rows). shelf_of (root_file c.args.root.now) (snapshot_file c.in_ok-snapshot.snapshot.now) r) c.rows.ensures.view) (yes c.if-not-vouched.ensures)))
     (decide (fails (no c.if-not-live.ensures)))))))
 
 pub returns : goal.returns
 returns c =
-    judged_behind _ (given_by (live_as (root_file c.args.root.now) c.timestamp.ensures c.snapshot.ensures c.in_ok-snapshot.ensures)) (judged_behind _ (needed _ _ (meta_view c.in-Some.entry.now) (rw (← c.as_str.ensures.value) (sym c.in-Some.ensures))) (judged_behind tt (given_by c.in_ok-named_targets.ensures)
-    (judged_behind tt (holds (subst (λ (V : Shelf). Vouched V c.args.role.now (targets_file c.args.new.now) c.args.now) (c.new-shelf.ensures ∙ ap (λ (r : shelves.Rows). shelf_of (root_file c.args.root.now) (snapshot_file c.in_ok-snapshot.snapshot.now) r) c.rows.ensures) (yes c.if-not-vouched.ensures)))
+    judged_behind _ (given_by (live_as (root_file c.args.root.now) c.timestamp.ensures c.snapshot.ensures c.in_ok-snapshot.ensures.answer)) (judged_behind _ (needed _ _ (meta_view c.in-Some.entry.now) (rw (← c.as_str.ensures.value) (sym c.in-Some.ensures))) (judged_behind tt (given_by c.in_ok-named_targets.ensures)
+    (judged_behind tt (holds (subst (λ (V : Shelf). Vouched V c.args.role.now (targets_file c.args.new.now) c.args.now) (c.new-shelf.ensures.shelf ∙ ap (λ (r : shelves.Rows). shelf_of (root_file c.args.root.now) (snapshot_file c.in_ok-snapshot.snapshot.now) r) c.rows.ensures.view) (yes c.if-not-vouched.ensures)))
     (judged_behind tt (holds (yes c.if-not-live.ensures))
     (subst (λ (v : ℕ). Judges (placed (draft_view c.args.draft.now) c.args.role.now v (targets_file c.args.new.now))
     (record (draft_view c.args.draft.now) { shelf = with_row place_before (draft_view c.args.draft.now).shelf (c.args.role.now, c.args.new.now.body.version) (targets_file c.args.new.now) }) c.placed.result)

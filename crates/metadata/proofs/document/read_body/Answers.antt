@@ -2,6 +2,7 @@ use Rattle.std.proofs.Common.{sym, subst}
 use Rattle.std.proofs.lemmas.Result.{err_from_is_err_and}
 use Rattle.std.specs.List.{AllByRecursion}
 use Rattle.canonical_json.specs.View.{view}
+use Rattle.keys_roles.specs.Views.{entries_view}
 use Rattle.metadata.specs.Documents.{targets}
 use Rattle.metadata.specs.steps.Faults.{IsFaulty}
 use Rattle.metadata.specs.Parts.{NamesAreIds}
@@ -16,16 +17,16 @@ pub returns-in_err-read_root-in-Root-clause-err : goal.returns-in_err-read_root-
 returns-in_err-read_root-in-Root-clause-err c =
     let p = err_from_is_err_and c.from_residual.result c.from_residual.ensures.1 in
     rw (p.1, p.2)
-    (subst (λ (k : Kind). IsFaulty (IsBody k (view c.args.part.now)) (λ b. AllByRecursion NamesAreIds (tables b)) c.in_err-read_root-in-Root.field-0.0) (sym c.in-Root.is)
-    (root_faulty (view c.args.part.now) c.in_err-read_root-in-Root.field-0.0 c.in_err-read_root-in-Root.ensures.err))
+    (subst (λ (k : Kind). IsFaulty (IsBody k (entries_view c.args.envelope.now.signatures.items) (view c.args.envelope.now.part.now)) (λ b. AllByRecursion NamesAreIds (tables b)) c.in_err-read_root-in-Root.field-0.0) (sym c.in-Root.is)
+    (root_faulty (entries_view c.args.envelope.now.signatures.items) (view c.args.envelope.now.part.now) c.in_err-read_root-in-Root.field-0.0 c.in_err-read_root-in-Root.ensures.err))
 
 pub returns-in-None-clause-err : goal.returns-in-None-clause-err
 returns-in-None-clause-err c =
-    subst (λ (k : Kind). IsFaulty (IsBody k (view c.args.part.now)) (λ b. AllByRecursion NamesAreIds (tables b)) WrongShape) (sym c.in-Timestamp.is)
-    (timestamp_faulty (view c.args.part.now) c.in-None.ensures)
+    subst (λ (k : Kind). IsFaulty (IsBody k (entries_view c.args.envelope.now.signatures.items) (view c.args.envelope.now.part.now)) (λ b. AllByRecursion NamesAreIds (tables b)) WrongShape) (sym c.in-Timestamp.is)
+    (timestamp_faulty (entries_view c.args.envelope.now.signatures.items) (view c.args.envelope.now.part.now) c.in-None.ensures)
 
 pub returns-in_ok-read_targets-in-Targets-clause-ok : goal.returns-in_ok-read_targets-in-Targets-clause-ok
 returns-in_ok-read_targets-in-Targets-clause-ok c = (
-  subst (λ (k : Kind). IsBody k (view c.args.part.now) (targets (targets_view c.in_ok-read_targets-in-Targets.field-0))) (sym c.in-Targets.is) c.in_ok-read_targets-in-Targets.ensures.ok,
+  subst (λ (k : Kind). IsBody k (entries_view c.args.envelope.now.signatures.items) (view c.args.envelope.now.part.now) (targets (targets_view c.in_ok-read_targets-in-Targets.field-0))) (sym c.in-Targets.is) c.in_ok-read_targets-in-Targets.ensures.ok,
   no_tables c.in_ok-read_targets-in-Targets.field-0.targets.items,
 )

@@ -8,5 +8,5 @@ use Rattle.machine.proofs.draft.Draft.has_room_for_row.Goals as goal
 pub returns : goal.returns
 returns c =
     let long : length c.rows-rows.result.held.now + length c.rows-rows.result.added.now ≡ length (draft_view c.args.self.now).shelf =
-    sym (rows_long (row_views c.rows-rows.result.held.now) (row_views c.rows-rows.result.added.now) ∙ views_long c.rows-rows.result.held.now c.rows-rows.result.added.now) ∙ ap (λ r. length r) c.rows-rows.ensures in
+    sym (rows_long (row_views c.rows-rows.result.held.now) (row_views c.rows-rows.result.added.now) ∙ views_long c.rows-rows.result.held.now c.rows-rows.result.added.now) ∙ ap (λ r. length r) c.rows-rows.ensures.view in
     subst (λ (n : ℕ). (IsTrue c.has_room.result → n < most_held) × (n < most_held → IsTrue c.has_room.result)) long c.has_room.ensures

@@ -3,7 +3,7 @@ use Rattle.std.specs.Prelude.{IsSomeAnd}
 use Rattle.sqlite.specs.Held.{state}
 use Rattle.sqlite.specs.State.{HasCleanDisk}
 use Rattle.store.specs.StateRows.{HoldsNoState}
-use Rattle.store.specs.declared.command.StoreFault.TheVariants.{Damaged}
+use Rattle.tables.specs.declared.faults.StoreFault.TheVariants.{Damaged}
 use Rattle.store.proofs.store.Store.open.Goals as goal
 
 -- what follows from the connection that is given back, where each one is clean

@@ -1,0 +1,181 @@
+//! What is known of the signatures on a shelf, so that each is checked once.
+ghost use Rattle.std.specs.Prelude.{◌≡◌, ◌≤◌, [], ◌∷◌, Some, None, IfOk, IfSome, IfNone, length, map, option_map, string_bytes};
+ghost use Rattle.keys_roles.specs.Verdicts.{AreVerdicts, pairs};
+ghost use Rattle.keys_roles.specs.Plain.{look_up};
+ghost use Rattle.keys_roles.specs.Views.{verdict_views};
+ghost use Rattle.metadata.specs.Documents as plain;
+ghost use Rattle.metadata.specs.File as files;
+ghost use Rattle.metadata.specs.FileViews.{targets_file};
+ghost use Rattle.delegations.specs.Rows.{AllFiles, row_at, same_place, value_at};
+ghost use Rattle.delegations.specs.Search.{doc};
+ghost use Rattle.delegations.specs.Verdicts.{AreOfRows, AreTrue, IsComplete, known_at};
+ghost use Rattle.delegations.specs.Views.{edge_view, held_rows, row_views, rows_view, shelf_view, table_view};
+
+use crate::rows::Rows;
+use crate::shelf::{Edge, Shelf};
+use crate::visiting::{has_hash, has_length};
+use keys_roles::{Verdict, verdicts_of};
+use metadata::{File, Targets};
+use std::alloc::{AllocError, Global};
+use std::marker::Model;
+
+/// What is known of the signatures of shelf rows: at most 2,048 verdicts.
+#[derive(Drop)]
+pub struct Verdicts {
+    rows: Vec<RowVerdicts>,
+}
+
+/// What is known of the signatures of one row.
+#[derive(Drop)]
+pub(crate) struct RowVerdicts {
+    role: String,
+    version: u32,
+    verdicts: Vec<Verdict>,
+}
+
+impl Model for Verdicts {
+    ghost use Rattle.std.specs.Prelude.{◌≤◌};
+    ghost use Rattle.delegations.specs.Verdicts.{Table, most_verdicts, verdict_count};
+    ghost use Rattle.delegations.specs.Views.{table_view};
+
+    ghost Value = { Table };
+
+    ghost view = { λ v. table_view v.rows.items };
+
+    ghost invariant = { λ v. verdict_count (table_view v.rows.items) ≤ most_verdicts };
+}
+
+impl Verdicts {
+    /// Nothing is known. It takes no memory.
+    pub fn new(alloc: Global) -> Verdicts
+        ensures { result ≡ [] }
+    {
+        Verdicts {
+            rows: Vec::new(alloc),
+        }
+    }
+
+    pub(crate) fn rows(&self) -> &[RowVerdicts]
+        ensures { table_view result.now ≡ self.now }
+    {
+        &self.rows
+    }
+
+    // What is known of one row, and of no other.
+    fn of_one(
+        alloc: Global,
+        role: &str,
+        version: u32,
+        verdicts: Vec<Verdict>,
+    ) -> Result<Verdicts, AllocError>
+        requires { length verdicts.items ≤ 2048 }
+        ensures { IfOk result (λ t. t ≡ ((role.now, version), verdict_views verdicts.items) ∷ []) }
+    {
+        let role = String::from_str(alloc, role)?;
+        let mut rows = Vec::new(alloc);
+        rows.push(RowVerdicts {
+            role,
+            version,
+            verdicts,
+        })?;
+        Ok(Verdicts { rows })
+    }
+}
+
+/// What is known of the row of the role with this version.
+pub(crate) fn of_row<'a>(rows: &'a [RowVerdicts], role: &str, version: u32) -> &'a [Verdict]
+    ensures { verdict_views result.now ≡ known_at (table_view rows.now) (role.now, version) }
+{
+    match first_of(rows, role, version) {
+        Some(row) => &row.verdicts,
+        None => &[],
+    }
+}
+
+// The first of the rows that is that of the role with this version.
+fn first_of<'a>(rows: &'a [RowVerdicts], role: &str, version: u32) -> Option<&'a RowVerdicts>
+    ensures { option_map (λ r. verdict_views r.now.verdicts.items) result ≡ value_at same_place (table_view rows.now) (role.now, version) }
+{
+    let mut rest = rows;
+    'rows: while let Some((row, later)) = rest.split_first() {
+        if is_of(row, role, version) {
+            return Some(row);
+        }
+        rest = later;
+    }
+    None
+}
+
+// Whether this is known of the row of the role with this version.
+fn is_of(row: &RowVerdicts, role: &str, version: u32) -> bool
+    ensures { result ≡ same_place (string_bytes row.now.role, row.now.version) (role.now, version) }
+{
+    *row.role.as_str() == *role && row.version == version
+}
+
+/// The verdicts on a shelf: one on each signature of a role's document and each key that its id names in the rule of an edge into
+/// the role, from the root or from a document on the shelf; where these are more than 2,048, on some of them. What is known of a row that is
+/// held is not checked again.
+pub fn all_verdicts(alloc: Global, shelf: &Shelf, held: &Verdicts) -> Result<Verdicts, AllocError>
+    requires sound { AreTrue (held_rows shelf.now) held.now }
+    requires few { AllFiles (λ f. length f.entries ≤ 16) (shelf_view shelf.now).rows }
+    ensures sound { IfOk result (λ t. AreTrue (shelf_view shelf.now).rows t) }
+    ensures rows { IfOk result (λ t. AreOfRows (shelf_view shelf.now).rows t) }
+    ensures complete { IfOk result (λ t. IsComplete (shelf_view shelf.now) t) }
+{
+    let top = shelf.top();
+    let Some((version, file)) = document(shelf, top.role) else {
+        return Ok(Verdicts::new(alloc));
+    };
+    let known = known_of(&shelf.rows, held, top.role, version);
+    let verdicts = edge_verdicts(alloc, &top, file, known)?;
+    Verdicts::of_one(alloc, top.role, version, verdicts)
+}
+
+// The verdicts on a file by an edge.
+fn edge_verdicts(
+    alloc: Global,
+    edge: &Edge,
+    file: &File<Targets>,
+    known: &[Verdict],
+) -> Result<Vec<Verdict>, AllocError>
+    requires { AreVerdicts (targets_file file.now).signed (targets_file file.now).entries (verdict_views known.now) }
+    ensures all { IfOk result (λ vs. map (λ v. v.pair) (verdict_views vs.items) ≡ pairs (edge_view edge.now).rule (edge_view edge.now).table (targets_file file.now).entries) }
+    ensures sound { IfOk result (λ vs. AreVerdicts (targets_file file.now).signed (targets_file file.now).entries (verdict_views vs.items)) }
+{
+    verdicts_of(
+        alloc,
+        edge.rule,
+        edge.keys,
+        file.source.signed(),
+        file.source.signatures(),
+        known,
+    )
+}
+
+// What is known of the row of a role, if it is held.
+fn known_of<'a>(rows: &Rows<'_>, held: &'a Verdicts, role: &str, version: u32) -> &'a [Verdict]
+    requires { AreTrue (row_views rows.now.held.now) held.now }
+    ensures { (file : files.File plain.Targets) → row_at (rows_view rows.now) role.now version ≡ Some file → AreVerdicts file.signed file.entries (verdict_views result.now) }
+{
+    match rows.held_at(role, version) {
+        Some(_) => of_row(held.rows(), role, version),
+        None => &[],
+    }
+}
+
+// The document of a role, with its version.
+fn document<'a>(shelf: &Shelf<'a>, role: &str) -> Option<(u32, &'a File<Targets>)>
+    ensures some { IfSome result (λ d. doc (shelf_view shelf.now) role.now ≡ Some (targets_file d.1.now)) }
+    ensures listed { IfSome result (λ d. option_map (λ e. e.version) (look_up (shelf_view shelf.now).listing role.now) ≡ Some d.0) }
+    ensures there { IfSome result (λ d. row_at (shelf_view shelf.now).rows role.now d.0 ≡ Some (targets_file d.1.now)) }
+    ensures none { IfNone result (doc (shelf_view shelf.now) role.now ≡ None) }
+{
+    let entry = shelf.snapshot.entry(role)?;
+    let file = shelf.rows.row_at(role, entry.version)?;
+    if has_length(entry, &file.source) && has_hash(entry, &file.source) {
+        Some((entry.version, file))
+    } else {
+        None
+    }
+}

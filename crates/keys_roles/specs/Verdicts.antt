@@ -1,0 +1,50 @@
+-- What is known of a file's signatures before they are checked.
+use Rattle.std.specs.Prelude.{◌≡◌, ◌↔◌, ℕ, suc, Bool, cond, not, ◌&&◌, List, [], ◌∷◌, length, filter, slice_get, Option, Some, None, bytes_eq, nat_eq, IsTrue, IsSomeAnd}
+use Rattle.std.specs.List.{AllByRecursion, list_any}
+use Rattle.keys_roles.specs.Plain.{Key, lms, Table, RoleRule, Signature, look_up}
+use Rattle.keys_roles.specs.Rules.{SpellsSignature}
+
+-- a signature entry by its place in the file's list, and a whole public key
+abbrev pub Pair : Type 0
+Pair = ℕ × Key
+
+abbrev pub same_key : Key → Key → Bool
+same_key (lms a) (lms b) = bytes_eq a b
+
+abbrev pub same_pair : Pair → Pair → Bool
+same_pair p q = nat_eq p.0 q.0 && same_key p.1 q.1
+
+-- the key that an id of the rule names in the table
+abbrev pub named_key : RoleRule → Table → List ℕ → Option Key
+named_key rule table id = cond (list_any (λ own. bytes_eq own id) rule.keyids) (look_up table id) None
+
+abbrev pub with_pair : ℕ → Option Key → List Pair → List Pair
+with_pair place None pairs = pairs
+with_pair place (Some key) pairs = (place, key) ∷ pairs
+
+-- the pairs of a file under a rule: each entry whose id stands in the rule, with the key that the id names
+abbrev pub pairs_from : RoleRule → Table → ℕ → List Signature → List Pair
+pairs_from rule table place [] = []
+pairs_from rule table place (e ∷ es) = with_pair place (named_key rule table e.keyid) (pairs_from rule table (suc place) es)
+
+abbrev pub pairs : RoleRule → Table → List Signature → List Pair
+pairs rule table entries = pairs_from rule table 0 entries
+
+-- whether the signature of a pair verifies under its key
+pub record Verdict : Type 0 where
+  pub pair : Pair
+  pub verifies : Bool
+
+-- the verdict is the truth of verification over the file's own bytes
+abbrev pub IsVerdict : List ℕ → List Signature → Verdict → Type 0
+IsVerdict signed entries v = IsSomeAnd (slice_get entries v.pair.0) (λ e. IsTrue v.verifies ↔ SpellsSignature v.pair.1 signed e.sig)
+
+abbrev pub AreVerdicts : List ℕ → List Signature → List Verdict → Type 0
+AreVerdicts signed entries known = AllByRecursion (IsVerdict signed entries) known
+
+-- whether something is known of the pair, and how many of the pairs nothing is known of
+abbrev pub is_known : List Verdict → Pair → Bool
+is_known known pair = list_any (λ v. same_pair v.pair pair) known
+
+abbrev pub unknown : List Verdict → List Pair → ℕ
+unknown known ps = length (filter (λ p. not (is_known known p)) ps)

@@ -1,0 +1,21 @@
+use Rattle.std.proofs.Common.{◌≡◌, ap, sym, ◌∙◌}
+use Rattle.metadata.specs.FileViews.{root_file, snapshot_file}
+use Rattle.delegations.specs.Rows.{Rows}
+use Rattle.delegations.specs.Search.{shelf_of}
+use Rattle.delegations.specs.Verdicts.{AreTrue, AreOfRows, IsComplete}
+use Rattle.delegations.specs.Views.{shelf_view}
+use Rattle.machine.specs.Knowing.{IsKnown}
+use Rattle.machine.specs.Views.{draft_view}
+use Rattle.machine.proofs.Carrying.{known_over, ok_all}
+use Rattle.machine.proofs.knowing.draft_verdicts.Goals as goal
+
+pub returns : goal.returns
+returns c =
+    let T = draft_view c.args.draft.now in
+    let root = root_file c.in-Some.root.now in
+    let snap = snapshot_file c.in-Some-snapshot.snapshot.now in
+    let V = shelf_view c.new-shelf.result in
+    let is = c.new-shelf.ensures.shelf ∙ ap (λ (r : Rows). shelf_of root snap r) c.rows.ensures.view in
+    ok_all (AreTrue V.rows) (AreOfRows V.rows) (IsComplete V) (IsKnown T) c.all_verdicts.result
+    (λ t sound rows complete. known_over T root snap V t c.in-Some.ensures (sym c.in-Some-snapshot.ensures) is sound rows complete)
+    c.all_verdicts.ensures.sound c.all_verdicts.ensures.rows c.all_verdicts.ensures.complete

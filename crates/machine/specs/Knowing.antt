@@ -1,0 +1,37 @@
+-- What a state knows of the signatures that its searches may meet.
+use Rattle.std.specs.Prelude.{◌≡◌, ℕ, Option, Some, None, Result, Ok, Err, IfSome}
+use Rattle.metadata.specs.Documents.{Root, Snapshot}
+use Rattle.metadata.specs.File.{Bytes, File}
+use Rattle.delegations.specs.Rows.{Rows}
+use Rattle.delegations.specs.Search.{shelf_of}
+use Rattle.delegations.specs.Verdicts.{Table, AreTrue, AreOfRows, IsComplete, Costs}
+use Rattle.machine.specs.State.{Trusted, State}
+use Rattle.machine.specs.Effects.{brought}
+use Rattle.machine.specs.Views.{effects_view}
+use Rattle.machine.specs.declared.outcome.Outcome.{Outcome}
+use Rattle.machine.specs.declared.outcome.Outcome.TheVariants as outcomes
+use Rattle.machine.specs.declared.outcome.Batched.{Batched}
+use Rattle.machine.specs.declared.refusal.Refusal.{Refusal}
+use Rattle.machine.specs.declared.refusal.BatchRefusal.{BatchRefusal}
+
+-- each verdict is the truth over a row of the shelf, and each wanted pair under the root and the snapshot has one, where these are few
+pub record IsKnown (T : Trusted) (table : Table) : Type 0 where
+  pub sound : AreTrue T.shelf table
+  pub rows : AreOfRows T.shelf table
+  pub complete : IfSome T.root (λ root. IfSome T.snapshot (λ snap. IsComplete (shelf_of root snap T.shelf) table))
+
+-- changes carry what is known after them
+abbrev pub CarriesKnown : State → Result Outcome Refusal → Type 0
+CarriesKnown S (Ok (outcomes.Changed e)) = IsKnown (brought S.trusted (effects_view e)) e.verdicts
+CarriesKnown S (Ok outcomes.Same) = Unit {0}
+CarriesKnown S (Err refusal) = Unit {0}
+
+abbrev pub BatchCarriesKnown : State → Result Batched BatchRefusal → Type 0
+BatchCarriesKnown S (Ok b) = IsKnown (brought S.trusted (effects_view b.effects)) b.effects.verdicts
+BatchCarriesKnown S (Err refusal) = Unit {0}
+
+-- how many signatures a request for a target checks: where there are a root and a snapshot, at most as many as its search meets of
+-- which nothing is known
+abbrev pub ChecksFew : Option (File Root) → Option (File Snapshot) → Rows → Table → Bytes → ℕ → ℕ → Type 0
+ChecksFew (Some root) (Some snap) shelf table path now count = Costs (shelf_of root snap shelf) table path now count
+ChecksFew _ _ shelf table path now count = count ≡ 0

@@ -1,0 +1,94 @@
+//! What is known of the signatures on a shelf: found out before a commit, so that no request checks them again.
+ghost use Rattle.std.specs.Prelude.{◌≡◌, ◌≤◌, IfOk, length};
+ghost use Rattle.delegations.specs.Rows.{AllFiles};
+ghost use Rattle.delegations.specs.Verdicts.{AreTrue};
+ghost use Rattle.machine.specs.Effects.{applied};
+ghost use Rattle.machine.specs.Knowing.{BatchCarriesKnown, CarriesKnown, IsKnown};
+ghost use Rattle.machine.specs.State.{IsState};
+ghost use Rattle.machine.specs.steps.Carrying.{IsSameBatch, IsSameOutcome, MakesState};
+ghost use Rattle.machine.specs.Views.{draft_view, effects_view, parts_view};
+
+use crate::draft::Draft;
+use crate::effects::Effects;
+use crate::outcome::{Batched, Outcome};
+use crate::refusal::{BatchRefusal, Refusal};
+use crate::state::State;
+use delegations::{Shelf, Verdicts, all_verdicts};
+use std::alloc::{AllocError, Global};
+
+/// An outcome with what is known after it.
+pub(crate) fn with_verdicts(
+    alloc: Global,
+    state: &State,
+    outcome: Outcome,
+) -> Result<Outcome, Refusal>
+    requires { MakesState state.now.state outcome }
+    ensures same { IsSameOutcome outcome result }
+    ensures known { CarriesKnown state.now.state result }
+{
+    match outcome {
+        Outcome::Changed(effects) => {
+            let effects = effects_with_verdicts(alloc, state, effects)?;
+            Ok(Outcome::Changed(effects))
+        }
+        Outcome::Same => Ok(Outcome::Same),
+    }
+}
+
+/// The same of a batch.
+pub(crate) fn batch_with_verdicts(
+    alloc: Global,
+    state: &State,
+    batched: Batched,
+) -> Result<Batched, BatchRefusal>
+    requires { IsState (applied state.now.state (effects_view batched.effects)) }
+    ensures same { IsSameBatch batched result }
+    ensures known { BatchCarriesKnown state.now.state result }
+{
+    let Batched {
+        effects,
+        accepted,
+        same,
+    } = batched;
+    match effects_with_verdicts(alloc, state, effects) {
+        Ok(effects) => Ok(Batched {
+            effects,
+            accepted,
+            same,
+        }),
+        Err(_) => Err(BatchRefusal::OutOfMemory),
+    }
+}
+
+/// The changes with what is known after them. What the state knows of a row that stays is not found out again.
+pub(crate) fn effects_with_verdicts(
+    alloc: Global,
+    state: &State,
+    effects: Effects,
+) -> Result<Effects, AllocError>
+    requires { IsState (applied state.now.state (effects_view effects)) }
+    ensures same { IfOk result (λ e. effects_view e ≡ effects_view effects) }
+    ensures known { IfOk result (λ e. IsKnown (applied state.now.state (effects_view effects)).trusted e.verdicts) }
+{
+    let draft = Draft::over(state.parts(), effects);
+    let verdicts = draft_verdicts(alloc, &draft, state.verdicts())?;
+    let mut effects = draft.into_effects();
+    effects.verdicts = verdicts;
+    Ok(effects)
+}
+
+// What is known after changes, where this is known of the state before them.
+fn draft_verdicts(alloc: Global, draft: &Draft<'_>, held: &Verdicts) -> Result<Verdicts, AllocError>
+    requires sound { AreTrue (parts_view draft.now.base.now).trusted.shelf held.now }
+    requires few { AllFiles (λ f. length f.entries ≤ 16) (draft_view draft.now).shelf }
+    ensures { IfOk result (λ t. IsKnown (draft_view draft.now) t) }
+{
+    let Some(root) = draft.root() else {
+        return Ok(Verdicts::new(alloc));
+    };
+    let Some(snapshot) = draft.snapshot() else {
+        return Ok(Verdicts::new(alloc));
+    };
+    let shelf = Shelf::new(&root.body, &snapshot.body, draft.rows());
+    all_verdicts(alloc, &shelf, held)
+}

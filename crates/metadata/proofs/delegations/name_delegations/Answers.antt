@@ -1,0 +1,6 @@
+use Rattle.metadata.specs.steps.Spelled.{spelled_table, spelled_list}
+use Rattle.metadata.proofs.Named.{each_ids_hex}
+use Rattle.metadata.proofs.delegations.name_delegations.Goals as goal
+
+pub name_roles-requires : goal.name_roles-requires
+name_roles-requires c = each_ids_hex (spelled_table c.args.spelled.keys) (spelled_list c.args.spelled.roles.items) c.requires c.in_ok-table.ensures.ok.2

@@ -1,0 +1,68 @@
+//! What is told of a connection.
+use crate::deadlines::Timer;
+use crate::incoming::Incoming;
+use crate::notes::Notes;
+use crate::outgoing::Outgoing;
+use metadata::Moment;
+use std::fmt;
+use std::io::Write;
+
+/// Tells of a connection its moment, method, path, status, bytes that were sent, number of the denial, and milliseconds, with
+/// `-` for what is not there.
+pub fn tell_connection<E: Write>(
+    incoming: &Incoming<'_>,
+    outgoing: &Outgoing<'_>,
+    now: Moment,
+    timer: &Timer<'_>,
+    notes: &mut Notes<'_, E>,
+) {
+    if !notes.are_told() {
+        return;
+    }
+    let mut words = incoming.beginning().split(|b| *b <= b' ');
+    let line = Line {
+        method: visible(words.next()),
+        path: visible(words.next()),
+        status: outgoing.status().unwrap_or("-"),
+        bytes: outgoing.sent(),
+        denial: outgoing.denial().unwrap_or("-"),
+        milliseconds: timer.milliseconds(),
+    };
+    notes.tell(&now.seconds(), &line);
+}
+
+// A word of the head, if it is there and has no other bytes than a target may have.
+fn visible(word: Option<&[u8]>) -> &str {
+    match word {
+        Some(word) if !word.is_empty() && word.iter().all(|b| 33 <= *b && *b <= 126) =>
+            str::from_utf8(word).unwrap_or("-"),
+        _ => "-",
+    }
+}
+
+#[derive(Drop)]
+struct Line<'a> {
+    method: &'a str,
+    path: &'a str,
+    status: &'a str,
+    bytes: u64,
+    denial: &'a str,
+    milliseconds: u128,
+}
+
+impl fmt::Display for Line<'_> {
+    fn fmt<W: fmt::Write>(&self, f: &mut fmt::Formatter<W>) -> fmt::Result {
+        let Line {
+            method,
+            path,
+            status,
+            bytes,
+            denial,
+            milliseconds,
+        } = self;
+        write!(
+            f,
+            "{method} {path} {status} {bytes} {denial} {milliseconds}"
+        )
+    }
+}

@@ -1,0 +1,28 @@
+//! What is told besides, on standard error, where it is asked for.
+use std::fmt::Display;
+use std::io::Write;
+
+/// Standard error, and whether facts are told on it.
+#[derive(Drop)]
+pub struct Notes<'e, E: Write> {
+    err: &'e mut E,
+    verbose: bool,
+}
+
+impl<'e, E: Write> Notes<'e, E> {
+    pub fn new(err: &'e mut E, verbose: bool) -> Notes<'e, E> {
+        Notes { err, verbose }
+    }
+
+    /// Whether facts are told.
+    pub fn are_told(&self) -> bool {
+        self.verbose
+    }
+
+    /// Tells one fact of what has this name, in a line. A write that fails is disregarded.
+    pub fn tell<N: Display, F: Display>(&mut self, name: &N, fact: &F) {
+        if self.verbose {
+            let _ = writeln!(self.err, "{name}: {fact}");
+        }
+    }
+}

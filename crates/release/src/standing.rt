@@ -1,0 +1,144 @@
+//! What is told of a repository before it is served: which root is trusted, and when the first of its documents expires.
+use crate::notes::Notes;
+use crate::repository::Repository;
+use metadata::{Body, Kind, Moment, RoleName, read_document};
+use std::alloc::Global;
+use std::fmt;
+use std::io::Write;
+use store::{Command, Reply};
+
+/// Tells the version of the trusted root, and the moment and the name of the document that expires first, of those that are in
+/// use: root, timestamp, snapshot, and the targets metadata that the snapshot lists.
+pub fn tell_standing<E: Write>(
+    alloc: Global,
+    db: &str,
+    held: &mut Option<Repository>,
+    now: Moment,
+    notes: &mut Notes<'_, E>,
+) {
+    let Some(repository) = held else {
+        return;
+    };
+    let Some(version) = repository.root_version() else {
+        notes.tell(&db, &"no root is trusted");
+        return;
+    };
+    notes.tell(&db, &Trusted(version));
+    let mut looked = Looked {
+        alloc,
+        repository,
+        now,
+        nearest: None,
+    };
+    looked.at_all(version);
+    if let Some(nearest) = looked.nearest {
+        notes.tell(&db, &nearest);
+    }
+}
+
+// The version of the trusted root, as notes tell it.
+#[derive(Drop)]
+struct Trusted(u32);
+
+impl fmt::Display for Trusted {
+    fn fmt<W: fmt::Write>(&self, f: &mut fmt::Formatter<W>) -> fmt::Result {
+        let version = self.0;
+        write!(f, "root {version} is trusted")
+    }
+}
+
+// The moment at which the first document expires.
+#[derive(Clone, Copy)]
+struct Nearest(Moment);
+
+impl fmt::Display for Nearest {
+    fn fmt<W: fmt::Write>(&self, f: &mut fmt::Formatter<W>) -> fmt::Result {
+        let seconds = self.0.seconds();
+        write!(f, "the first expiry is at {seconds}")
+    }
+}
+
+// The documents that were looked at, and the first moment at which one of them expires.
+#[derive(Drop)]
+struct Looked<'a> {
+    alloc: Global,
+    repository: &'a mut Repository,
+    now: Moment,
+    nearest: Option<Nearest>,
+}
+
+impl Looked<'_> {
+    fn at_all(&mut self, root: u32) {
+        self.at_root(root);
+        if let Some(snapshot) = self.at_timestamp() {
+            self.at_snapshot(snapshot);
+        }
+    }
+
+    fn at_root(&mut self, version: u32) {
+        let Ok(name) = format!(in self.alloc; "{version}.root.json") else {
+            return;
+        };
+        let Some(bytes) = self.file(name.as_str()) else {
+            return;
+        };
+        self.at_document(Kind::Root, &bytes);
+    }
+
+    // The version of the snapshot that the timestamp names, if one is held.
+    fn at_timestamp(&mut self) -> Option<u32> {
+        let bytes = self.file("timestamp.json")?;
+        match self.at_document(Kind::Timestamp, &bytes)? {
+            Body::Timestamp(timestamp) => Some(timestamp.snapshot.version),
+            _ => None,
+        }
+    }
+
+    fn at_snapshot(&mut self, version: u32) {
+        let Ok(name) = format!(in self.alloc; "{version}.snapshot.json") else {
+            return;
+        };
+        let Some(bytes) = self.file(name.as_str()) else {
+            return;
+        };
+        if let Some(Body::Snapshot(snapshot)) = self.at_document(Kind::Snapshot, &bytes) {
+            for (role, meta) in &snapshot.meta {
+                self.at_targets(role, meta.version);
+            }
+        }
+    }
+
+    fn at_targets(&mut self, role: &RoleName, version: u32) {
+        let role = role.as_str();
+        let Ok(name) = format!(in self.alloc; "{version}.{role}.json") else {
+            return;
+        };
+        let Some(bytes) = self.file(name.as_str()) else {
+            return;
+        };
+        self.at_document(Kind::Targets, &bytes);
+    }
+
+    // The bytes of a metadata file, if it is held.
+    fn file(&mut self, name: &str) -> Option<Vec<u8>> {
+        match self.repository.apply(Command::Metadata(name), self.now) {
+            Ok(Reply::Bytes(bytes)) => Some(bytes),
+            _ => None,
+        }
+    }
+
+    // Notes when the document expires, and answers what it says.
+    fn at_document(&mut self, kind: Kind, bytes: &[u8]) -> Option<Body> {
+        let body = read_document(self.alloc, kind, bytes).ok()?.body;
+        let expires = match &body {
+            Body::Root(root) => root.expires,
+            Body::Timestamp(timestamp) => timestamp.expires,
+            Body::Snapshot(snapshot) => snapshot.expires,
+            Body::Targets(targets) => targets.expires,
+        };
+        if self.nearest.is_none_or(|nearest| expires < nearest.0) {
+            self.nearest = Some(Nearest(expires));
+        }
+        Some(body)
+    }
+}

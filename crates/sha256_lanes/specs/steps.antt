@@ -1,0 +1,2 @@
+-- What the code does step by step. Contracts of private functions alone cite these.
+pub mod Lanes
