@@ -1,8 +1,9 @@
 //! The files of targets, which are held under their digests.
-ghost use Rattle.std.specs.Prelude.{◌≡◌, ◌↔◌, ◌<◌, ◌≤◌, ◌∷◌, [], IfOk, IsSome, IsTrue, bytes_eq, length, option_map};
+ghost use Rattle.std.specs.Prelude.{◌≡◌, ◌↔◌, ◌<◌, ◌≤◌, ◌∷◌, [], IfOk, IsSome, IsTrue, bytes_eq, length, option_map, true, false};
 ghost use Rattle.sha2.specs.Sha256.{sha256};
 ghost use Rattle.delegations.specs.Delegation.{before};
-ghost use Rattle.delegations.specs.Rows.{with_row};
+ghost use Rattle.std.specs.List.Sorted.{IsPartitionPoint};
+ghost use Rattle.delegations.specs.Rows.{Rises, with_row};
 ghost use Rattle.machine.specs.Answers.{Answers};
 ghost use Rattle.machine.specs.Knowing.{CarriesKnown};
 ghost use Rattle.machine.specs.steps.Judging.{Judges};
@@ -20,6 +21,7 @@ use crate::outcome::Outcome;
 use crate::parts::Parts;
 use crate::refusal::Refusal;
 use crate::state::State;
+use crate::taking::is_before;
 use denials::Denial;
 use limits::{BLOB_LIMIT, MOST_HELD};
 use metadata::digest_of;
@@ -58,22 +60,35 @@ fn judge_put(
     Ok(Outcome::Changed(effects))
 }
 
-/// The blob with this digest.
+/// The blob with this digest, among blobs in the order of their digests.
 pub(crate) fn blob_of<'a>(blobs: &'a [Blob], digest: &Digest) -> Option<&'a Blob>
+    requires { Rises before (blob_views blobs.now) }
     ensures { option_map (λ b. b.now.bytes.items) result ≡ blob_at (blob_views blobs.now) digest.now.0 }
 {
-    let mut rest = blobs;
-    'blobs: while let Some((blob, later)) = rest.split_first() {
-        if is_same(&blob.digest, digest) {
-            return Some(blob);
-        }
-        rest = later;
+    let Some(blob) = blobs.get(count_before(blobs, digest)) else {
+        return None;
+    };
+    if !is_same(&blob.digest, digest) {
+        return None;
     }
-    None
+    Some(blob)
+}
+
+// How many of the blobs stand before this digest.
+fn count_before(blobs: &[Blob], digest: &Digest) -> usize
+    requires { Rises before (blob_views blobs.now) }
+    ensures { IsPartitionPoint (λ b. before b.digest.0 digest.now.0 ≡ true) (λ b. before b.digest.0 digest.now.0 ≡ false) blobs.now result }
+{
+    blobs.partition_point(
+        |blob: &Blob| -> bool
+            ensures { result ≡ before blob.now.digest.0 digest.entry.now.0 }
+        { is_before(&blob.digest.0, &digest.0) },
+    )
 }
 
 // Whether a blob is stored, or held already.
 fn judge_blob(parts: &Parts, digest: &Digest, bytes: &[u8]) -> Result<bool, Refusal>
+    requires { Rises before (parts_view parts.now).blobs }
     ensures { Judges (commands.put_blob (parts_view parts.now) digest.now.0 bytes.now)
         (record (parts_view parts.now) { blobs = with_row before (parts_view parts.now).blobs digest.now.0 bytes.now }) result }
 {
@@ -117,6 +132,7 @@ pub(crate) fn is_short(bytes: &[u8]) -> bool
 
 // Whether a blob with this digest is held.
 fn has_blob(blobs: &[Blob], digest: &Digest) -> bool
+    requires { Rises before (blob_views blobs.now) }
     ensures { IsTrue result ↔ IsSome (blob_at (blob_views blobs.now) digest.now.0) }
 {
     blob_of(blobs, digest).is_some()

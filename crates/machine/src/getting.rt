@@ -1,5 +1,7 @@
 //! What a target is (TUF 1.0, section 5.7).
 ghost use Rattle.std.specs.Prelude.{◌≡◌, ◌↔◌, ◌-◌, ◌≤◌, ◌<◌, ◌^◌, None, Err, IfSome, IsTrue, length, option_map};
+ghost use Rattle.delegations.specs.Delegation.{before};
+ghost use Rattle.delegations.specs.Rows.{Rises};
 ghost use Rattle.delegations.specs.Search.{search};
 ghost use Rattle.delegations.specs.Verdicts.{AreTrue, Costs};
 ghost use Rattle.delegations.specs.Views as searches;
@@ -171,6 +173,7 @@ fn asked_blob<'a>(
     listing: &Listing,
     asked: Option<Digest>,
 ) -> Result<&'a [u8], Refusal>
+    requires { Rises before (parts_view parts.now).blobs }
     ensures { Gives (commands.asked_blob_of (parts_view parts.now) path.now (listing_view listing.now) (option_map (λ d. d.0) asked)) (λ b. b.now) result }
 {
     let blob = listed_blob(alloc, parts, path, listing)?;
@@ -197,6 +200,7 @@ fn listed_blob<'a>(
     path: &TargetPath,
     listing: &Listing,
 ) -> Result<&'a [u8], Refusal>
+    requires { Rises before (parts_view parts.now).blobs }
     ensures { Gives (commands.blob_of (parts_view parts.now) path.now (listing_view listing.now)) (λ b. b.now) result }
 {
     let Some(blob) = blob_of(&parts.blobs, &listing.digest) else {

@@ -1,0 +1,112 @@
+-- Looking up by halves among rows whose keys rise.
+use Rattle.std.proofs.Common.{◌≡◌, ℕ, zero, suc, ◌≤◌, ◌<◌, List, [], ◌∷◌, map, length, slice_get, slice_index_or, Option, Some, None, cond, refl, sym, ap, ◌∙◌, subst, arith, Bool, true, false, ◌⊎◌, inl, inr}
+use Rattle.std.specs.Prelude.{option_map, option_and_then, bytes_eq}
+use Rattle.std.specs.Borrow.{Bor}
+use Rattle.std.specs.Slice.{IsItemAt}
+use Rattle.std.specs.List.{AllWithin}
+use Rattle.std.specs.List.Sorted.{IsPartitionedBy, IsPartitionPoint}
+use Rattle.std.proofs.lemmas.List.{length-map, get_or-map}
+use Rattle.delegations.specs.Rows.{Rises, value_at}
+use Rattle.machine.proofs.RowsInOrder.{Orders, by_test, orders_bytes}
+use Rattle.std.proofs.lemmas.Bool.{both_ways, cases_lt, false_from_ne_true}
+use Rattle.std.proofs.lemmas.Bool.Decides.{nat_tests}
+use Rattle.std.proofs.lemmas.Option.{slice_get_cases, slice_get_past}
+use Rattle.std.proofs.lemmas.Slice.Eq.{bytes_eq-Decides}
+use Rattle.metadata.specs.File.{Bytes}
+use Rattle.delegations.specs.Delegation.{before}
+
+-- an order of keys in which none is before itself, and keys that pass for the same are so
+pub record Sorts {K : Type 0} (below same : K → K → Bool) : Type 0 where
+  pub order : Orders below same
+  pub itself : (a : K) → below a a ≡ false
+  pub one : (a b : K) → same a b ≡ true → a ≡ b
+
+under : {K : Type 0} (below same : K → K → Bool) → Sorts below same → (a b : K) → below a b ≡ true → same a b ≡ false
+under {K} below same o a b h =
+    false_from_ne_true (same a b) (λ t. both_ways (below a b) (subst (λ (c : K). below a c ≡ false) (o.one a b t) (o.itself a)) h)
+
+over : {K : Type 0} (below same : K → K → Bool) → Sorts below same → (a b : K) → below a b ≡ true → same b a ≡ false
+over {K} below same o a b h =
+    false_from_ne_true (same b a) (λ t. both_ways (below a b) (subst (λ (c : K). below c b ≡ false) (o.one b a t) (o.itself b)) h)
+
+swapped : {K : Type 0} (below same : K → K → Bool) → Sorts below same → (a b : K) → same a b ≡ false → same b a ≡ false
+swapped {K} below same o a b f =
+    false_from_ne_true (same b a) (λ t. both_ways (same a b) f
+    (let e = o.one b a t in subst (λ (c : K). same c b ≡ true) e (subst (λ (c : K). same b c ≡ true) (sym e) t)))
+
+abbrev keyed : {X K A : Type 0} → (X → K) → (X → A) → List X → List (K × A)
+keyed k v xs = map (λ x. (k x, v x)) xs
+
+rest_rises : {X K A : Type 0} (k : X → K) (v : X → A) (below : K → K → Bool) (x : X) (xs : List X) → Rises below (keyed k v (x ∷ xs)) → Rises below (keyed k v xs)
+rest_rises k v below x xs r i j d h l = r (suc i) (suc j) d (omega arith) (omega arith)
+
+second_above : {X K A : Type 0} (k : X → K) (v : X → A) (below : K → K → Bool) (x y : X) (xs : List X) → Rises below (keyed k v (x ∷ y ∷ xs)) → below (k x) (k y) ≡ true
+second_above k v below x y xs r = r 0 1 (k x, v x) (omega arith) (omega arith)
+
+-- none of the rows has a key that is before all of theirs
+none_above : {X K A : Type 0} (k : X → K) (v : X → A) (below same : K → K → Bool) → Sorts below same → (x : X) (xs : List X) (key : K)
+    → Rises below (keyed k v (x ∷ xs)) → below key (k x) ≡ true → value_at same (keyed k v xs) key ≡ None
+none_above k v below same o x [] key r h = refl
+none_above k v below same o x (y ∷ ys) key r h =
+    let l : below key (k y) ≡ true = o.order.through key (k x) (k y) h (second_above k v below x y ys r) in
+    rw (over below same o key (k y) l) (none_above k v below same o y ys key (rest_rises k v below x (y ∷ ys) r) l)
+
+-- what stands at a place, if it has the key
+abbrev at_place : {X K A : Type 0} → (X → K) → (X → A) → (K → K → Bool) → List X → ℕ → K → Option A
+at_place k v same xs n key = option_and_then (λ x. cond (same (k x) key) (Some (v x)) None) (slice_get xs n)
+
+by_halves : {X K A : Type 0} (k : X → K) (v : X → A) (below same : K → K → Bool) → Sorts below same → (xs : List X) (n : ℕ) (key : K)
+    → Rises below (keyed k v xs) → AllWithin (λ x. below (k x) key ≡ true) xs 0 n → AllWithin (λ x. below (k x) key ≡ false) xs n (length xs)
+    → value_at same (keyed k v xs) key ≡ at_place k v same xs n key
+by_halves k v below same o [] n key r less more = refl
+by_halves k v below same o (x ∷ xs) zero key r less more = by_test (same (k x) key)
+    (λ t. rw t refl)
+    (λ f. rw f (none_above k v below same o x xs key r (o.order.else (k x) key (more 0 x (omega arith) (omega arith)) (swapped below same o (k x) key f))))
+by_halves k v below same o (x ∷ xs) (suc n) key r less more =
+    rw (under below same o (k x) key (less 0 x (omega arith) (omega arith)))
+    (by_halves k v below same o xs n key (rest_rises k v below x xs r)
+    (λ i d h l. less (suc i) d (omega arith) (omega arith)) (λ i d h l. more (suc i) d (omega arith) (omega arith)))
+
+
+lent : {X : Type 0} (xs : List X) (n : ℕ) (r : Option (Bor X)) → IsItemAt xs n r → slice_get xs n ≡ option_map (λ b. b.now) r
+lent xs n None h = slice_get_past xs n h.3
+lent {X} xs n (Some b) h = of (slice_get_cases xs n).1
+  where
+    of : ((x : X) × (n < length xs) × (slice_get xs n ≡ Some x) × (slice_index_or xs n x ≡ x)) ⊎ ((length xs ≤ n) × (slice_get xs n ≡ None)) → slice_get xs n ≡ Some b.now
+    of (inl p) = p.2 ∙ ap Some (sym (h.4 (omega arith) p.0 ∙ p.3))
+    of (inr p) = absurd (omega (arith, h.3.0, p.0))
+
+-- what is found is what the place lends, if it has the key
+pub found : {X K A : Type 0} (k : X → K) (v : X → A) (below same : K → K → Bool) → Sorts below same → (xs : List X) (n : ℕ) (key : K)
+    → Rises below (keyed k v xs) → IsPartitionPoint (λ x. below (k x) key ≡ true) (λ x. below (k x) key ≡ false) xs n → (r : Option (Bor X)) → IsItemAt xs n r
+    → value_at same (keyed k v xs) key ≡ option_and_then (λ b. cond (same (k b.now) key) (Some (v b.now)) None) r
+found {X} k v below same o xs n key rising point r item =
+    by_halves k v below same o xs n key rising point.0 point.1
+    ∙ (ap (option_and_then (λ (x : X). cond (same (k x) key) (Some (v x)) None)) (lent xs n r item) ∙ through r)
+  where
+    through : (r : Option (Bor X)) → option_and_then (λ (x : X). cond (same (k x) key) (Some (v x)) None) (option_map (λ b. b.now) r)
+        ≡ option_and_then (λ (b : Bor X). cond (same (k b.now) key) (Some (v b.now)) None) r
+    through None = refl
+    through (Some b) = refl
+
+-- no row before the key comes after one that is not
+pub parted : {X K A : Type 0} (k : X → K) (v : X → A) (below : K → K → Bool) → ((a b c : K) → below a b ≡ true → below b c ≡ true → below a c ≡ true)
+    → (xs : List X) (key : K) → Rises below (keyed k v xs) → IsPartitionedBy (λ x. below (k x) key) xs
+parted {X} {K} {A} k v below through xs key r i j d h l t = of (cases_lt i j)
+  where
+    at : (n : ℕ) → n < length xs → slice_index_or (keyed k v xs) n (k d, v d) ≡ (k (slice_index_or xs n d), v (slice_index_or xs n d))
+    at n m = get_or-map (λ x. (k x, v x)) xs n d (k d, v d) m
+    of : (i < j) ⊎ (j ≤ i) → below (k (slice_index_or xs i d)) key ≡ true
+    of (inl m) =
+        let here = sym (at i (omega arith)) in
+        let there = sym (at j l) in
+        through (k (slice_index_or xs i d)) (k (slice_index_or xs j d)) key
+        ((λ s. below (here s).0 (there s).0) ∙ r i j (k d, v d) m (let n = length-map {B = K × A} xs (λ x. (k x, v x)) in omega arith)) t
+    of (inr m) = subst (λ (n : ℕ). below (k (slice_index_or xs n d)) key ≡ true) (omega arith) t
+
+itself_bytes : (a : Bytes) → before a a ≡ false
+itself_bytes [] = refl
+itself_bytes (i ∷ a) = let h = itself_bytes a in grind (arith, nat_tests)
+
+pub sorts_bytes : Sorts before bytes_eq
+sorts_bytes = record { order = orders_bytes; itself = itself_bytes; one = λ a b. (bytes_eq-Decides a b).0 }
