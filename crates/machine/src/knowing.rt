@@ -11,6 +11,7 @@ ghost use Rattle.machine.specs.Views.{draft_view, effects_view, parts_view};
 use crate::draft::Draft;
 use crate::effects::Effects;
 use crate::outcome::{Batched, Outcome};
+use crate::parts::Parts;
 use crate::refusal::{BatchRefusal, Refusal};
 use crate::state::State;
 use delegations::{Shelf, Verdicts, all_verdicts};
@@ -75,6 +76,14 @@ pub(crate) fn effects_with_verdicts(
     let mut effects = draft.into_effects();
     effects.verdicts = verdicts;
     Ok(effects)
+}
+
+/// What is known of the shelf of a state.
+pub(crate) fn parts_verdicts(alloc: Global, parts: &Parts) -> Result<Verdicts, AllocError>
+    requires { IsState (parts_view parts.now) }
+    ensures { IfOk result (λ t. IsKnown (parts_view parts.now).trusted t) }
+{
+    draft_verdicts(alloc, &Draft::new(alloc, parts), &Verdicts::new(alloc))
 }
 
 // What is known after changes, where this is known of the state before them.

@@ -13,9 +13,9 @@ ghost use Rattle.machine.specs.Views.{blob_views, effects_view};
 use crate::blobs::{is_digest_of, is_short};
 use crate::checks::is_signed;
 use crate::effects::{Blob, Effects};
-use crate::knowing::effects_with_verdicts;
+use crate::knowing::parts_verdicts;
 use crate::state::State;
-use crate::taking::{is_before, is_place_before};
+use crate::taking::{is_before, is_place_before, laid_parts};
 use delegations::Row;
 use limits::MOST_HELD;
 use metadata::{File, Root, Snapshot, Timestamp, is_listable, one_document, one_shape};
@@ -290,9 +290,7 @@ pub(crate) fn settle(alloc: Global, files: Effects) -> Result<Option<State>, All
     if !is_state(&files) {
         return Ok(None);
     }
-    let mut state = State::new(alloc);
-    let files = effects_with_verdicts(alloc, &state, files)?;
-    state.room(&files)?;
-    state.take(files);
-    Ok(Some(state))
+    let parts = laid_parts(alloc, files)?;
+    let verdicts = parts_verdicts(alloc, &parts)?;
+    Ok(Some(State::of(parts, verdicts)))
 }

@@ -47,6 +47,15 @@ impl State {
         }
     }
 
+    /// The state of these parts, of whose signatures this is known.
+    pub(crate) fn of(parts: Parts, verdicts: Verdicts) -> State
+        requires valid { IsState (parts_view parts) }
+        requires known { IsKnown (parts_view parts).trusted verdicts }
+        ensures { result.state ≡ parts_view parts }
+    {
+        State { parts, verdicts }
+    }
+
     /// Makes room for these changes. If memory is refused, the state is as before.
     pub fn room(&mut self, effects: &Effects) -> Result<(), AllocError>
         ensures kept { self.new.state ≡ self.old.state }

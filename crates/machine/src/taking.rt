@@ -1,5 +1,5 @@
 // Putting changes into what a state keeps. It takes no memory.
-ghost use Rattle.std.specs.Prelude.{◌≡◌, ◌≤◌, ◌<◌, ◌-◌, ◌+◌, ◌++◌, [], ◌∷◌, ℕ, List, Option, Some, cond, map, length, vec_len, vec_capacity};
+ghost use Rattle.std.specs.Prelude.{◌≡◌, ◌≤◌, ◌<◌, ◌-◌, ◌+◌, ◌++◌, [], ◌∷◌, ℕ, List, IfOk, Option, Some, cond, map, length, vec_len, vec_capacity};
 ghost use Rattle.std.specs.List.{insert, position_or_len, position};
 ghost use Rattle.metadata.specs.FileViews.{targets_file};
 ghost use Rattle.delegations.specs.Delegation.{before};
@@ -8,12 +8,14 @@ ghost use Rattle.delegations.specs.Views.{row_views};
 ghost use Rattle.machine.specs.Effects.{applied, last_or, renewed, with_blobs};
 ghost use Rattle.machine.specs.Views.{parts_view, effects_view, blob_views, last_bytes};
 ghost use Rattle.machine.specs.Room.{places, room_of};
+ghost use Rattle.machine.specs.steps.Loading.{laid};
 
 use crate::effects::{Blob, Effects};
 use crate::parts::Parts;
 use delegations::{Row, Verdicts};
 use metadata::{File, Root};
 use path_patterns::{Digest, RoleName};
+use std::alloc::{AllocError, Global};
 
 // Puts one more at the end, where there is room.
 fn push_within<T: Drop>(held: &mut Vec<T>, new: T)
@@ -184,6 +186,32 @@ fn take_blobs(blobs: &mut Vec<Blob>, more: Vec<Blob>)
     for blob in more {
         put_blob(blobs, blob);
     }
+}
+
+/// What is kept of files that are all those of a state. Only the bytes of the roots before the last move.
+pub(crate) fn laid_parts(alloc: Global, files: Effects) -> Result<Parts, AllocError>
+    ensures { IfOk result (λ p. parts_view p ≡ laid (effects_view files)) }
+{
+    let Effects {
+        roots,
+        emptied: _,
+        timestamp,
+        snapshot,
+        rows,
+        blobs,
+        verdicts: _,
+    } = files;
+    let mut earlier = Vec::with_capacity(alloc, roots.len())?;
+    let mut root = None;
+    take_roots(&mut earlier, &mut root, roots);
+    Ok(Parts {
+        earlier,
+        root,
+        timestamp,
+        snapshot,
+        shelf: rows,
+        blobs,
+    })
 }
 
 /// Puts changes into what is kept, for which there is room. The answer is what is known after them.
