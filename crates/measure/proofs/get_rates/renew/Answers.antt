@@ -5,4 +5,4 @@ pub take-requires-clause-valid : goal.take-requires-clause-valid
 take-requires-clause-valid c = batch_makes_state c.room.ensures.kept c.in-Ok.ensures.answers
 
 pub take-requires-clause-known : goal.take-requires-clause-known
-take-requires-clause-known c = batch_carries_known _ c.room.ensures.kept c.in-Ok.ensures.known
+take-requires-clause-known c = batch_carries_known c.in-Ok.done c.room.ensures.kept c.in-Ok.ensures.known
