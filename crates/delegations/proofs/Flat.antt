@@ -13,7 +13,7 @@ use Rattle.denials.specs.Orders.{pass, decide, given, stopped, Judged, Stop, Den
 use Rattle.metadata.specs.Covers.{covers}
 use Rattle.delegations.specs.Delegation.{Edge, Hops, Graph, hops_in, unmet, leads, chain_end, before, index_lists, all_index_lists, longest, places_from, chains, firsts, visits, is_chain, is_first, same_end, cuts, cut}
 use Rattle.delegations.specs.Search.{Shelf, Found, graph_of, hops_of, visit, search, find_in, found_or, visited, listing_of, most_visits, Vouches, Vouched, MeetsEdge}
-use Rattle.delegations.specs.Verdicts.{Table, lacking, AreVisited, Costs}
+use Rattle.delegations.specs.Verdicts.{Table, lacking, Costs}
 use Rattle.delegations.specs.Views.{row_views, shelf_view}
 use Rattle.delegations.specs.declared.rows.Row.{Row}
 use Rattle.delegations.specs.declared.shelf.Shelf.{Shelf as CodeShelf}
