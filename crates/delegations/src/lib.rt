@@ -12,7 +12,7 @@ mod visiting;
 mod walking;
 
 pub use keys_roles::Steps;
-pub use laws::{good_documents_are_visited, index_lists_rise, no_chain_left_out};
+pub use laws::{good_documents_are_visited, index_lists_rise, no_chain_left_out, worked_visits};
 pub use metadata::{
     File, KeyTable, Listing, Meta, Moment, RoleName, RoleRule, Root, Snapshot, Source, TargetPath,
     Targets,
