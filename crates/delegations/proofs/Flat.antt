@@ -1,17 +1,19 @@
 -- The search where no document delegates: it visits the top role, and no other.
 use Rattle.std.proofs.Common.{◌≡◌, ◌↔◌, IsTrue, ℕ, zero, suc, Bool, true, false, cond, not, ◌&&◌, ◌||◌, List, [], ◌∷◌, ◌≤◌, length, Option, Some, None, Ok, Err, refl, ap, sym, subst, ◌∙◌, arith, nat_lt}
-use Rattle.std.specs.Prelude.{option_map, option_and_then, slice_get, take, unwrap_or, filter, bytes_eq, IfSome}
+use Rattle.std.specs.Prelude.{is_some, option_map, option_and_then, slice_get, take, unwrap_or, filter, bytes_eq, IfSome}
 use Rattle.std.specs.List.{AllByRecursion, cons_option, filter_map, list_any, list_all}
 use Rattle.std.specs.Option.{option_flatten}
 use Rattle.std.proofs.lemmas.Slice.Eq.{bytes_eq-Decides}
 use Rattle.metadata.specs.Documents.{Targets, MetaFile, Delegation, Listing}
 use Rattle.metadata.specs.File.{Bytes, Name, File}
+use Rattle.metadata.specs.Views.{delegations_view}
+use Rattle.metadata.specs.declared.documents.Delegations.{Delegations as CodeDelegations}
 use Rattle.denials.specs.Numbers as no
 use Rattle.denials.specs.Orders.{pass, decide, given, stopped, Judged, Stop, Denied, Plain, denied}
 use Rattle.metadata.specs.Covers.{covers}
 use Rattle.delegations.specs.Delegation.{Edge, Hops, Graph, hops_in, unmet, leads, chain_end, before, index_lists, all_index_lists, longest, places_from, chains, firsts, visits, is_chain, is_first, same_end, cuts, cut}
 use Rattle.delegations.specs.Search.{Shelf, Found, graph_of, hops_of, visit, search, find_in, found_or, visited, listing_of, most_visits, Vouches, Vouched, MeetsEdge}
-use Rattle.delegations.specs.Verdicts.{Table, lacking, AreVisited, Costs}
+use Rattle.delegations.specs.Verdicts.{Table, lacking, Costs}
 use Rattle.delegations.specs.Views.{row_views, shelf_view}
 use Rattle.delegations.specs.declared.rows.Row.{Row}
 use Rattle.delegations.specs.declared.shelf.Shelf.{Shelf as CodeShelf}
@@ -34,9 +36,13 @@ flat_named rows role m h = split (row_at rows role m.version) (all_at (λ file. 
     split None n = tt
     split (Some file) n = tested file n (has_length m file.bytes && has_hash m file.bytes)
 
+none_view : (o : Option CodeDelegations) → is_some o ≡ false → option_map delegations_view o ≡ None
+none_view None h = refl
+none_view (Some ds) h = absurd (cc)
+
 flat_views : (rows : List Row) → AreFlat (row_views rows)
 flat_views [] = tt
-flat_views (row ∷ rows) = (refl, flat_views rows)
+flat_views (row ∷ rows) = (none_view row.file.body.delegations row.file.body.flat, flat_views rows)
 
 -- no document that the code reads has delegations yet
 pub flat_shelf : (s : CodeShelf) → AreFlat (shelf_view s).rows

@@ -99,3 +99,10 @@ module _ (V : Shelf) (e : Edge) (now : ℕ) where
 
 pub visits_good : (V : Shelf) (e : Edge) (now : ℕ) (file : File Targets) → visit V e now (Ok file) ↔ ((g : Good V e now) × (g.file ≡ file))
 visits_good V e now file = (good_of V e now file, of_good V e now file)
+
+-- the document stands on the shelf, at the version that is listed
+pub found_row : (V : Shelf) (e : Edge) (now : ℕ) (file : File Targets) → visit V e now (Ok file) → (version : ℕ) × (row_at V.rows e.role version ≡ Some file)
+found_row V e now file h =
+    let g = good_of V e now file h in
+    let n = named_of V e now e.role file (subst (λ (f : File Targets). doc V e.role ≡ Some f) g.1 g.0.there) in
+    (n.entry.version, n.found)

@@ -1,6 +1,5 @@
 -- What a table of verdicts holds, where no document delegates.
-use Rattle.std.proofs.Common.{◌≡◌, ℕ, Bool, true, false, cond, ◌&&◌, List, [], ◌∷◌, map, length, Option, Some, None, option_map, option_and_then, unwrap_or, refl, sym, ap, subst, ◌∙◌, inl, inr, IsTrue, IfSome, IsSome, Contains, bytes_eq, nat_eq}
-use Rattle.std.specs.List.{AllByRecursion, list_any}
+use Rattle.std.proofs.Common.{◌≡◌, ℕ, Bool, true, false, cond, ◌&&◌, List, [], ◌∷◌, map, length, Option, Some, None, option_map, option_and_then, unwrap_or, refl, sym, ap, subst, ◌∙◌, inl, inr, IsTrue, IfSome, IsSome, Contains, nat_eq}
 use Rattle.std.proofs.lemmas.Bool.{or_left, or_right, eq-eqb}
 use Rattle.std.proofs.lemmas.List.{length-map}
 use Rattle.std.proofs.lemmas.Slice.Eq.{bytes_eq-Decides}
@@ -15,7 +14,7 @@ use Rattle.metadata.specs.File.{Name, File}
 use Rattle.delegations.specs.Delegation.{Edge}
 use Rattle.delegations.specs.Rows.{Place, Rows, row_at, same_place, named_row}
 use Rattle.delegations.specs.Search.{Shelf, doc}
-use Rattle.delegations.specs.Verdicts.{Table, known_at, AreTrue, AreOfRows, IsEdge, IsWanted, known_of, IsComplete}
+use Rattle.delegations.specs.Verdicts.{Table, known_at, AreTrue, AreOfRows, IsEdge, known_of, IsComplete}
 use Rattle.delegations.proofs.Flat.{AreFlat, flat_named}
 use Rattle.delegations.proofs.Places.{place_one}
 

@@ -9,3 +9,9 @@ pub mod Places
 pub mod PutIn
 pub mod Rising
 pub mod Visits
+pub mod Firsts
+pub mod Cuts
+pub mod Look
+pub mod Paths
+pub mod SearchByWalk
+pub mod Onward

@@ -3,4 +3,5 @@ pub mod Rows
 pub mod Search
 pub mod Verdicts
 pub mod Views
+pub mod Worked
 pub mod steps

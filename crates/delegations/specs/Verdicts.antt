@@ -1,5 +1,5 @@
 -- What is known of the signatures on the shelf, and what a search would have to check of them.
-use Rattle.std.specs.Prelude.{◌≡◌, ℕ, ◌+◌, ◌≤◌, List, [], ◌∷◌, ◌++◌, length, Option, Some, None, option_map, unwrap_or, Ok, Contains, IsSome, IsSomeAnd, IsTrue}
+use Rattle.std.specs.Prelude.{◌≡◌, ℕ, ◌+◌, ◌≤◌, List, [], ◌∷◌, ◌++◌, length, Some, None, option_map, unwrap_or, Ok, Contains, IsSome, IsTrue}
 use Rattle.std.specs.List.{AllByRecursion}
 use Rattle.keys_roles.specs.Plain.{look_up}
 use Rattle.keys_roles.specs.Verdicts.{Pair, Verdict, AreVerdicts, is_known, pairs, unknown}

@@ -1,2 +1,4 @@
 -- Definitions that contracts of private functions cite.
+pub mod Course
 pub mod Places
+pub mod Remains

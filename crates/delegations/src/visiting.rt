@@ -1,20 +1,20 @@
-//! The visit of a role, the search for a target, and which new documents are vouched for (TUF 1.0, section 5.6.7).
-ghost use Rattle.std.specs.Prelude.{◌≡◌, ◌↔◌, ◌+◌, ◌-◌, ◌<◌, ◌≤◌, ◌^◌, ℕ, length, IsTrue};
+//! The visit of a role, and which new documents are vouched for (TUF 1.0, section 5.6.7).
+ghost use Rattle.std.specs.Prelude.{◌↔◌, ◌+◌, ◌<◌, ◌≤◌, ◌^◌, IsTrue};
 ghost use Rattle.keys_roles.specs.Rules.{Meets};
 ghost use Rattle.keys_roles.specs.Verdicts.{AreVerdicts, pairs, unknown};
 ghost use Rattle.keys_roles.specs.Views.{verdict_views};
 ghost use Rattle.metadata.specs.FileViews.{targets_file};
 ghost use Rattle.metadata.specs.Views.{meta_view};
-ghost use Rattle.delegations.specs.Search.{visit, search, Vouched};
-ghost use Rattle.delegations.specs.Rows.{AllFiles, HasLength, HasHash};
-ghost use Rattle.delegations.specs.Verdicts.{AreTrue, Costs, lacking};
-ghost use Rattle.delegations.specs.Views.{shelf_view, edge_view, found_view, answer_view, table_view};
+ghost use Rattle.delegations.specs.Search.{visit, Vouched};
+ghost use Rattle.delegations.specs.Rows.{HasLength, HasHash};
+ghost use Rattle.delegations.specs.Verdicts.{AreTrue, lacking};
+ghost use Rattle.delegations.specs.Views.{shelf_view, edge_view, answer_view, table_view};
 
-use crate::shelf::{Edge, Found, SearchDenial, Shelf};
-use crate::verdicts::{RowVerdicts, Verdicts, of_row};
+use crate::shelf::{Edge, SearchDenial, Shelf};
+use crate::verdicts::{RowVerdicts, of_row};
 use keys_roles::{Steps, Verdict, meets_with_counted};
 use metadata::{File, Meta, Moment, Source, Targets, live};
-use path_patterns::{RoleName, TargetPath};
+use path_patterns::RoleName;
 
 /// Whether the file has the length that is said of it, where one is (TUF 1.0, section 4.4, LENGTH). It takes no memory.
 pub fn has_length(meta: &Meta, source: &Source) -> bool
@@ -37,84 +37,6 @@ pub fn has_hash(meta: &Meta, source: &Source) -> bool
     }
 }
 
-/// The target at the path: the role that lists it first, in the order in which the delegations are visited, with its listing,
-/// or the first check that fails. It takes no memory.
-pub fn search<'a>(
-    shelf: &Shelf<'a>,
-    path: &TargetPath,
-    now: Moment,
-) -> Result<Found<'a>, SearchDenial<'a>>
-    ensures { search (shelf_view shelf.now) path.now now (answer_view found_view result) }
-{
-    search_over(shelf, &[], path, now, &mut Steps::new())
-}
-
-/// The same where something is known of the signatures on the shelf, and how many of them were checked: at most 512, and at most
-/// as many as there are pairs that the search meets and of which nothing is known. A pair is met where the search visits a role's
-/// document: it is a signature of the document, and the key that its id names in the rule of the edge. It takes no memory.
-pub fn search_with<'a>(
-    shelf: &Shelf<'a>,
-    verdicts: &Verdicts,
-    path: &TargetPath,
-    now: Moment,
-) -> (Result<Found<'a>, SearchDenial<'a>>, u32)
-    requires sound { AreTrue (shelf_view shelf.now).rows verdicts.now }
-    requires few { AllFiles (λ f. length f.entries ≤ 16) (shelf_view shelf.now).rows }
-    ensures answer { search (shelf_view shelf.now) path.now now (answer_view found_view result.0) }
-    ensures most { result.1 ≤ 512 }
-    ensures costs { Costs (shelf_view shelf.now) verdicts.now path.now now result.1 }
-{
-    let mut checks = Steps::new();
-    let answer = search_over(shelf, verdicts.rows(), path, now, &mut checks);
-    (answer, checks.count() as u32)
-}
-
-/// The same, with one tick for each signature that is checked.
-pub fn search_with_counted<'a>(
-    shelf: &Shelf<'a>,
-    verdicts: &Verdicts,
-    path: &TargetPath,
-    now: Moment,
-    checks: &mut Steps,
-) -> Result<Found<'a>, SearchDenial<'a>>
-    requires sound { AreTrue (shelf_view shelf.now).rows verdicts.now }
-    requires room { checks.old < 2 ^ 63 }
-    ensures answer { search (shelf_view shelf.now) path.now now (answer_view found_view result) }
-    ensures grows { checks.old ≤ checks.new }
-    ensures costs { Costs (shelf_view shelf.now) verdicts.now path.now now (checks.new - checks.old) }
-{
-    search_over(shelf, verdicts.rows(), path, now, checks)
-}
-
-// The search, with what is known of some rows, and one tick for each signature that is checked.
-fn search_over<'a>(
-    shelf: &Shelf<'a>,
-    known: &[RowVerdicts],
-    path: &TargetPath,
-    now: Moment,
-    checks: &mut Steps,
-) -> Result<Found<'a>, SearchDenial<'a>>
-    requires sound { AreTrue (shelf_view shelf.now).rows (table_view known.now) }
-    requires room { checks.old < 2 ^ 63 }
-    ensures answer { search (shelf_view shelf.now) path.now now (answer_view found_view result) }
-    ensures grows { checks.old ≤ checks.new }
-    ensures most { (n : ℕ) → AllFiles (λ f. length f.entries ≤ n) (shelf_view shelf.now).rows → checks.new ≤ checks.old + n }
-    ensures costs { Costs (shelf_view shelf.now) (table_view known.now) path.now now (checks.new - checks.old) }
-{
-    let top = shelf.top();
-    let file = match visit(shelf, &top, known, now, checks) {
-        Ok(file) => file,
-        Err(denial) => return Err(denial),
-    };
-    match file.body.listing(path.as_str()) {
-        Some(listing) => Ok(Found {
-            role: top.role,
-            listing,
-        }),
-        None => Err(SearchDenial::NotFound),
-    }
-}
-
 /// Whether some chain of delegations vouches for a new document of the role: each document on the chain before it is good,
 /// and the new document meets the rule by which the chain leads to its role. It takes no memory.
 pub fn vouched(shelf: &Shelf, role: &RoleName, document: &File<Targets>, now: Moment) -> bool
@@ -126,8 +48,8 @@ pub fn vouched(shelf: &Shelf, role: &RoleName, document: &File<Targets>, now: Mo
 }
 
 // The document of the role at the end of the edge, or the first check of it that fails, with one tick for each signature
-// check: at most as many as a document on the shelf has signatures.
-fn visit<'a>(
+// check, at most 16.
+pub(crate) fn visit<'a>(
     shelf: &Shelf<'a>,
     edge: &Edge<'a>,
     known: &[RowVerdicts],
@@ -137,7 +59,7 @@ fn visit<'a>(
     requires sound { AreTrue (shelf_view shelf.now).rows (table_view known.now) }
     requires room { checks.old < 2 ^ 63 }
     ensures grows { checks.old ≤ checks.new }
-    ensures most { (n : ℕ) → AllFiles (λ f. length f.entries ≤ n) (shelf_view shelf.now).rows → checks.new ≤ checks.old + n }
+    ensures most { checks.new ≤ checks.old + 16 }
     ensures lacking { checks.new ≤ checks.old + lacking (shelf_view shelf.now) (table_view known.now) (edge_view edge.now) }
     ensures answer { visit (shelf_view shelf.now) (edge_view edge.now) now (answer_view (λ f. targets_file f.now) result) }
 {
@@ -173,7 +95,7 @@ fn meets_edge(edge: &Edge, file: &File<Targets>, known: &[Verdict], checks: &mut
     requires room { checks.old < 2 ^ 63 }
     ensures met { IsTrue result ↔ (Meets (edge_view edge.now).rule (edge_view edge.now).table (targets_file file.now).signed (targets_file file.now).entries) }
     ensures grows { checks.old ≤ checks.new }
-    ensures most { checks.new ≤ checks.old + length (targets_file file.now).entries }
+    ensures most { checks.new ≤ checks.old + 16 }
     ensures unknown { checks.new ≤ checks.old + unknown (verdict_views known.now) (pairs (edge_view edge.now).rule (edge_view edge.now).table (targets_file file.now).entries) }
 {
     meets_with_counted(

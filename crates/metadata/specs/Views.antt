@@ -50,7 +50,7 @@ abbrev pub listing_view : Listing → plain.Listing
 listing_view l = record { path = l.path; len = l.length; digest = l.digest.0; layout = None }
 
 abbrev pub targets_view : Targets → plain.Targets
-targets_view t = record { version = t.version; expires = t.expires; targets = map listing_view t.targets.items; delegations = None }
+targets_view t = record { version = t.version; expires = t.expires; targets = map listing_view t.targets.items; delegations = option_map delegations_view t.delegations }
 
 abbrev pub body_view : Body → plain.Body
 body_view (bodies.Root r) = plain.root (root_view r)

@@ -4,6 +4,7 @@
 //! Members of the signed part that no rule names are allowed, and signed over.
 #![tactic(auto)]
 
+mod covering;
 mod dates;
 mod delegations;
 mod document;

@@ -38,6 +38,7 @@ pub(crate) fn read_targets(alloc: Global, signed: &Value) -> Result<Targets, Sha
         version,
         expires,
         targets,
+        delegations: None,
     })
 }
 

@@ -1,9 +1,7 @@
-use Rattle.std.proofs.Common.{◌≤◌, length, arith}
 use Rattle.metadata.specs.FileViews.{targets_file}
 use Rattle.metadata.specs.Views.{meta_view}
-use Rattle.delegations.proofs.Files.{all_found}
 use Rattle.delegations.proofs.Visits.{unlisted, missing, other_length, other_hash, unmet, expired, good, refuted}
-use Rattle.delegations.specs.Views.{rows_view, shelf_view, edge_view}
+use Rattle.delegations.specs.Views.{shelf_view, edge_view}
 use Rattle.delegations.proofs.visiting.visit.Goals as goal
 
 pub returns-in_default-clause-answer : goal.returns-in_default-clause-answer
@@ -41,21 +39,3 @@ returns-else-live-clause-answer c =
     expired (shelf_view c.args.shelf.now) (edge_view c.args.edge.now) c.args.now (meta_view c.in-Some.entry.now) c.in-Some.ensures
     (targets_file c.in-Some-row_at.file.now) c.in-Some-row_at.ensures (c.has_length.ensures.0 c.if-not-has_length.false)
     (c.has_hash.ensures.0 c.if-not-has_hash.false) (c.meets_edge.ensures.met.0 c.if-not-meets_edge.false) (refuted c.live.result c.live.ensures c.if-live.false)
-
-pub returns-then-not-meets_edge-clause-most : goal.returns-then-not-meets_edge-clause-most
-returns-then-not-meets_edge-clause-most c = λ n all.
-    let few : length c.in-Some-row_at.file.now.source.entries ≤ n =
-    all_found (λ f. length f.entries ≤ n) (rows_view c.args.shelf.now.rows) (c.args.edge.now.role.now, c.in-Some.entry.now.version) (targets_file c.in-Some-row_at.file.now) all c.in-Some-row_at.ensures in
-    omega (arith, c.meets_edge.ensures.most, few)
-
-pub returns-then-live-clause-most : goal.returns-then-live-clause-most
-returns-then-live-clause-most c = λ n all.
-    let few : length c.in-Some-row_at.file.now.source.entries ≤ n =
-    all_found (λ f. length f.entries ≤ n) (rows_view c.args.shelf.now.rows) (c.args.edge.now.role.now, c.in-Some.entry.now.version) (targets_file c.in-Some-row_at.file.now) all c.in-Some-row_at.ensures in
-    omega (arith, c.meets_edge.ensures.most, few)
-
-pub returns-else-live-clause-most : goal.returns-else-live-clause-most
-returns-else-live-clause-most c = λ n all.
-    let few : length c.in-Some-row_at.file.now.source.entries ≤ n =
-    all_found (λ f. length f.entries ≤ n) (rows_view c.args.shelf.now.rows) (c.args.edge.now.role.now, c.in-Some.entry.now.version) (targets_file c.in-Some-row_at.file.now) all c.in-Some-row_at.ensures in
-    omega (arith, c.meets_edge.ensures.most, few)

@@ -1,12 +1,12 @@
-use Rattle.std.proofs.Common.{sym, subst}
+use Rattle.std.proofs.Common.{Option, ◌++◌, flat_map, sym, subst}
 use Rattle.std.proofs.lemmas.Result.{err_from_is_err_and}
 use Rattle.std.specs.List.{AllByRecursion}
 use Rattle.canonical_json.specs.View.{view}
 use Rattle.keys_roles.specs.Views.{entries_view}
-use Rattle.metadata.specs.Documents.{targets}
+use Rattle.metadata.specs.Documents.{Delegations, targets}
 use Rattle.metadata.specs.steps.Faults.{IsFaulty}
 use Rattle.metadata.specs.Parts.{NamesAreIds}
-use Rattle.metadata.specs.Shape.{tables, IsBody}
+use Rattle.metadata.specs.Shape.{delegation_tables, reference_tables, tables, IsBody}
 use Rattle.metadata.specs.Views.{targets_view}
 use Rattle.metadata.specs.declared.documents.Kind.{Kind}
 use Rattle.metadata.specs.declared.documents.ShapeFault.TheVariants.{WrongShape}
@@ -28,5 +28,6 @@ returns-in-None-clause-err c =
 pub returns-in_ok-read_targets-in-Targets-clause-ok : goal.returns-in_ok-read_targets-in-Targets-clause-ok
 returns-in_ok-read_targets-in-Targets-clause-ok c = (
   subst (λ (k : Kind). IsBody k (entries_view c.args.envelope.now.signatures.items) (view c.args.envelope.now.part.now) (targets (targets_view c.in_ok-read_targets-in-Targets.field-0))) (sym c.in-Targets.is) c.in_ok-read_targets-in-Targets.ensures.ok,
-  no_tables c.in_ok-read_targets-in-Targets.field-0.targets.items,
+  subst (λ (o : Option Delegations). AllByRecursion NamesAreIds (delegation_tables o ++ flat_map (λ l. reference_tables l.layout) (targets_view c.in_ok-read_targets-in-Targets.field-0).targets))
+      (sym c.in_ok-read_targets-in-Targets.ensures.ok.delegations) (no_tables c.in_ok-read_targets-in-Targets.field-0.targets.items),
 )

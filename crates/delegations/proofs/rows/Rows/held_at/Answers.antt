@@ -1,6 +1,4 @@
 use Rattle.std.proofs.Common.{◌≡◌, Some, None, sym, ap, ◌∙◌, option_map, IfSome}
-use Rattle.metadata.specs.Documents.{Targets}
-use Rattle.metadata.specs.File as files
 use Rattle.metadata.specs.FileViews.{targets_file}
 use Rattle.delegations.specs.Rows.{row_at}
 use Rattle.delegations.proofs.Places.{at_first, from_same}
