@@ -1,8 +1,8 @@
 //! Opening a store: the rows that stand in the tables become a state.
-ghost use Rattle.std.specs.Prelude.{◌≡◌, ◌<◌, ℕ, false, Err, IfErr, IfOk, IsSomeAnd, IsTrue};
+ghost use Rattle.std.specs.Prelude.{◌≡◌, ◌<◌, ℕ, false, Err, IfErr, IfOk, OnOk, IsSomeAnd, IsTrue};
 ghost use Rattle.sqlite.specs.Held.{state};
-ghost use Rattle.sqlite.specs.State.{HasCleanDisk, Opens, Survives};
-ghost use Rattle.tables.specs.Opening.{AreNumbered, StandsEmpty};
+ghost use Rattle.sqlite.specs.State.{HasCleanDisk, IsLive, Survives};
+ghost use Rattle.tables.specs.Opening.{IsSettled, StandsEmpty};
 ghost use Rattle.tables.specs.Schema.{IsBeginning, beginning};
 ghost use Rattle.tables.specs.Tables.{HoldsTables, IsStore, Stands};
 ghost use Rattle.contents.specs.Contents.{no_rows};
@@ -26,12 +26,13 @@ pub struct Unopened<S: Alter> {
 
 impl<S: Alter + Drop> Store<S> {
     /// Opens a store over a connection: the state is read from its tables, where one that is absent counts as empty. Where all
-    /// are empty, those that are absent are made, in one transaction. What was not committed over the connection is undone, and
-    /// its clock and step limit are lost.
+    /// are empty, those that are absent are made, in one transaction. What was not committed over the connection is undone; where
+    /// there was such a thing, its clock and step limit are lost.
     ///
     /// - `Damaged`: the tables are those of a store, or the first of them, and their rows are those of no state.
     /// - `Database`: a call of the database answered a fault, or its tables are other than the first of the five of a store, or
-    ///   all, in the order in which they are made.
+    ///   all, in the order in which they are made, or the rowids that it answered are not integers that come once, which by its
+    ///   own laws they are.
     /// - `OutOfMemory`: memory was refused.
     pub fn open(alloc: Global, conn: Connection<S>) -> Result<Store<S>, StoreFault>
         ensures opened { IfOk result (λ s. HasCleanDisk (state S.Store s.conn) → TreesStand (state S.Store conn).committed.trees (rows_of s.state)) }
@@ -74,10 +75,12 @@ fn read_state<S: Alter>(alloc: Global, conn: &mut Connection<S>) -> Result<State
     ensures schema { IfOk result (λ _. IsBeginning conn.old.schema) }
     ensures made { HasCleanDisk (state S.Store conn.new) → (count : ℕ) → count < 5 → conn.old.schema ≡ beginning count
         → IfOk result (λ s. (rows_of s.state ≡ no_rows) × StandsEmpty (state S.Store conn.old) × IsStore (state S.Store conn.new) (rows_of s.state)) }
-    ensures loaded { HasCleanDisk (state S.Store conn.new) → Opens (state S.Store conn.old) → AreNumbered conn.old.schema (state S.Store conn.old).now.trees
+    ensures live { IsLive (state S.Store conn.old) }
+    ensures was_open { HasCleanDisk (state S.Store conn.new) → OnOk result (IsTrue (state S.Store conn.old).is_open) }
+    ensures loaded { HasCleanDisk (state S.Store conn.new) → IsSettled (state S.Store conn.old)
         → IfOk result (λ s. Stands (state S.Store conn.old).now (rows_of s.state) × IsStore (state S.Store conn.new) (rows_of s.state)) }
-    ensures damaged { HasCleanDisk (state S.Store conn.new) → Opens (state S.Store conn.old) → AreNumbered (state S.Store conn.old).now.schema (state S.Store conn.old).now.trees
-        → result ≡ Err StoreFault.Damaged → IsBeginning conn.old.schema × ((U : trust.State) → IsState U → Stands (state S.Store conn.old).now (rows_of U) → ⊥) }
+    ensures damaged { HasCleanDisk (state S.Store conn.new) → IsSettled (state S.Store conn.old)
+        → result ≡ Err StoreFault.Damaged → IsTrue (state S.Store conn.old).is_open × IsBeginning conn.old.schema × ((U : trust.State) → IsState U → Stands (state S.Store conn.old).now (rows_of U) → ⊥) }
     ensures crash { Survives (state S.Store conn.old) (state S.Store conn.new) (λ trees. IsTrue (state S.Store conn.old).is_open → StandsEmpty (state S.Store conn.old) × HoldsTables trees no_rows) }
 {
     one_document();

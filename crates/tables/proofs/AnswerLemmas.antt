@@ -1,7 +1,7 @@
 -- What a query of one table answers.
-use Rattle.std.proofs.Common.{◌^◌, ◌-◌, nat_le, slice_get, ◌≡◌, inl, inr, ℕ, pos, negsuc, List, [], ◌∷◌, Bool, true, false, if◌then◌else◌, None, unwrap_or, flat_map, refl, sym, ap, subst, ◌∙◌}
+use Rattle.std.proofs.Common.{◌^◌, ◌-◌, nat_le, slice_get, ◌≡◌, inl, inr, ℕ, pos, negsuc, List, [], ◌∷◌, ◌++◌, map, Bool, true, false, if◌then◌else◌, None, unwrap_or, flat_map, refl, sym, ap, subst, subst₂, ◌∙◌}
 use Rattle.std.specs.List.{list_all}
-use Rattle.std.proofs.lemmas.List.Sorted.{Contains-permutation, IsPermutation-sym}
+use Rattle.std.proofs.lemmas.List.Sorted.{Contains-permutation, IsPermutation-map, IsPermutation-sym}
 use Rattle.sqlite.specs.declared.types.Value.TheVariants.{Int}
 use Rattle.sqlite_value.specs.declared.keys.Key.{Key}
 use Rattle.sqlite.specs.Order.{Row}
@@ -10,6 +10,8 @@ use Rattle.sqlite_sql.specs.Query.{Query, inner, end, IsAnswer, Output, output}
 use Rattle.sqlite_sql.specs.Program.{overlay}
 use Rattle.sqlite_trees.specs.Tree.{Trees}
 use Rattle.sqlite_rules.specs.Lists.{Has}
+use Rattle.sqlite_trees.proofs.ListLemmas.{map-map}
+use Rattle.std.specs.List.Sorted.{IsPermutation}
 use Rattle.sqlite_rules.proofs.ListLemmas.{has_left, has_right, has_either, has_contained, contains_had}
 use Rattle.tables.proofs.RowLemmas.{has_map, map_has}
 
@@ -39,6 +41,10 @@ no_tables db t = elim (nat_le (2 ^ 31) t) as (λ b. unwrap_or (if b then slice_g
 module _ (filter : List Term) (params : Row) where
   abbrev found_at : Row → List Env
   found_at r = if passes filter params r then (params ∷ r ∷ []) ∷ [] else []
+
+  all_found : ((r : Row) → passes filter params r ≡ true) → (rows : List Row) → flat_map found_at rows ≡ map (λ r. params ∷ r ∷ []) rows
+  all_found all [] = refl
+  all_found all (r ∷ rows) = ap (λ b. (if b then (params ∷ r ∷ []) ∷ [] else []) ++ flat_map found_at rows) (all r) ∙ ap (λ es. (params ∷ r ∷ []) ∷ es) (all_found all rows)
 
   found_from : (rows : List Row) (env : Env) → Has (flat_map found_at rows) env → (r : Row) × Has rows r × (passes filter params r ≡ true) × (env ≡ params ∷ r ∷ [])
   found_from [] env h = absurd h
@@ -77,6 +83,17 @@ module _ (tree : ℕ) (filter project : List Term) (order : List (Term × Key)) 
       let kept = subst (λ xs. Has xs (output (plain_query tree filter project order) (params ∷ r ∷ []))) (sym a.distinct) out in
       let ordered = has_contained a.ordered _ (Contains-permutation a.kept a.ordered _ a.same (contains_had a.kept _ kept)) in
       subst (λ xs. Has xs (cells_of project params r)) (sym a.shown) (has_map (λ (o : Output). o.1) a.ordered _ ordered)
+
+  -- where each row passes, the answer has them all, as often as they are there
+  pub answer_whole : ((r : Row) → passes filter params r ≡ true) → IsPermutation (map (cells_of project params) (db tree)) rows
+  answer_whole all =
+      let q = plain_query tree filter project order in
+      let env = λ (r : Row). params ∷ r ∷ [] in
+      let envs : a.staged ≡ map env (db tree) = staged ∙ all_found filter params all (db tree) in
+      let kept : a.kept ≡ map (output q) (map env (db tree)) = a.distinct ∙ ap (map (output q)) envs in
+      let cells : map (λ (o : Output). o.1) a.kept ≡ map (cells_of project params) (db tree) =
+      ap (map (λ (o : Output). o.1)) kept ∙ map-map (λ (o : Output). o.1) (output q) (map env (db tree)) ∙ map-map (λ e. (output q e).1) env (db tree) in
+      subst₂ (λ xs ys. IsPermutation xs ys) cells (sym a.shown) (IsPermutation-map (λ (o : Output). o.1) a.kept a.ordered a.same)
 
   -- each output is that of a row
   pub outputs_from : (o : Output) → Has a.ordered o → (r : Row) × (o ≡ output (plain_query tree filter project order) (params ∷ r ∷ []))

@@ -1,5 +1,5 @@
 -- Items that are gathered from rows, for every table.
-use Rattle.std.proofs.Common.{◌≡◌, ◌≢◌, ◌⊎◌, inl, inr, List, [], ◌∷◌, ◌++◌, map, Bool, true, false, refl, sym, ap, subst, ◌∙◌, IsTrue, true≢false, Result, Ok, Err}
+use Rattle.std.proofs.Common.{◌≡◌, ◌≢◌, ◌⊎◌, inl, inr, ℕ, List, [], ◌∷◌, ◌++◌, map, refl, sym, ap, subst, ◌∙◌, Result, Ok, Err}
 use Rattle.std.specs.List.{AllByRecursion}
 use Rattle.std.specs.List.Sorted.{IsStrictlySortedBy}
 use Rattle.std.specs.declared.cmp.Ordering.{Ordering}
@@ -11,16 +11,15 @@ use Rattle.std.proofs.lemmas.Cmp.{tied_itself}
 use Rattle.std.proofs.lemmas.List.{map-append, append_assoc}
 use Rattle.sqlite.specs.Order.{Row}
 use Rattle.sqlite_value.specs.declared.keys.Key.{Key}
-use Rattle.sqlite_trees.specs.Tree.{IsTable, rowid}
-use Rattle.sqlite_trees.specs.View.{is_int}
 use Rattle.sqlite_rules.specs.Lists.{Has}
 use Rattle.sqlite_rules.proofs.ListLemmas.{has_left, has_right, has_either}
+use Rattle.tables.specs.declared.cells.Place.{Place}
 use Rattle.tables.specs.declared.cells.Place.TheVariants.{Behind, Same, Neither}
 use Rattle.tables.specs.Rows.{AreRows}
 use Rattle.tables.specs.Tables.{AreKeyed}
-use Rattle.tables.specs.steps.Loading.{AreLoaded, AreRead, AreGathered, AreOrdered, AreSpoiled, IsPlace, place_of}
+use Rattle.tables.specs.steps.Loading.{AreLoaded, AreRead, AreGathered, AreOrdered, AreSpoiled, IsPlace, IsPlacedBy}
 use Rattle.tables.proofs.RowLemmas.{has_map, map_has}
-use Rattle.tables.proofs.NumberLemmas.{once, integers}
+use Rattle.tables.proofs.NumberLemmas.{IsNumbered}
 
 -- the fault that a `?` hands on
 pub handed_on : {A E : Type 0} {x y : E} (r : Result A E) → IsErrAnd r (λ e. e ≡ x) → r ≡ Err y → x ≡ y
@@ -66,16 +65,21 @@ module _ {K : Type 0} (cmp : K → K → Ordering) (order : IsTotalOrder cmp) (e
       go Equal p is one two = refl
       go Greater p is one two = absurd (two is)
 
-module _ {K V : Type 0} (cmp : K → K → Ordering) (order : IsTotalOrder cmp) (exact : (a b : K) → cmp a b ≡ Equal → a ≡ b) where
-  pub is_place : (items init : List (K × V)) (y x : K × V) (o : Ordering) (same : Bool) → items ≡ init ++ y ∷ [] → o ≡ cmp y.0 x.0 → (same ≡ true → y.1 ≡ x.1) → (y.1 ≡ x.1 → same ≡ true) → IsPlace cmp items x (place_of o same)
-  is_place items init y x Less same split is there back = λ i z other. let e : y ≡ z = last_same init i y z (sym split ∙ other) in ap (λ (w : K × V). cmp w.0 x.0) (sym e) ∙ sym is
-  is_place items init y x Equal true split is there back = (init, split ∙ ap (λ w. init ++ w ∷ []) (pairs y x (exact y.0 x.0 (sym is)) (there refl)))
-    where
-      pairs : (p q : K × V) → p.0 ≡ q.0 → p.1 ≡ q.1 → p ≡ q
-      pairs p q a b = λ i. (a i, b i)
-  is_place items init y x Equal false split is there back = (init, y, split, λ less. absurd (let e = sym less ∙ sym is in cc), λ e. true≢false (sym (back (ap (λ (w : K × V). w.1) (sym e)))))
-  is_place items init y x Greater same split is there back = (init, y, split, λ less. absurd (let e = sym less ∙ sym is in cc), λ e. absurd (let f : cmp y.0 x.0 ≡ Equal = ap (λ (w : K × V). cmp y.0 w.0) e ∙ tied_itself order y.0 in let g = is ∙ f in cc))
+module _ {K : Type 0} (cmp : K → K → Ordering) (order : IsTotalOrder cmp) (exact : (a b : K) → cmp a b ≡ Equal → a ≡ b) where
+  pub is_place : (items init : List (K × List ℕ)) (y x : K × List ℕ) (o : Ordering) (p : Place) → items ≡ init ++ y ∷ [] → o ≡ cmp y.0 x.0 → IsPlacedBy o y.1 x.1 p → IsPlace cmp items x p
+  is_place items init y x Less p split is placed =
+      subst (IsPlace cmp items x) (sym placed) (λ i z other. let e : y ≡ z = last_same init i y z (sym split ∙ other) in ap (λ (w : K × List ℕ). cmp w.0 x.0) (sym e) ∙ sym is)
+  is_place items init y x Equal p split is (inl same) =
+      let key = exact y.0 x.0 (sym is) in
+      let both : y ≡ x = λ i. (key i, same.0 i) in
+      subst (IsPlace cmp items x) (sym same.1) (init, split ∙ ap (λ w. init ++ w ∷ []) both)
+  is_place items init y x Equal p split is (inr other) =
+      subst (IsPlace cmp items x) (sym other.1) (init, y, split, λ less. absurd (let e = sym less ∙ sym is in cc), λ e. other.0 (ap (λ (w : K × List ℕ). w.1) (sym e)))
+  is_place items init y x Greater p split is placed =
+      subst (IsPlace cmp items x) (sym placed)
+      (init, y, split, λ less. absurd (let e = sym less ∙ sym is in cc), λ e. absurd (let f : cmp y.0 x.0 ≡ Equal = ap (λ (w : K × List ℕ). cmp y.0 w.0) e ∙ tied_itself order y.0 in let g = is ∙ f in cc))
 
+module _ {K V : Type 0} (cmp : K → K → Ordering) (order : IsTotalOrder cmp) (exact : (a b : K) → cmp a b ≡ Equal → a ≡ b) where
   module _ (Reads : Row → K × V → Type 0) (Fits : K × V → Type 0) where
     pub gathers_none : AreGathered cmp Reads Fits [] []
     unfolding IsStrictlySortedBy
@@ -175,12 +179,11 @@ module _ {K V : Type 0} (cmp : K → K → Ordering) (order : IsTotalOrder cmp) 
 
 -- ---- the items are what the table holds
 
-module _ {K V : Type 0} (Reads : Row → K × V → Type 0) (Fits : K × V → Type 0) (row_of : K × V → Row) (shown : Row → Row) (keys : List Key) (stored rows : List Row) (loaded : AreLoaded shown keys stored rows) where
-  pub read_all : ((s : Row) (x : K × V) → Reads (shown s) x → shown s ≡ row_of x) → (items : List (K × V)) → AreRead Reads Fits rows items → IsTable stored → AllByRecursion (λ r. IsTrue (is_int (rowid r))) stored
-      → AreRows shown stored (map row_of items)
-  read_all are items read up ints = record {
-    keyed = once stored up;
-    numbered = integers stored ints;
+module _ {K V : Type 0} (Reads : Row → K × V → Type 0) (Fits : K × V → Type 0) (row_of : K × V → Row) (shown cells : Row → Row) (keys : List Key) (stored rows : List Row) (loaded : AreLoaded shown keys stored rows) where
+  pub read_all : ((s : Row) (x : K × V) → Reads (shown s) x → cells s ≡ row_of x) → (items : List (K × V)) → AreRead Reads Fits rows items → IsNumbered stored → AreRows cells stored (map row_of items)
+  read_all are items read ids = record {
+    keyed = ids.keyed;
+    numbered = ids.numbered;
     sound = λ s h.
         let it = read.each (shown s) (loaded.each s h) in
         subst (Has (map row_of items)) (sym (are s it.0 it.2)) (has_map row_of items it.0 it.1);
@@ -191,15 +194,15 @@ module _ {K V : Type 0} (Reads : Row → K × V → Type 0) (Fits : K × V → T
         (s.0, s.1, are s.0 m.0 (subst (λ q. Reads q m.0) s.2 r.2) ∙ sym m.2);
   }
 
-  pub no_items : ((x : K × V) → Reads (row_of x) x) → ((r : Row) (x y : K × V) → Fits x → Fits y → Reads r x → Reads r y → x ≡ y) → AreSpoiled Reads Fits rows
-      → (xs : List (K × V)) → ((x : K × V) → Has xs x → Fits x) → AreKeyed xs → AreRows shown stored (map row_of xs) → ⊥
+  pub no_items : ((s : Row) (x : K × V) → cells s ≡ row_of x → Reads (shown s) x) → ((r : Row) (x y : K × V) → Fits x → Fits y → Reads r x → Reads r y → x ≡ y) → AreSpoiled Reads Fits rows
+      → (xs : List (K × V)) → ((x : K × V) → Has xs x → Fits x) → AreKeyed xs → AreRows cells stored (map row_of xs) → ⊥
   no_items reads one spoiled xs fit keyed are = go spoiled
     where
       item_of : (r : Row) → Has rows r → (x : K × V) × Has xs x × Reads r x
       item_of r h =
           let s = loaded.from r h in
-          let m = map_has row_of xs (shown s.0) (are.sound s.0 s.1) in
-          (m.0, m.1, subst (λ q. Reads q m.0) (sym (s.2 ∙ m.2)) (reads m.0))
+          let m = map_has row_of xs (cells s.0) (are.sound s.0 s.1) in
+          (m.0, m.1, subst (λ q. Reads q m.0) (sym s.2) (reads s.0 m.0 m.2))
 
       go : AreSpoiled Reads Fits rows → ⊥
       go (inl bad) = let it = item_of bad.0 bad.1 in bad.2 it.0 (fit it.0 it.1) it.2

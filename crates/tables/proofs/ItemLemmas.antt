@@ -1,6 +1,5 @@
 -- What the items of the answers say of the trees.
 use Rattle.std.proofs.Common.{◌≡◌, ◌≢◌, ◌⊎◌, inl, inr, ◌<◌, ◌*◌, ◌^◌, ◌+◌, ◌/◌, ◌%◌, ℕ, ℤ, zero, suc, pos, List, [], ◌∷◌, ◌++◌, map, length, Option, Some, None, true, false, IsTrue, refl, sym, ap, subst, subst₂, ◌∙◌, arith, codes, true≢false, slice_index}
-use Rattle.std.specs.List.{AllByRecursion}
 use Rattle.std.specs.List.Sorted.{IsStrictlySortedBy}
 use Rattle.std.specs.Ordering.{nat_cmp, is_lt, int_cmp, ordering_then, ordering_reverse}
 use Rattle.std.proofs.lemmas.Bool.{lt-ltb}
@@ -17,17 +16,15 @@ use Rattle.sqlite_trees.specs.Tree.{Trees}
 use Rattle.sqlite_rules.specs.Lists.{Has}
 use Rattle.sqlite_rules.proofs.ListLemmas.{all_has, all_from}
 use Rattle.tables.specs.declared.loading.Answers.{Answers}
-use Rattle.tables.specs.Schema.{the_schema}
 use Rattle.tables.specs.Rows.{AreRows, root_cells, current_cells, shelf_cells, blob_cells, version_cells}
-use Rattle.tables.specs.Opening.{AreNumbered}
 use Rattle.contents.specs.Contents.{Contents, no_rows}
 use Rattle.tables.specs.Tables.{HoldsTables, AreBare, StandsFor, IsFit, IsDigest, AreKeyed, AreRising, root_row, slot_row, current_rows, shelf_row, blob_row, version_row, row_cmp}
-use Rattle.tables.specs.steps.Loading.{AreLoaded, AreRead, AreOrdered, AreSpoiled, AreAnswers, AreItems, AreSorted, AreDamaged, root, current, shelf, blob, IsRootRow, FitsRoot, IsSlotRow, FitsSlot, IsShelfRow, FitsShelf, IsBlobRow, FitsBlob, IsOne, rises, current_items, IsUnbegun}
+use Rattle.tables.specs.steps.Loading.{AllComeOnce, AreLoaded, AreRead, AreOrdered, AreSpoiled, AreAnswers, AreItems, with_rowid, AreSorted, AreDamaged, root, current, shelf, blob, IsRootRow, FitsRoot, IsSlotRow, FitsSlot, IsShelfRow, FitsShelf, IsBlobRow, FitsBlob, IsOne, rises, current_items, IsUnbegun}
 use Rattle.std.specs.Cmp.{IsTotalOrder, ranks}
 use Rattle.std.proofs.lemmas.Cmp.{tied_itself, int_cmp_total, nat_cmp_total, nat_list_cmp_total, by_ranked}
 use Rattle.tables.proofs.Slots.{has_timestamp, has_snapshot}
 use Rattle.tables.proofs.Gathering.{read_all, no_items}
-use Rattle.tables.proofs.NumberLemmas.{once, integers}
+use Rattle.tables.proofs.NumberLemmas.{IsNumbered, numbered_by}
 use Rattle.tables.proofs.RowLemmas.{has_map}
 use Rattle.tables.proofs.Orders.{bytes_at, digits_less, row_cmp_total}
 
@@ -36,14 +33,28 @@ use Rattle.tables.proofs.Orders.{bytes_at, digits_less, row_cmp_total}
 root_are : (s : Row) (x : ℕ × List ℕ) → IsRootRow (root_cells s) x → root_cells s ≡ root_row x
 root_are s x is = ap (λ v. v ∷ column s 2 ∷ []) is.0 ∙ ap (λ v. Int (pos x.0) ∷ v ∷ []) is.1
 
-slot_are : (s : Row) (x : List ℕ × (ℕ × List ℕ)) → IsSlotRow (current_cells s) x → current_cells s ≡ slot_row x.0 x.1
+slot_are : (s : Row) (x : List ℕ × (ℕ × List ℕ)) → IsSlotRow (with_rowid current_cells s) x → current_cells s ≡ slot_row x.0 x.1
 slot_are s x is = ap (λ v. v ∷ column s 2 ∷ column s 3 ∷ []) is.0 ∙ ap (λ v. Text x.0 ∷ v ∷ column s 3 ∷ []) is.1 ∙ ap (λ v. Text x.0 ∷ Int (pos x.1.0) ∷ v ∷ []) is.2
 
-shelf_are : (s : Row) (x : (List ℕ × ℕ) × List ℕ) → IsShelfRow (shelf_cells s) x → shelf_cells s ≡ shelf_row x
+shelf_are : (s : Row) (x : (List ℕ × ℕ) × List ℕ) → IsShelfRow (with_rowid shelf_cells s) x → shelf_cells s ≡ shelf_row x
 shelf_are s x is = ap (λ v. v ∷ column s 2 ∷ column s 3 ∷ []) is.0 ∙ ap (λ v. Text x.0.0 ∷ v ∷ column s 3 ∷ []) is.1 ∙ ap (λ v. Text x.0.0 ∷ Int (pos x.0.1) ∷ v ∷ []) is.2
 
-blob_are : (s : Row) (x : List ℕ × List ℕ) → IsBlobRow (blob_cells s) x → blob_cells s ≡ blob_row x
+blob_are : (s : Row) (x : List ℕ × List ℕ) → IsBlobRow (with_rowid blob_cells s) x → blob_cells s ≡ blob_row x
 blob_are s x is = ap (λ v. v ∷ column s 2 ∷ []) is.0 ∙ ap (λ v. Text (encode_lower x.0) ∷ v ∷ []) is.1
+
+-- and it reads as the item whose cells it has
+
+root_reads : (s : Row) (x : ℕ × List ℕ) → root_cells s ≡ root_row x → IsRootRow (root_cells s) x
+root_reads s x e = (ap (λ c. column c 0) e, ap (λ c. column c 1) e)
+
+slot_reads : (s : Row) (x : List ℕ × (ℕ × List ℕ)) → current_cells s ≡ slot_row x.0 x.1 → IsSlotRow (with_rowid current_cells s) x
+slot_reads s x e = (ap (λ c. column c 0) e, ap (λ c. column c 1) e, ap (λ c. column c 2) e)
+
+shelf_reads : (s : Row) (x : (List ℕ × ℕ) × List ℕ) → shelf_cells s ≡ shelf_row x → IsShelfRow (with_rowid shelf_cells s) x
+shelf_reads s x e = (ap (λ c. column c 0) e, ap (λ c. column c 1) e, ap (λ c. column c 2) e)
+
+blob_reads : (s : Row) (x : List ℕ × List ℕ) → blob_cells s ≡ blob_row x → IsBlobRow (with_rowid blob_cells s) x
+blob_reads s x e = (ap (λ c. column c 0) e, ap (λ c. column c 1) e)
 
 int_one : (m n : ℕ) (v : Value) → v ≡ Int (pos m) → v ≡ Int (pos n) → m ≡ n
 int_one m n v a b = let e : Int (pos m) ≡ Int (pos n) = sym a ∙ b in let f : pos m ≡ pos n = cc in cc
@@ -105,14 +116,14 @@ pair_less Less p q e = refl
 pair_less Equal p q e = after_less p q e
 pair_less Greater p q e = absurd (let f = e in cc)
 
-shelf_ordered : (stored rows : List Row) → AreLoaded shelf_cells (rises ∷ rises ∷ []) stored rows → AreOrdered row_cmp IsShelfRow FitsShelf rows
+shelf_ordered : (stored rows : List Row) → AreLoaded (with_rowid shelf_cells) (rises ∷ rises ∷ []) stored rows → AreOrdered row_cmp IsShelfRow FitsShelf rows
 shelf_ordered stored rows l before r s rest x y e rx sy fx fy less =
     let one = text_less (column s 0) (column r 0) y.0.0 x.0.0 sy.0 rx.0 in
     let two = int_less (column s 1) (column r 1) y.0.1 x.0.1 sy.1 rx.1 in
     let all : ordering_then (value_cmp (column s 0) (column r 0)) (value_cmp (column s 1) (column r 1)) ≡ Less = subst₂ (λ o p. ordering_then o p ≡ Less) (sym one) (sym two) less in
     true≢false (sym (pair_less (value_cmp (column s 0) (column r 0)) (value_cmp (column s 1) (column r 1)) Equal all) ∙ l.sorted before r s rest e)
 
-blob_ordered : (stored rows : List Row) → AreLoaded blob_cells (rises ∷ []) stored rows → AreOrdered (slice_cmp nat_cmp) IsBlobRow FitsBlob rows
+blob_ordered : (stored rows : List Row) → AreLoaded (with_rowid blob_cells) (rises ∷ []) stored rows → AreOrdered (slice_cmp nat_cmp) IsBlobRow FitsBlob rows
 blob_ordered stored rows l before r s rest x y e rx sy fx fy less =
     true≢false (sym (after_less _ _ (text_less (column s 0) (column r 0) _ _ sy.0 rx.0 ∙ digits_less y.0 x.0 fy.1 fx.1 less)) ∙ l.sorted before r s rest e)
 
@@ -130,11 +141,10 @@ items_rows (Some x) (Some y) = refl
 one_cells : (s : Row) → IsOne (version_cells s) → version_cells s ≡ version_row
 one_cells s is = ap (λ v. v ∷ []) is
 
-version_rows : (stored rows : List Row) → AreLoaded version_cells [] stored rows → ((r : Row) → Has rows r → IsOne r) → rows ≢ [] → Rattle.sqlite_trees.specs.Tree.IsTable stored
-    → AllByRecursion (λ r. IsTrue (Rattle.sqlite_trees.specs.View.is_int (Rattle.sqlite_trees.specs.Tree.rowid r))) stored → AreRows version_cells stored (version_row ∷ [])
-version_rows stored rows l ones some up ints = record {
-  keyed = once stored up;
-  numbered = integers stored ints;
+version_rows : (stored rows : List Row) → AreLoaded version_cells [] stored rows → ((r : Row) → Has rows r → IsOne r) → rows ≢ [] → IsNumbered stored → AreRows version_cells stored (version_row ∷ [])
+version_rows stored rows l ones some ids = record {
+  keyed = ids.keyed;
+  numbered = ids.numbered;
   sound = λ s h. inl (one_cells s (ones (version_cells s) (l.each s h)));
   complete = λ c h. go rows some l.from ones c h;
 }
@@ -146,13 +156,14 @@ version_rows stored rows l ones some up ints = record {
         (s.0, s.1, one_cells s.0 (subst IsOne s.2 (ones r (inl refl))) ∙ sym is)
     go (r ∷ rs) some from ones c (inr none) = absurd none
 
-pub holds_items : (trees : Trees) (a : Answers) (t : Contents) → AreNumbered the_schema trees → AreAnswers trees a → AreItems a t → ((r : Row) → Has a.versions.items r → IsOne r) → a.versions.items ≢ [] → HoldsTables trees t
+pub holds_items : (trees : Trees) (a : Answers) (t : Contents) → AllComeOnce a → AreAnswers trees a → AreItems a t → ((r : Row) → Has a.versions.items r → IsOne r) → a.versions.items ≢ [] → HoldsTables trees t
 holds_items trees a t n is items ones some = record {
-  root = read_all IsRootRow FitsRoot root_row root_cells _ _ _ is.root root_are t.roots items.root.read n.0.0 n.0.1;
-  current = subst (AreRows current_cells (trees 1)) (items_rows t.timestamp t.snapshot) (read_all IsSlotRow FitsSlot (λ x. slot_row x.0 x.1) current_cells _ _ _ is.current slot_are _ items.current n.1.0.0 n.1.0.1);
-  shelf = read_all IsShelfRow FitsShelf shelf_row shelf_cells _ _ _ is.shelf shelf_are t.shelf items.shelf.read n.1.1.0.0 n.1.1.0.1;
-  blob = read_all IsBlobRow FitsBlob blob_row blob_cells _ _ _ is.blob blob_are t.blobs items.blob.read n.1.1.1.0.0 n.1.1.1.0.1;
-  version = version_rows _ _ is.version ones some n.1.1.1.1.0.0 n.1.1.1.1.0.1;
+  root = read_all IsRootRow FitsRoot root_row root_cells root_cells _ _ _ is.root root_are t.roots items.root.read (numbered_by root_cells 0 (λ r. refl) _ _ is.root.once n.root);
+  current = subst (AreRows current_cells (trees 1)) (items_rows t.timestamp t.snapshot)
+      (read_all IsSlotRow FitsSlot (λ x. slot_row x.0 x.1) (with_rowid current_cells) current_cells _ _ _ is.current slot_are _ items.current (numbered_by (with_rowid current_cells) 3 (λ r. refl) _ _ is.current.once n.current));
+  shelf = read_all IsShelfRow FitsShelf shelf_row (with_rowid shelf_cells) shelf_cells _ _ _ is.shelf shelf_are t.shelf items.shelf.read (numbered_by (with_rowid shelf_cells) 3 (λ r. refl) _ _ is.shelf.once n.shelf);
+  blob = read_all IsBlobRow FitsBlob blob_row (with_rowid blob_cells) blob_cells _ _ _ is.blob blob_are t.blobs items.blob.read (numbered_by (with_rowid blob_cells) 2 (λ r. refl) _ _ is.blob.once n.blob);
+  version = version_rows _ _ is.version ones some (numbered_by version_cells 0 (λ r. refl) _ _ is.version.once n.version);
 }
 
 no_member : {X : Type 0} (xs : List X) → ((x : X) → Has xs x → ⊥) → xs ≡ []
@@ -219,15 +230,15 @@ not_bare keys Reads Fits stored rows l bad none =
     subst (λ xs. Has xs s.0) none s.1
 
 pub damaged_items : (trees : Trees) (a : Answers) → AreAnswers trees a → AreDamaged a → (t : Contents) → IsFit t → StandsFor trees t → ⊥
-damaged_items trees a is (root bad) t fit (inl holds) = no_items IsRootRow FitsRoot root_row root_cells _ _ _ is.root (λ x. (refl, refl)) root_one bad t.roots (λ x h. all_has FitsRoot t.roots x fit.roots h) fit.one_root holds.root
+damaged_items trees a is (root bad) t fit (inl holds) = no_items IsRootRow FitsRoot root_row root_cells root_cells _ _ _ is.root root_reads root_one bad t.roots (λ x h. all_has FitsRoot t.roots x fit.roots h) fit.one_root holds.root
 damaged_items trees a is (root bad) t fit (inr bare) = not_bare _ IsRootRow FitsRoot _ _ is.root bad bare.0.0
 damaged_items trees a is (current bad) t fit (inl holds) =
-    no_items IsSlotRow FitsSlot (λ x. slot_row x.0 x.1) current_cells _ _ _ is.current (λ x. (refl, refl, refl)) slot_one bad (current_items t.timestamp t.snapshot) (current_fits t.timestamp t.snapshot fit.timestamp fit.snapshot) (current_keyed t.timestamp t.snapshot)
+    no_items IsSlotRow FitsSlot (λ x. slot_row x.0 x.1) (with_rowid current_cells) current_cells _ _ _ is.current slot_reads slot_one bad (current_items t.timestamp t.snapshot) (current_fits t.timestamp t.snapshot fit.timestamp fit.snapshot) (current_keyed t.timestamp t.snapshot)
     (subst (AreRows current_cells (trees 1)) (sym (items_rows t.timestamp t.snapshot)) holds.current)
 damaged_items trees a is (current bad) t fit (inr bare) = not_bare _ IsSlotRow FitsSlot _ _ is.current bad bare.0.1.0
-damaged_items trees a is (shelf bad) t fit (inl holds) = no_items IsShelfRow FitsShelf shelf_row shelf_cells _ _ _ is.shelf (λ x. (refl, refl, refl)) shelf_one bad t.shelf (λ x h. all_has FitsShelf t.shelf x fit.shelf h) fit.one_row holds.shelf
+damaged_items trees a is (shelf bad) t fit (inl holds) = no_items IsShelfRow FitsShelf shelf_row (with_rowid shelf_cells) shelf_cells _ _ _ is.shelf shelf_reads shelf_one bad t.shelf (λ x h. all_has FitsShelf t.shelf x fit.shelf h) fit.one_row holds.shelf
 damaged_items trees a is (shelf bad) t fit (inr bare) = not_bare _ IsShelfRow FitsShelf _ _ is.shelf bad bare.0.1.1.0
-damaged_items trees a is (blob bad) t fit (inl holds) = no_items IsBlobRow FitsBlob blob_row blob_cells _ _ _ is.blob (λ x. (refl, refl)) blob_one bad t.blobs (λ x h. all_has FitsBlob t.blobs x fit.blobs h) fit.one_blob holds.blob
+damaged_items trees a is (blob bad) t fit (inl holds) = no_items IsBlobRow FitsBlob blob_row (with_rowid blob_cells) blob_cells _ _ _ is.blob blob_reads blob_one bad t.blobs (λ x h. all_has FitsBlob t.blobs x fit.blobs h) fit.one_blob holds.blob
 damaged_items trees a is (blob bad) t fit (inr bare) = not_bare _ IsBlobRow FitsBlob _ _ is.blob bad bare.0.1.1.1.0
 
 pub damaged_version : (trees : Trees) (a : Answers) → AreAnswers trees a → (r : Row) → Has a.versions.items r → (IsOne r → ⊥) → (t : Contents) → StandsFor trees t → ⊥

@@ -1,47 +1,87 @@
 -- The rowids of a table come once, and are integers.
-use Rattle.std.proofs.Common.{◌≡◌, inl, inr, ℤ, List, [], ◌∷◌, refl, sym, ap, subst, ◌∙◌, IsTrue}
-use Rattle.std.specs.List.{AllByRecursion}
-use Rattle.std.specs.declared.cmp.Ordering.TheVariants.{Less}
-use Rattle.std.proofs.lemmas.Cmp.{tied_itself}
+use Rattle.std.proofs.Common.{◌≡◌, inl, inr, ℕ, ℤ, List, [], ◌∷◌, Bool, true, false, map, refl, sym, ap, subst, ◌∙◌, true≢false}
+use Rattle.std.specs.List.{AllByRecursion, IsDistinct}
+use Rattle.std.specs.List.Sorted.{IsPermutation}
+use Rattle.std.specs.Ordering.{int_cmp, is_eq, is_lt, ordering_reverse}
+use Rattle.std.specs.declared.cmp.Ordering.{Ordering}
+use Rattle.std.specs.declared.cmp.Ordering.TheVariants.{Less, Equal, Greater}
+use Rattle.std.proofs.lemmas.Bool.{and_parts}
+use Rattle.std.proofs.lemmas.Cmp.{tied_itself, int_cmp_total}
+use Rattle.std.proofs.lemmas.List.Sorted.{Contains-permutation, IsPermutation-map, IsPermutation-sym, IsPermutation-trans}
+use Rattle.std.proofs.lemmas.Map.Keys.{IsDistinct-IsPermutation}
 use Rattle.sqlite.specs.declared.types.Value.{Value}
-use Rattle.sqlite.specs.declared.types.Value.TheVariants.{Null, Int, Real, Text, Blob}
-use Rattle.sqlite.specs.Order.{Row, value_cmp}
-use Rattle.sqlite_value.proofs.OrderLemmas.{value_cmp_total}
-use Rattle.sqlite_trees.specs.Tree.{IsTable, rowid}
-use Rattle.sqlite_trees.specs.View.{View, IsOrdered, IsShaped, is_int}
-use Rattle.sqlite_trees.specs.Objects.{catalog_tree, IsListed}
-use Rattle.sqlite_trees.specs.declared.store.Shape.TheVariants as shape
+use Rattle.sqlite.specs.declared.types.Value.TheVariants.{Int}
+use Rattle.sqlite.specs.Order.{Row, column, value_cmp}
+use Rattle.sqlite_value.proofs.OrderLemmas.{value_cmp_total, value_cmp-Int}
+use Rattle.sqlite_trees.specs.Tree.{rowid}
+use Rattle.sqlite_trees.proofs.ListLemmas.{map-map}
 use Rattle.sqlite_rules.specs.Lists.{Has}
-use Rattle.sqlite_rules.proofs.ListLemmas.{all_has, all_from}
-use Rattle.sqlite.specs.Schema.{Schema}
-use Rattle.sqlite.specs.Table.{Table}
-use Rattle.sqlite_catalog.specs.Listing.{IsSound}
-use Rattle.sqlite_catalog.proofs.LayoutLemmas.{laid_out, objects_rise}
-use Rattle.tables.specs.Opening.{AreNumbered}
+use Rattle.sqlite_rules.proofs.ListLemmas.{all_has, contains_had, has_contained}
+use Rattle.tables.specs.steps.Loading.{ComeOnce, comes_first, rise}
+use Rattle.tables.proofs.RowLemmas.{has_map, map_has}
 
--- what the laws of a store say of the tables
-pub numbers : (v : View) (schema : Schema) → IsListed (v.trees catalog_tree) v.shape v.reals → IsOrdered v.shape v.trees → IsSound schema v.trees → AreNumbered schema v.trees
-numbers v schema listed ordered sound =
-    let shapes = (laid_out listed (objects_rise v listed ordered) sound.lists.listed).tables in
-    all_from (λ (t : Table). IsTable (v.trees t.tree) × AllByRecursion (λ r. IsTrue (is_int (rowid r))) (v.trees t.tree)) schema.tables
-    (λ t has. subst (λ s. IsShaped s (v.trees t.tree)) (all_has (λ (t : Table). v.shape t.tree ≡ shape.Table) schema.tables t shapes has) (ordered t.tree))
+-- the rowids of these rows are integers, and come once
+pub record IsNumbered (rows : List Row) : Type 0 where
+  pub keyed : (x y : Row) → Has rows x → Has rows y → rowid x ≡ rowid y → x ≡ y
+  pub numbered : (x : Row) → Has rows x → (n : ℤ) × (rowid x ≡ Int n)
 
-less_itself : (v : Value) → value_cmp v v ≡ Less → ⊥
-less_itself v less = let e = sym less ∙ tied_itself value_cmp_total v in absurd cc
+abbrev is_same : Value → Value → Bool
+is_same v w = is_eq (value_cmp v w)
 
-pub once : (rows : List Row) → IsTable rows → (x y : Row) → Has rows x → Has rows y → rowid x ≡ rowid y → x ≡ y
-once [] up x y in_x in_y same = absurd in_x
-once (r ∷ rows) up x y (inl a) (inl b) same = a ∙ sym b
-once (r ∷ rows) up x y (inl a) (inr b) same = absurd (less_itself (rowid r) (subst (λ v. value_cmp (rowid r) v ≡ Less) (sym same ∙ ap rowid a) (all_has (λ z. value_cmp (rowid r) (rowid z) ≡ Less) rows y up.0 b)))
-once (r ∷ rows) up x y (inr a) (inl b) same = absurd (less_itself (rowid r) (subst (λ v. value_cmp (rowid r) v ≡ Less) (same ∙ ap rowid b) (all_has (λ z. value_cmp (rowid r) (rowid z) ≡ Less) rows x up.0 a)))
-once (r ∷ rows) up x y (inr a) (inr b) same = once rows up.1 x y a b same
+eq_flips : (o : Ordering) → is_eq (ordering_reverse o) ≡ is_eq o
+eq_flips Less = refl
+eq_flips Equal = refl
+eq_flips Greater = refl
 
-the_int : (v : Value) → IsTrue (is_int v) → (n : ℤ) × (v ≡ Int n)
-the_int Null h = absurd (cc)
-the_int (Int n) h = (n, refl)
-the_int (Real x) h = absurd (cc)
-the_int (Text t) h = absurd (cc)
-the_int (Blob b) h = absurd (cc)
+flips : (v w : Value) → is_same v w ≡ is_same w v
+flips v w = ap is_eq (value_cmp_total.antisymm v w) ∙ eq_flips (value_cmp w v)
 
-pub integers : (rows : List Row) → AllByRecursion (λ r. IsTrue (is_int (rowid r))) rows → (x : Row) → Has rows x → (n : ℤ) × (rowid x ≡ Int n)
-integers rows all x has = the_int (rowid x) (all_has (λ r. IsTrue (is_int (rowid r))) rows x all has)
+less_is : (o : Ordering) → is_lt o ≡ true → o ≡ Less
+less_is Less h = refl
+less_is Equal h = absurd (cc)
+less_is Greater h = absurd (cc)
+
+-- what is below the first is below each
+below_each : (id : ℤ) (ids : List ℤ) → comes_first id ids ≡ true → rise ids ≡ true → AllByRecursion (λ n. is_same (Int id) n ≡ false) (map Int ids)
+below_each id [] first up = tt
+below_each id (n ∷ ids) first up =
+    let p = and_parts (comes_first n ids) (rise ids) up in
+    let less : int_cmp id n ≡ Less = less_is _ first in
+    (ap is_eq (value_cmp-Int id n ∙ less), below_each id ids (still n ids p.0 less) p.1)
+  where
+    still : (n : ℤ) (ids : List ℤ) → comes_first n ids ≡ true → int_cmp id n ≡ Less → comes_first id ids ≡ true
+    still n [] first less = refl
+    still n (m ∷ ids) first less = ap is_lt (int_cmp_total.trans id n m less (less_is _ first))
+
+distinct_ints : (ids : List ℤ) → rise ids ≡ true → IsDistinct is_same (map Int ids)
+unfolding IsDistinct
+distinct_ints [] up = tt
+distinct_ints (id ∷ ids) up =
+    let p = and_parts (comes_first id ids) (rise ids) up in
+    (below_each id ids p.0 p.1, distinct_ints ids p.1)
+
+apart : (v : Value) (vs : List Value) → AllByRecursion (λ n. is_same v n ≡ false) vs → Has vs v → ⊥
+apart v vs all has = true≢false (sym (ap is_eq (tied_itself value_cmp_total v)) ∙ all_has (λ n. is_same v n ≡ false) vs v all has)
+
+keyed_by : (rows : List Row) → IsDistinct is_same (map rowid rows) → (x y : Row) → Has rows x → Has rows y → rowid x ≡ rowid y → x ≡ y
+unfolding IsDistinct
+keyed_by [] d x y in_x in_y same = absurd in_x
+keyed_by (r ∷ rows) d x y (inl a) (inl b) same = a ∙ sym b
+keyed_by (r ∷ rows) d x y (inl a) (inr b) same = absurd (apart (rowid r) (map rowid rows) d.0 (subst (Has (map rowid rows)) (sym same ∙ ap rowid a) (has_map rowid rows y b)))
+keyed_by (r ∷ rows) d x y (inr a) (inl b) same = absurd (apart (rowid r) (map rowid rows) d.0 (subst (Has (map rowid rows)) (same ∙ ap rowid b) (has_map rowid rows x a)))
+keyed_by (r ∷ rows) d x y (inr a) (inr b) same = keyed_by rows d.1 x y a b same
+
+-- what the rowids of an answer say of the table
+pub numbered_by : (shown : Row → Row) (at : ℕ) → ((r : Row) → column (shown r) at ≡ rowid r) → (stored rows : List Row) → IsPermutation (map shown stored) rows → ComeOnce at rows → IsNumbered stored
+numbered_by shown at is stored rows same once =
+    let ids = once.0 in
+    let cell = λ (r : Row). column r at in
+    let named : map cell (map shown stored) ≡ map rowid stored = map-map cell shown stored ∙ ap (λ f. map f stored) (λ i r. is r i) in
+    let moved : IsPermutation (map rowid stored) (map Int ids) = IsPermutation-trans _ _ _ (subst (λ vs. IsPermutation vs (map cell rows)) named (IsPermutation-map cell _ _ same)) once.1 in
+    record {
+      keyed = keyed_by stored (IsDistinct-IsPermutation is_same flips (map Int ids) (map rowid stored) (IsPermutation-sym _ _ moved) (distinct_ints ids once.2));
+      numbered = λ x h.
+          let has = has_contained _ _ (Contains-permutation _ _ (rowid x) moved (contains_had _ _ (has_map rowid stored x h))) in
+          let n = map_has Int ids (rowid x) has in
+          (n.0, n.2);
+    }

@@ -2,7 +2,7 @@
 use Rattle.std.proofs.Common.{◌≡◌, inl, inr, [], None, Some, Option, Ok, Err, IsTrue, sym, ap, subst, ◌∙◌}
 use Rattle.sqlite.specs.Order.{Row}
 use Rattle.sqlite.specs.Effect.{Database}
-use Rattle.sqlite.specs.State.{State, IsUnchanged, IsRolledBack, Opens, QueriesRow, FailsToQuery, FailsToShow, IsNotRun, Shown, ShowsRows}
+use Rattle.sqlite.specs.State.{State, IsUnchanged, IsRolledBack, QueriesRow, FailsToQuery, FailsToShow, IsNotRun, Shown, ShowsRows}
 use Rattle.sqlite.specs.Clock.{timed}
 use Rattle.sqlite.specs.Listing.{understood}
 use Rattle.sqlite.specs.declared.error.Error.{Error}
@@ -14,11 +14,11 @@ use Rattle.tables.specs.Tables.{HoldsTables, IsStore}
 use Rattle.tables.proofs.Texts.{select_version, select_version_plain}
 use Rattle.tables.proofs.Selects.{select_version_same}
 
-pub loaded_store : (old new : State) (t : Contents) → IsUnchanged old new → Opens old → old.now.schema ≡ the_schema → HoldsTables old.now.trees t → IsStore new t
-loaded_store old new t same opens schema holds = record {
+pub loaded_store : (old new : State) (t : Contents) → IsUnchanged old new → old.now ≡ old.committed → old.now.schema ≡ the_schema → HoldsTables old.now.trees t → IsStore new t
+loaded_store old new t same settled schema holds = record {
   is_open = same.0.is_open;
   schema = ap (λ (d : Database). d.schema) same.0.now_is ∙ schema;
-  settled = same.0.now_is ∙ opens.clean ∙ sym same.0.committed_is;
+  settled = same.0.now_is ∙ settled ∙ sym same.0.committed_is;
   holds = subst (λ (d : Database). HoldsTables d.trees t) (sym same.0.now_is) holds;
 }
 

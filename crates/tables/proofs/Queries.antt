@@ -1,6 +1,7 @@
 -- What the queries answer, and that they commit nothing.
 use Rattle.std.proofs.Common.{◌≡◌, ◌+◌, ◌<◌, ℕ, suc, zero, List, [], ◌∷◌, ◌++◌, length, map, slice_index_or, true, false, Bool, if◌then◌else◌, None, Ok, Err, refl, sym, ap, subst, subst₂, ◌∙◌, arith, IsSome, true≢false, inl, inr}
 use Rattle.std.specs.Ordering.{is_lt}
+use Rattle.std.specs.List.Sorted.{IsPermutation}
 use Rattle.std.proofs.lemmas.List.{get_or-map, length-map, length-append}
 use Rattle.sqlite_resolve.specs.Lowering.{Checked, and_then}
 use Rattle.sqlite_resolve.specs.Compile.{compiled, planned, meaning, command, returning, first, timed, with_command}
@@ -24,7 +25,7 @@ use Rattle.sqlite.proofs.StateLemmas.{survives_weaker}
 use Rattle.sqlite_rules.specs.Lists.{Has}
 use Rattle.tables.specs.Schema.{the_schema}
 use Rattle.tables.specs.steps.Loading.{AreLoaded}
-use Rattle.tables.proofs.AnswerLemmas.{plain_query, answer_from, answer_has, cells_of, outputs_from}
+use Rattle.tables.proofs.AnswerLemmas.{plain_query, answer_from, answer_has, answer_whole, cells_of, outputs_from}
 
 -- ---- no query commits
 
@@ -92,6 +93,7 @@ module _ (sql : List ℕ) (tree : ℕ) (terms : List Term) (order : List (Term �
       let answer : IsAnswer the_query (overlay old.now.trees []) [] rows = read.answer Null in
       record {
         from = λ x h. let r = answer_from tree [] terms order old.now.trees [] rows answer x h in (r.0, r.1, r.3 ∙ cells r.0);
+        once = subst (λ f. IsPermutation (map f (old.now.trees tree)) rows) (λ i r. cells r i) (answer_whole tree [] terms order old.now.trees [] rows answer (λ r. refl));
         each = λ r h. subst (Has rows) (cells r) (answer_has tree [] terms order old.now.trees [] rows answer r h refl);
         sorted = λ before a b rest e.
             let os = answer.ordered in

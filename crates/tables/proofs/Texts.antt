@@ -138,16 +138,16 @@ unfolding everything
 select_root_unlisted = refl
 
 abbrev pub select_current : List ℕ
-select_current = codes "SELECT slot, version, bytes FROM current"
+select_current = codes "SELECT slot, version, bytes, rowid FROM current"
 
 abbrev pub select_current_order : List (Term × Key)
 select_current_order = []
 
 abbrev pub select_current_terms : List Term
-select_current_terms = col 1 1 ∷ col 1 2 ∷ col 1 3 ∷ []
+select_current_terms = col 1 1 ∷ col 1 2 ∷ col 1 3 ∷ col 1 0 ∷ []
 
 abbrev pub select_current_names : List (List ℕ)
-select_current_names = codes "slot" ∷ codes "version" ∷ codes "bytes" ∷ []
+select_current_names = codes "slot" ∷ codes "version" ∷ codes "bytes" ∷ codes "rowid" ∷ []
 
 pub select_current_is : command_of (understood the_schema select_current) ≡ Select (record { lets = []; body = plain_query 1 [] select_current_terms select_current_order }) select_current_names
 unfolding understood everything
@@ -162,16 +162,16 @@ unfolding everything
 select_current_unlisted = refl
 
 abbrev pub select_shelf : List ℕ
-select_shelf = codes "SELECT role, version, bytes FROM shelf ORDER BY role, version"
+select_shelf = codes "SELECT role, version, bytes, rowid FROM shelf ORDER BY role, version"
 
 abbrev pub select_shelf_order : List (Term × Key)
 select_shelf_order = (col 1 1, rises) ∷ (col 1 2, rises) ∷ []
 
 abbrev pub select_shelf_terms : List Term
-select_shelf_terms = col 1 1 ∷ col 1 2 ∷ col 1 3 ∷ []
+select_shelf_terms = col 1 1 ∷ col 1 2 ∷ col 1 3 ∷ col 1 0 ∷ []
 
 abbrev pub select_shelf_names : List (List ℕ)
-select_shelf_names = codes "role" ∷ codes "version" ∷ codes "bytes" ∷ []
+select_shelf_names = codes "role" ∷ codes "version" ∷ codes "bytes" ∷ codes "rowid" ∷ []
 
 pub select_shelf_is : command_of (understood the_schema select_shelf) ≡ Select (record { lets = []; body = plain_query 3 [] select_shelf_terms select_shelf_order }) select_shelf_names
 unfolding understood everything
@@ -186,16 +186,16 @@ unfolding everything
 select_shelf_unlisted = refl
 
 abbrev pub select_blob : List ℕ
-select_blob = codes "SELECT digest, bytes FROM blob ORDER BY digest"
+select_blob = codes "SELECT digest, bytes, rowid FROM blob ORDER BY digest"
 
 abbrev pub select_blob_order : List (Term × Key)
 select_blob_order = (col 1 1, rises) ∷ []
 
 abbrev pub select_blob_terms : List Term
-select_blob_terms = col 1 1 ∷ col 1 2 ∷ []
+select_blob_terms = col 1 1 ∷ col 1 2 ∷ col 1 0 ∷ []
 
 abbrev pub select_blob_names : List (List ℕ)
-select_blob_names = codes "digest" ∷ codes "bytes" ∷ []
+select_blob_names = codes "digest" ∷ codes "bytes" ∷ codes "rowid" ∷ []
 
 pub select_blob_is : command_of (understood the_schema select_blob) ≡ Select (record { lets = []; body = plain_query 5 [] select_blob_terms select_blob_order }) select_blob_names
 unfolding understood everything

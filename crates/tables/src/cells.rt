@@ -5,7 +5,7 @@ ghost use Rattle.std.specs.Cmp.Lexicographic.{slice_cmp};
 ghost use Rattle.sqlite.specs.Order.{column};
 ghost use Rattle.sqlite.specs.declared.types.Value.TheVariants.{Int, Text, Blob};
 ghost use Rattle.tables.specs.Tables.{IsVersion};
-ghost use Rattle.tables.specs.steps.Loading.{place_of};
+ghost use Rattle.tables.specs.steps.Loading.{IsPlaceOfEqual, IsPlacedBy};
 
 use crate::faults::StoreFault;
 use sqlite::Row;
@@ -78,13 +78,24 @@ pub(crate) fn is_same(a: &[u8], b: &[u8]) -> bool
     a == b
 }
 
-// The place of an item, by how the last key stands to its key, and by whether their values are the same.
-pub(crate) fn place_by(order: Ordering, same: bool) -> Place
-    ensures { result ≡ place_of order same }
+// The place of an item whose key is the last one's.
+fn place_of_equal(last: &[u8], value: &[u8]) -> Place
+    ensures { IsPlaceOfEqual last.now value.now result }
+{
+    if is_same(last, value) {
+        Place::Same
+    } else {
+        Place::Neither
+    }
+}
+
+// The place of an item, by how the last key stands to its key. The values are compared only where the keys are the same.
+pub(crate) fn place_by(order: Ordering, last: &[u8], value: &[u8]) -> Place
+    ensures { IsPlacedBy order last.now value.now result }
 {
     match order {
         Ordering::Less => Place::Behind,
-        Ordering::Equal if same => Place::Same,
-        _ => Place::Neither,
+        Ordering::Equal => place_of_equal(last, value),
+        Ordering::Greater => Place::Neither,
     }
 }

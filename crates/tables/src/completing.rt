@@ -85,6 +85,7 @@ pub(crate) fn complete<S: Alter>(conn: &mut Connection<S>, count: usize) -> Resu
     ensures found { HasCleanDisk (state S.Store conn.new) → (state S.Store conn.old).now.schema ≡ beginning count
         → IfOk result (λ bare. (IsTrue bare → AreBare (counted (beginning count) (state S.Store conn.old).now.trees) × IsStore (state S.Store conn.new) no_rows)
         × (bare ≡ false → AreBare (counted (beginning count) (state S.Store conn.old).now.trees) → ⊥)) }
+    ensures was_open { HasCleanDisk (state S.Store conn.new) → OnOk result (IsTrue (state S.Store conn.old).is_open) }
     ensures kept { HasCleanDisk (state S.Store conn.new) → (state S.Store conn.old).now.schema ≡ beginning count → IfOk result (λ bare. bare ≡ false → KeepsCommit (state S.Store conn.old) (state S.Store conn.new)) }
     ensures crash { Survives (state S.Store conn.old) (state S.Store conn.new) (λ trees. IsTrue (state S.Store conn.old).is_open → (state S.Store conn.old).now.schema ≡ beginning count
         → AreBare (counted (beginning count) (state S.Store conn.old).now.trees) × HoldsTables trees no_rows) }

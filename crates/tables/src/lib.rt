@@ -9,6 +9,7 @@ mod faults;
 mod laws;
 mod loading;
 mod making;
+mod numbering;
 mod opening;
 mod reading;
 mod shape;

@@ -5,7 +5,7 @@ ghost use Rattle.sqlite.specs.Held.{state};
 ghost use Rattle.tables.specs.Schema.{the_schema};
 ghost use Rattle.tables.specs.Rows.{root_cells, current_cells, shelf_cells, blob_cells, version_cells};
 ghost use Rattle.contents.specs.Contents.{contents_view};
-ghost use Rattle.tables.specs.steps.Loading.{AreLoaded, AreAnswers, AreItems, AreSorted, AreDamaged, rises};
+ghost use Rattle.tables.specs.steps.Loading.{AreLoaded, AreAnswers, AreItems, AreSorted, AreDamaged, rises, with_rowid};
 
 use crate::current::current_of;
 use crate::faults::StoreFault;
@@ -14,7 +14,7 @@ use contents::Contents;
 use sqlite::{Alter, Connection, Row};
 use std::alloc::Global;
 
-// The rows of `root`, by version.
+// The rows of `root`, by version, which is the rowid.
 fn root_rows<S: Alter>(conn: &mut Connection<S>) -> Result<Vec<Row>, StoreFault>
     ensures rows { HasCleanDisk (state S.Store conn.new) → (state S.Store conn.old).now.schema ≡ the_schema → IfOk result (λ rows. AreLoaded root_cells (rises ∷ []) ((state S.Store conn.old).now.trees 0) rows.items) }
     ensures unchanged { HasCleanDisk (state S.Store conn.new) → (state S.Store conn.old).now.schema ≡ the_schema → OnOk result (IsUnchanged (state S.Store conn.old) (state S.Store conn.new)) }
@@ -25,43 +25,43 @@ fn root_rows<S: Alter>(conn: &mut Connection<S>) -> Result<Vec<Row>, StoreFault>
     Ok(conn.query_all("SELECT version, bytes FROM root ORDER BY version", &[])?)
 }
 
-// The rows of `current`.
+// The rows of `current`, with their rowids.
 fn current_rows<S: Alter>(conn: &mut Connection<S>) -> Result<Vec<Row>, StoreFault>
-    ensures rows { HasCleanDisk (state S.Store conn.new) → (state S.Store conn.old).now.schema ≡ the_schema → IfOk result (λ rows. AreLoaded current_cells [] ((state S.Store conn.old).now.trees 1) rows.items) }
+    ensures rows { HasCleanDisk (state S.Store conn.new) → (state S.Store conn.old).now.schema ≡ the_schema → IfOk result (λ rows. AreLoaded (with_rowid current_cells) [] ((state S.Store conn.old).now.trees 1) rows.items) }
     ensures unchanged { HasCleanDisk (state S.Store conn.new) → (state S.Store conn.old).now.schema ≡ the_schema → OnOk result (IsUnchanged (state S.Store conn.old) (state S.Store conn.new)) }
     ensures fault { result ≢ Err StoreFault.Damaged }
     ensures mode { conn.old.in_transaction ≡ false → conn.new.in_transaction ≡ false }
     ensures survives { Survives (state S.Store conn.old) (state S.Store conn.new) (λ _. ⊥) }
 {
-    Ok(conn.query_all("SELECT slot, version, bytes FROM current", &[])?)
+    Ok(conn.query_all("SELECT slot, version, bytes, rowid FROM current", &[])?)
 }
 
-// The rows of `shelf`, by role and version.
+// The rows of `shelf`, by role and version, with their rowids.
 fn shelf_rows<S: Alter>(conn: &mut Connection<S>) -> Result<Vec<Row>, StoreFault>
-    ensures rows { HasCleanDisk (state S.Store conn.new) → (state S.Store conn.old).now.schema ≡ the_schema → IfOk result (λ rows. AreLoaded shelf_cells (rises ∷ rises ∷ []) ((state S.Store conn.old).now.trees 3) rows.items) }
+    ensures rows { HasCleanDisk (state S.Store conn.new) → (state S.Store conn.old).now.schema ≡ the_schema → IfOk result (λ rows. AreLoaded (with_rowid shelf_cells) (rises ∷ rises ∷ []) ((state S.Store conn.old).now.trees 3) rows.items) }
     ensures unchanged { HasCleanDisk (state S.Store conn.new) → (state S.Store conn.old).now.schema ≡ the_schema → OnOk result (IsUnchanged (state S.Store conn.old) (state S.Store conn.new)) }
     ensures fault { result ≢ Err StoreFault.Damaged }
     ensures mode { conn.old.in_transaction ≡ false → conn.new.in_transaction ≡ false }
     ensures survives { Survives (state S.Store conn.old) (state S.Store conn.new) (λ _. ⊥) }
 {
     Ok(conn.query_all(
-        "SELECT role, version, bytes FROM shelf ORDER BY role, version",
+        "SELECT role, version, bytes, rowid FROM shelf ORDER BY role, version",
         &[],
     )?)
 }
 
-// The rows of `blob`, by digest.
+// The rows of `blob`, by digest, with their rowids.
 fn blob_rows<S: Alter>(conn: &mut Connection<S>) -> Result<Vec<Row>, StoreFault>
-    ensures rows { HasCleanDisk (state S.Store conn.new) → (state S.Store conn.old).now.schema ≡ the_schema → IfOk result (λ rows. AreLoaded blob_cells (rises ∷ []) ((state S.Store conn.old).now.trees 5) rows.items) }
+    ensures rows { HasCleanDisk (state S.Store conn.new) → (state S.Store conn.old).now.schema ≡ the_schema → IfOk result (λ rows. AreLoaded (with_rowid blob_cells) (rises ∷ []) ((state S.Store conn.old).now.trees 5) rows.items) }
     ensures unchanged { HasCleanDisk (state S.Store conn.new) → (state S.Store conn.old).now.schema ≡ the_schema → OnOk result (IsUnchanged (state S.Store conn.old) (state S.Store conn.new)) }
     ensures fault { result ≢ Err StoreFault.Damaged }
     ensures mode { conn.old.in_transaction ≡ false → conn.new.in_transaction ≡ false }
     ensures survives { Survives (state S.Store conn.old) (state S.Store conn.new) (λ _. ⊥) }
 {
-    Ok(conn.query_all("SELECT digest, bytes FROM blob ORDER BY digest", &[])?)
+    Ok(conn.query_all("SELECT digest, bytes, rowid FROM blob ORDER BY digest", &[])?)
 }
 
-// The rows of `schema`.
+// The rows of `schema`, whose version is the rowid.
 fn version_rows<S: Alter>(conn: &mut Connection<S>) -> Result<Vec<Row>, StoreFault>
     ensures rows { HasCleanDisk (state S.Store conn.new) → (state S.Store conn.old).now.schema ≡ the_schema → IfOk result (λ rows. AreLoaded version_cells [] ((state S.Store conn.old).now.trees 7) rows.items) }
     ensures unchanged { HasCleanDisk (state S.Store conn.new) → (state S.Store conn.old).now.schema ≡ the_schema → OnOk result (IsUnchanged (state S.Store conn.old) (state S.Store conn.new)) }

@@ -1,14 +1,14 @@
-// The making of the tables, and the connection that the tables' rowids are known of.
+// The making of the tables, and a connection between two transactions.
 ghost use Rattle.std.specs.Prelude.{◌≡◌, ◌≢◌, ◌<◌, ◌≤◌, ◌+◌, Err, true, false, [], ◌∷◌, IsTrue, IfOk, OnOk, OnErr};
-ghost use Rattle.sqlite.specs.State.{HasCleanDisk, KeepsCommit, Survives, Opens, IsLive};
-ghost use Rattle.sqlite.specs.Held.{state, IsNew};
+ghost use Rattle.sqlite.specs.State.{HasCleanDisk, KeepsCommit, Survives};
+ghost use Rattle.sqlite.specs.Held.{state};
 ghost use Rattle.sqlite_trees.specs.Tree.{Trees};
 ghost use Rattle.sqlite_catalog.specs.Change.{next_tree};
 ghost use Rattle.tables.specs.Schema.{the_schema, beginning};
 ghost use Rattle.contents.specs.Contents.{no_rows};
 ghost use Rattle.tables.specs.Tables.{IsStore, HoldsTables, AreBare};
 ghost use Rattle.tables.specs.steps.Writing.{IsInside, no_cells};
-ghost use Rattle.tables.specs.Opening.{AreNumbered};
+ghost use Rattle.tables.specs.Opening.{IsSettled};
 ghost use Rattle.tables.specs.steps.Making.{IsMade, Makes, LacksRest};
 
 use crate::faults::StoreFault;
@@ -96,18 +96,20 @@ pub(crate) fn begin<S: Alter>(conn: &mut Connection<S>) -> Result<(), Error>
     tx.commit()
 }
 
-/// The connection over the same store, of which the laws of the store say that the rowids of each table come once: call it
-/// once, before `prepare`. What was not committed is undone, and the connection's clock and step limit are lost.
+/// A connection between two transactions, over the same store: call it once, before `prepare`. Where a transaction was under
+/// way it is undone, and the connection is made anew; its clock and step limit are then lost.
 pub fn renew<S: Alter + Drop>(
     alloc: Global,
     conn: Connection<S>,
 ) -> Result<Connection<S>, StoreFault>
-    ensures opened { IfOk result (λ c. HasCleanDisk (state S.Store c) → Opens (state S.Store c) × IsLive (state S.Store c)) }
-    ensures numbered { IfOk result (λ c. HasCleanDisk (state S.Store c) → AreNumbered (state S.Store c).now.schema (state S.Store c).now.trees) }
-    ensures same { IfOk result (λ c. HasCleanDisk (state S.Store c) → (state S.Store c).now.trees ≡ (state S.Store conn).committed.trees) }
-    ensures fresh { IfOk result IsNew }
+    ensures settled { IfOk result (λ c. HasCleanDisk (state S.Store c) → IsSettled (state S.Store c)) }
+    ensures same { IfOk result (λ c. HasCleanDisk (state S.Store c) → IsTrue (state S.Store c).is_open → (state S.Store c).now.trees ≡ (state S.Store conn).committed.trees) }
+    ensures autocommit { IfOk result (λ c. c.in_transaction ≡ false) }
     ensures fault { result ≢ Err StoreFault.Damaged }
 {
+    if conn.is_autocommit() {
+        return Ok(conn);
+    }
     let mut store = conn.into_store();
     store.commit()?;
     match Connection::over(alloc, store) {

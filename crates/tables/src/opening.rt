@@ -1,12 +1,12 @@
 // Opening: the tables are made, or what they hold is read.
 ghost use Rattle.std.specs.Prelude.{◌≡◌, ◌≢◌, ◌<◌, ℕ, true, false, Err, IfOk, OnOk, OnErr, IsTrue};
-ghost use Rattle.sqlite.specs.State.{HasCleanDisk, IsUnchanged, KeepsCommit, Survives, Opens};
+ghost use Rattle.sqlite.specs.State.{HasCleanDisk, IsLive, IsUnchanged, KeepsCommit, Survives};
 ghost use Rattle.sqlite.specs.Held.{state};
 ghost use Rattle.tables.specs.Schema.{the_schema, beginning, IsBeginning};
 ghost use Rattle.contents.specs.Contents as plain;
 ghost use Rattle.contents.specs.Contents.{contents_view, no_rows};
 ghost use Rattle.tables.specs.Tables.{HoldsTables, IsStore, IsFit, AreBare, AreRising, Stands, StandsFor, counted};
-ghost use Rattle.tables.specs.Opening.{AreNumbered, StandsEmpty};
+ghost use Rattle.tables.specs.Opening.{IsSettled, StandsEmpty};
 ghost use Rattle.tables.specs.steps.Loading.{IsUnbegun};
 
 use crate::completing::complete;
@@ -14,6 +14,7 @@ use crate::current::is_begun;
 use crate::faults::StoreFault;
 use crate::loading::{ask, contents_of};
 use crate::making::begin;
+use crate::numbering::check_rowids;
 use crate::shape::beginning_of;
 use contents::Contents;
 use sqlite::{Alter, Connection};
@@ -21,7 +22,7 @@ use std::alloc::Global;
 
 // What the five tables hold, and whether `schema` has its row.
 fn gather<S: Alter>(alloc: Global, conn: &mut Connection<S>) -> Result<(Contents, bool), StoreFault>
-    ensures begun { HasCleanDisk (state S.Store conn.new) → (state S.Store conn.old).now.schema ≡ the_schema → AreNumbered the_schema (state S.Store conn.old).now.trees
+    ensures begun { HasCleanDisk (state S.Store conn.new) → (state S.Store conn.old).now.schema ≡ the_schema
         → IfOk result (λ p. p.1 ≡ true → HoldsTables (state S.Store conn.old).now.trees (contents_view p.0)) }
     ensures unbegun { HasCleanDisk (state S.Store conn.new) → (state S.Store conn.old).now.schema ≡ the_schema
         → IfOk result (λ p. p.1 ≡ false → IsUnbegun (state S.Store conn.old).now.trees (contents_view p.0)) }
@@ -29,11 +30,13 @@ fn gather<S: Alter>(alloc: Global, conn: &mut Connection<S>) -> Result<(Contents
     ensures damaged { HasCleanDisk (state S.Store conn.new) → (state S.Store conn.old).now.schema ≡ the_schema → result ≡ Err StoreFault.Damaged
         → (t : plain.Contents) → IsFit t → StandsFor (state S.Store conn.old).now.trees t → ⊥ }
     ensures kept { HasCleanDisk (state S.Store conn.new) → (state S.Store conn.old).now.schema ≡ the_schema → result ≡ Err StoreFault.Damaged → KeepsCommit (state S.Store conn.old) (state S.Store conn.new) }
+    ensures was_open { HasCleanDisk (state S.Store conn.new) → (state S.Store conn.old).now.schema ≡ the_schema → result ≡ Err StoreFault.Damaged → IsTrue (state S.Store conn.old).is_open }
     ensures unchanged { HasCleanDisk (state S.Store conn.new) → (state S.Store conn.old).now.schema ≡ the_schema → OnOk result (IsUnchanged (state S.Store conn.old) (state S.Store conn.new)) }
     ensures mode { conn.old.in_transaction ≡ false → conn.new.in_transaction ≡ false }
     ensures survives { Survives (state S.Store conn.old) (state S.Store conn.new) (λ _. ⊥) }
 {
     let answers = ask(conn)?;
+    check_rowids(alloc, &answers)?;
     let is_begun = is_begun(answers.versions.as_slice())?;
     Ok((contents_of(alloc, &answers)?, is_begun))
 }
@@ -63,9 +66,11 @@ fn begin_bare<S: Alter>(
 fn load<S: Alter>(alloc: Global, conn: &mut Connection<S>) -> Result<Contents, StoreFault>
     requires { conn.old.in_transaction ≡ false }
     ensures autocommit { conn.new.in_transaction ≡ false }
-    ensures loaded { HasCleanDisk (state S.Store conn.new) → Opens (state S.Store conn.old) → (state S.Store conn.old).now.schema ≡ the_schema → AreNumbered the_schema (state S.Store conn.old).now.trees
+    ensures loaded { HasCleanDisk (state S.Store conn.new) → IsSettled (state S.Store conn.old) → (state S.Store conn.old).now.schema ≡ the_schema
         → IfOk result (λ t. StandsFor (state S.Store conn.old).now.trees (contents_view t) × IsStore (state S.Store conn.new) (contents_view t)) }
     ensures fit { IfOk result (λ t. IsFit (contents_view t) × AreRising (contents_view t)) }
+    ensures was_open { HasCleanDisk (state S.Store conn.new) → (state S.Store conn.old).now.schema ≡ the_schema → OnOk result (IsTrue (state S.Store conn.old).is_open) }
+    ensures found_open { HasCleanDisk (state S.Store conn.new) → (state S.Store conn.old).now.schema ≡ the_schema → result ≡ Err StoreFault.Damaged → IsTrue (state S.Store conn.old).is_open }
     ensures damaged { HasCleanDisk (state S.Store conn.new) → (state S.Store conn.old).now.schema ≡ the_schema → result ≡ Err StoreFault.Damaged
         → (t : plain.Contents) → IsFit t → StandsFor (state S.Store conn.old).now.trees t → ⊥ }
     ensures kept { HasCleanDisk (state S.Store conn.new) → (state S.Store conn.old).now.schema ≡ the_schema → result ≡ Err StoreFault.Damaged → KeepsCommit (state S.Store conn.old) (state S.Store conn.new) }
@@ -91,6 +96,8 @@ fn complete_bare<S: Alter>(
     ensures made { HasCleanDisk (state S.Store conn.new) → (state S.Store conn.old).now.schema ≡ beginning count
         → IfOk result (λ t. (contents_view t ≡ no_rows) × AreBare (counted (beginning count) (state S.Store conn.old).now.trees) × IsStore (state S.Store conn.new) no_rows) }
     ensures empty { IfOk result (λ t. contents_view t ≡ no_rows) }
+    ensures was_open { HasCleanDisk (state S.Store conn.new) → OnOk result (IsTrue (state S.Store conn.old).is_open) }
+    ensures found_open { HasCleanDisk (state S.Store conn.new) → result ≡ Err StoreFault.Damaged → IsTrue (state S.Store conn.old).is_open }
     ensures damaged { HasCleanDisk (state S.Store conn.new) → (state S.Store conn.old).now.schema ≡ beginning count → result ≡ Err StoreFault.Damaged
         → (t : plain.Contents) → StandsFor (counted (beginning count) (state S.Store conn.old).now.trees) t → ⊥ }
     ensures kept { HasCleanDisk (state S.Store conn.new) → (state S.Store conn.old).now.schema ≡ beginning count → result ≡ Err StoreFault.Damaged → KeepsCommit (state S.Store conn.old) (state S.Store conn.new) }
@@ -106,13 +113,14 @@ fn complete_bare<S: Alter>(
 
 /// Reads what the five tables hold. The first of them in the order in which they are made may stand alone, and there may be
 /// none: a table that is absent counts as empty. Where all are empty, those that are absent are made and version 1 is put into
-/// `schema`, in one transaction. Call `renew` before: it gives what `loaded` asks for.
+/// `schema`, in one transaction. Call `renew` before: it gives what `loaded` asks for. Each table is read once.
 ///
 /// - `Damaged`: the tables hold no rows that fit their columns, or `schema` has another row than 1 or none beside rows, also
 ///   where it is absent. A value of another type than its column's, a version outside 32 bits, a role that is not UTF-8, a
 ///   digest that is not 64 hex digits of lower case, and a third slot in `current` do not fit. Nothing is made.
 /// - `Database`: a call of the database answered a fault, or the database has other tables than the first of these five in
-///   their order. No other is tried.
+///   their order (no other is tried), or the rowids that it answered are not integers that come once, which by its own laws
+///   they are.
 /// - `OutOfMemory`: memory was refused.
 pub fn prepare<S: Alter>(alloc: Global, conn: &mut Connection<S>) -> Result<Contents, StoreFault>
     requires { conn.old.in_transaction ≡ false }
@@ -121,8 +129,11 @@ pub fn prepare<S: Alter>(alloc: Global, conn: &mut Connection<S>) -> Result<Cont
     ensures ours { result ≡ Err StoreFault.Damaged → IsBeginning conn.old.schema }
     ensures foreign { (IsBeginning conn.old.schema → ⊥) → (result ≡ Err StoreFault.Database) × (conn.new ≡ conn.old) }
     ensures made { HasCleanDisk (state S.Store conn.new) → (count : ℕ) → count < 5 → conn.old.schema ≡ beginning count → IfOk result (λ t. (contents_view t ≡ no_rows) × StandsEmpty (state S.Store conn.old) × IsStore (state S.Store conn.new) no_rows) }
-    ensures loaded { HasCleanDisk (state S.Store conn.new) → Opens (state S.Store conn.old) → AreNumbered conn.old.schema (state S.Store conn.old).now.trees
+    ensures loaded { HasCleanDisk (state S.Store conn.new) → IsSettled (state S.Store conn.old)
         → IfOk result (λ t. Stands (state S.Store conn.old).now (contents_view t) × IsStore (state S.Store conn.new) (contents_view t)) }
+    ensures was_open { HasCleanDisk (state S.Store conn.new) → OnOk result (IsTrue (state S.Store conn.old).is_open) }
+    ensures found_open { HasCleanDisk (state S.Store conn.new) → result ≡ Err StoreFault.Damaged → IsTrue (state S.Store conn.old).is_open }
+    ensures live { IsLive (state S.Store conn.old) }
     ensures fit { IfOk result (λ t. IsFit (contents_view t)) }
     ensures rising { IfOk result (λ t. AreRising (contents_view t)) }
     ensures damaged { HasCleanDisk (state S.Store conn.new) → result ≡ Err StoreFault.Damaged

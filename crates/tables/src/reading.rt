@@ -35,8 +35,7 @@ fn root_place(roots: &[(u32, Vec<u8>)], root: &(u32, Vec<u8>)) -> Place
     let Some((last, _)) = roots.split_last() else {
         return Place::Behind;
     };
-    let same = is_same(last.1.as_slice(), root.1.as_slice());
-    place_by(last.0.cmp(&root.0), same)
+    place_by(last.0.cmp(&root.0), last.1.as_slice(), root.1.as_slice())
 }
 
 // The roots of the rows, by version. Rows of the same cells are one.
@@ -92,9 +91,8 @@ fn document_place(shelf: &[(String, u32, Vec<u8>)], row: &(String, u32, Vec<u8>)
     let Some((last, _)) = shelf.split_last() else {
         return Place::Behind;
     };
-    let same = is_same(last.2.as_slice(), row.2.as_slice());
     let order = row_order(last.0.as_bytes(), last.1, row.0.as_bytes(), row.1);
-    place_by(order, same)
+    place_by(order, last.2.as_slice(), row.2.as_slice())
 }
 
 // The targets documents of the rows, by role and version. Rows of the same cells are one.
@@ -168,8 +166,8 @@ fn blob_place(blobs: &[([u8; 32], Vec<u8>)], blob: &([u8; 32], Vec<u8>)) -> Plac
     let Some((last, _)) = blobs.split_last() else {
         return Place::Behind;
     };
-    let same = is_same(last.1.as_slice(), blob.1.as_slice());
-    place_by(text_order(&last.0, &blob.0), same)
+    let order = text_order(&last.0, &blob.0);
+    place_by(order, last.1.as_slice(), blob.1.as_slice())
 }
 
 // The target files of the rows, by digest. Rows of the same cells are one.

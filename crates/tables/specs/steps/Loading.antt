@@ -1,9 +1,9 @@
 -- What is read of a table.
-use Rattle.std.specs.Prelude.{◌≡◌, ◌≢◌, ◌⊎◌, ℕ, pos, Bool, true, false, List, [], ◌∷◌, ◌++◌, map, Option, Some, None, IsUtf8, codes, if◌then◌else◌}
-use Rattle.std.specs.Ordering.{is_lt}
+use Rattle.std.specs.Prelude.{◌≡◌, ◌≢◌, ◌⊎◌, ◌&&◌, ℕ, ℤ, pos, Bool, true, false, List, [], ◌∷◌, ◌++◌, map, Option, Some, None, IsUtf8, codes, if◌then◌else◌}
+use Rattle.std.specs.Ordering.{is_lt, int_cmp}
 use Rattle.std.specs.declared.cmp.Ordering.{Ordering}
 use Rattle.std.specs.declared.cmp.Ordering.TheVariants.{Less, Equal, Greater}
-use Rattle.std.specs.List.Sorted.{IsStrictlySortedBy}
+use Rattle.std.specs.List.Sorted.{IsPermutation, IsStrictlySortedBy}
 use Rattle.hex.specs.Hex.{encode_lower}
 use Rattle.sqlite_rules.specs.Lists.{Has}
 use Rattle.sqlite_value.specs.declared.keys.Collation.TheVariants.{Binary}
@@ -26,9 +26,28 @@ pub record AreLoaded (shown : Row → Row) (keys : List Key) (stored rows : List
   pub from : (x : Row) → Has rows x → (r : Row) × Has stored r × (x ≡ shown r)
   pub each : (r : Row) → Has stored r → Has rows (shown r)
   pub sorted : (before : List Row) (a b : Row) (rest : List Row) → rows ≡ before ++ a ∷ b ∷ rest → is_lt (key_cmp 0 keys b a) ≡ false
+  pub once : IsPermutation (map shown stored) rows
 
 abbrev pub rises : Key
 rises = record { collation = Binary; descending = false }
+
+-- ---- rowids that come once
+
+-- the rowid, behind the other cells
+abbrev pub with_rowid : (Row → Row) → Row → Row
+with_rowid shown r = shown r ++ column r 0 ∷ []
+
+abbrev pub comes_first : ℤ → List ℤ → Bool
+comes_first id [] = true
+comes_first id (next ∷ later) = is_lt (int_cmp id next)
+
+abbrev pub rise : List ℤ → Bool
+rise [] = true
+rise (id ∷ later) = comes_first id later && rise later
+
+-- the cells of this column are integers, and none comes twice: in some order they rise
+abbrev pub ComeOnce : ℕ → List Row → Type 0
+ComeOnce at rows = (ids : List ℤ) × IsPermutation (map (λ r. column r at) rows) (map Int ids) × (rise ids ≡ true)
 
 -- ---- the items of a table: a key and a value each
 
@@ -92,12 +111,15 @@ AreSpoiled {K} {V} Reads Fits rows =
     ((r : Row) × Has rows r × ((x : K × V) → Fits x → Reads r x → ⊥))
     ⊎ ((r : Row) × (s : Row) × (x : K × V) × (y : K × V) × Has rows r × Has rows s × Reads r x × Reads s y × Fits x × Fits y × (x.0 ≡ y.0) × (x ≢ y))
 
--- by how the last key stands to the item's, and whether the two values are the same
-abbrev pub place_of : Ordering → Bool → Place
-place_of Less same = Behind
-place_of Equal true = Same
-place_of Equal false = Neither
-place_of Greater same = Neither
+-- the place of an item whose key is the last one's, by the two values
+abbrev pub IsPlaceOfEqual : List ℕ → List ℕ → Place → Type 0
+IsPlaceOfEqual last value place = ((last ≡ value) × (place ≡ Same)) ⊎ ((last ≢ value) × (place ≡ Neither))
+
+-- by how the last key stands to the item's, and only where they are the same by the two values
+abbrev pub IsPlacedBy : Ordering → List ℕ → List ℕ → Place → Type 0
+IsPlacedBy Less last value place = place ≡ Behind
+IsPlacedBy Equal last value place = IsPlaceOfEqual last value place
+IsPlacedBy Greater last value place = place ≡ Neither
 
 -- where an item stands to those that were read before it
 abbrev pub IsPlace : {K V : Type 0} → (K → K → Ordering) → List (K × V) → K × V → Place → Type 0
@@ -114,10 +136,18 @@ IsOne x = column x 0 ≡ Int (pos 1)
 -- what the five queries answer
 pub record AreAnswers (trees : Trees) (a : Answers) : Type 0 where
   pub root : AreLoaded root_cells (rises ∷ []) (trees 0) a.roots.items
-  pub current : AreLoaded current_cells [] (trees 1) a.current.items
-  pub shelf : AreLoaded shelf_cells (rises ∷ rises ∷ []) (trees 3) a.shelf.items
-  pub blob : AreLoaded blob_cells (rises ∷ []) (trees 5) a.blobs.items
+  pub current : AreLoaded (with_rowid current_cells) [] (trees 1) a.current.items
+  pub shelf : AreLoaded (with_rowid shelf_cells) (rises ∷ rises ∷ []) (trees 3) a.shelf.items
+  pub blob : AreLoaded (with_rowid blob_cells) (rises ∷ []) (trees 5) a.blobs.items
   pub version : AreLoaded version_cells [] (trees 7) a.versions.items
+
+-- the rowids of each answer come once
+pub record AllComeOnce (a : Answers) : Type 0 where
+  pub root : ComeOnce 0 a.roots.items
+  pub current : ComeOnce 3 a.current.items
+  pub shelf : ComeOnce 3 a.shelf.items
+  pub blob : ComeOnce 2 a.blobs.items
+  pub version : ComeOnce 0 a.versions.items
 
 -- the items of the answers
 pub record AreItems (a : Answers) (t : Contents) : Type 0 where

@@ -7,9 +7,9 @@ use Rattle.tables.proofs.ItemLemmas.{holds_items, unbegun, items_fit, items_rise
 use Rattle.tables.proofs.opening.gather.Goals as goal
 
 pub returns-clause-begun : goal.returns-clause-begun
-returns-clause-begun g c clean schema numbered flag =
+returns-clause-begun g c clean schema flag =
     let same = c.as_slice.ensures.value in
-    holds_items (state g.S.Store c.args.conn.now).now.trees c.in_ok-answers.answers (contents_view c.in_ok-contents_of.field-0) numbered (c.in_ok-answers.ensures.rows clean schema) c.in_ok-contents_of.ensures.read
+    holds_items (state g.S.Store c.args.conn.now).now.trees c.in_ok-answers.answers (contents_view c.in_ok-contents_of.field-0) c.in_ok-check_rowids.ensures.once (c.in_ok-answers.ensures.rows clean schema) c.in_ok-contents_of.ensures.read
     (λ r h. c.in_ok-is_begun.ensures.one r (subst (λ rs. Has rs r) (sym same) h)) (subst (λ rs. rs ≢ []) same (c.in_ok-is_begun.ensures.some flag))
 
 pub returns-clause-unbegun : goal.returns-clause-unbegun

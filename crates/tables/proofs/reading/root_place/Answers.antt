@@ -1,8 +1,8 @@
-use Rattle.std.proofs.Common.{sym, subst, ◌∙◌, map}
+use Rattle.std.proofs.Common.{subst₂, map}
 use Rattle.std.specs.Ordering.{nat_cmp}
 use Rattle.std.proofs.lemmas.Cmp.{nat_cmp_total}
 use Rattle.std.proofs.lemmas.Map.Lookups.{exact_unsigned}
-use Rattle.tables.specs.steps.Loading.{IsPlace}
+use Rattle.tables.specs.steps.Loading.{IsPlacedBy}
 use Rattle.tables.proofs.Gathering.{is_place}
 use Rattle.tables.proofs.Views.{value_view, mapped_last}
 use Rattle.tables.proofs.reading.root_place.Goals as goal
@@ -11,9 +11,7 @@ pub returns : goal.returns
 returns c =
     let last = c.in-Some.last.now in
     let items = map value_view c.args.roots.now in
-    subst (IsPlace nat_cmp items (value_view c.args.root.now)) (sym c.place_by.ensures)
-    (is_place nat_cmp nat_cmp_total exact_unsigned items (map value_view c.in-Some.field-0-1.now) (value_view last) (value_view c.args.root.now) c.cmp.result c.is_same-same.result
+    is_place nat_cmp nat_cmp_total exact_unsigned items (map value_view c.in-Some.field-0-1.now) (value_view last) (value_view c.args.root.now) c.cmp.result c.place_by.result
     (mapped_last value_view c.args.roots.now c.in-Some.field-0-1.now last c.in-Some.ensures.cases.0)
     c.cmp.ensures
-    (λ h. sym c.as_slice.ensures.value ∙ c.is_same-same.ensures.same h ∙ c.as_slice-2.ensures.value)
-    (λ e. c.is_same-same.ensures.other (c.as_slice.ensures.value ∙ e ∙ sym c.as_slice-2.ensures.value)))
+    (subst₂ (λ a b. IsPlacedBy c.cmp.result a b c.place_by.result) c.as_slice.ensures.value c.as_slice-2.ensures.value c.place_by.ensures)

@@ -12,16 +12,15 @@ returns-in-Ok-read_state-clause-opened g c clean =
     let db = (state g.S.Store c.in-Ok.conn).now in
     let late : HasCleanDisk (state g.S.Store c.read_state.new.conn) = subst (λ k. HasCleanDisk (state g.S.Store k)) c.over.ensures.conn clean in
     let early : HasCleanDisk (state g.S.Store c.in-Ok.conn) = omega (arith, late, c.read_state.ensures.crash.clean) in
-    let opened = c.in-Ok.ensures.opened early in
-    let sound : IsDatabase db = (opened.1 opened.0.is_open).0 in
-    let stands : Stands db (rows_of c.in-Ok-read_state.held.state) = (c.in-Ok-read_state.ensures.loaded late opened.0 (c.in-Ok.ensures.numbered early)).0 in
-    (db, c.in-Ok.ensures.same early, sound, subst (λ (S : State). Stands db (rows_of S)) (sym c.over.ensures.state) stands)
+    let is_open = c.in-Ok-read_state.ensures.was_open late in
+    let sound : IsDatabase db = (c.read_state.ensures.live is_open).0 in
+    let stands : Stands db (rows_of c.in-Ok-read_state.held.state) = (c.in-Ok-read_state.ensures.loaded late (c.in-Ok.ensures.settled early)).0 in
+    (db, c.in-Ok.ensures.same early is_open, sound, subst (λ (S : State). Stands db (rows_of S)) (sym c.over.ensures.state) stands)
 
 pub returns-in-Err-read_state-clause-damaged : goal.returns-in-Err-read_state-clause-damaged
 returns-in-Err-read_state-clause-damaged g c is clean =
     let db = (state g.S.Store c.in-Ok.conn).now in
     let early : HasCleanDisk (state g.S.Store c.in-Ok.conn) = omega (arith, clean, c.read_state.ensures.crash.clean) in
-    let opened = c.in-Ok.ensures.opened early in
-    let sound : IsDatabase db = (opened.1 opened.0.is_open).0 in
-    let told = c.in-Err-read_state.ensures.damaged clean opened.0 (c.in-Ok.ensures.numbered early) (ap Err is) in
-    (db, c.in-Ok.ensures.same early, sound, told.0, told.1)
+    let told = c.in-Err-read_state.ensures.damaged clean (c.in-Ok.ensures.settled early) (ap Err is) in
+    let sound : IsDatabase db = (c.read_state.ensures.live told.0).0 in
+    (db, c.in-Ok.ensures.same early told.0, sound, told.1, told.2)
