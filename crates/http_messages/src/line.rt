@@ -7,7 +7,7 @@ ghost use Rattle.http_messages.specs.Taken.{TookSome};
 
 use std::alloc::AllocError;
 use std::io;
-use std::io::{Read, Write};
+use std::io::{IoSlice, Read, Write};
 use std::net::TcpStream;
 use thiserror::Error;
 
@@ -73,6 +73,20 @@ pub trait Transmit: Write {
         ensures bound { WritesAtMost result buf.now }
         ensures bytes { WriteAppends (Self.contents self.old) (Self.contents self.new) result buf.now }
         ensures sound { TakesSome (sound self.old) buf.now result (sound self.new) };
+
+    /// One call of `write` for a text that stands in two pieces: so many bytes of the front of the two were taken, as by
+    /// `transmit`. A writer that has no call for two pieces takes of the first that is not empty.
+    fn transmit_both(&mut self, front: &[u8], back: &[u8]) -> io::Result<usize>
+        ensures bound { WritesAtMost result (front.now ++ back.now) }
+        ensures bytes { WriteAppends (Self.contents self.old) (Self.contents self.new) result (front.now ++ back.now) }
+        ensures sound { TakesSome (sound self.old) (front.now ++ back.now) result (sound self.new) }
+    {
+        if front.is_empty() {
+            self.transmit(back)
+        } else {
+            self.transmit(front)
+        }
+    }
 }
 
 impl Receive for &[u8] {
@@ -135,6 +149,10 @@ impl Transmit for TcpStream {
     fn transmit(&mut self, buf: &[u8]) -> io::Result<usize> {
         self.write(buf)
     }
+
+    fn transmit_both(&mut self, front: &[u8], back: &[u8]) -> io::Result<usize> {
+        self.write_vectored(&[IoSlice::new(front), IoSlice::new(back)])
+    }
 }
 
 impl Transmit for &TcpStream {
@@ -142,6 +160,10 @@ impl Transmit for &TcpStream {
 
     fn transmit(&mut self, buf: &[u8]) -> io::Result<usize> {
         self.write(buf)
+    }
+
+    fn transmit_both(&mut self, front: &[u8], back: &[u8]) -> io::Result<usize> {
+        self.write_vectored(&[IoSlice::new(front), IoSlice::new(back)])
     }
 }
 
@@ -161,13 +183,32 @@ pub fn send_all<W: Transmit>(writer: &mut W, bytes: &[u8]) -> Result<(), Cut>
     Ok(())
 }
 
-/// Writes one text and then another. On an error the writer took a beginning of the two.
+/// Writes one text and then another, with one call where the writer takes both. On an error it took a beginning of the two.
 pub fn send_both<W: Transmit>(writer: &mut W, front: &[u8], back: &[u8]) -> Result<(), Cut>
     ensures ok { OnOk result (Appends (W.contents writer.old) (W.contents writer.new) (front.now ++ back.now)) }
     ensures err { OnErr result (TookSome (W.contents writer.old) (W.contents writer.new) (front.now ++ back.now)) }
     ensures sound { StaysSound (W.sound writer.old) result (W.sound writer.new) }
 {
-    send_all(writer, front)?;
-    send_all(writer, back)?;
+    let mut first = front;
+    let mut second = back;
+    while !first.is_empty() {
+        match writer.transmit_both(first, second) {
+            Ok(0) | Err(_) => return Err(Cut),
+            Ok(n) => (first, second) = behind(first, second, n),
+        }
+    }
+    send_all(writer, second)?;
     Ok(())
+}
+
+// What is left of two texts behind so many bytes.
+fn behind<'a>(front: &'a [u8], back: &'a [u8], n: usize) -> (&'a [u8], &'a [u8])
+    requires { n ≤ length (front.now ++ back.now) }
+    ensures { result.0.now ++ result.1.now ≡ drop n (front.now ++ back.now) }
+{
+    if n <= front.len() {
+        (&front[n..], back)
+    } else {
+        (&[], &back[n - front.len()..])
+    }
 }

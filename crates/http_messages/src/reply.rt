@@ -46,8 +46,9 @@ pub fn push(head: &mut ShortText, piece: &[u8])
     ensures items { head.new.items ≡ head.old.items ++ piece.now }
     ensures len { array_vec_len head.new ≡ array_vec_len head.old + length piece.now }
 {
-    for byte in piece {
-        head.push(*byte);
+    match head.try_extend_from_slice(piece) {
+        Ok(()) => {}
+        Err(_) => unreachable!(),
     }
 }
 

@@ -1,5 +1,5 @@
 //! Readers and writers that fail at a call.
-ghost use Rattle.std.specs.Prelude.{false};
+ghost use Rattle.std.specs.Prelude.{◌≤◌, false, length, IfOk};
 
 use http_messages::{Receive, Transmit};
 use std::alloc::Global;
@@ -95,5 +95,61 @@ impl Transmit for Narrow {
 
     fn transmit(&mut self, buf: &[u8]) -> io::Result<usize> {
         self.write(buf)
+    }
+}
+
+/// A writer that takes of two pieces in one call, at most so many bytes of both.
+#[derive(Drop)]
+pub struct Joining {
+    pub taken: Vec<u8>,
+    pub most: usize,
+    pub calls: usize,
+}
+
+impl Joining {
+    pub fn new(alloc: Global, most: usize) -> Joining {
+        Joining {
+            taken: Vec::new(alloc),
+            most,
+            calls: 0,
+        }
+    }
+
+    // Takes so many bytes at most.
+    fn take(&mut self, buf: &[u8], most: usize) -> io::Result<usize>
+        ensures { IfOk result (λ n. n ≤ length buf.now × n ≤ most) }
+    {
+        let count = buf.len().min(most);
+        match self.taken.extend_from_slice(&buf[..count]) {
+            Ok(()) => Ok(count),
+            Err(_) => Err(io::Error::from(ErrorKind::OutOfMemory)),
+        }
+    }
+}
+
+impl Write for Joining {
+    fn write(&mut self, buf: &[u8]) -> io::Result<usize> {
+        self.calls = self.calls.saturating_add(1);
+        self.take(buf, self.most)
+    }
+
+    fn flush(&mut self) -> io::Result<()> {
+        Ok(())
+    }
+}
+
+impl Transmit for Joining {
+    ghost sound = { λ _. false };
+
+    fn transmit(&mut self, buf: &[u8]) -> io::Result<usize> {
+        self.write(buf)
+    }
+
+    fn transmit_both(&mut self, front: &[u8], back: &[u8]) -> io::Result<usize> {
+        self.calls = self.calls.saturating_add(1);
+        let most = self.most;
+        let of_front = self.take(front, most)?;
+        let of_back = self.take(back, most - of_front)?;
+        Ok(of_front + of_back)
     }
 }

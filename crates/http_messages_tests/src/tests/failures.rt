@@ -1,7 +1,7 @@
 //! Reads, writes and allocations that fail, and a writer that never does.
 ghost use Rattle.std.specs.Prelude.{IsOk};
 
-use crate::ends::{Narrow, Slow};
+use crate::ends::{Joining, Narrow, Slow};
 use crate::tests::answers::NOT_FOUND;
 use http_messages::{
     Cut, Fault, Kind, ReceiveFault, Received, Routes, Sink, Status, denial_body, read_request,
@@ -43,6 +43,19 @@ fn each_write_fails(rt: HostRuntime) -> Result<(), Fail> {
                     == stops_at.min(NOT_FOUND.len().saturating_add(1))
             );
         }
+    }
+    Ok(())
+}
+
+// A writer that takes of head and body at once gets them in one call, or in as many as it has room for, whose seams fall
+// anywhere.
+#[test]
+fn head_and_body_at_once(rt: HostRuntime) -> Result<(), Fail> {
+    for most in 1..NOT_FOUND.len() + 3 {
+        let mut writer = Joining::new(rt.alloc(), most);
+        write_fault(&mut writer, Fault::Route)?;
+        assert!(rt; writer.taken.as_slice() == NOT_FOUND);
+        assert_eq!(rt; writer.calls, NOT_FOUND.len().div_ceil(most));
     }
     Ok(())
 }
