@@ -1,15 +1,16 @@
 #!/usr/bin/env python3
 """Times the store of the built program beside CPython's sqlite3 on the same rows, in one run.
 
-usage: store_rates.py [--opens N] [--puts N] [--batches N]
+usage: store_rates.py [--opens N] [--rows N..] [--puts N] [--batches N]
 
-- Opening: a database file with 1,000 blobs of 64 KiB and 1,000 shelf rows. `release put` of a blob that is held opens it and writes
-  nothing; the time of the program over an empty repository is taken off. Beside it sqlite3 reads every row, and reads every row
-  and hashes every blob.
+- Opening: database files with as many blobs of 64 KiB as shelf rows, 500, 1,000, 2,000 and 4,000 of each. `release put` of a blob that
+  is held opens it and writes nothing; the time of the program over an empty repository is taken off. Beside it the floor: sqlite3 reads
+  every row, and the time is added in which the crate `sha2` hashes as many blocks of 64 bytes as the blobs have. That rate is the line
+  `sha2` of `measure lms`, whose hashes are of one block each, with what a hash takes besides.
 - Puts of 1 MiB, through `release serve` over loopback, one connection each, and as one transaction each of sqlite3 in a file.
 - Batches of a timestamp, a snapshot and a targets document, each of the next version, in the same two ways.
 
-The program is crates/release/out/release, as `rt run` leaves it.
+The programs are crates/release/out/release and crates/measure/out/measure, as `rt run` leaves them.
 """
 import argparse
 import hashlib
@@ -20,7 +21,10 @@ import tempfile
 import time
 from pathlib import Path
 
-from serve_rates import RELEASE, document, free_port, release, repository, signed
+from serve_rates import HERE, RELEASE, document, free_port, release, repository, signed
+
+MEASURE = HERE / "measure/out/measure"
+BLOB = 65536
 
 
 def seconds(call, times):
@@ -32,41 +36,54 @@ def seconds(call, times):
     return sorted(best)[len(best) // 2]
 
 
-def fill(db, targets):
-    """The rows that no command makes: a shelf document under 999 further names, and 1,000 blobs."""
+def sha2_blocks():
+    """How many blocks of 64 bytes the crate `sha2` hashes in a second."""
+    lines = subprocess.run([MEASURE, "lms", "200"], check=True, capture_output=True, text=True).stdout.splitlines()
+    return next(int(line.split()[1]) for line in lines if line.startswith("sha2 "))
+
+
+def fill(db, targets, rows):
+    """The rows that no command makes: a shelf document under all names but one, and the blobs but one."""
     connection = sqlite3.connect(db)
-    connection.executemany("INSERT INTO shelf VALUES (?, 1, ?)", [(f"r{n}", targets) for n in range(999)])
-    blobs = [n.to_bytes(4, "big") + bytes([7]) * 65532 for n in range(1000)]
-    connection.executemany("INSERT INTO blob VALUES (?, ?)", [(hashlib.sha256(b).hexdigest(), b) for b in blobs])
+    connection.executemany("INSERT INTO shelf VALUES (?, 1, ?)", [(f"r{n}", targets) for n in range(rows - 1)])
+    for n in range(rows - 1):
+        blob = n.to_bytes(4, "big") + bytes([7]) * (BLOB - 4)
+        connection.execute("INSERT INTO blob VALUES (?, ?)", (hashlib.sha256(blob).hexdigest(), blob))
     connection.commit()
     connection.close()
 
 
-def read_all(db, hashed):
+def read_all(db):
     connection = sqlite3.connect(db)
-    for table in ("root", "current", "shelf"):
+    for table in ("root", "current", "shelf", "blob"):
         connection.execute(f"SELECT * FROM {table}").fetchall()
-    for digest, blob in connection.execute("SELECT digest, bytes FROM blob").fetchall():
-        if hashed and hashlib.sha256(blob).hexdigest() != digest:
-            raise SystemExit("another digest")
     connection.close()
 
 
-def opens(folder, times):
-    empty, held = str(folder / "empty.db"), str(folder / "held.db")
+def made(folder, name, small):
+    """A database with the four documents and one blob."""
+    db = str(folder / name)
+    release("init", "--db", db, str(folder / "root.json"))
+    release("publish", "--db", db, *(f"{role}:{folder / role}.json" for role in ("timestamp", "snapshot", "targets")))
+    release("put", "--db", db, str(small))
+    return db
+
+
+def opens(folder, times, sizes):
     small = folder / "small.bin"
     small.write_bytes(b"abc")
-    for db in (empty, held):
-        release("init", "--db", db, str(folder / "root.json"))
-        release("publish", "--db", db, *(f"{role}:{folder / role}.json" for role in ("timestamp", "snapshot", "targets")))
-        release("put", "--db", db, str(small))
-    fill(held, (folder / "targets.json").read_bytes())
+    empty = made(folder, "empty.db", small)
     base = seconds(lambda: release("put", "--db", empty, str(small)), times)
-    ours = seconds(lambda: release("put", "--db", held, str(small)), times) - base
-    plain = seconds(lambda: read_all(held, False), times)
-    hashed = seconds(lambda: read_all(held, True), times)
-    print(f"open: release {1 / ours:.1f} a second ({ours * 1000:.0f} ms, and {base * 1000:.0f} ms for the program), "
-          f"sqlite3 {1 / plain:.1f}, with the hashes {1 / hashed:.1f}")
+    blocks = sha2_blocks()
+    print(f"the program over no rows: {base * 1000:.0f} ms; sha2: {blocks * 64 / 1e6:.0f} MB a second")
+    for rows in sizes:
+        db = made(folder, f"held{rows}.db", small)
+        fill(db, (folder / "targets.json").read_bytes(), rows)
+        ours = seconds(lambda: release("put", "--db", db, str(small)), times) - base
+        read = seconds(lambda: read_all(db), times)
+        floor = read + rows * (BLOB // 64 + 1) / blocks
+        print(f"open {rows} rows: release {ours * 1000:.0f} ms, sqlite3 {read * 1000:.0f} ms, with sha2 {floor * 1000:.0f} ms, ratio {ours / floor:.2f}")
+        Path(db).unlink()
 
 
 def request(port, method, target, body):
@@ -143,13 +160,14 @@ def batches(folder, times):
 def main():
     parser = argparse.ArgumentParser()
     parser.add_argument("--opens", type=int, default=5)
+    parser.add_argument("--rows", type=int, nargs="*", default=[500, 1000, 2000, 4000])
     parser.add_argument("--puts", type=int, default=100)
     parser.add_argument("--batches", type=int, default=30)
     args = parser.parse_args()
     with tempfile.TemporaryDirectory() as name:
         folder = Path(name)
         repository(folder, {"small.bin": b"abc"})
-        opens(folder, args.opens)
+        opens(folder, args.opens, args.rows)
         puts(folder, args.puts)
         batches(folder, args.batches)
 

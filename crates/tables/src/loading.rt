@@ -105,15 +105,15 @@ pub(crate) fn ask<S: Alter>(conn: &mut Connection<S>) -> Result<Answers, StoreFa
 }
 
 // The items of the rows, but for those of `schema`.
-pub(crate) fn contents_of(alloc: Global, answers: &Answers) -> Result<Contents, StoreFault>
-    ensures read { IfOk result (λ t. AreItems answers.now (contents_view t)) }
-    ensures damaged { result ≡ Err StoreFault.Damaged → AreSorted answers.now → AreDamaged answers.now }
+pub(crate) fn contents_of(alloc: Global, answers: Answers) -> Result<Contents, StoreFault>
+    ensures read { IfOk result (λ t. AreItems answers (contents_view t)) }
+    ensures damaged { result ≡ Err StoreFault.Damaged → AreSorted answers → AreDamaged answers }
     ensures fault { result ≢ Err StoreFault.Database }
 {
     let roots = roots_of(alloc, answers.roots.as_slice())?;
     let current = current_of(alloc, answers.current.as_slice())?;
     let shelf = documents_of(alloc, answers.shelf.as_slice())?;
-    let blobs = blobs_of(alloc, answers.blobs.as_slice())?;
+    let blobs = blobs_of(alloc, answers.blobs)?;
     Ok(Contents {
         roots,
         timestamp: current.timestamp,

@@ -38,7 +38,7 @@ fn gather<S: Alter>(alloc: Global, conn: &mut Connection<S>) -> Result<(Contents
     let answers = ask(conn)?;
     check_rowids(alloc, &answers)?;
     let is_begun = is_begun(answers.versions.as_slice())?;
-    Ok((contents_of(alloc, &answers)?, is_begun))
+    Ok((contents_of(alloc, answers)?, is_begun))
 }
 
 // Puts the row of `schema` where nothing was read.

@@ -170,15 +170,19 @@ fn blob_place(blobs: &[([u8; 32], Vec<u8>)], blob: &([u8; 32], Vec<u8>)) -> Plac
     place_by(order, last.1.as_slice(), blob.1.as_slice())
 }
 
-// The target files of the rows, by digest. Rows of the same cells are one.
-pub(crate) fn blobs_of(alloc: Global, rows: &[Row]) -> Result<Vec<([u8; 32], Vec<u8>)>, StoreFault>
-    ensures read { IfOk result (λ v. AreGathered (slice_cmp nat_cmp) IsBlobRow FitsBlob rows.now (map (λ r. (r.0, r.1.items)) v.items)) }
-    ensures damaged { result ≡ Err StoreFault.Damaged → AreOrdered (slice_cmp nat_cmp) IsBlobRow FitsBlob rows.now → AreSpoiled IsBlobRow FitsBlob rows.now }
+// The target files of the rows, by digest. Rows of the same cells are one. Each row is dropped once it is read, so that no more
+// than one blob stands twice in what is held here.
+pub(crate) fn blobs_of(
+    alloc: Global,
+    rows: Vec<Row>,
+) -> Result<Vec<([u8; 32], Vec<u8>)>, StoreFault>
+    ensures read { IfOk result (λ v. AreGathered (slice_cmp nat_cmp) IsBlobRow FitsBlob rows.items (map (λ r. (r.0, r.1.items)) v.items)) }
+    ensures damaged { result ≡ Err StoreFault.Damaged → AreOrdered (slice_cmp nat_cmp) IsBlobRow FitsBlob rows.items → AreSpoiled IsBlobRow FitsBlob rows.items }
     ensures fault { result ≢ Err StoreFault.Database }
 {
     let mut blobs = Vec::new(alloc);
     'rows: for row in rows {
-        let blob = blob_of(alloc, row)?;
+        let blob = blob_of(alloc, &row)?;
         match blob_place(blobs.as_slice(), &blob) {
             Place::Behind => blobs.push(blob)?,
             Place::Same => {}

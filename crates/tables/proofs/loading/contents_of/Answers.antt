@@ -1,8 +1,7 @@
 use Rattle.std.proofs.Common.{Err, ap, subst, sym}
 use Rattle.std.specs.Ordering.{nat_cmp}
-use Rattle.std.specs.Cmp.Lexicographic.{slice_cmp}
 use Rattle.tables.specs.Tables.{row_cmp}
-use Rattle.tables.specs.steps.Loading.{AreSpoiled, AreOrdered, IsRootRow, FitsRoot, IsSlotRow, FitsSlot, IsShelfRow, FitsShelf, IsBlobRow, FitsBlob, root, current, shelf, blob}
+use Rattle.tables.specs.steps.Loading.{AreSpoiled, AreOrdered, IsRootRow, FitsRoot, IsSlotRow, FitsSlot, IsShelfRow, FitsShelf, root, current, shelf, blob}
 use Rattle.tables.proofs.Gathering.{handed_on}
 use Rattle.tables.proofs.loading.contents_of.Goals as goal
 
@@ -16,4 +15,4 @@ pub returns-in_err-shelf-clause-damaged : goal.returns-in_err-shelf-clause-damag
 returns-in_err-shelf-clause-damaged c is sorted = shelf (subst (AreSpoiled IsShelfRow FitsShelf) c.as_slice-3.ensures.value (c.in_err-shelf.ensures.damaged (ap Err (handed_on c.from_residual-in_err-shelf.result c.from_residual-in_err-shelf.ensures.1 is)) (subst (AreOrdered row_cmp IsShelfRow FitsShelf) (sym c.as_slice-3.ensures.value) sorted.shelf)))
 
 pub returns-in_err-blobs-clause-damaged : goal.returns-in_err-blobs-clause-damaged
-returns-in_err-blobs-clause-damaged c is sorted = blob (subst (AreSpoiled IsBlobRow FitsBlob) c.as_slice-4.ensures.value (c.in_err-blobs.ensures.damaged (ap Err (handed_on c.from_residual-in_err-blobs.result c.from_residual-in_err-blobs.ensures.1 is)) (subst (AreOrdered (slice_cmp nat_cmp) IsBlobRow FitsBlob) (sym c.as_slice-4.ensures.value) sorted.blob)))
+returns-in_err-blobs-clause-damaged c is sorted = blob (c.in_err-blobs.ensures.damaged (ap Err (handed_on c.from_residual-in_err-blobs.result c.from_residual-in_err-blobs.ensures.1 is)) sorted.blob)

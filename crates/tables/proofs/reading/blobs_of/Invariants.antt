@@ -1,4 +1,4 @@
-use Rattle.std.proofs.Common.{take, map}
+use Rattle.std.proofs.Common.{map}
 use Rattle.std.specs.Ordering.{nat_cmp}
 use Rattle.std.specs.Cmp.Lexicographic.{slice_cmp}
 use Rattle.tables.specs.steps.Loading.{AreGathered, IsBlobRow, FitsBlob}
@@ -6,4 +6,4 @@ use Rattle.tables.proofs.Views.{blob_view}
 use Rattle.tables.proofs.reading.blobs_of.Given as goal
 
 abbrev pub invariant-rows : goal.invariant-rows
-invariant-rows l = AreGathered (slice_cmp nat_cmp) IsBlobRow FitsBlob (take l.row-index l.rows) (map blob_view l.blobs.items)
+invariant-rows l = AreGathered (slice_cmp nat_cmp) IsBlobRow FitsBlob l.yielded (map blob_view l.blobs.items)
