@@ -1,22 +1,26 @@
-//! The reading side of a connection: it has deadlines, and its head is kept.
+//! The reading side of a connection: it has deadlines, and its beginning is kept.
 ghost use Rattle.std.specs.Io.{ReadsAtMost};
 
 use crate::deadlines::{ALL_SECONDS, HEAD_SECONDS, Timer};
 use arrayvec::ArrayVec;
-use http_messages::{Declared, FIELD_LIMIT, HEAD_LIMIT, Receive, declared_length, read_head};
-use httparse::spans::EMPTY_HEADER_SPAN;
+use http_messages::{Declared, FIELD_LIMIT, HEAD_LIMIT, Receive, declared_length};
+use httparse::Status;
+use httparse::spans::{EMPTY_HEADER_SPAN, parse_request};
 use std::io::{self, ErrorKind, Read};
 use std::net::TcpStream;
 
+/// The beginning of what a peer sends, which has the whole head where there is one. Connections use it one after the other.
+pub type Beginning = ArrayVec<u8, HEAD_LIMIT>;
+
 /// What a peer sends. A call that waits past a deadline answers an error, and one that was interrupted is made again.
 #[derive(Drop)]
-pub struct Incoming<'a> {
+pub struct Incoming<'a, 'k> {
     stream: &'a TcpStream,
     timer: Timer<'a>,
-    // the beginning of what came, which has the whole head where there is one
-    kept: ArrayVec<u8, HEAD_LIMIT>,
+    kept: &'k mut Beginning,
     has_head: bool,
     received: u64,
+    is_drained: bool,
 }
 
 // A head that came whole: its bytes, and those of its body where the fields declare them.
@@ -26,14 +30,20 @@ struct Head {
     body: Option<u64>,
 }
 
-impl<'a> Incoming<'a> {
-    pub fn new(stream: &'a TcpStream, timer: Timer<'a>) -> Incoming<'a> {
+impl<'a, 'k> Incoming<'a, 'k> {
+    pub fn new(
+        stream: &'a TcpStream,
+        timer: Timer<'a>,
+        kept: &'k mut Beginning,
+    ) -> Incoming<'a, 'k> {
+        kept.clear();
         Incoming {
             stream,
             timer,
-            kept: ArrayVec::new(),
+            kept,
             has_head: false,
             received: 0,
+            is_drained: false,
         }
     }
 
@@ -55,8 +65,17 @@ impl<'a> Incoming<'a> {
         }
     }
 
-    // So many seconds since its beginning has the connection for the next call.
-    fn seconds(&self) -> u64 {
+    /// Whether the last read took all that had come.
+    pub fn is_drained(&self) -> bool {
+        self.is_drained
+    }
+
+    // So many seconds since its beginning has the connection for the next call. What came is looked at only here, since most
+    // requests come by one read.
+    fn seconds(&mut self) -> u64 {
+        if !self.has_head && self.received > 0 {
+            self.has_head = head_of(self.kept.as_slice()).is_some();
+        }
         if self.has_head {
             ALL_SECONDS
         } else {
@@ -74,19 +93,21 @@ impl<'a> Incoming<'a> {
         let _ = self
             .kept
             .try_extend_from_slice(&came[..came.len().min(room)]);
-        self.has_head = head_of(self.kept.as_slice()).is_some();
     }
 }
 
-impl Read for Incoming<'_> {
+impl Read for Incoming<'_, '_> {
     fn read(&mut self, buf: &mut [u8]) -> io::Result<usize> {
-        let count = read_within(self.stream, buf, &self.timer, self.seconds())?;
+        let seconds = self.seconds();
+        let timer = self.timer;
+        let count = read_within(self.stream, buf, &timer, seconds)?;
+        self.is_drained = count < buf.len();
         self.keep(&buf[..count]);
         Ok(count)
     }
 }
 
-impl Receive for Incoming<'_> {
+impl Receive for Incoming<'_, '_> {
     ghost use Rattle.std.specs.Prelude.{false};
 
     ghost sound = { λ _. false };
@@ -119,12 +140,11 @@ pub fn read_within(
 
 // The head at the beginning of these bytes, if a whole one is there.
 fn head_of(bytes: &[u8]) -> Option<Head> {
-    let mut reader = bytes;
-    let mut buf = [0; HEAD_LIMIT];
     let mut headers = [EMPTY_HEADER_SPAN; FIELD_LIMIT];
-    let (filled, found) = read_head(&mut reader, &mut buf, &mut headers).ok()?;
-    let spans = found?;
-    let body = match declared_length(&buf[..filled], &headers[..spans.headers]) {
+    let Ok(Status::Complete(spans)) = parse_request(bytes, &mut headers) else {
+        return None;
+    };
+    let body = match declared_length(bytes, &headers[..spans.headers]) {
         Declared::Ill => None,
         Declared::Absent => Some(0),
         Declared::Given(length) => Some(length),

@@ -10,7 +10,7 @@ use std::io::Write;
 /// Tells of a connection its moment, method, path, status, bytes that were sent, number of the denial, and milliseconds, with
 /// `-` for what is not there.
 pub fn tell_connection<E: Write>(
-    incoming: &Incoming<'_>,
+    incoming: &Incoming<'_, '_>,
     outgoing: &Outgoing<'_>,
     now: Moment,
     timer: &Timer<'_>,

@@ -1,10 +1,11 @@
 //! The writing side of a connection: it has a deadline, and the beginning of its reply is kept.
+ghost use Rattle.std.specs.Prelude.{◌++◌};
 ghost use Rattle.std.specs.Io.{WritesAtMost};
 
 use crate::deadlines::{ALL_SECONDS, Timer};
 use arrayvec::ArrayVec;
 use http_messages::Transmit;
-use std::io::{self, ErrorKind, Write};
+use std::io::{self, ErrorKind, IoSlice, Write};
 use std::net::TcpStream;
 
 // So much of a reply is kept: its head, and the whole body of a fault or a denial.
@@ -40,6 +41,19 @@ impl<'a> Outgoing<'a> {
         str::from_utf8(digits).ok()
     }
 
+    /// Whether the reply says that a command was made or denied: its request was read whole then.
+    pub fn is_of_command(&self) -> bool {
+        matches!(self.status(), Some("200" | "403"))
+    }
+
+    /// Whether the reply says nothing against the database: one with another status than 503 was sent.
+    pub fn is_available(&self) -> bool {
+        match self.status() {
+            Some(status) => status != "503",
+            None => false,
+        }
+    }
+
     /// The number of the denial, if the reply is one.
     pub fn denial(&self) -> Option<&str> {
         if self.status() == Some("200") {
@@ -63,7 +77,7 @@ impl<'a> Outgoing<'a> {
 
 impl Write for Outgoing<'_> {
     fn write(&mut self, buf: &[u8]) -> io::Result<usize> {
-        let count = write_within(self.stream, buf, &self.timer)?;
+        let count = write_within(self.stream, &[], buf, &self.timer)?;
         self.keep(&buf[..count]);
         Ok(count)
     }
@@ -81,17 +95,29 @@ impl Transmit for Outgoing<'_> {
     fn transmit(&mut self, buf: &[u8]) -> io::Result<usize> {
         self.write(buf)
     }
+
+    fn transmit_both(&mut self, front: &[u8], back: &[u8]) -> io::Result<usize> {
+        let count = write_within(self.stream, front, back, &self.timer)?;
+        let of_front = count.min(front.len());
+        self.keep(&front[..of_front]);
+        self.keep(&back[..count - of_front]);
+        Ok(count)
+    }
 }
 
-// One write, which waits for what is left of the connection's time. One that was interrupted is made again.
-fn write_within(stream: &TcpStream, buf: &[u8], timer: &Timer<'_>) -> io::Result<usize>
-    ensures { WritesAtMost result buf.now }
+// One write of two texts, which waits for what is left of the connection's time. One that was interrupted is made again.
+fn write_within(
+    stream: &TcpStream,
+    front: &[u8],
+    back: &[u8],
+    timer: &Timer<'_>,
+) -> io::Result<usize>
+    ensures { WritesAtMost result (front.now ++ back.now) }
 {
-    let mut stream = stream;
     for _ in 0..u64::MAX {
         let left = timer.left(ALL_SECONDS)?;
         stream.set_write_timeout(Some(left))?;
-        match stream.write(buf) {
+        match stream.write_vectored(&[IoSlice::new(front), IoSlice::new(back)]) {
             Err(error) if error.kind() == ErrorKind::Interrupted => {}
             ended => return ended,
         }

@@ -5,7 +5,7 @@ use crate::deadlines::Timer;
 use crate::ending::end;
 use crate::fault::Fault;
 use crate::files::print;
-use crate::incoming::Incoming;
+use crate::incoming::{Beginning, Incoming};
 use crate::lines::tell_connection;
 use crate::moments::moment;
 use crate::notes::Notes;
@@ -16,6 +16,7 @@ use http_serve::{Routes, serve_list};
 use metadata::Moment;
 use std::io::Write;
 use std::net::{TcpListener, TcpStream};
+use std::slice;
 
 /// A server: the database file of its repository, its port on 127.0.0.1, after how many connections it ends, and the moment
 /// that was handed in.
@@ -92,16 +93,20 @@ impl<'a> Server<'a> {
         held: &mut Option<Repository>,
         notes: &mut Notes<'_, E>,
     ) -> Result<(), Fault> {
+        let mut kept = Beginning::new();
+        let mut is_available = true;
         for _ in 0..self.count.unwrap_or(u64::MAX) {
             let stream = next_stream(self.rt, listener, notes)?;
             let now = moment(self.rt, self.at)?;
-            self.open_again(held, now, notes);
-            self.serve_stream(&stream, routes, held, now, notes);
+            if held.is_none() || !is_available {
+                self.open_again(held, now, notes);
+            }
+            is_available = self.serve_stream(&stream, &mut kept, routes, held, now, notes);
         }
         Ok(())
     }
 
-    // Opens the database again where a fault has shut it. Where that fails it is tried at the next connection.
+    // Opens the database again where a fault has shut it, or where it was not opened before. Where that fails it is tried at the next connection.
     fn open_again<E: Write>(
         &self,
         held: &mut Option<Repository>,
@@ -120,37 +125,50 @@ impl<'a> Server<'a> {
         }
     }
 
-    // Serves one connection. One whose clock cannot be read is not served.
+    // Serves one connection, and answers whether no fault can have shut the database meanwhile, which its reply shows. One whose
+    // clock cannot be read is not served.
     fn serve_stream<E: Write>(
         &self,
         stream: &TcpStream,
+        kept: &mut Beginning,
         routes: &Routes,
         held: &mut Option<Repository>,
         now: Moment,
         notes: &mut Notes<'_, E>,
-    ) {
+    ) -> bool {
         let Ok(timer) = Timer::start(self.rt) else {
-            return;
+            return true;
         };
-        let alloc = self.rt.alloc();
-        let mut connections = [(
-            Incoming::new(stream, timer),
+        let mut connection = (
+            Incoming::new(stream, timer, kept),
             Outgoing::new(stream, timer),
             now,
-        )];
-        match held {
-            Some(repository) => {
-                serve_list(alloc, routes, &mut connections, repository);
-            }
-            None => {
-                let (incoming, outgoing, _) = &mut connections[0];
-                answer_unavailable(alloc, routes, incoming, outgoing);
-            }
-        }
-        let (incoming, outgoing, _) = &connections[0];
+        );
+        self.answer(routes, &mut connection, held);
+        let (incoming, outgoing, _) = &connection;
         tell_connection(incoming, outgoing, now, &timer, notes);
         if outgoing.status().is_some() {
-            end(self.rt, stream, incoming, &timer);
+            end(self.rt, stream, incoming, outgoing, &timer);
+        }
+        outgoing.is_available()
+    }
+
+    // Answers the connection from the repository, if one is held.
+    fn answer(
+        &self,
+        routes: &Routes,
+        connection: &mut (Incoming<'_, '_>, Outgoing<'_>, Moment),
+        held: &mut Option<Repository>,
+    ) {
+        let alloc = self.rt.alloc();
+        match held {
+            Some(repository) => {
+                serve_list(alloc, routes, slice::from_mut(connection), repository);
+            }
+            None => {
+                let (incoming, outgoing, _) = connection;
+                answer_unavailable(alloc, routes, incoming, outgoing);
+            }
         }
     }
 }
