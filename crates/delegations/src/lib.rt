@@ -9,6 +9,7 @@ mod shelf;
 mod verdicts;
 mod visited;
 mod visiting;
+mod vouching;
 mod walking;
 
 pub use keys_roles::Steps;

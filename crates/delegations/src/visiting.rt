@@ -90,7 +90,12 @@ pub(crate) fn visit<'a>(
 }
 
 // Whether the document meets the edge's rule, with one tick for each signature that is checked.
-fn meets_edge(edge: &Edge, file: &File<Targets>, known: &[Verdict], checks: &mut Steps) -> bool
+pub(crate) fn meets_edge(
+    edge: &Edge,
+    file: &File<Targets>,
+    known: &[Verdict],
+    checks: &mut Steps,
+) -> bool
     requires sound { AreVerdicts (targets_file file.now).signed (targets_file file.now).entries (verdict_views known.now) }
     requires room { checks.old < 2 ^ 63 }
     ensures met { IsTrue result ↔ (Meets (edge_view edge.now).rule (edge_view edge.now).table (targets_file file.now).signed (targets_file file.now).entries) }
