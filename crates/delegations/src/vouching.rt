@@ -1,4 +1,4 @@
-// Which new documents are vouched for (TUF 1.0, section 5.6.7): by a search over the roles that chains of good documents reach.
+//! Which new documents are vouched for (TUF 1.0, section 5.6.7): by a search over the roles that chains of good documents reach.
 ghost use Rattle.std.specs.Prelude.{◌≡◌, ◌↔◌, ◌+◌, ◌≤◌, ◌∷◌, ℕ, Some, IfOk, IfSome, IfNone, IsTrue, length, map, slice_get};
 ghost use Rattle.metadata.specs.FileViews.{targets_file};
 ghost use Rattle.delegations.specs.Delegation.{Hops};
