@@ -106,3 +106,7 @@ found_row V e now file h =
     let g = good_of V e now file h in
     let n = named_of V e now e.role file (subst (λ (f : File Targets). doc V e.role ≡ Some f) g.1 g.0.there) in
     (n.entry.version, n.found)
+
+-- the role of an edge that is good is listed
+pub listed_of : (V : Shelf) (e : Edge) (now : ℕ) → Good V e now → (m : MetaFile) × (look_up V.listing e.role ≡ Some m)
+listed_of V e now g = let n = named_of V e now e.role g.file g.there in (n.entry, n.listed)

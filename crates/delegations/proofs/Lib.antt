@@ -15,3 +15,4 @@ pub mod Look
 pub mod Paths
 pub mod SearchByWalk
 pub mod Onward
+pub mod GoodChains

@@ -1,4 +1,5 @@
 -- Definitions that contracts of private functions cite.
 pub mod Course
 pub mod Places
+pub mod Reaching
 pub mod Remains

@@ -9,6 +9,7 @@ mod shelf;
 mod verdicts;
 mod visited;
 mod visiting;
+mod vouching;
 mod walking;
 
 pub use keys_roles::Steps;
@@ -21,4 +22,5 @@ pub use rows::{Row, Rows};
 pub use searching::{search, search_counted, search_with, search_with_counted};
 pub use shelf::{Found, SearchDenial, Shelf};
 pub use verdicts::{Verdicts, all_verdicts};
-pub use visiting::{has_hash, has_length, vouched};
+pub use visiting::{has_hash, has_length};
+pub use vouching::vouched;

@@ -165,7 +165,7 @@ fn known_of<'a>(rows: &Rows<'_>, held: &'a Verdicts, role: &str, version: u32) -
 }
 
 // The document of a role, with its version.
-fn document<'a>(shelf: &Shelf<'a>, role: &str) -> Option<(u32, &'a File<Targets>)>
+pub(crate) fn document<'a>(shelf: &Shelf<'a>, role: &str) -> Option<(u32, &'a File<Targets>)>
     ensures some { IfSome result (λ d. doc (shelf_view shelf.now) role.now ≡ Some (targets_file d.1.now)) }
     ensures listed { IfSome result (λ d. option_map (λ e. e.version) (look_up (shelf_view shelf.now).listing role.now) ≡ Some d.0) }
     ensures there { IfSome result (λ d. row_at (shelf_view shelf.now).rows role.now d.0 ≡ Some (targets_file d.1.now)) }

@@ -69,7 +69,7 @@ impl<'a> Visited<'a> {
 }
 
 // Whether the name is one of them.
-fn is_among(names: &[&str], name: &str) -> bool
+pub(crate) fn is_among(names: &[&str], name: &str) -> bool
     ensures { result ≡ list_any (λ n. bytes_eq n.now name.now) names.now }
 {
     names.iter().any(|n| **n == *name)

@@ -1,11 +1,11 @@
-//! The visit of a role, and which new documents are vouched for (TUF 1.0, section 5.6.7).
+//! The visit of a role (TUF 1.0, section 5.6.7).
 ghost use Rattle.std.specs.Prelude.{◌↔◌, ◌+◌, ◌<◌, ◌≤◌, ◌^◌, IsTrue};
 ghost use Rattle.keys_roles.specs.Rules.{Meets};
 ghost use Rattle.keys_roles.specs.Verdicts.{AreVerdicts, pairs, unknown};
 ghost use Rattle.keys_roles.specs.Views.{verdict_views};
 ghost use Rattle.metadata.specs.FileViews.{targets_file};
 ghost use Rattle.metadata.specs.Views.{meta_view};
-ghost use Rattle.delegations.specs.Search.{visit, Vouched};
+ghost use Rattle.delegations.specs.Search.{visit};
 ghost use Rattle.delegations.specs.Rows.{HasLength, HasHash};
 ghost use Rattle.delegations.specs.Verdicts.{AreTrue, lacking};
 ghost use Rattle.delegations.specs.Views.{shelf_view, edge_view, answer_view, table_view};
@@ -14,7 +14,6 @@ use crate::shelf::{Edge, SearchDenial, Shelf};
 use crate::verdicts::{RowVerdicts, of_row};
 use keys_roles::{Steps, Verdict, meets_with_counted};
 use metadata::{File, Meta, Moment, Source, Targets, live};
-use path_patterns::RoleName;
 
 /// Whether the file has the length that is said of it, where one is (TUF 1.0, section 4.4, LENGTH). It takes no memory.
 pub fn has_length(meta: &Meta, source: &Source) -> bool
@@ -35,16 +34,6 @@ pub fn has_hash(meta: &Meta, source: &Source) -> bool
         None => true,
         Some(digest) => source.digest().0 == digest.0,
     }
-}
-
-/// Whether some chain of delegations vouches for a new document of the role: each document on the chain before it is good,
-/// and the new document meets the rule by which the chain leads to its role. It takes no memory.
-pub fn vouched(shelf: &Shelf, role: &RoleName, document: &File<Targets>, now: Moment) -> bool
-    ensures { IsTrue result ↔ (Vouched (shelf_view shelf.now) role.now (targets_file document.now) now) }
-{
-    let _ = now;
-    let top = shelf.top();
-    *role.as_str() == *top.role && meets_edge(&top, document, &[], &mut Steps::new())
 }
 
 // The document of the role at the end of the edge, or the first check of it that fails, with one tick for each signature
@@ -90,7 +79,12 @@ pub(crate) fn visit<'a>(
 }
 
 // Whether the document meets the edge's rule, with one tick for each signature that is checked.
-fn meets_edge(edge: &Edge, file: &File<Targets>, known: &[Verdict], checks: &mut Steps) -> bool
+pub(crate) fn meets_edge(
+    edge: &Edge,
+    file: &File<Targets>,
+    known: &[Verdict],
+    checks: &mut Steps,
+) -> bool
     requires sound { AreVerdicts (targets_file file.now).signed (targets_file file.now).entries (verdict_views known.now) }
     requires room { checks.old < 2 ^ 63 }
     ensures met { IsTrue result ↔ (Meets (edge_view edge.now).rule (edge_view edge.now).table (targets_file file.now).signed (targets_file file.now).entries) }

@@ -60,6 +60,7 @@ fn placed(
 
 // Whether a new targets document of a role is taken, or stands on the shelf.
 fn judge_targets(
+    alloc: Global,
     draft: &Draft<'_>,
     root: &File<Root>,
     role: &RoleName,
@@ -75,7 +76,7 @@ fn judge_targets(
     };
     named_targets(entry, new)?;
     let shelf = Shelf::new(&root.body, &snapshot.body, draft.rows());
-    if !vouched(&shelf, role, new, now) {
+    if !vouched(alloc, &shelf, role, new, now)? {
         return Err(Refusal::Denied(Denial::RoleThreshold));
     }
     if !live(new.body.expires, now) {
@@ -118,7 +119,7 @@ pub(crate) fn offer_targets(
         return Err(Refusal::Denied(Denial::NoRoot));
     };
     let new = new_targets(alloc, bytes)?;
-    if !judge_targets(draft, root, role, &new, now)? {
+    if !judge_targets(alloc, draft, root, role, &new, now)? {
         return Ok(false);
     }
     put_targets(draft, role, new)?;

@@ -1,0 +1,97 @@
+use Rattle.std.proofs.Common.{◌≡◌, ◌++◌, ◌+◌, false, true, List, [], ◌∷◌, map, Option, Some, option_map, true≢false, sym, ap, subst, ◌∙◌, arith, bytes_eq, inl, inr, length, length-append, ⊎_elim, refl, Bor, ℕ}
+use Rattle.std.proofs.lemmas.List.{map-append}
+use Rattle.std.proofs.lemmas.Slice.Eq.{bytes_eq-Decides}
+use Rattle.std.specs.List.{list_any}
+use Rattle.keys_roles.specs.Views as keys
+use Rattle.metadata.specs.declared.documents.Delegation.{Delegation as CodeDelegation}
+use Rattle.metadata.specs.File.{Names, has_name}
+use Rattle.metadata.specs.FileViews.{targets_file}
+use Rattle.metadata.specs.Views.{delegations_view}
+use Rattle.metadata.specs.declared.documents.Delegations.{Delegations as CodeDelegations}
+use Rattle.delegations.specs.Delegation.{Edge, Hops, hops}
+use Rattle.delegations.specs.Search.{Shelf, doc, hops_of, whole}
+use Rattle.delegations.specs.Views.{edge_view, shelf_view}
+use Rattle.delegations.specs.steps.Reaching.{Follows, IsAmong, rest_of, waiting, whole_of}
+use Rattle.delegations.specs.declared.frames.Frame.{Frame}
+use Rattle.delegations.proofs.GoodChains.{among, among_either, among_last, among_left, by_meeting, met_before, opens, one_fewer}
+use Rattle.delegations.proofs.GoodVisits.{listed_of}
+use Rattle.delegations.proofs.Onward.{hops_of_doc}
+use Rattle.delegations.proofs.vouching.follow.Goals as goal
+
+pub returns-then-eq-clause-follows : goal.returns-then-eq-clause-follows
+returns-then-eq-clause-follows c hs i state at =
+    by_meeting (shelf_view c.args.shelf.now) c.args.now c.args.role.now (targets_file c.args.new.now) (map (λ n. n.now) c.args.met.now.items) hs (waiting c.args.todo.now.items) state i (edge_view c.args.edge) at c.meets_edge.result c.meets_edge.ensures.met
+    ((bytes_eq-Decides c.args.edge.role.now c.as_str.result.now).0 (sym c.eq.ensures ∙ c.if-eq.true) ∙ c.as_str.ensures.value)
+
+pub returns-then-is_among-clause-follows : goal.returns-then-is_among-clause-follows
+returns-then-is_among-clause-follows c hs i state at =
+    let there : has_name (map (λ n. n.now) c.args.met.now.items) c.args.edge.role.now ≡ true =
+    sym (among c.args.met.now.items c.args.edge.role.now) ∙ ap (λ (ns : List (Bor (List ℕ))). list_any (λ n. bytes_eq n.now c.args.edge.role.now) ns) (sym c.deref.ensures.value) ∙ sym c.is_among.ensures ∙ c.if-is_among.true in
+    met_before (shelf_view c.args.shelf.now) c.args.now c.args.role.now (targets_file c.args.new.now) (map (λ n. n.now) c.args.met.now.items) hs (waiting c.args.todo.now.items) state i (edge_view c.args.edge) at
+    (λ same. true≢false (sym ((bytes_eq-Decides c.args.edge.role.now c.as_str.result.now).1 (same ∙ sym c.as_str.ensures.value)) ∙ sym c.eq.ensures ∙ c.if-eq.false)) there
+
+pub returns-in_default-delegations-clause-follows : goal.returns-in_default-delegations-clause-follows
+returns-in_default-delegations-clause-follows c hs i state at =
+    let V : Shelf = shelf_view c.args.shelf.now in
+    let e : Edge = edge_view c.args.edge in
+    let met : Names = map (λ n. n.now) c.args.met.now.items in
+    let fresh : has_name met e.role ≡ false =
+    sym (among c.args.met.now.items c.args.edge.role.now) ∙ ap (λ (ns : List (Bor (List ℕ))). list_any (λ n. bytes_eq n.now c.args.edge.role.now) ns) (sym c.deref.ensures.value) ∙ sym c.is_among.ensures ∙ c.if-is_among.false in
+    let g = c.in-Some.ensures.some in
+    let none : hops (whole V) e.role ≡ [] =
+    hops_of_doc V (λ d. true) e.role (targets_file c.in-Some.file.now) (subst (λ f. doc V e.role ≡ Some f) g.1 g.0.there) ∙ ap (λ (o : Option CodeDelegations). hops_of (λ d. true) (option_map delegations_view o)) c.in_default-delegations.is in
+    let items : map (λ n. n.now) c.push.new.self.items ≡ met ++ e.role ∷ [] = ap (λ (ns : List (Bor (List ℕ))). map (λ n. n.now) ns) c.in_ok-push.ensures.items ∙ map-append (λ n. n.now) c.args.met.now.items (c.args.edge.role ∷ []) in
+    subst (λ (later : Names). Follows V c.args.now c.args.role.now (targets_file c.args.new.now) e hs met (waiting c.args.todo.now.items) later (waiting c.args.todo.now.items) false) (sym items)
+    (opens V c.args.now c.args.role.now (targets_file c.args.new.now) met hs (waiting c.args.todo.now.items) state i e at
+    (λ same. true≢false (sym ((bytes_eq-Decides c.args.edge.role.now c.as_str.result.now).1 (same ∙ sym c.as_str.ensures.value)) ∙ sym c.eq.ensures ∙ c.if-eq.false))
+    fresh g.0 (waiting c.args.todo.now.items) (λ xs h. h) (λ xs h. inl h) (inl none))
+
+pub returns-in_default-delegations-clause-less : goal.returns-in_default-delegations-clause-less
+returns-in_default-delegations-clause-less c =
+    let V : Shelf = shelf_view c.args.shelf.now in
+    let e : Edge = edge_view c.args.edge in
+    let met : Names = map (λ n. n.now) c.args.met.now.items in
+    let fresh : has_name met e.role ≡ false =
+    sym (among c.args.met.now.items c.args.edge.role.now) ∙ ap (λ (ns : List (Bor (List ℕ))). list_any (λ n. bytes_eq n.now c.args.edge.role.now) ns) (sym c.deref.ensures.value) ∙ sym c.is_among.ensures ∙ c.if-is_among.false in
+    let items : map (λ n. n.now) c.push.new.self.items ≡ met ++ e.role ∷ [] = ap (λ (ns : List (Bor (List ℕ))). map (λ n. n.now) ns) c.in_ok-push.ensures.items ∙ map-append (λ n. n.now) c.args.met.now.items (c.args.edge.role ∷ []) in
+    let m = listed_of V e c.args.now c.in-Some.ensures.some.0 in
+    rw items (omega (arith, one_fewer V.listing met e.role m.0 m.1 fresh))
+
+-- what a new frame holds
+opened : (o : Option CodeDelegations) (ds : CodeDelegations) (roles : List CodeDelegation) → o ≡ Some ds → roles ≡ ds.roles.items
+    → hops_of (λ d. true) (option_map delegations_view o) ≡ rest_of (keys.table_view ds.keys) roles
+opened o ds roles is are = rw (is, are) refl
+
+pub returns-clause-follows : goal.returns-clause-follows
+returns-clause-follows c hs i state at =
+    let V : Shelf = shelf_view c.args.shelf.now in
+    let e : Edge = edge_view c.args.edge in
+    let met : Names = map (λ n. n.now) c.args.met.now.items in
+    let hss : List Hops = waiting c.args.todo.now.items in
+    let fresh : has_name met e.role ≡ false =
+    sym (among c.args.met.now.items c.args.edge.role.now) ∙ ap (λ (ns : List (Bor (List ℕ))). list_any (λ n. bytes_eq n.now c.args.edge.role.now) ns) (sym c.deref.ensures.value) ∙ sym c.is_among.ensures ∙ c.if-is_among.false in
+    let g = c.in-Some.ensures.some in
+    let ds : CodeDelegations = c.in-Some-delegations.delegations in
+    let hops_are : hops (whole V) e.role ≡ rest_of (keys.table_view ds.keys) c.deref-2.result.now =
+    hops_of_doc V (λ d. true) e.role (targets_file c.in-Some.file.now) (subst (λ f. doc V e.role ≡ Some f) g.1 g.0.there) ∙ opened c.in-Some.file.now.body.delegations ds c.deref-2.result.now c.in-Some-delegations.is c.deref-2.ensures.value in
+    let items : map (λ n. n.now) c.push.new.self.items ≡ met ++ e.role ∷ [] = ap (λ (ns : List (Bor (List ℕ))). map (λ n. n.now) ns) c.in_ok-push.ensures.items ∙ map-append (λ n. n.now) c.args.met.now.items (c.args.edge.role ∷ []) in
+    let frames : waiting c.push-2.new.self.items ≡ hss ++ rest_of (keys.table_view ds.keys) c.deref-2.result.now ∷ [] = ap (λ (fs : List Frame). waiting fs) c.in_ok-push-2.ensures.items ∙ map-append whole_of c.args.todo.now.items _ in
+    subst (λ (later : Names). Follows V c.args.now c.args.role.now (targets_file c.args.new.now) e hs met hss later (waiting c.push-2.new.self.items) false) (sym items)
+    (subst (λ (later : List Hops). Follows V c.args.now c.args.role.now (targets_file c.args.new.now) e hs met hss (met ++ e.role ∷ []) later false) (sym frames)
+    (opens V c.args.now c.args.role.now (targets_file c.args.new.now) met hs hss state i e at
+    (λ same. true≢false (sym ((bytes_eq-Decides c.args.edge.role.now c.as_str.result.now).1 (same ∙ sym c.as_str.ensures.value)) ∙ sym c.eq.ensures ∙ c.if-eq.false))
+    fresh g.0 (hss ++ rest_of (keys.table_view ds.keys) c.deref-2.result.now ∷ []) (λ xs h. among_left xs hss (rest_of (keys.table_view ds.keys) c.deref-2.result.now) h)
+    (λ xs h. ⊎_elim (λ l. inl l) (λ r. inr (hops_are ∙ r)) (among_either xs hss (rest_of (keys.table_view ds.keys) c.deref-2.result.now) h))
+    (inr (subst (λ xs. IsAmong xs (hss ++ rest_of (keys.table_view ds.keys) c.deref-2.result.now ∷ [])) (sym hops_are) (among_last hss (rest_of (keys.table_view ds.keys) c.deref-2.result.now))))))
+
+pub returns-clause-less : goal.returns-clause-less
+returns-clause-less c =
+    let V : Shelf = shelf_view c.args.shelf.now in
+    let e : Edge = edge_view c.args.edge in
+    let met : Names = map (λ n. n.now) c.args.met.now.items in
+    let fresh : has_name met e.role ≡ false =
+    sym (among c.args.met.now.items c.args.edge.role.now) ∙ ap (λ (ns : List (Bor (List ℕ))). list_any (λ n. bytes_eq n.now c.args.edge.role.now) ns) (sym c.deref.ensures.value) ∙ sym c.is_among.ensures ∙ c.if-is_among.false in
+    let items : map (λ n. n.now) c.push.new.self.items ≡ met ++ e.role ∷ [] = ap (λ (ns : List (Bor (List ℕ))). map (λ n. n.now) ns) c.in_ok-push.ensures.items ∙ map-append (λ n. n.now) c.args.met.now.items (c.args.edge.role ∷ []) in
+    let m = listed_of V e c.args.now c.in-Some.ensures.some.0 in
+    let longer : length c.push-2.new.self.items ≡ length c.args.todo.now.items + 1 = ap length c.in_ok-push-2.ensures.items ∙ length-append c.args.todo.now.items _ in
+    rw (items, longer) (omega (arith, one_fewer V.listing met e.role m.0 m.1 fresh))

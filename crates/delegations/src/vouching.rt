@@ -1,0 +1,134 @@
+//! Which new documents are vouched for (TUF 1.0, section 5.6.7): by a search over the roles that chains of good documents reach.
+ghost use Rattle.std.specs.Prelude.{◌≡◌, ◌↔◌, ◌+◌, ◌≤◌, ◌∷◌, ℕ, Some, IfOk, IfSome, IfNone, IsTrue, length, map, slice_get};
+ghost use Rattle.metadata.specs.FileViews.{targets_file};
+ghost use Rattle.delegations.specs.Delegation.{Hops};
+ghost use Rattle.delegations.specs.Search.{Good, Vouched};
+ghost use Rattle.delegations.specs.Views.{edge_view, shelf_view};
+ghost use Rattle.delegations.specs.steps.Reaching.{IsOpen, Follows, Closes, unmet_rows, waiting, whole_of};
+
+use crate::frames::Frame;
+use crate::shelf::{Edge, Shelf};
+use crate::verdicts::document;
+use crate::visited::is_among;
+use crate::visiting::meets_edge;
+use keys_roles::Steps;
+use metadata::{File, Moment, Targets, live};
+use path_patterns::RoleName;
+use std::alloc::{AllocError, Global};
+
+// The document at the end of the edge, if it is good: it is there, meets the edge's rule and is live.
+fn good_file<'a>(shelf: &Shelf<'a>, edge: &Edge, now: Moment) -> Option<&'a File<Targets>>
+    ensures some { IfSome result (λ f. (g : Good (shelf_view shelf.now) (edge_view edge.now) now) × (g.file ≡ targets_file f.now)) }
+    ensures none { IfNone result (Good (shelf_view shelf.now) (edge_view edge.now) now → ⊥) }
+{
+    let (_, file) = document(shelf, edge.role)?;
+    if meets_edge(edge, file, &[], &mut Steps::new()) && live(file.body.expires, now) {
+        Some(file)
+    } else {
+        None
+    }
+}
+
+// Follows one delegation of a role that was met: whether it vouches for the document. Otherwise its role is met too, where it is good.
+fn follow<'a>(
+    shelf: &Shelf<'a>,
+    role: &RoleName,
+    new: &File<Targets>,
+    now: Moment,
+    edge: Edge<'a>,
+    met: &mut Vec<&'a str>,
+    todo: &mut Vec<Frame<'a>>,
+) -> Result<bool, AllocError>
+    ensures follows { IfOk result (λ b. (hs : Hops) (i : ℕ) → IsOpen (shelf_view shelf.now) now role.now (targets_file new.now) (map (λ n. n.now) met.old.items) (hs ∷ waiting todo.old.items)
+        → slice_get hs i ≡ Some (Some (edge_view edge.entry))
+        → Follows (shelf_view shelf.now) now role.now (targets_file new.now) (edge_view edge.entry) hs (map (λ n. n.now) met.old.items) (waiting todo.old.items) (map (λ n. n.now) met.new.items) (waiting todo.new.items) b) }
+    ensures less { IfOk result (λ b. unmet_rows (shelf_view shelf.now).listing (map (λ n. n.now) met.new.items) + length todo.new.items
+        ≤ unmet_rows (shelf_view shelf.now).listing (map (λ n. n.now) met.old.items) + length todo.old.items) }
+{
+    if *edge.role == *role.as_str() {
+        return Ok(meets_edge(&edge, new, &[], &mut Steps::new()));
+    }
+    if is_among(met, edge.role) {
+        return Ok(false);
+    }
+    let Some(file) = good_file(shelf, &edge, now) else {
+        return Ok(false);
+    };
+    met.push(edge.role)?;
+    let Some(delegations) = &file.body.delegations else {
+        return Ok(false);
+    };
+    todo.push(Frame {
+        roles: &delegations.roles,
+        keys: &delegations.keys,
+    })?;
+    Ok(false)
+}
+
+// Looks at all delegations of a role that was met: whether one vouches for the document.
+fn expand<'a>(
+    shelf: &Shelf<'a>,
+    role: &RoleName,
+    new: &File<Targets>,
+    now: Moment,
+    frame: Frame<'a>,
+    met: &mut Vec<&'a str>,
+    todo: &mut Vec<Frame<'a>>,
+) -> Result<bool, AllocError>
+    requires { IsOpen (shelf_view shelf.now) now role.now (targets_file new.now) (map (λ n. n.now) met.old.items) (whole_of frame ∷ waiting todo.old.items) }
+    ensures closes { IfOk result (λ b. Closes (shelf_view shelf.now) now role.now (targets_file new.now) (map (λ n. n.now) met.new.items) (waiting todo.new.items) b) }
+    ensures less { IfOk result (λ b. unmet_rows (shelf_view shelf.now).listing (map (λ n. n.now) met.new.items) + length todo.new.items
+        ≤ unmet_rows (shelf_view shelf.now).listing (map (λ n. n.now) met.old.items) + length todo.old.items) }
+{
+    let mut rest = frame.roles;
+    'roles: while let Some((delegation, later)) = rest.split_first() {
+        let edge = Edge {
+            role: delegation.name.as_str(),
+            terminating: delegation.terminating,
+            rule: &delegation.rule,
+            keys: frame.keys,
+        };
+        if follow(shelf, role, new, now, edge, met, todo)? {
+            return Ok(true);
+        }
+        rest = later;
+    }
+    Ok(false)
+}
+
+/// Whether some chain of delegations vouches for a new document of the role: each document on the chain before it is good,
+/// and the new document meets the rule by which the chain leads to its role. Which paths a delegation covers, and whether it is
+/// terminating, plays no part.
+pub fn vouched(
+    alloc: Global,
+    shelf: &Shelf,
+    role: &RoleName,
+    document: &File<Targets>,
+    now: Moment,
+) -> Result<bool, AllocError>
+    ensures { IfOk result (λ b. IsTrue b ↔ (Vouched (shelf_view shelf.now) role.now (targets_file document.now) now)) }
+{
+    let top = shelf.top();
+    if *top.role == *role.as_str() {
+        return Ok(meets_edge(&top, document, &[], &mut Steps::new()));
+    }
+    let Some(file) = good_file(shelf, &top, now) else {
+        return Ok(false);
+    };
+    let Some(delegations) = &file.body.delegations else {
+        return Ok(false);
+    };
+    let mut met = Vec::new(alloc);
+    met.push(top.role)?;
+    let mut todo = Vec::new(alloc);
+    todo.push(Frame {
+        roles: &delegations.roles,
+        keys: &delegations.keys,
+    })?;
+    'frames: while let Some(frame) = todo.pop() {
+        if expand(shelf, role, document, now, frame, &mut met, &mut todo)? {
+            return Ok(true);
+        }
+    }
+    Ok(false)
+}
