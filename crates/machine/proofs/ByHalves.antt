@@ -67,7 +67,6 @@ by_halves k v below same o (x ∷ xs) (suc n) key r less more =
     (by_halves k v below same o xs n key (rest_rises k v below x xs r)
     (λ i d h l. less (suc i) d (omega arith) (omega arith)) (λ i d h l. more (suc i) d (omega arith) (omega arith)))
 
-
 lent : {X : Type 0} (xs : List X) (n : ℕ) (r : Option (Bor X)) → IsItemAt xs n r → slice_get xs n ≡ option_map (λ b. b.now) r
 lent xs n None h = slice_get_past xs n h.3
 lent {X} xs n (Some b) h = of (slice_get_cases xs n).1
@@ -96,6 +95,7 @@ parted {X} {K} {A} k v below through xs key r i j d h l t = of (cases_lt i j)
   where
     at : (n : ℕ) → n < length xs → slice_index_or (keyed k v xs) n (k d, v d) ≡ (k (slice_index_or xs n d), v (slice_index_or xs n d))
     at n m = get_or-map (λ x. (k x, v x)) xs n d (k d, v d) m
+
     of : (i < j) ⊎ (j ≤ i) → below (k (slice_index_or xs i d)) key ≡ true
     of (inl m) =
         let here = sym (at i (omega arith)) in

@@ -5,7 +5,7 @@ ghost use Rattle.denials.specs.declared.denial.Denial.{Denial as Denials};
 use crate::fault::Fault;
 use crate::notes::Notes;
 use metadata::Moment;
-use sqlite::{Connection, Error, ErrorCode, FileFrom, FileStore, Wary};
+use sqlite::{Alter, Connection, Error, ErrorCode, FileFrom, FileStore, Wary};
 use std::fs::File;
 use std::io::Write;
 use store::{Command, Reply, Store, StoreFault};
@@ -69,7 +69,7 @@ fn tell_why<E: Write>(rt: &HostRuntime, db: &str, notes: &mut Notes<'_, E>) {
 }
 
 /// Whether an earlier fault has shut the database, so that every command would be answered a fault.
-pub fn is_shut(repository: &mut Repository, now: Moment) -> bool {
+pub fn is_shut<S: Alter>(repository: &mut Store<S>, now: Moment) -> bool {
     match repository.apply(Command::Metadata(""), now) {
         Err(StoreFault::Database) => true,
         _ => false,

@@ -14,9 +14,11 @@ use crate::repository::{Repository, close, is_shut, opened};
 use crate::standing::tell_standing;
 use http_serve::{Routes, serve_list};
 use metadata::Moment;
+use sqlite::Alter;
 use std::io::Write;
 use std::net::{TcpListener, TcpStream};
 use std::slice;
+use store::Store;
 
 /// A server: the database file of its repository, its port on 127.0.0.1, after how many connections it ends, and the moment
 /// that was handed in.
@@ -98,7 +100,7 @@ impl<'a> Server<'a> {
         for _ in 0..self.count.unwrap_or(u64::MAX) {
             let stream = next_stream(self.rt, listener, notes)?;
             let now = moment(self.rt, self.at)?;
-            if held.is_none() || !is_available {
+            if !is_available {
                 self.open_again(held, now, notes);
             }
             is_available = self.serve_stream(&stream, &mut kept, routes, held, now, notes);
@@ -113,10 +115,8 @@ impl<'a> Server<'a> {
         now: Moment,
         notes: &mut Notes<'_, E>,
     ) {
-        if let Some(repository) = held {
-            if !is_shut(repository, now) {
-                return;
-            }
+        if is_open(held, now) {
+            return;
         }
         let_go(held);
         *held = opened(self.rt, self.db, notes).ok();
@@ -125,19 +125,19 @@ impl<'a> Server<'a> {
         }
     }
 
-    // Serves one connection, and answers whether no fault can have shut the database meanwhile, which its reply shows. One whose
-    // clock cannot be read is not served.
-    fn serve_stream<E: Write>(
+    // Serves one connection, and answers whether a database is held that no fault can have shut meanwhile, which the reply
+    // shows. One whose clock cannot be read is not served.
+    fn serve_stream<S: Alter, E: Write>(
         &self,
         stream: &TcpStream,
         kept: &mut Beginning,
         routes: &Routes,
-        held: &mut Option<Repository>,
+        held: &mut Option<Store<S>>,
         now: Moment,
         notes: &mut Notes<'_, E>,
     ) -> bool {
         let Ok(timer) = Timer::start(self.rt) else {
-            return true;
+            return held.is_some();
         };
         let mut connection = (
             Incoming::new(stream, timer, kept),
@@ -150,15 +150,15 @@ impl<'a> Server<'a> {
         if outgoing.status().is_some() {
             end(self.rt, stream, incoming, outgoing, &timer);
         }
-        outgoing.is_available()
+        held.is_some() && outgoing.is_available()
     }
 
     // Answers the connection from the repository, if one is held.
-    fn answer(
+    fn answer<S: Alter>(
         &self,
         routes: &Routes,
         connection: &mut (Incoming<'_, '_>, Outgoing<'_>, Moment),
-        held: &mut Option<Repository>,
+        held: &mut Option<Store<S>>,
     ) {
         let alloc = self.rt.alloc();
         match held {
@@ -170,6 +170,14 @@ impl<'a> Server<'a> {
                 answer_unavailable(alloc, routes, incoming, outgoing);
             }
         }
+    }
+}
+
+// Whether a repository is held that no fault has shut.
+fn is_open<S: Alter>(held: &mut Option<Store<S>>, now: Moment) -> bool {
+    match held {
+        Some(repository) => !is_shut(repository, now),
+        None => false,
     }
 }
 

@@ -1,18 +1,18 @@
 //! What is told of a repository before it is served: which root is trusted, and when the first of its documents expires.
 use crate::notes::Notes;
-use crate::repository::Repository;
 use metadata::{Body, Kind, Moment, RoleName, read_document};
+use sqlite::Alter;
 use std::alloc::Global;
 use std::fmt;
 use std::io::Write;
-use store::{Command, Reply};
+use store::{Command, Reply, Store};
 
 /// Tells the version of the trusted root, and the moment and the name of the document that expires first, of those that are in
 /// use: root, timestamp, snapshot, and the targets metadata that the snapshot lists.
-pub fn tell_standing<E: Write>(
+pub fn tell_standing<S: Alter, E: Write>(
     alloc: Global,
     db: &str,
-    held: &mut Option<Repository>,
+    held: &mut Option<Store<S>>,
     now: Moment,
     notes: &mut Notes<'_, E>,
 ) {
@@ -60,14 +60,14 @@ impl fmt::Display for Nearest {
 
 // The documents that were looked at, and the first moment at which one of them expires.
 #[derive(Drop)]
-struct Looked<'a> {
+struct Looked<'a, S: Alter> {
     alloc: Global,
-    repository: &'a mut Repository,
+    repository: &'a mut Store<S>,
     now: Moment,
     nearest: Option<Nearest>,
 }
 
-impl Looked<'_> {
+impl<S: Alter> Looked<'_, S> {
     fn at_all(&mut self, root: u32) {
         self.at_root(root);
         if let Some(snapshot) = self.at_timestamp() {
