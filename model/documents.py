@@ -7,13 +7,18 @@ import canonical_json
 import lms
 from denials import Denied, deny_unless
 from names import LARGEST_NUMBER, is_hex, is_role_name, is_target_path, is_whole, moment_of
+from patterns import is_pattern, is_prefix, matches_segmented, prefix_covers
 
+# The program takes no `delegations` yet: while this is False, a file with that member is of the wrong shape.
+DELEGATIONS_ARE_READ = False
 MAXIMUM_LENGTH = 262144
 MAXIMUM_SIGNATURES = 16
 MAXIMUM_SIGNATURE_LENGTH = 9324
 MAXIMUM_KEYS = 256
 MAXIMUM_RULE_KEYS = 16
 MAXIMUM_SNAPSHOT_ENTRIES = 128
+MAXIMUM_DELEGATIONS = 64
+MAXIMUM_COVERINGS = 64
 TOP_LEVEL_ROLES = {"root", "targets", "snapshot", "timestamp"}
 
 
@@ -21,7 +26,7 @@ class Document:
     """A file that was read.
 
     Each has `version`, `expires`, `signatures`, `bytes`, `signed_bytes` and `digest`; a root has `keys` and `rules`, a
-    timestamp `snapshot`, a snapshot `roles`, and targets metadata `listings`.
+    timestamp `snapshot`, a snapshot `roles`, and targets metadata `listings` and `delegations`.
     """
 
 
@@ -57,6 +62,22 @@ class Entry:
 
     def names(self, document):
         return self.version == document.version and self.has_length(document) and self.has_digest(document)
+
+
+class Delegation:
+    """What one role trusts another with: who has to sign for it, and which paths it is searched for."""
+
+    def __init__(self, role, rule, terminating=False, patterns=(), prefixes=()):
+        self.role = role
+        self.rule = rule
+        self.terminating = terminating
+        self.patterns = patterns
+        self.prefixes = prefixes
+
+    def covers(self, path):
+        return any(matches_segmented(pattern, path) for pattern in self.patterns) or any(
+            prefix_covers(prefix, path) for prefix in self.prefixes
+        )
 
 
 def shape(condition):
@@ -106,6 +127,16 @@ def read_key(value):
     return public
 
 
+def read_keys(value):
+    """A key table. Whether its names are the ids of its keys is judged after all members of a file."""
+    shape(type(value) is dict and len(value) <= MAXIMUM_KEYS)
+    return {keyid: read_key(key) for keyid, key in value.items()}
+
+
+def judge_ids(keys):
+    deny_unless(all(keyid == key_id(public) for keyid, public in keys.items()), "BadKeyId")
+
+
 def read_rule(value, keys):
     shape(type(value) is dict)
     keyids = value.get("keyids")
@@ -118,15 +149,13 @@ def read_rule(value, keys):
 
 
 def read_root(document, signed):
-    """Section 4.3. A name in the key table that is not the key's id is judged after all members."""
+    """Section 4.3."""
     shape(signed.get("consistent_snapshot") is True)
-    keys = signed.get("keys")
-    shape(type(keys) is dict and len(keys) <= MAXIMUM_KEYS)
-    document.keys = {keyid: read_key(key) for keyid, key in keys.items()}
+    document.keys = read_keys(signed.get("keys"))
     roles = signed.get("roles")
     shape(type(roles) is dict and set(roles) == TOP_LEVEL_ROLES)
     document.rules = {role: read_rule(rule, document.keys) for role, rule in roles.items()}
-    deny_unless(all(keyid == key_id(public) for keyid, public in document.keys.items()), "BadKeyId")
+    judge_ids(document.keys)
 
 
 def read_timestamp(document, signed):
@@ -147,18 +176,56 @@ def read_snapshot(document, signed):
         document.roles[role] = read_entry(entry)
 
 
+def read_texts(value, is_of_form):
+    """The patterns or the prefixes of one delegation. They may repeat."""
+    shape(type(value) is list and 1 <= len(value) <= MAXIMUM_COVERINGS)
+    shape(all(type(text) is str and is_of_form(text) for text in value))
+    return value
+
+
+def read_delegation(value, keys):
+    shape(type(value) is dict)
+    name = value.get("name")
+    shape(type(name) is str and is_role_name(name) and name not in TOP_LEVEL_ROLES)
+    rule = read_rule(value, keys)
+    terminating = value.get("terminating")
+    shape(type(terminating) is bool)
+    shape(("paths" in value) != ("path_hash_prefixes" in value))
+    if "paths" in value:
+        return Delegation(name, rule, terminating, patterns=read_texts(value["paths"], is_pattern))
+    return Delegation(name, rule, terminating, prefixes=read_texts(value["path_hash_prefixes"], is_prefix))
+
+
+def read_delegations(value):
+    """The key table, and the delegations in their order, which take their keys from it."""
+    shape(type(value) is dict)
+    keys = read_keys(value.get("keys"))
+    roles = value.get("roles")
+    shape(type(roles) is list and len(roles) <= MAXIMUM_DELEGATIONS)
+    delegations = [read_delegation(role, keys) for role in roles]
+    shape(len({delegation.role for delegation in delegations}) == len(delegations))
+    return keys, delegations
+
+
+def read_listing(value):
+    """Layouts are not built, and a file with one is of the wrong shape."""
+    shape(type(value) is dict and is_whole(value.get("length"), 0, LARGEST_NUMBER))
+    digest = read_digest(value.get("hashes"))
+    if "custom" in value:
+        shape(type(value["custom"]) is dict and "layout" not in value["custom"])
+    return value["length"], digest
+
+
 def read_targets(document, signed):
-    """Section 4.5. Delegations and layouts are not built, and a file with them is of the wrong shape."""
+    """Section 4.5."""
     targets = signed.get("targets")
-    shape(type(targets) is dict)
-    document.listings = {}
-    for path, listing in targets.items():
-        shape(is_target_path(path) and type(listing) is dict and is_whole(listing.get("length"), 0, LARGEST_NUMBER))
-        digest = read_digest(listing.get("hashes"))
-        if "custom" in listing:
-            shape(type(listing["custom"]) is dict and "layout" not in listing["custom"])
-        document.listings[path] = (listing["length"], digest)
-    shape("delegations" not in signed)
+    shape(type(targets) is dict and all(map(is_target_path, targets)))
+    document.listings = {path: read_listing(listing) for path, listing in targets.items()}
+    keys, document.delegations = {}, []
+    if "delegations" in signed:
+        shape(DELEGATIONS_ARE_READ)
+        keys, document.delegations = read_delegations(signed["delegations"])
+    judge_ids(keys)
 
 
 READERS = {"root": read_root, "timestamp": read_timestamp, "snapshot": read_snapshot, "targets": read_targets}

@@ -71,10 +71,26 @@ def listing(length, sha256):
     return {"length": length, "hashes": {"sha256": sha256}}
 
 
-def targets(version, expires, listings):
+def delegation(role, keys, threshold, paths=None, prefixes=None, terminating=False):
+    """With `paths`, `prefixes`, or none or both of them."""
+    said = {"name": role, "terminating": terminating, **rule(keys, threshold)}
+    if paths is not None:
+        said["paths"] = paths
+    if prefixes is not None:
+        said["path_hash_prefixes"] = prefixes
+    return said
+
+
+def delegations(keys, roles):
+    return {"keys": key_table(keys), "roles": roles}
+
+
+def targets(version, expires, listings, delegating=None):
     """`listings` has, for each path, a length and a digest."""
-    said = {path: listing(*values) for path, values in listings.items()}
-    return document("targets", version, expires, {"targets": said})
+    members = {"targets": {path: listing(*values) for path, values in listings.items()}}
+    if delegating is not None:
+        members["delegations"] = delegating
+    return document("targets", version, expires, members)
 
 
 def signature_entry(signer, signed_bytes):
