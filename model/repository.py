@@ -2,6 +2,7 @@
 import hashlib
 import re
 
+import delegations
 from denials import Denied, deny_unless
 from documents import is_live, meets, read_document
 from names import asked, is_target_path
@@ -117,11 +118,6 @@ def live_snapshot(state, now):
     deny_unless(is_live(state.snapshot, now), "SnapshotExpired")
 
 
-def vouched(state, role, targets):
-    """Without delegations only the root vouches, and only for `targets`."""
-    return role == "targets" and meets(state.rule("targets"), targets)
-
-
 def offer_targets(state, role, text, now):
     """Section 5.6."""
     targets = read_document("targets", text)
@@ -131,7 +127,7 @@ def offer_targets(state, role, text, now):
     deny_unless(entry.has_length(targets), "RoleLength")
     deny_unless(entry.has_digest(targets), "RoleHash")
     deny_unless(targets.version == entry.version, "RoleVersion")
-    deny_unless(vouched(state, role, targets), "RoleThreshold")
+    deny_unless(delegations.is_vouched(state, role, targets, now), "RoleThreshold")
     deny_unless(is_live(targets, now), "RoleExpired")
     place = (role, targets.version)
     if place in state.shelf:
@@ -206,16 +202,7 @@ def target(state, text, now):
     deny_unless(is_target_path(path), "BadPath")
     deny_unless(state.roots, "NoRoot")
     live_snapshot(state, now)
-    deny_unless("targets" in state.snapshot.roles, "RoleUnlisted")
-    entry = state.snapshot.roles["targets"]
-    targets = state.shelf.get(("targets", entry.version))
-    deny_unless(targets, "RoleMissing")
-    deny_unless(entry.has_length(targets), "RoleLength")
-    deny_unless(entry.has_digest(targets), "RoleHash")
-    deny_unless(vouched(state, "targets", targets), "RoleThreshold")
-    deny_unless(is_live(targets, now), "RoleExpired")
-    deny_unless(path in targets.listings, "NotFound")
-    length, digest = targets.listings[path]
+    _, (length, digest) = delegations.search(state, path, now)
     deny_unless(digest in state.blobs, "BlobMissing")
     deny_unless(len(state.blobs[digest]) == length, "BlobLength")
     deny_unless(digest_asked in (None, digest), "DigestMismatch")
