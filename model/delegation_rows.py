@@ -1,4 +1,4 @@
-"""Delegations by hand: which roles are visited for a path and how the search ends, who vouches, what is read.
+"""Delegations by hand: which roles are visited for a path, how the search ends, and who vouches for a new file.
 
 No program runs here. The cases say what is wanted, and both forms of `delegations.py` are held to it; on small random
 graphs they are compared with each other. `delegation_histories.py` puts the same graphs before the program.
@@ -9,7 +9,7 @@ import delegations
 import repository
 import signed_documents as make
 from denials import NUMBERS, Denied
-from documents import judge_ids, key_id, read_checked, read_delegations, read_document
+from documents import read_checked, read_delegations, read_document
 from names import asked
 from scenes import EXPIRED, LIVE, NOW, ZEROS, signed_document, simple_state
 from test_keys import KEYS
@@ -49,13 +49,13 @@ SEARCHES = [
     ("below a role that lists", "targets: a", "targets: lists; a: lists", "targets a", "targets"),
     ("the first delegation", "targets: a b", "a: lists; b: lists", "targets a b", "a"),
     ("the subtree before the next delegation", "targets: a b; a: c", "b: lists; c: lists", "targets a c b", "c"),
-    ("the subtree of a subtree", "targets: a b; a: c d; c: e", "b: lists; d: lists; e: lists", "targets a c e d b", "e"),
+    ("the subtree of a subtree", "targets: a b; a: c d; c: e", "b: lists; e: lists", "targets a c e d b", "e"),
     ("judged by the keys of the first edge", "targets: a b=B; a: c; c: b=C", "b: lists C", "targets a c b", "b"),
     ("not by keys of a later edge", "targets: a b=B; a: c; c: b=C", "b: lists B", "targets a c b", "RoleThreshold"),
     ("one level above by other keys", "targets: a b; a: b=B", "b: lists", "targets a b", "RoleThreshold"),
     ("below by other keys", "targets: b a; a: b=B", "b: lists", "targets b a", "b"),
-    ("visited in a subtree that was left", "targets: a c d; a: b; c: b=B", "b: B; d: lists", "targets a b c d", "RoleThreshold"),
-    ("visited in a subtree that was left, by its keys", "targets: a c d; a: b=B; c: b", "b: B; d: lists", "targets a b c d", "d"),
+    ("visited in a subtree that was left", "targets: a c; a: b=B; c: b d", "b: B; d: lists", "targets a b c d", "d"),
+    ("judged in a subtree that was left", "targets: a c; a: b; c: b=B", "b: lists B", "targets a b c", "RoleThreshold"),
     ("visited before, and terminating", "targets: a a2! b; a: a2", "b: lists", "targets a a2", "NotFound"),
     ("terminating, inside another", "targets: a d; a: b! c", "d: lists", "targets a b", "NotFound"),
     ("itself, and terminating", "targets: a c; a: a! b", "c: lists", "targets a", "NotFound"),
@@ -66,7 +66,7 @@ SEARCHES = [
     ("below a terminating delegation", "targets: a! d; a: b c; b: e", "c: lists; d: lists", "targets a b e c", "c"),
     ("terminating, and not covering", "targets: a!- b", "b: lists", "targets b", "b"),
     ("terminating, and the last", "targets: a b!", "b: lists", "targets a b", "b"),
-    ("cut off at two levels", "targets: a f; a: b e; b: c! d", "d: lists; e: lists; f: lists", "targets a b c", "NotFound"),
+    ("cut off at all levels", "targets: a f; a: b e; b: c! d", "e: lists; f: lists", "targets a b c", "NotFound"),
     ("cut off behind a cut", "targets: a! b; b: c! d", "b: lists; d: lists", "targets a", "NotFound"),
     ("its first chain is not cut, a later one is", "targets: a b; b: c! a", "a: lists", "targets a b c", "a"),
     ("its first chain is cut", "targets: b! a; b: c", "a: lists", "targets b c", "NotFound"),
@@ -74,7 +74,7 @@ SEARCHES = [
     ("two of two keys", "targets: a=AB; a: b=BC", "a: AB; b: lists BC", "targets a b", "b"),
     ("one of two keys", "targets: a=AB; a: b=BC", "a: AB; b: lists B", "targets a b", "RoleThreshold"),
     ("one of two keys is enough", "targets: a=AB/1", "a: lists B", "targets a", "a"),
-    ("a line of three with two signatures each", "targets: a=AB; a: b=AB", "targets: AB; a: AB; b: lists AB", "targets a b", "b"),
+    ("two signatures of each", "targets: a=AB; a: b=AB", "targets: AB; a: AB; b: lists AB", "targets a b", "b"),
     ("targets is not signed", "targets: a", "targets: lists B; a: lists", "targets a", "RoleThreshold"),
     ("targets is not there", "targets: a", "targets: missing; a: lists", "targets", "RoleMissing"),
     ("not named", "targets: a b", "a: unlisted; b: lists", "targets a b", "RoleUnlisted"),
@@ -149,77 +149,6 @@ COVERED = [
 ]
 
 
-A_KEY = make.key_object(KEYS[0].public.hex())
-GOOD = make.delegation("a", KEYS[0:1], 1, paths=["*"])
-WITHOUT_PATHS = make.delegation("a", KEYS[0:1], 1)
-
-
-def names(count):
-    return [{**GOOD, "name": f"a{number}"} for number in range(count)]
-
-
-def many_keys(count):
-    publics = [KEYS[0].public.hex(), *(f"{number:0112x}" for number in range(1, count))]
-    return {key_id(public): make.key_object(public) for public in publics}
-
-
-def of_rule(count, threshold):
-    """A key table with a delegation to so many of its keys."""
-    keys = many_keys(20)
-    return {"keys": keys, "roles": [{**GOOD, "keyids": list(keys)[:count], "threshold": threshold}]}
-
-
-def with_paths(paths):
-    return {**WITHOUT_PATHS, "paths": paths}
-
-
-def with_prefixes(prefixes):
-    return {**WITHOUT_PATHS, "path_hash_prefixes": prefixes}
-
-
-# One delegation of a list, and whether it is read.
-ROLES_READ = [
-    (GOOD, True), (WITHOUT_PATHS, False), ({**GOOD, "path_hash_prefixes": ["0"]}, False),
-    ({**GOOD, "path_hash_prefixes": None}, False), (with_prefixes(["0"]), True), (with_paths(None), False),
-    (with_paths([]), False), (with_prefixes([]), False), (with_paths(["*"] * 64), True), (with_paths(["*"] * 65), False),
-    (with_prefixes(["0"] * 64), True), (with_prefixes(["0"] * 65), False), (with_paths(["a" * 200]), True),
-    (with_paths(["a" * 201]), False), (with_paths([""]), False), (with_paths(["a", ""]), False), (with_paths(["a b"]), False),
-    (with_paths(["//?*-_.AZaz09"]), True), (with_paths(["é"]), False), (with_paths(["[a]"]), False), (with_paths([1]), False),
-    (with_paths("a"), False), (with_paths({"a": 1}), False), (with_paths(["a\n"]), False), (with_prefixes([""]), False),
-    (with_prefixes(["0" * 64]), True), (with_prefixes(["0" * 65]), False), (with_prefixes(["A"]), False),
-    (with_prefixes(["g"]), False), (with_prefixes(["*"]), False), (with_prefixes("0"), False), (with_prefixes([0]), False),
-    ({**GOOD, "terminating": True}, True), ({**GOOD, "terminating": 1}, False), ({**GOOD, "terminating": None}, False),
-    ({**GOOD, "terminating": "false"}, False), ({**GOOD, "name": "root"}, False), ({**GOOD, "name": "targets"}, False),
-    ({**GOOD, "name": "snapshot"}, False), ({**GOOD, "name": "timestamp"}, False), ({**GOOD, "name": "mirrors"}, True),
-    ({**GOOD, "name": "targets-"}, True), ({**GOOD, "name": "9_-"}, True), ({**GOOD, "name": "-a"}, False),
-    ({**GOOD, "name": "A"}, False), ({**GOOD, "name": "a.b"}, False), ({**GOOD, "name": ""}, False),
-    ({**GOOD, "name": "a" * 32}, True), ({**GOOD, "name": "a" * 33}, False), ({**GOOD, "name": None}, False),
-    ({**GOOD, "keyids": [KEYS[1].id]}, False), ({**GOOD, "keyids": []}, False), ({**GOOD, "keyids": [KEYS[0].id] * 2}, False),
-    ({**GOOD, "threshold": 0}, False), ({**GOOD, "threshold": 2}, False), ({**GOOD, "further": [{}]}, True), ([], False),
-    *(({name: value for name, value in GOOD.items() if name != left_out}, False) for left_out in GOOD),
-]
-
-# The whole member, and what it is read as: None, or the denial.
-LISTS_READ = [
-    ("nothing in it", {"keys": {}, "roles": []}, None), ("further members", {"keys": {}, "roles": [], "x": 1}, None),
-    ("null", None, "WrongShape"), ("a list", [], "WrongShape"), ("no keys", {"roles": []}, "WrongShape"),
-    ("no roles", {"keys": {}}, "WrongShape"), ("roles by name", {"keys": {}, "roles": {}}, "WrongShape"),
-    ("64 delegations", make.delegations(KEYS[0:1], names(64)), None),
-    ("65 delegations", make.delegations(KEYS[0:1], names(65)), "WrongShape"),
-    ("one name twice", make.delegations(KEYS[0:1], [GOOD, {**GOOD, "paths": ["b"]}]), "WrongShape"),
-    ("256 keys", {"keys": many_keys(256), "roles": [GOOD]}, None),
-    ("257 keys", {"keys": many_keys(257), "roles": [GOOD]}, "WrongShape"),
-    ("16 of 16", of_rule(16, 16), None), ("17 of 17", of_rule(17, 17), "WrongShape"), ("1 of 17", of_rule(17, 1), "WrongShape"),
-    ("16 of 15", of_rule(15, 16), "WrongShape"),
-    ("another name of a key", {"keys": {ZEROS: A_KEY}, "roles": []}, "BadKeyId"),
-    ("a name of no digits", {"keys": {"x": A_KEY}, "roles": []}, "BadKeyId"),
-    ("another name in a rule", {"keys": {"x": A_KEY}, "roles": [{**GOOD, "keyids": ["x"]}]}, "BadKeyId"),
-    ("another name, and no such role", {"keys": {"x": A_KEY}, "roles": [GOOD]}, "WrongShape"),
-    ("two names of a key", {"keys": {KEYS[0].id: A_KEY, ZEROS: A_KEY}, "roles": [GOOD]}, "BadKeyId"),
-    ("a key with a further member", {"keys": {KEYS[0].id: {**A_KEY, "x": 1}}, "roles": [GOOD]}, "WrongShape"),
-]
-
-
 def keys_of(letters):
     return [KEYS["ABCD".index(letter)] for letter in letters]
 
@@ -238,7 +167,8 @@ def delegations_of(text):
 
 def parts_of(text):
     """`role: words` between semicolons."""
-    return {role.strip(): words.strip() for role, _, words in (part.partition(":") for part in text.split(";") if part)}
+    parts = [part.partition(":") for part in text.split(";") if part]
+    return {role.strip(): words for role, _, words in parts}
 
 
 def signers_of(words):
@@ -258,8 +188,11 @@ def read_whole(signed, signers):
     return read_document("targets", make.signed_file(signed, signers))
 
 
-def graph_state(graph, said="", read=read_beside, signers=KEYS[0:1]):
-    """A state whose shelf has these files; its snapshot and timestamp are signed by `signers`."""
+def graph_state(graph, said="", read=read_beside, signers=KEYS[0:1], due=None):
+    """A state whose shelf has these files; its snapshot and timestamp are signed by `signers`.
+
+    For the role that is `due` the snapshot names the next version.
+    """
     graph, said = parts_of(graph), parts_of(said)
     state = simple_state()
     state.blobs[make.digest(BLOB)] = BLOB
@@ -277,6 +210,8 @@ def graph_state(graph, said="", read=read_beside, signers=KEYS[0:1]):
         if "unlisted" not in words:
             length = len(document.bytes) + 1 if "length" in words else None
             entries[role] = (1, length, ZEROS if "hash" in words else None)
+    if due:
+        entries[due] = (2,)
     state.snapshot = signed_document("snapshot", make.snapshot(1, LIVE, entries), signers)
     state.timestamp = signed_document("timestamp", make.timestamp(1, LIVE, 1), signers)
     return state
@@ -350,28 +285,10 @@ def compare_covered(session, _random):
     session.check("asked: a consistent name", (PATH, ABC), asked(f"a/{ABC}.b.tgz"))
     state = graph_state("targets: a", "a: lists")
     for name, wanted in (
-        (PATH, BLOB), (f"a/{make.digest(BLOB)}.b.tgz", BLOB), (f"a/{ABC}.b.tgz", "DigestMismatch"), ("a/../b", "BadPath"),
-        ("b.tgz", "NotFound"),
+        (PATH, BLOB), (f"a/{make.digest(BLOB)}.b.tgz", BLOB), (f"a/{ABC}.b.tgz", "DigestMismatch"),
+        ("a/../b", "BadPath"), ("b.tgz", "NotFound"),
     ):
         session.check(f"asked: {name}", wanted, answer(repository.target, state, name, NOW))
-
-
-def read_as(value):
-    """The denial of the member `delegations`, or None."""
-    try:
-        keys, _ = read_delegations(value)
-        judge_ids(keys)
-    except Denied as denied:
-        return denied.name
-    return None
-
-
-def compare_reading(session, _random):
-    for label, value, wanted in LISTS_READ:
-        session.check(f"read: {label}", wanted, read_as(value))
-    for said, is_read in ROLES_READ:
-        wanted = None if is_read else "WrongShape"
-        session.check(f"read: {said}", wanted, read_as({"keys": {KEYS[0].id: A_KEY}, "roles": [said]}))
 
 
 def compare_forms(session, random, count):

@@ -292,7 +292,7 @@ class Cases:
                 keys[key_id(f"{number:0112x}")] = make.key_object(f"{number:0112x}")
             self.sign(f"{count} keys", {**self.signed, "keys": keys})
 
-    def keys(self):
+    def keys(self, table=("keys",)):
         """Odd key objects, under their own ids and under others."""
         public = KEYS[16].public.hex()
         key = make.key_object(public)
@@ -305,7 +305,7 @@ class Cases:
         for value in odd:
             own = hashlib.sha256(canonical_json.write(value)).hexdigest()
             for name in (own, ZEROS, "x", "X" * 64, KEYS[16].id, KEYS[16].id.upper()):
-                self.sign(f"key {value!r} as {name}", with_member(self.signed, ("keys",), name, value))
+                self.sign(f"key {value!r} as {name}", with_member(self.signed, table, name, value))
 
     def envelopes(self):
         first = ("signatures", 0)
@@ -416,6 +416,13 @@ def taking_states():
 
 def compare_shapes(session, random, kind):
     files = Cases(kind, random).all()
+    compare_files(session, random, kind, files)
+    if kind == "root":
+        compare_first_roots(session, random, files)
+
+
+def compare_files(session, random, kind, files):
+    """Each file, with a label, as one of this kind before a state that takes the unchanged one."""
     state, earlier = taking_states()
     if kind == "snapshot":
         state = earlier
@@ -434,8 +441,6 @@ def compare_shapes(session, random, kind):
         World(session, state).serve(NOW, [(label, request), (label + ", again", request)])
     for label, text in random.sample(files, 25):
         World(session, state).publish(NOW, [(kind, text)], label)
-    if kind == "root":
-        compare_first_roots(session, random, files)
 
 
 def compare_first_roots(session, random, files):
