@@ -123,6 +123,7 @@ VOUCHERS = [
     ("over a role of another signer", "targets: a; a: b", "a: B", "b", "A", False),
     ("whatever paths are covered", "targets: a-; a: b-", "", "b", "A", True),
     ("behind a terminating delegation", "targets: a! b; b: c! d", "", "d", "A", True),
+    ("over terminating delegations", "targets: a!; a: b!; b: c!-", "", "c", "A", True),
     ("by the second of two", "targets: a b; a: c=B; b: c=C", "", "c", "C", True),
     ("by keys of two rules", "targets: a b; a: c=BC; b: c=CD", "", "c", "BD", False),
     ("over a role that is good by its second edge alone", "targets: a=B b; b: a=C; a: c", "a: C", "c", "A", True),
@@ -249,18 +250,20 @@ def compare_searches(session, _random):
 
 
 def random_graph(random):
-    """Up to six roles, and what is said of them, in the words of the cases above."""
-    names = random.sample("abcdef", random.randint(1, 5))
+    """Up to six roles, and what is said of their files, in the words of the cases above. Half the graphs are all good."""
+    names = random.sample("abcdef", random.choice((1, 2, 3, 4, 4, 5, 5)))
+    is_good = random.random() < 0.5
     parts, said = [], []
-    most = random.choice((1, 2, 5))
+    most = random.choice((1, 2, 3))
     for role in ["targets", *names]:
-        delegated = random.sample(names, min(len(names), random.choice((0, 1, 2, most, most))))
-        marks = [random.choice(("", "", "", "!")) + random.choice(("", "", "", "-")) for _ in delegated]
-        keys = [random.choice(("", "", "", "=B", "=AB/1", "=AB")) for _ in delegated]
-        parts.append(f"{role}: " + " ".join(map("".join, zip(delegated, marks, keys))))
-        wrong = random.choice(("",) * 12 + ("expired", "missing", "unlisted", "length", "hash"))
-        signed = random.choice(("A", "A", "AB", "B"))
-        said.append(f"{role}: {wrong} {signed}" if role != "targets" else "targets: A")
+        words = []
+        for name in random.sample(names, min(len(names), random.choice((0, 1, 2, most, most, 5)))):
+            marks = random.choice(("", "", "", "!")) + random.choice(("", "", "", "", "-"))
+            words.append(name + marks + ("" if is_good else random.choice(("", "", "=B", "=B", "=AB/1", "=AB"))))
+        parts.append(f"{role}: " + " ".join(words))
+        wrong = random.choice(("",) * 40 + ("expired", "missing", "unlisted", "length", "hash"))
+        if role != "targets" and not is_good:
+            said.append(f"{role}: {wrong} {random.choice(('A', 'AB', 'AB', 'AB', 'B'))}")
     return "; ".join(parts), "; ".join(said)
 
 

@@ -13,8 +13,10 @@ NAMES = dict(enumerate(
     1,
 ))
 NUMBERS = {name: number for number, name in NAMES.items()}
-# Denials of delegations and layouts: no command answers them yet.
-NOT_BUILT = {NAMES[number] for number in (34, *range(41, 51))}
+# Denials of layouts: no command answers them yet.
+NOT_BUILT = {NAMES[number] for number in range(41, 51)}
+# Denials that only a search over delegations ends with.
+OF_DELEGATIONS = {"TooManyRoles"}
 
 
 class Denied(Exception):

@@ -154,10 +154,9 @@ class History:
             root["keys"][KEYS[1].id] = make.key_object(KEYS[0].public.hex())
         return self.finish(root, signers)
 
-    def make_targets(self, state):
+    def make_listings(self):
+        """Files that are there, at times with another length or digest."""
         random = self.random
-        held = [version for role, version in state.shelf if role == "targets"]
-        version = max(1, max(held, default=0) + random.choice((1, 1, 1, 1, 0, 2, 3)))
         listings = {}
         for path in random.sample(PATHS, random.randint(0, 4)):
             blob = random.choice(BLOBS)
@@ -168,6 +167,13 @@ class History:
             elif kind < 0.12:
                 digest = f"{random.getrandbits(256):064x}"
             listings[path] = (length, digest)
+        return listings
+
+    def make_targets(self, state):
+        random = self.random
+        held = [version for role, version in state.shelf if role == "targets"]
+        version = max(1, max(held, default=0) + random.choice((1, 1, 1, 1, 0, 2, 3)))
+        listings = self.make_listings()
         targets = make.targets(version, self.expiry(), listings)
         if listings and self.chance(0.1):
             targets["targets"][random.choice(list(listings))]["custom"] = random.choice(({}, {"a": 1}, {"layouts": []}))
