@@ -4,6 +4,7 @@ The first check that fails is answered.
 """
 import itertools
 
+import delegation_scenes
 import http_requests
 import http_server
 import tables
@@ -35,7 +36,7 @@ def requests_of(random, state, role, text):
 
 def compare_scene(session, random, name, larger_sets):
     """Requests that change nothing share one server for each state; one that changes it is sent again."""
-    scene, names = SCENES[name]
+    scene, names = {**SCENES, **delegation_scenes.SCENES}[name]
     shared = {}
     alone = []
     for broken in map(set, sets_to_break(random, names, larger_sets)):

@@ -250,7 +250,7 @@ def compare_searches(session, _random):
 
 
 def random_graph(random):
-    """Up to six roles, and what is said of their files, in the words of the cases above. Half the graphs are all good."""
+    """Up to six roles, and what is said of their files, in the words of the cases above. In half, all is good."""
     names = random.sample("abcdef", random.choice((1, 2, 3, 4, 4, 5, 5)))
     is_good = random.random() < 0.5
     parts, said = [], []
