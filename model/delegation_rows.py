@@ -11,6 +11,7 @@ import signed_documents as make
 from denials import NUMBERS, Denied
 from documents import read_checked, read_delegations, read_document
 from names import asked
+from patterns import matches_flat
 from scenes import EXPIRED, LIVE, NOW, ZEROS, signed_document, simple_state
 from test_keys import KEYS
 
@@ -285,6 +286,7 @@ def compare_covered(session, _random):
         said = {**make.delegation("a", KEYS[0:1], 1), member: ["zz" if member == "paths" else "0", text]}
         _, [delegation] = read_delegations(make.delegations(KEYS[0:1], [said]))
         session.check(f"covered: {member} {text} and {path}", wanted, delegation.covers(path))
+    session.check("covered: * over slashes, in artifact rules alone", True, matches_flat("*", "a/b/c"))
     session.check("asked: a consistent name", (PATH, ABC), asked(f"a/{ABC}.b.tgz"))
     state = graph_state("targets: a", "a: lists")
     for name, wanted in (
@@ -300,8 +302,11 @@ def compare_forms(session, random, count):
         graph, said = random_graph(random)
         state = graph_state(graph, said, signers=())
         label = f"both forms: {graph} | {said}"
-        by_chains = roles_visited(delegations.visits_of_chains, state)
-        session.check(f"{label}, visits", by_chains, roles_visited(delegations.visits_of_walk, state))
+        edges_of_chains, edges_of_walk = (
+            [(edge.role, edge.rule.keyids, edge.rule.threshold) for edge in form(delegations.graph_for(state, PATH))]
+            for form in (delegations.visits_of_chains, delegations.visits_of_walk)
+        )
+        session.check(f"{label}, visits", edges_of_chains, edges_of_walk)
         for role in random.sample("abcdef", 2):
             by_chain, by_reach = vouched_by_both(state, role, new_file(random.choice(("A", "B", "AB", "C"))))
             session.check(f"{label}, {role} vouched for", by_chain, by_reach)
