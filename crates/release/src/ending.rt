@@ -10,9 +10,9 @@ const PIECE: usize = 8192;
 // So many pieces that have come already are taken away without waiting.
 const PIECES: u32 = 128;
 
-/// Ends a connection behind its reply, so that its stream may be closed. Where the request came whole, nothing is waited for.
-/// Otherwise nothing is sent any more, and what the peer still sends is read away until it ends or its time is over, so that
-/// the reply reaches a peer that is still sending.
+/// Ends a connection behind its reply, so that its stream may be closed: nothing is sent any more. Where the request came
+/// whole, nothing is waited for. Otherwise what the peer still sends is read away until it ends or its time is over, so that the
+/// reply reaches a peer that is still sending.
 pub fn end(
     rt: &HostRuntime,
     stream: &TcpStream,
@@ -20,14 +20,10 @@ pub fn end(
     outgoing: &Outgoing<'_>,
     timer: &Timer<'_>,
 ) {
-    let is_whole = outgoing.is_of_command() || incoming.is_whole();
-    if is_whole && incoming.is_drained() {
-        return;
-    }
     if stream.shutdown(Shutdown::Write).is_err() {
         return;
     }
-    if is_whole {
+    if outgoing.is_of_command() || incoming.is_whole() {
         take_what_came(stream);
         return;
     }

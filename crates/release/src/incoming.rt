@@ -20,7 +20,6 @@ pub struct Incoming<'a, 'k> {
     kept: &'k mut Beginning,
     has_head: bool,
     received: u64,
-    is_drained: bool,
 }
 
 // A head that came whole: its bytes, and those of its body where the fields declare them.
@@ -43,7 +42,6 @@ impl<'a, 'k> Incoming<'a, 'k> {
             kept,
             has_head: false,
             received: 0,
-            is_drained: false,
         }
     }
 
@@ -63,11 +61,6 @@ impl<'a, 'k> Incoming<'a, 'k> {
             ) => body.saturating_add(bytes as u64) <= self.received,
             _ => false,
         }
-    }
-
-    /// Whether the last read took all that had come.
-    pub fn is_drained(&self) -> bool {
-        self.is_drained
     }
 
     // So many seconds since its beginning has the connection for the next call. What came is looked at only here, since most
@@ -101,7 +94,6 @@ impl Read for Incoming<'_, '_> {
         let seconds = self.seconds();
         let timer = self.timer;
         let count = read_within(self.stream, buf, &timer, seconds)?;
-        self.is_drained = count < buf.len();
         self.keep(&buf[..count]);
         Ok(count)
     }
