@@ -10,7 +10,9 @@ use crate::verdicts::{named, verdict};
 use crate::{KeyTable, RoleRule, Signature, Verdict};
 use lms::Steps;
 
-// The most keys that a threshold asks for.
+// The most keys that a document's threshold asks for, and the most that any does.
+const USUAL: usize = 16;
+
 const MOST: usize = 255;
 
 /// Whether the rule is met: as many distinct public keys as its threshold, each the table's key of an id of the rule,
@@ -70,8 +72,48 @@ pub fn meets_with_counted(
     ensures most { steps.new ≤ steps.old + length signatures.now }
     ensures unknown { steps.new ≤ steps.old + unknown (verdict_views known.now) (pairs (rule_view rule.now) (table_view table.now) (entries_view signatures.now)) }
 {
+    if usize::from(rule.threshold) <= USUAL {
+        meets_over(
+            rule,
+            table,
+            signed,
+            signatures,
+            known,
+            &mut [[0; 56]; USUAL],
+            steps,
+        )
+    } else {
+        meets_over(
+            rule,
+            table,
+            signed,
+            signatures,
+            known,
+            &mut [[0; 56]; MOST],
+            steps,
+        )
+    }
+}
+
+// The same, with room for as many public keys as the threshold asks for.
+fn meets_over(
+    rule: &RoleRule,
+    table: &KeyTable,
+    signed: &[u8],
+    signatures: &[Signature],
+    known: &[Verdict],
+    tops: &mut [[u8; 56]],
+    steps: &mut Steps,
+) -> bool
+    requires sound { AreVerdicts signed.now (entries_view signatures.now) (verdict_views known.now) }
+    requires room { steps.old < 2 ^ 63 }
+    requires places { (rule_view rule.now).threshold ≤ length tops.old }
+    ensures met { IsTrue result ↔ (Meets (rule_view rule.now) (table_view table.now) signed.now (entries_view signatures.now)) }
+    ensures grows { steps.old ≤ steps.new }
+    ensures most { steps.new ≤ steps.old + length signatures.now }
+    ensures unknown { steps.new ≤ steps.old + unknown (verdict_views known.now) (pairs (rule_view rule.now) (table_view table.now) (entries_view signatures.now)) }
+{
     let threshold = usize::from(rule.threshold);
-    let mut tops = [[0; 56]; MOST];
     let mut count = 0usize;
     let mut place = 0usize;
     let mut rest = signatures;
@@ -81,7 +123,7 @@ pub fn meets_with_counted(
         }
         let next = place + 1;
         if let Some(top) = counted(rule, table, signed, (place, entry), known, steps) {
-            count = take_in(&mut tops, count, &top);
+            count = take_in(&mut *tops, count, &top);
         }
         rest = later;
         place = next;
@@ -116,11 +158,12 @@ fn counted(
 }
 
 // Puts the key behind the first `count` of the list, where it is none of them. How many they are then.
-fn take_in(tops: &mut [[u8; 56]; MOST], count: usize, top: &[u8; 56]) -> usize
-    requires { count < 255 }
+fn take_in(tops: &mut [[u8; 56]], count: usize, top: &[u8; 56]) -> usize
+    requires { count < length tops.old }
     ensures taken { IsTaken top.now (take count tops.old) (take result tops.new) }
     ensures grows { count ≤ result }
     ensures most { result ≤ count + 1 }
+    ensures same_length { length tops.new ≡ length tops.old }
 {
     if is_among(&tops[..count], top) {
         return count;

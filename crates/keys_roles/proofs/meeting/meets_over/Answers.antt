@@ -5,7 +5,7 @@ use Rattle.keys_roles.specs.Views.{rule_view, table_view, entry_view, entries_vi
 use Rattle.keys_roles.specs.Views.{verdict_views}
 use Rattle.keys_roles.proofs.Knowing.{tells, entry_at, entries_on, fewer_left}
 use Rattle.keys_roles.proofs.Tops.{none_found, is_met, not_met, step_none, step_some}
-use Rattle.keys_roles.proofs.meeting.meets_with_counted.Goals as goal
+use Rattle.keys_roles.proofs.meeting.meets_over.Goals as goal
 
 pub entries-init : goal.entries-init
 entries-init c = record {
