@@ -1,4 +1,4 @@
-ghost use Rattle.std.specs.Prelude.{◌≡◌, ◌++◌, codes, false, is_some, map};
+ghost use Rattle.std.specs.Prelude.{◌++◌, codes, map};
 ghost use Rattle.std.proofs.Props.{props};
 ghost use Rattle.metadata.specs.Sorted.{AreInOrder};
 
@@ -149,7 +149,6 @@ pub struct Targets {
     pub targets: Vec<Listing>,
     pub delegations: Option<Delegations>,
     ghost in_order: { AreInOrder (map (λ l. l.path) targets.items) } by { Prim.hlevel props },
-    ghost flat: { is_some delegations ≡ false } by { Prim.hlevel props },
 }
 
 /// What the signed part of a document says.

@@ -22,4 +22,4 @@ pub invariant_of-result : goal.invariant_of-result
 invariant_of-result c =
     let v = view c.in-Some-member_of.found.now in
     let listed = members_in_order IsListing (λ l. l.path) (λ n v l h. h.0) v (listings_view c.in_ok-targets.targets.items) c.in-Some-member_of.ensures.proper c.in_ok-targets.ensures.ok in
-    record { in_order = seen_in_order listing_view (λ (l : plain.Listing). l.path) c.in_ok-targets.targets.items listed; flat = refl }
+    record { in_order = seen_in_order listing_view (λ (l : plain.Listing). l.path) c.in_ok-targets.targets.items listed }
