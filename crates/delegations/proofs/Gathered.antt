@@ -41,7 +41,7 @@ unfolding IsStrictlySortedBy
 names_distinct [] h = tt
 names_distinct (e ∷ es) h = (others e.0 es h.0, names_distinct es h.1)
 
-looked_in : {A : Type 0} (es : List (Name × A)) (role : Name) (a : A) → look_up es role ≡ Some a → IsIn (map (λ e. e.0) es) role
+pub looked_in : {A : Type 0} (es : List (Name × A)) (role : Name) (a : A) → look_up es role ≡ Some a → IsIn (map (λ e. e.0) es) role
 looked_in [] role a h = absurd (cc)
 looked_in {A} (e ∷ es) role a h = split (bytes_eq e.0 role) refl (looked_in es role a) h
   where

@@ -2,6 +2,7 @@ pub mod Walk
 pub mod Chains
 pub mod Complete
 pub mod Files
+pub mod Free
 pub mod Gathered
 pub mod Holding
 pub mod GoodVisits
