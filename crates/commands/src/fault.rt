@@ -1,12 +1,14 @@
 //! Why a command was not done, with the exit status and the line on standard error.
-ghost use Rattle.std.specs.Prelude.{◌≡◌};
-ghost use Rattle.release.specs.Statuses.{status_of};
+ghost use Rattle.std.specs.Prelude.{◌≡◌, ℕ, Option};
+ghost use Rattle.denials.specs.declared.denial.Denial.{Denial as Denials};
+ghost use Rattle.commands.specs.Statuses.{status_of};
 
 use canon::CanonFault;
 use command_line::Usage;
 use machine::Denial;
 use std::alloc::{AllocError, AllocFailed};
 use std::{fmt, io};
+use store::Reply;
 
 /// Why a command was not done. Its text is what standard error gets.
 #[derive(Debug, Drop)]
@@ -77,7 +79,7 @@ fn write_denial<W: fmt::Write>(
 
 impl From<AllocError> for Fault {
     ghost use Rattle.std.specs.Prelude.{◌≡◌};
-    ghost use Rattle.release.specs.declared.fault.Fault.TheVariants.{Memory};
+    ghost use Rattle.commands.specs.declared.fault.Fault.TheVariants.{Memory};
 
     ghost from_gives = { λ _ f. f ≡ Memory };
 
@@ -88,7 +90,7 @@ impl From<AllocError> for Fault {
 
 impl<T: Drop> From<AllocFailed<T>> for Fault {
     ghost use Rattle.std.specs.Prelude.{◌≡◌};
-    ghost use Rattle.release.specs.declared.fault.Fault.TheVariants.{Memory};
+    ghost use Rattle.commands.specs.declared.fault.Fault.TheVariants.{Memory};
 
     ghost from_gives = { λ _ f. f ≡ Memory };
 
@@ -99,7 +101,7 @@ impl<T: Drop> From<AllocFailed<T>> for Fault {
 
 impl From<Usage> for Fault {
     ghost use Rattle.std.specs.Prelude.{◌≡◌};
-    ghost use Rattle.release.specs.Statuses.{fault_of_usage};
+    ghost use Rattle.commands.specs.Statuses.{fault_of_usage};
 
     ghost from_gives = { λ u f. f ≡ fault_of_usage u };
 
@@ -114,7 +116,7 @@ impl From<Usage> for Fault {
 
 impl From<CanonFault> for Fault {
     ghost use Rattle.std.specs.Prelude.{◌≡◌};
-    ghost use Rattle.release.specs.Statuses.{fault_of_canon};
+    ghost use Rattle.commands.specs.Statuses.{fault_of_canon};
 
     ghost from_gives = { λ c f. f ≡ fault_of_canon c };
 
@@ -128,7 +130,7 @@ impl From<CanonFault> for Fault {
 
 impl From<store::StoreFault> for Fault {
     ghost use Rattle.std.specs.Prelude.{◌≡◌};
-    ghost use Rattle.release.specs.Statuses.{fault_of_store};
+    ghost use Rattle.commands.specs.Statuses.{fault_of_store};
 
     ghost from_gives = { λ s f. f ≡ fault_of_store s };
 
@@ -147,5 +149,15 @@ pub fn file_fault(error: &io::Error) -> Fault {
         Fault::Memory
     } else {
         Fault::File
+    }
+}
+
+/// Why a command was not done, by its reply. A command has no other reply than a denial or its own.
+pub fn refused(reply: Reply) -> Fault
+    ensures { (d : Denials) (i : Option ℕ) → reply ≡ Reply.Denied d i → result ≡ Fault.Denied d i }
+{
+    match reply {
+        Reply::Denied(denial, index) => Fault::Denied(denial, index),
+        _ => Fault::Database,
     }
 }

@@ -1,8 +1,9 @@
 //! Input files, and standard output.
-ghost use Rattle.std.specs.Prelude.{◌≡◌, IfOk};
+ghost use Rattle.std.specs.Prelude.{◌≡◌, IfOk, map};
 
 use crate::fault::{Fault, file_fault};
 use crate::notes::Notes;
+use machine::Offer;
 use std::fs::{self, File};
 use std::io::{self, Read, Write};
 
@@ -54,8 +55,8 @@ fn unread<E: Write>(path: &str, error: &io::Error, notes: &mut Notes<'_, E>) -> 
     file_fault(error)
 }
 
-/// The metadata file at a path, as far as one may go and one byte more.
-pub fn read_file<'a, E: Write>(
+// The metadata file at a path, as far as one may go and one byte more.
+fn read_file<'a, E: Write>(
     rt: &HostRuntime,
     path: &'a str,
     notes: &mut Notes<'_, E>,
@@ -64,6 +65,22 @@ pub fn read_file<'a, E: Write>(
 {
     let bytes = read_at_most(rt, path, DOCUMENT_LIMIT, notes)?;
     Ok(InputFile { path, bytes })
+}
+
+/// The files of the documents, in order.
+pub fn read_all<'a, E: Write>(
+    rt: &HostRuntime,
+    documents: &[(Offer, &'a str)],
+    notes: &mut Notes<'_, E>,
+) -> Result<Vec<InputFile<'a>>, Fault>
+    ensures { IfOk result (λ files. map (λ f. f.path.now) files.items ≡ map (λ d. d.1.now) documents.now) }
+{
+    let mut files = Vec::new(rt.alloc());
+    for (_, path) in documents {
+        let file = read_file(rt, path, notes)?;
+        files.push(file)?;
+    }
+    Ok(files)
 }
 
 /// Prints these bytes. A write that fails is a fault of a file.

@@ -1,7 +1,7 @@
 use Rattle.std.proofs.Common.{◌∙◌, arith, sym, subst}
 use Rattle.path_patterns.specs.Grammar.{IsName}
-use Rattle.release.proofs.Offering.{has-colon, role-first}
-use Rattle.release.proofs.arguments.document_of.Goals as goal
+use Rattle.commands.proofs.Offering.{has-colon, role-first}
+use Rattle.commands.proofs.arguments.document_of.Goals as goal
 
 pub returns-in_default-clause-none : goal.returns-in_default-clause-none
 returns-in_default-clause-none c = λ offer file d.

@@ -1,8 +1,8 @@
 -- Exit statuses: 0 done, 1 denied, 2 a fault of the command line, 3 all else.
 use Rattle.std.specs.Prelude.{ℕ, None}
 use Rattle.denials.specs.declared.denial.Denial.TheVariants as denials
-use Rattle.release.specs.declared.fault.Fault.{Fault}
-use Rattle.release.specs.declared.fault.Fault.TheVariants.{Usage, Help, Denied, Memory, Database, Damaged, Network, File, Clock}
+use Rattle.commands.specs.declared.fault.Fault.{Fault}
+use Rattle.commands.specs.declared.fault.Fault.TheVariants.{Usage, Help, Denied, Memory, Database, Damaged, Network, File, Clock}
 use Rattle.command_line.specs.declared.tasks.Usage.{Usage as Usages}
 use Rattle.command_line.specs.declared.tasks.Usage.TheVariants as usages
 use Rattle.canon.specs.declared.CanonFault.{CanonFault}

@@ -1,6 +1,6 @@
 use Rattle.std.proofs.Common.{◌≡◌, length, map, take}
 use Rattle.machine.specs.Views.{offer_view}
-use Rattle.release.proofs.arguments.batch_of.Given as goal
+use Rattle.commands.proofs.arguments.batch_of.Given as goal
 
 -- those that were taken, in order, and as many files
 abbrev pub invariant-documents : goal.invariant-documents

@@ -1,5 +1,5 @@
 use Rattle.std.proofs.Common.{◌≡◌, map, take}
-use Rattle.release.proofs.publish.read_all.Given as goal
+use Rattle.commands.proofs.files.read_all.Given as goal
 
 -- those that were read, in order
 abbrev pub invariant-loop-path : goal.invariant-loop-path

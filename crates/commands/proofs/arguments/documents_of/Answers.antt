@@ -2,9 +2,9 @@ use Rattle.std.proofs.Common.{◌≡◌, ◌∙◌, ◌+◌, ◌++◌, ℕ, suc,
 use Rattle.std.proofs.lemmas.List.{get_or-map, length-map}
 use Rattle.machine.specs.Commands.{Offer}
 use Rattle.machine.specs.Views.{offer_view}
-use Rattle.release.specs.Arguments.{AreDocuments, IsDocument}
-use Rattle.release.proofs.Offering.{documents-next, shown-next}
-use Rattle.release.proofs.arguments.documents_of.Goals as goal
+use Rattle.commands.specs.Arguments.{AreDocuments, IsDocument}
+use Rattle.commands.proofs.Offering.{documents-next, shown-next}
+use Rattle.commands.proofs.arguments.documents_of.Goals as goal
 
 pub returns-in-None-clause-none : goal.returns-in-None-clause-none
 returns-in-None-clause-none c =

@@ -10,7 +10,7 @@ use Rattle.std.specs.Borrow.{Bor}
 use Rattle.machine.specs.Commands.{Offer}
 use Rattle.machine.specs.Views.{offer_view}
 use Rattle.machine.specs.declared.outcome.Offer.{Offer as CodeOffer}
-use Rattle.release.specs.Arguments.{AreDocuments, IsDocument}
+use Rattle.commands.specs.Arguments.{AreDocuments, IsDocument}
 
 -- ---- the colon behind a name
 

@@ -2,13 +2,15 @@
 ghost use Rattle.std.specs.Prelude.{◌≡◌, ℕ, List, IfErr, IfNone, IfOk, IfSome, map, string_bytes};
 ghost use Rattle.machine.specs.Commands as commands;
 ghost use Rattle.machine.specs.Views.{offer_view};
-ghost use Rattle.release.specs.Arguments.{AreDocuments, IsDocument, IsWhyNot};
+ghost use Rattle.commands.specs.Arguments.{AreDocuments, IsDocument, IsWhyNot};
 
 use crate::fault::Fault;
 use crate::files::InputFile;
+use crate::notes::Notes;
 use machine::{Denial, Offer};
 use path_patterns::RoleName;
 use std::alloc::{AllocError, Global};
+use std::io::Write;
 
 /// What is offered, and the file, of each argument. The first argument that is no document is denied at its index.
 pub fn documents_of<'a>(
@@ -58,4 +60,21 @@ pub fn batch_of<'a>(
         batch.push((offer, files[index].bytes.as_slice()))?;
     }
     Ok(batch)
+}
+
+/// The same, where a denial is told with the argument that it is about.
+pub fn told<T: Drop, E: Write>(
+    done: Result<T, Fault>,
+    arguments: &[String],
+    notes: &mut Notes<'_, E>,
+) -> Result<T, Fault>
+    ensures { result ≡ done }
+{
+    if let Err(Fault::Denied(_, Some(index))) = &done {
+        match arguments.get(*index) {
+            Some(argument) => notes.tell(&argument.as_str(), &"denied"),
+            None => notes.tell(&"the documents together", &"denied"),
+        }
+    }
+    done
 }

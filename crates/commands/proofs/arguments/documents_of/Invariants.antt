@@ -1,7 +1,7 @@
 use Rattle.std.proofs.Common.{map, string_bytes, take}
 use Rattle.machine.specs.Views.{offer_view}
-use Rattle.release.specs.Arguments.{AreDocuments}
-use Rattle.release.proofs.arguments.documents_of.Given as goal
+use Rattle.commands.specs.Arguments.{AreDocuments}
+use Rattle.commands.proofs.arguments.documents_of.Given as goal
 
 -- those before the index are documents
 abbrev pub invariant-loop-index : goal.invariant-loop-index
