@@ -9,6 +9,7 @@ pub mod GoodVisits
 pub mod Places
 pub mod PutIn
 pub mod Rising
+pub mod Rooted
 pub mod Visits
 pub mod Firsts
 pub mod Cuts
@@ -16,4 +17,8 @@ pub mod Look
 pub mod Paths
 pub mod SearchByWalk
 pub mod Onward
+pub mod Ended
+pub mod Sound
+pub mod Grows
+pub mod Missing
 pub mod GoodChains

@@ -120,20 +120,19 @@ module _ (V : Shelf) (path : Bytes) (now : ℕ) (T : Table) where
   decides_it : (j : Judged Found) → Decides V path now 32 (visited V path) j → search V path now j
   decides_it j d = decided V path now j (subst (λ es. Decides V path now 32 es j) visited_are d)
 
+  -- the visits: the top role, and what a walk has left below it
+  pub begins : (left : List Edge) × Remains (here V path) (hops (here V path) V.top.role ∷ []) (V.top.role ∷ []) left × (visited V path ≡ V.top ∷ left)
+  begins =
+      let r = from_root (here V path) in (
+        r.under.edges,
+        subst (λ t. Remains (here V path) (hops (here V path) V.top.role ∷ []) (V.top.role ∷ []) t) (append-nil r.under.edges)
+            (follow (here V path) (hops (here V path) V.top.role) (V.top.role ∷ []) r.under [] [] r.goes (by_test r.under.stop (λ s. inl (s, refl)) (λ s. inr (s, nothing)))),
+        visited_are ∙ r.edges,
+      )
+
   -- the search at its start
   pub starts : IsBefore V path now T 0 V.top [] []
-  starts =
-      let r = from_root (here V path) in
-      record {
-        taken = [];
-        left = r.under.edges;
-        passed = no_visit V path now 32;
-        on = tt;
-        remains = subst (λ t. Remains (here V path) (hops (here V path) V.top.role ∷ []) (V.top.role ∷ []) t) (append-nil r.under.edges)
-            (follow (here V path) (hops (here V path) V.top.role) (V.top.role ∷ []) r.under [] [] r.goes (by_test r.under.stop (λ s. inl (s, refl)) (λ s. inr (s, nothing))));
-        split = visited_are ∙ r.edges;
-        paid = omega arith;
-      }
+  starts = record { taken = []; left = begins.0; passed = no_visit V path now 32; on = tt; remains = begins.1; split = begins.2; paid = omega arith }
 
   -- its steps along the delegations
   module _ (count : ℕ) (hss : List Hops) (met : Names) where

@@ -24,13 +24,17 @@ ends to (w ∷ ws) h = rw (h.0) (ap (λ r. w.1 ∷ r) (ends to ws h.1))
 abbrev pub walked_edges : Graph → List Edge
 walked_edges g = map (λ w. w.1) (stop_walk g (length g.rows) [] g.root).ways
 
-pub edges_are : (g : Graph) → filter_map (chain_end g) (visits g) ≡ walked_edges g
-edges_are g =
+-- and its ways lead to these edges
+pub all_lead_to : (g : Graph) → LeadTo (chain_end g) (stop_walk g (length g.rows) [] g.root).ways
+all_lead_to g =
     let r = stops g (length g.rows) [] [] g.root (deep g (length g.rows) [] (all_unmet g.rows)) (within-self []) refl in
     let lead : LeadTo (chain_end g) (walk g (length g.rows) [] g.root).ways = subst (λ ws. LeadTo (chain_end g) ws) (sym (walk_fresh g)) (lead-fresh (chain_end g) [] (all_ways g) (all-lead g)) in
+    lead-front (chain_end g) (stop_walk g (length g.rows) [] g.root).ways r.rest (subst (λ ws. LeadTo (chain_end g) ws) r.split lead)
+
+pub edges_are : (g : Graph) → filter_map (chain_end g) (visits g) ≡ walked_edges g
+edges_are g =
     ap (λ cs. filter_map (chain_end g) cs) (sym (walk_visits g))
-    ∙ ends (chain_end g) (stop_walk g (length g.rows) [] g.root).ways
-    (lead-front (chain_end g) (stop_walk g (length g.rows) [] g.root).ways r.rest (subst (λ ws. LeadTo (chain_end g) ws) r.split lead))
+    ∙ ends (chain_end g) (stop_walk g (length g.rows) [] g.root).ways (all_lead_to g)
 
 module _ (V : Shelf) (path : Bytes) (now : ℕ) where
   -- the denial where none of the visits decides

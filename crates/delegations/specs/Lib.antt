@@ -1,4 +1,5 @@
 pub mod Delegation
+pub mod Missed
 pub mod Rows
 pub mod Search
 pub mod Verdicts

@@ -14,7 +14,10 @@ mod vouching;
 mod walking;
 
 pub use keys_roles::Steps;
-pub use laws::{good_documents_are_visited, index_lists_rise, no_chain_left_out, worked_visits};
+pub use laws::{
+    beginnings_are_visited, good_documents_are_visited, index_lists_rise, missed_documents,
+    no_chain_left_out, search_grows, search_is_sound, worked_visits,
+};
 pub use metadata::{
     File, KeyTable, Listing, Meta, Moment, RoleName, RoleRule, Root, Snapshot, Source, TargetPath,
     Targets,
