@@ -1,21 +1,20 @@
 -- What is known is carried beside changes that are judged.
-use Rattle.std.proofs.Common.{◌≡◌, ◌≤◌, ℕ, arith, Bool, true, false, cond, List, [], ◌∷◌, length, Option, Some, None, Result, Ok, Err, refl, sym, ap, subst, ◌∙◌, IfSome, IfNone}
+use Rattle.std.proofs.Common.{◌≡◌, ◌≤◌, ℕ, arith, [], ◌∷◌, length, Option, Some, None, Result, Ok, Err, refl, sym, subst, IfSome}
 use Rattle.std.proofs.lemmas.List.Elements.{recursion_from_All}
 use Rattle.std.specs.Prelude.{IfOk}
 use Rattle.std.specs.List.{AllByRecursion}
-use Rattle.metadata.specs.Documents.{Root, Snapshot, Targets}
+use Rattle.metadata.specs.Documents.{Root, Snapshot}
 use Rattle.metadata.specs.File.{File, Bytes}
 use Rattle.denials.specs.Orders.{Order}
-use Rattle.delegations.specs.Delegation.{Edge}
-use Rattle.delegations.specs.Rows.{Rows, row_at, AllFiles}
+use Rattle.delegations.specs.Rows.{Rows, AllFiles}
 use Rattle.delegations.specs.Search.{Shelf, shelf_of, visited}
-use Rattle.delegations.specs.Verdicts.{Table, AreTrue, AreOfRows, IsComplete, Costs}
-use Rattle.machine.specs.State.{State, Trusted, IsState, IsTrusted, IsShelfRow}
+use Rattle.delegations.specs.Verdicts.{AreFew, Table, AreTrue, AreOfRows, IsComplete, Costs}
+use Rattle.machine.specs.State.{State, Trusted, IsState, IsShelfRow}
 use Rattle.machine.specs.Commands.{BatchOrder}
 use Rattle.machine.specs.Effects as changed
 use Rattle.machine.specs.Effects.{applied, brought}
-use Rattle.machine.specs.Knowing.{IsKnown, ChecksFew}
-use Rattle.machine.specs.Answers.{Answers, AnswersBatch, changes, unchanged, refused, unanswered, done, denied, undone}
+use Rattle.machine.specs.Knowing.{IsKnown, ChecksFew, WantsFew}
+use Rattle.machine.specs.Answers.{Answers, AnswersBatch, changes, unanswered, done, undone}
 use Rattle.machine.specs.steps.Carrying.{MakesState, IsSameOutcome, IsSameBatch}
 use Rattle.machine.specs.Views.{effects_view}
 use Rattle.machine.specs.declared.effects.Effects.{Effects}
@@ -90,6 +89,19 @@ pub found_checks : (T : Trusted) (root : File Root) (snap : File Snapshot) (V : 
 found_checks T root snap V t u path now count rooted held is same costs =
     subst (λ o. ChecksFew o T.snapshot T.shelf u path now count) (sym rooted) (subst (λ o. ChecksFew (Some root) o T.shelf u path now count) (sym held)
     (subst (λ (W : Shelf). Costs W u path now count) is (subst (λ (k : Table). Costs V k path now count) same costs)))
+
+-- where the wanted pairs are few, each is known
+pub found_free : (T : Trusted) (root : File Root) (snap : File Snapshot) (V : Shelf) (t u : Table) (P : Type 0) → T.root ≡ Some root → T.snapshot ≡ Some snap
+    → V ≡ shelf_of root snap T.shelf → t ≡ u → IsKnown T u → (AreFew V → IsComplete V t → P) → WantsFew T → P
+found_free T root snap V t u P rooted held is same known none few =
+    let W : Shelf = shelf_of root snap T.shelf in
+    let complete : IsComplete W u =
+    subst (λ o. IfSome o (λ (s : File Snapshot). IsComplete (shelf_of root s T.shelf) u)) held
+    (subst (λ o. IfSome o (λ (r : File Root). IfSome T.snapshot (λ s. IsComplete (shelf_of r s T.shelf) u))) rooted known.complete) in
+    let those : AreFew W =
+    subst (λ o. IfSome o (λ (s : File Snapshot). AreFew (shelf_of root s T.shelf))) held
+    (subst (λ o. IfSome o (λ (r : File Root). IfSome T.snapshot (λ s. AreFew (shelf_of r s T.shelf)))) rooted few) in
+    none (subst (λ (X : Shelf). AreFew X) (sym is) those) (subst (λ (X : Shelf). IsComplete X t) (sym is) (subst (λ (k : Table). IsComplete W k) (sym same) complete))
 
 -- the same batch is the same answer
 pub same_batch : {S : State} {m : BatchOrder} (b : Batched) (r : Result Batched BatchRefusal) → AnswersBatch S m (Ok b) → IsSameBatch b r → AnswersBatch S m r

@@ -1,10 +1,10 @@
 -- What a state knows of the signatures that its searches may meet.
-use Rattle.std.specs.Prelude.{◌≡◌, ℕ, Option, Some, None, Result, Ok, Err, IfSome}
+use Rattle.std.specs.Prelude.{◌≡◌, ℕ, Option, Some, Result, Ok, Err, IfSome}
 use Rattle.metadata.specs.Documents.{Root, Snapshot}
 use Rattle.metadata.specs.File.{Bytes, File}
 use Rattle.delegations.specs.Rows.{Rows}
 use Rattle.delegations.specs.Search.{shelf_of}
-use Rattle.delegations.specs.Verdicts.{Table, AreTrue, AreOfRows, IsComplete, Costs}
+use Rattle.delegations.specs.Verdicts.{Table, AreFew, AreTrue, AreOfRows, IsComplete, Costs}
 use Rattle.machine.specs.State.{Trusted, State}
 use Rattle.machine.specs.Effects.{brought}
 use Rattle.machine.specs.Views.{effects_view}
@@ -19,6 +19,10 @@ pub record IsKnown (T : Trusted) (table : Table) : Type 0 where
   pub sound : AreTrue T.shelf table
   pub rows : AreOfRows T.shelf table
   pub complete : IfSome T.root (λ root. IfSome T.snapshot (λ snap. IsComplete (shelf_of root snap T.shelf) table))
+
+-- under the root and the snapshot, where there are both, the wanted pairs are no more than a table holds
+abbrev pub WantsFew : Trusted → Type 0
+WantsFew T = IfSome T.root (λ root. IfSome T.snapshot (λ snap. AreFew (shelf_of root snap T.shelf)))
 
 -- changes carry what is known after them
 abbrev pub CarriesKnown : State → Result Outcome Refusal → Type 0

@@ -3,7 +3,7 @@ ghost use Rattle.std.specs.Prelude.{◌≡◌, ◌↔◌, ◌-◌, ◌≤◌, �
 ghost use Rattle.delegations.specs.Delegation.{before};
 ghost use Rattle.delegations.specs.Rows.{Rises};
 ghost use Rattle.delegations.specs.Search.{search};
-ghost use Rattle.delegations.specs.Verdicts.{AreTrue, Costs};
+ghost use Rattle.delegations.specs.Verdicts.{AreFew, AreTrue, Costs, IsComplete};
 ghost use Rattle.delegations.specs.Views as searches;
 ghost use Rattle.metadata.specs.FileViews.{root_file, snapshot_file};
 ghost use Rattle.denials.specs.Orders as orders;
@@ -11,7 +11,7 @@ ghost use Rattle.metadata.specs.Views.{listing_view};
 ghost use Rattle.path_patterns.specs.Grammar.{IsTargetPath};
 ghost use Rattle.machine.specs.Answers.{Gives};
 ghost use Rattle.machine.specs.Commands as commands;
-ghost use Rattle.machine.specs.Knowing.{ChecksFew};
+ghost use Rattle.machine.specs.Knowing.{ChecksFew, WantsFew};
 ghost use Rattle.machine.specs.Views.{parts_view};
 
 use crate::blobs::blob_of;
@@ -42,7 +42,8 @@ pub fn get<'a>(
     get_counted(alloc, state, path, now, &mut Steps::new())
 }
 
-/// The same, with one tick for each signature that is checked: at most as many as the search meets of which nothing is known.
+/// The same, with one tick for each signature that is checked: at most as many as the search meets of which nothing is known, and
+/// none where the pairs that searches may meet are at most 2,048.
 pub fn get_counted<'a>(
     alloc: Global,
     state: &'a State,
@@ -54,6 +55,7 @@ pub fn get_counted<'a>(
     ensures answer { Gives (commands.grants state.now.state path.now None now) (λ b. b.now) result }
     ensures grows { checks.old ≤ checks.new }
     ensures few { ChecksFew state.now.state.trusted.root state.now.state.trusted.snapshot state.now.state.trusted.shelf state.now.verdicts path.now now (checks.new - checks.old) }
+    ensures free { WantsFew state.now.state.trusted → checks.new ≡ checks.old }
 {
     granted(alloc, state, path, None, now, checks)
 }
@@ -89,6 +91,7 @@ fn granted<'a>(
     ensures answer { Gives (commands.grants state.now.state path.now (option_map (λ d. d.0) asked) now) (λ b. b.now) result }
     ensures grows { checks.old ≤ checks.new }
     ensures few { ChecksFew state.now.state.trusted.root state.now.state.trusted.snapshot state.now.state.trusted.shelf state.now.verdicts path.now now (checks.new - checks.old) }
+    ensures free { WantsFew state.now.state.trusted → checks.new ≡ checks.old }
 {
     is_path(path);
     let parts = state.parts();
@@ -122,6 +125,7 @@ fn find<'a>(
     ensures answer { Gives (search (searches.shelf_view shelf.now) path.now now) searches.found_view result }
     ensures grows { checks.old ≤ checks.new }
     ensures costs { Costs (searches.shelf_view shelf.now) known.now path.now now (checks.new - checks.old) }
+    ensures free { AreFew (searches.shelf_view shelf.now) → IsComplete (searches.shelf_view shelf.now) known.now → checks.new ≡ checks.old }
 {
     match search_with_counted(shelf, known, path, now, checks) {
         Ok(found) => Ok(found),

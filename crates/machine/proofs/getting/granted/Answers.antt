@@ -1,4 +1,4 @@
-use Rattle.std.proofs.Common.{◌≡◌, ◌-◌, ◌∙◌, ℕ, List, Ok, Err, Some, Bor, sym, ap, subst, arith}
+use Rattle.std.proofs.Common.{◌≡◌, ◌∙◌, ℕ, List, Ok, Err, Some, Bor, sym, ap, subst, arith}
 use Rattle.std.proofs.lemmas.Result.{err_from_is_err_and}
 use Rattle.std.specs.Prelude.{option_map}
 use Rattle.metadata.specs.FileViews.{root_file, timestamp_file, snapshot_file}
@@ -12,7 +12,7 @@ use Rattle.machine.specs.State.{State}
 use Rattle.machine.specs.Views.{parts_view}
 use Rattle.machine.proofs.OrderSteps.{needed, lacking, given_by, denied_in, denied_behind}
 use Rattle.machine.proofs.ShelfPlaces.{live_as}
-use Rattle.machine.proofs.Carrying.{found_checks, no_checks}
+use Rattle.machine.proofs.Carrying.{found_checks, found_free, no_checks}
 use Rattle.machine.proofs.TargetFiles.{denied_by_search, found_by_search, seen}
 use Rattle.machine.proofs.getting.granted.Goals as goal
 
@@ -74,3 +74,27 @@ returns-clause-few c =
     ap (λ (P : State). P.trusted.snapshot) (sym same) ∙ sym (seen snapshot_file _ _ c.as_ref-3.ensures.value) ∙ ap (option_map (λ f. snapshot_file f.now)) c.in_ok-snapshot.ensures.held in
     found_checks S.trusted root snap (shelf_view c.new-shelf.result) _ _ c.args.path.now c.args.now _ rooted held
     (c.new-shelf.ensures.shelf ∙ ap (λ (r : Rows). shelf_of root snap r) (c.held_rows.ensures ∙ ap (λ (P : State). P.trusted.shelf) same)) c.verdicts.ensures.view c.in_ok-found.ensures.costs
+
+pub returns-in_err-found-clause-free : goal.returns-in_err-found-clause-free
+returns-in_err-found-clause-free c few =
+    let S = c.args.state.now.state in
+    let root = root_file c.in-Some.root.now in
+    let snap = snapshot_file c.in_ok-snapshot.snapshot.now in
+    let same = c.parts-parts.ensures.view in
+    let rooted : S.trusted.root ≡ Some root = ap (λ (P : State). P.trusted.root) (sym same) ∙ ap (option_map root_file) (sym c.in-Some.ensures.value) in
+    let held : S.trusted.snapshot ≡ Some snap =
+    ap (λ (P : State). P.trusted.snapshot) (sym same) ∙ sym (seen snapshot_file _ _ c.as_ref-3.ensures.value) ∙ ap (option_map (λ f. snapshot_file f.now)) c.in_ok-snapshot.ensures.held in
+    found_free S.trusted root snap (shelf_view c.new-shelf.result) _ _ _ rooted held
+    (c.new-shelf.ensures.shelf ∙ ap (λ (r : Rows). shelf_of root snap r) (c.held_rows.ensures ∙ ap (λ (P : State). P.trusted.shelf) same)) c.verdicts.ensures.view c.verdicts.ensures.known c.in_err-found.ensures.free few
+
+pub returns-clause-free : goal.returns-clause-free
+returns-clause-free c few =
+    let S = c.args.state.now.state in
+    let root = root_file c.in-Some.root.now in
+    let snap = snapshot_file c.in_ok-snapshot.snapshot.now in
+    let same = c.parts-parts.ensures.view in
+    let rooted : S.trusted.root ≡ Some root = ap (λ (P : State). P.trusted.root) (sym same) ∙ ap (option_map root_file) (sym c.in-Some.ensures.value) in
+    let held : S.trusted.snapshot ≡ Some snap =
+    ap (λ (P : State). P.trusted.snapshot) (sym same) ∙ sym (seen snapshot_file _ _ c.as_ref-3.ensures.value) ∙ ap (option_map (λ f. snapshot_file f.now)) c.in_ok-snapshot.ensures.held in
+    found_free S.trusted root snap (shelf_view c.new-shelf.result) _ _ _ rooted held
+    (c.new-shelf.ensures.shelf ∙ ap (λ (r : Rows). shelf_of root snap r) (c.held_rows.ensures ∙ ap (λ (P : State). P.trusted.shelf) same)) c.verdicts.ensures.view c.verdicts.ensures.known c.in_ok-found.ensures.free few
