@@ -9,8 +9,8 @@ from denials import Denied, deny_unless
 from names import LARGEST_NUMBER, is_hex, is_role_name, is_target_path, is_whole, moment_of
 from patterns import is_pattern, is_prefix, matches_segmented, prefix_covers
 
-# The program takes no `delegations` yet: while this is False, a file with that member is of the wrong shape.
-DELEGATIONS_ARE_READ = False
+# Beside a program that takes no `delegations`, set this to False: then a file with that member is of the wrong shape.
+DELEGATIONS_ARE_READ = True
 MAXIMUM_LENGTH = 262144
 MAXIMUM_SIGNATURES = 16
 MAXIMUM_SIGNATURE_LENGTH = 9324

@@ -2,8 +2,9 @@ pub mod Walk
 pub mod Chains
 pub mod Complete
 pub mod Files
-pub mod Knowing
-pub mod Flat
+pub mod Free
+pub mod Gathered
+pub mod Holding
 pub mod GoodVisits
 pub mod Places
 pub mod PutIn

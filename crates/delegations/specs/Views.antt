@@ -1,5 +1,6 @@
 -- What the code's shelf and answers stand for.
 use Rattle.std.specs.Prelude.{false, map, List, Result, Ok, Err, string_bytes}
+use Rattle.keys_roles.specs.Verdicts as known
 use Rattle.keys_roles.specs.Views as keys
 use Rattle.keys_roles.specs.Views.{rule_view, verdict_views}
 use Rattle.metadata.specs.FileViews.{targets_file}
@@ -59,5 +60,8 @@ answer_view view (Ok a) = Ok (view a)
 answer_view view (Err d) = Err (Denied (denial_view d))
 
 -- a table of verdicts
+abbrev pub known_row : RowVerdicts → shelves.Place × List known.Verdict
+known_row r = ((string_bytes r.role, r.version), verdict_views r.verdicts.items)
+
 abbrev pub table_view : List RowVerdicts → verdicts.Table
-table_view rows = map (λ r. ((string_bytes r.role, r.version), verdict_views r.verdicts.items)) rows
+table_view rows = map known_row rows

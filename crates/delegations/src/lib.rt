@@ -2,6 +2,7 @@
 #![tactic(auto)]
 
 mod frames;
+mod gathering;
 mod laws;
 mod rows;
 mod searching;

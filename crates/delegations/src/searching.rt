@@ -1,7 +1,7 @@
 //! The search for a target through delegations (TUF 1.0, section 5.6.7).
 ghost use Rattle.std.specs.Prelude.{◌≡◌, ◌+◌, ◌-◌, ◌<◌, ◌≤◌, ◌^◌};
 ghost use Rattle.delegations.specs.Search.{search};
-ghost use Rattle.delegations.specs.Verdicts.{AreTrue, Costs};
+ghost use Rattle.delegations.specs.Verdicts.{AreFew, AreTrue, Costs, IsComplete};
 ghost use Rattle.delegations.specs.Views.{shelf_view, found_view, answer_view};
 
 use crate::shelf::{Found, SearchDenial, Shelf};
@@ -59,7 +59,8 @@ pub fn search_counted<'a>(
 
 /// The same where something is known of the signatures on the shelf, and how many of them were checked: at most 512, and at most
 /// as many as there are pairs that the search meets and of which nothing is known. A pair is met where the search visits a role's
-/// document: it is a signature of the document, and the key that its id names in the rule of the edge. It takes no memory.
+/// document: it is a signature of the document, and the key that its id names in the rule of the edge. Where the wanted pairs are
+/// few and something is known of each, no signature is checked. It takes no memory.
 pub fn search_with<'a>(
     shelf: &Shelf<'a>,
     verdicts: &Verdicts,
@@ -70,6 +71,7 @@ pub fn search_with<'a>(
     ensures answer { search (shelf_view shelf.now) path.now now (answer_view found_view result.0) }
     ensures most { result.1 ≤ 512 }
     ensures costs { Costs (shelf_view shelf.now) verdicts.now path.now now result.1 }
+    ensures free { AreFew (shelf_view shelf.now) → IsComplete (shelf_view shelf.now) verdicts.now → result.1 ≡ 0 }
 {
     let query = Query {
         path,
@@ -95,6 +97,7 @@ pub fn search_with_counted<'a>(
     ensures grows { checks.old ≤ checks.new }
     ensures most { checks.new ≤ checks.old + 512 }
     ensures costs { Costs (shelf_view shelf.now) verdicts.now path.now now (checks.new - checks.old) }
+    ensures free { AreFew (shelf_view shelf.now) → IsComplete (shelf_view shelf.now) verdicts.now → checks.new ≡ checks.old }
 {
     let (answer, made) = search_with(shelf, verdicts, path, now);
     add_ticks(checks, made as u64);

@@ -1,6 +1,6 @@
 //! What is known of the signatures on a shelf, so that each is checked once.
-ghost use Rattle.std.specs.Prelude.{◌≡◌, ◌≤◌, [], ◌∷◌, Some, None, IfOk, IfSome, IfNone, length, map, option_map, string_bytes};
-ghost use Rattle.keys_roles.specs.Verdicts.{AreVerdicts, pairs};
+ghost use Rattle.std.specs.Prelude.{◌≡◌, ◌≤◌, [], Some, None, IfOk, IfSome, IfNone, length, map, option_map, string_bytes};
+ghost use Rattle.keys_roles.specs.Verdicts.{AreVerdicts};
 ghost use Rattle.keys_roles.specs.Plain.{look_up};
 ghost use Rattle.keys_roles.specs.Views.{verdict_views};
 ghost use Rattle.metadata.specs.Documents as plain;
@@ -9,15 +9,20 @@ ghost use Rattle.metadata.specs.FileViews.{targets_file};
 ghost use Rattle.delegations.specs.Rows.{AllFiles, row_at, same_place, value_at};
 ghost use Rattle.delegations.specs.Search.{doc};
 ghost use Rattle.delegations.specs.Verdicts.{AreOfRows, AreTrue, IsComplete, known_at};
-ghost use Rattle.delegations.specs.Views.{edge_view, held_rows, row_views, rows_view, shelf_view, table_view};
+ghost use Rattle.delegations.specs.Views.{edge_view, held_rows, known_row, row_views, rows_view, shelf_view, table_view};
+ghost use Rattle.delegations.specs.steps.Gathering.{AreEdges, IsRow};
 
+use crate::gathering::{all_edges, gather};
 use crate::rows::Rows;
 use crate::shelf::{Edge, Shelf};
 use crate::visiting::{has_hash, has_length};
-use keys_roles::{Verdict, verdicts_of};
+use keys_roles::Verdict;
 use metadata::{File, Targets};
 use std::alloc::{AllocError, Global};
 use std::marker::Model;
+
+// The most verdicts of a table.
+const MOST_VERDICTS: usize = 2_048;
 
 /// What is known of the signatures of shelf rows: at most 2,048 verdicts.
 #[derive(Drop)]
@@ -59,26 +64,6 @@ impl Verdicts {
         ensures { table_view result.now ≡ self.now }
     {
         &self.rows
-    }
-
-    // What is known of one row, and of no other.
-    fn of_one(
-        alloc: Global,
-        role: &str,
-        version: u32,
-        verdicts: Vec<Verdict>,
-    ) -> Result<Verdicts, AllocError>
-        requires { length verdicts.items ≤ 2048 }
-        ensures { IfOk result (λ t. t ≡ ((role.now, version), verdict_views verdicts.items) ∷ []) }
-    {
-        let role = String::from_str(alloc, role)?;
-        let mut rows = Vec::new(alloc);
-        rows.push(RowVerdicts {
-            role,
-            version,
-            verdicts,
-        })?;
-        Ok(Verdicts { rows })
     }
 }
 
@@ -123,34 +108,49 @@ pub fn all_verdicts(alloc: Global, shelf: &Shelf, held: &Verdicts) -> Result<Ver
     ensures rows { IfOk result (λ t. AreOfRows (shelf_view shelf.now).rows t) }
     ensures complete { IfOk result (λ t. IsComplete (shelf_view shelf.now) t) }
 {
-    let top = shelf.top();
-    let Some((version, file)) = document(shelf, top.role) else {
-        return Ok(Verdicts::new(alloc));
-    };
-    let known = known_of(&shelf.rows, held, top.role, version);
-    let verdicts = edge_verdicts(alloc, &top, file, known)?;
-    Verdicts::of_one(alloc, top.role, version, verdicts)
+    let edges = all_edges(alloc, shelf)?;
+    let mut rows = Vec::new(alloc);
+    let mut room = MOST_VERDICTS;
+    let mut rest = shelf.snapshot.meta.as_slice();
+    'roles: while let Some((entry, later)) = rest.split_first() {
+        if let Some(row) = row_of(alloc, shelf, &edges, held, entry.0.as_str())? {
+            let count = row.verdicts.len();
+            if count > room {
+                return Ok(Verdicts { rows });
+            }
+            room -= count;
+            rows.push(row)?;
+        }
+        rest = later;
+    }
+    Ok(Verdicts { rows })
 }
 
-// The verdicts on a file by an edge.
-fn edge_verdicts(
+// What is known of the document of a role, if there is one.
+fn row_of(
     alloc: Global,
-    edge: &Edge,
-    file: &File<Targets>,
-    known: &[Verdict],
-) -> Result<Vec<Verdict>, AllocError>
-    requires { AreVerdicts (targets_file file.now).signed (targets_file file.now).entries (verdict_views known.now) }
-    ensures all { IfOk result (λ vs. map (λ v. v.pair) (verdict_views vs.items) ≡ pairs (edge_view edge.now).rule (edge_view edge.now).table (targets_file file.now).entries) }
-    ensures sound { IfOk result (λ vs. AreVerdicts (targets_file file.now).signed (targets_file file.now).entries (verdict_views vs.items)) }
+    shelf: &Shelf,
+    edges: &[Edge],
+    held: &Verdicts,
+    role: &str,
+) -> Result<Option<RowVerdicts>, AllocError>
+    requires edges { AreEdges (shelf_view shelf.now) [] (map edge_view edges.now) }
+    requires sound { AreTrue (held_rows shelf.now) held.now }
+    ensures row { IfOk result (λ o. IfSome o (λ r. IsRow (shelf_view shelf.now) (known_row r))) }
+    ensures named { IfOk result (λ o. IfSome o (λ r. string_bytes r.role ≡ role.now)) }
+    ensures none { IfOk result (λ o. IfNone o (doc (shelf_view shelf.now) role.now ≡ None)) }
 {
-    verdicts_of(
-        alloc,
-        edge.rule,
-        edge.keys,
-        file.source.signed(),
-        file.source.signatures(),
-        known,
-    )
+    let Some((version, file)) = document(shelf, role) else {
+        return Ok(None);
+    };
+    let known = known_of(&shelf.rows, held, role, version);
+    let verdicts = gather(alloc, edges, role, file, known)?;
+    let role = String::from_str(alloc, role)?;
+    Ok(Some(RowVerdicts {
+        role,
+        version,
+        verdicts,
+    }))
 }
 
 // What is known of the row of a role, if it is held.

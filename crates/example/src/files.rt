@@ -3,8 +3,8 @@ use crate::failure::Failure;
 use canonical_json::write;
 use metadata::digest_of;
 use signed_files::{
-    Entry, Keys, Leaf, Listing, OtsType, Root, Rule, Value, meta_signed, root_signed, signed_file,
-    targets_signed,
+    Entry, Keys, Leaf, Listing, OtsType, Root, Rule, Targets, Value, meta_signed, root_signed,
+    signed_file, targets_signed,
 };
 use std::alloc::{AllocError, Global};
 
@@ -119,7 +119,7 @@ fn first_of(bytes: &[u8]) -> Entry {
 }
 
 // Targets metadata that lists the two target files.
-fn targets(alloc: Global) -> Result<Value, Failure> {
+fn targets(alloc: Global, keys: &Keys) -> Result<Value, Failure> {
     let mut listings = Vec::new(alloc);
     for (name, bytes) in [("empty.txt", b"".as_slice()), ("hello.txt", HELLO)] {
         let listing = Listing {
@@ -128,14 +128,20 @@ fn targets(alloc: Global) -> Result<Value, Failure> {
         };
         listings.push((String::from_str(alloc, name)?, listing))?;
     }
-    Ok(targets_signed(alloc, 1, EXPIRES, &listings)?)
+    let said = Targets {
+        version: 1,
+        expires: EXPIRES,
+        listings: &listings,
+        delegations: &[],
+    };
+    Ok(targets_signed(alloc, keys, &said)?)
 }
 
 // Leaf 0 of each key signs the document of its role.
 fn put_repository(alloc: Global, keys: &Keys, files: &mut Vec<File>) -> Result<(), Failure> {
     let signed = root(alloc, keys, 1, ROOT)?;
     let root = signed_by(alloc, keys, signed, &[leaf(ROOT, 0)])?;
-    let targets = signed_by(alloc, keys, targets(alloc)?, &[leaf(TARGETS, 0)])?;
+    let targets = signed_by(alloc, keys, targets(alloc, keys)?, &[leaf(TARGETS, 0)])?;
     let signed = meta(alloc, "snapshot", 1, "targets", first_of(&targets))?;
     let snapshot = signed_by(alloc, keys, signed, &[leaf(SNAPSHOT, 0)])?;
     let signed = meta(alloc, "timestamp", 1, "snapshot", first_of(&snapshot))?;

@@ -1,5 +1,5 @@
 -- What stands in a list, by recursion on the list, and how many distinct elements a list has room for.
-use Rattle.std.proofs.Common.{IsTrue, ⊎_elim, bytes_eq, ◌↔◌, ◌≡◌, ◌≢◌, ℕ, zero, suc, ◌<◌, ◌≤◌, List, [], ◌∷◌, ◌++◌, length, refl, sym, ap, subst, ◌∙◌, arith, ◌⊎◌, inl, inr}
+use Rattle.std.proofs.Common.{IsTrue, ⊎_elim, bytes_eq, ◌↔◌, ◌≡◌, ◌≢◌, ℕ, zero, suc, ◌<◌, ◌≤◌, List, [], ◌∷◌, ◌++◌, length, map, refl, sym, ap, subst, ◌∙◌, arith, ◌⊎◌, inl, inr}
 use Rattle.std.proofs.lemmas.Bool.{or_cases, or_left, or_right}
 use Rattle.std.proofs.lemmas.Slice.Eq.{bytes_eq-Decides}
 use Rattle.std.specs.Prelude.{slice_index_or}
@@ -54,7 +54,7 @@ pub in_last : {X : Type 0} → (xs : List X) (x : X) → IsIn (xs ++ x ∷ []) x
 in_last [] x = inl refl
 in_last (z ∷ zs) x = inr (in_last zs x)
 
-pub distinct_more : (xs : List (List ℕ)) (x : List ℕ) → AreDistinct xs → (IsIn xs x → ⊥) → AreDistinct (xs ++ x ∷ [])
+pub distinct_more : {X : Type 0} → (xs : List X) (x : X) → AreDistinct xs → (IsIn xs x → ⊥) → AreDistinct (xs ++ x ∷ [])
 distinct_more [] x distinct new = (tt, tt)
 distinct_more (y ∷ ys) x distinct new = (
   each_more (λ z. y ≢ z) ys x distinct.0 (λ h. new (inl h)),
@@ -62,18 +62,18 @@ distinct_more (y ∷ ys) x distinct new = (
 )
 
 -- the list without an element of it
-without : (ys : List (List ℕ)) (x : List ℕ) → IsIn ys x → List (List ℕ)
+without : {X : Type 0} (ys : List X) (x : X) → IsIn ys x → List X
 without [] x h = []
 without (y ∷ ys) x (inl h) = ys
 without (y ∷ ys) x (inr h) = y ∷ without ys x h
 
-without_length : (ys : List (List ℕ)) (x : List ℕ) (h : IsIn ys x) → suc (length (without ys x h)) ≡ length ys
+without_length : {X : Type 0} (ys : List X) (x : X) (h : IsIn ys x) → suc (length (without ys x h)) ≡ length ys
 unfolding without
 without_length [] x h = absurd h
 without_length (y ∷ ys) x (inl h) = refl
 without_length (y ∷ ys) x (inr h) = ap suc (without_length ys x h)
 
-without_in : (ys : List (List ℕ)) (x : List ℕ) (h : IsIn ys x) (z : List ℕ) → x ≢ z → IsIn ys z → IsIn (without ys x h) z
+without_in : {X : Type 0} (ys : List X) (x : X) (h : IsIn ys x) (z : X) → x ≢ z → IsIn ys z → IsIn (without ys x h) z
 unfolding without
 without_in [] x h z other there = absurd h
 without_in (y ∷ ys) x (inl h) z other (inl there) = absurd (other (sym h ∙ there))
@@ -82,7 +82,7 @@ without_in (y ∷ ys) x (inr h) z other (inl there) = inl there
 without_in (y ∷ ys) x (inr h) z other (inr there) = inr (without_in ys x h z other there)
 
 -- distinct elements of a list are at most as many as the list has
-pub fewer : (xs ys : List (List ℕ)) → AreDistinct xs → ((x : List ℕ) → IsIn xs x → IsIn ys x) → length xs ≤ length ys
+pub fewer : {X : Type 0} → (xs ys : List X) → AreDistinct xs → ((x : X) → IsIn xs x → IsIn ys x) → length xs ≤ length ys
 fewer [] ys distinct inside = omega arith
 fewer (x ∷ xs) ys distinct inside =
     let here = inside x (inl refl) in
@@ -112,3 +112,27 @@ not_first xs ys y x at other h = or_later ys y x other (first_or_later xs ys y x
 
 pub none_in : {X : Type 0} → (xs : List X) (x : X) → xs ≡ [] → IsIn xs x → ⊥
 none_in xs x at h = subst (λ l. IsIn l x) at h
+
+-- two lists one behind the other
+pub in_front : {X : Type 0} → (xs ys : List X) (x : X) → IsIn xs x → IsIn (xs ++ ys) x
+in_front [] ys x h = absurd h
+in_front (y ∷ xs) ys x (inl h) = inl h
+in_front (y ∷ xs) ys x (inr h) = inr (in_front xs ys x h)
+
+pub in_back : {X : Type 0} → (xs ys : List X) (x : X) → IsIn ys x → IsIn (xs ++ ys) x
+in_back [] ys x h = h
+in_back (y ∷ xs) ys x h = inr (in_back xs ys x h)
+
+pub in_either : {X : Type 0} → (xs ys : List X) (x : X) → IsIn (xs ++ ys) x → IsIn xs x ⊎ IsIn ys x
+in_either [] ys x h = inr h
+in_either (y ∷ xs) ys x (inl h) = inl (inl h)
+in_either (y ∷ xs) ys x (inr h) = front (in_either xs ys x h)
+  where
+    front : IsIn xs x ⊎ IsIn ys x → IsIn (y ∷ xs) x ⊎ IsIn ys x
+    front (inl t) = inl (inr t)
+    front (inr t) = inr t
+
+pub in_map : {X Y : Type 0} → (f : X → Y) (xs : List X) (x : X) → IsIn xs x → IsIn (map f xs) (f x)
+in_map f [] x h = absurd h
+in_map f (y ∷ xs) x (inl h) = inl (ap f h)
+in_map f (y ∷ xs) x (inr h) = inr (in_map f xs x h)

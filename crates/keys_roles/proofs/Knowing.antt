@@ -1,16 +1,16 @@
 -- What is known of a file's signatures, entry by entry.
-use Rattle.std.proofs.Common.{◌≡◌, ◌↔◌, ℕ, zero, suc, ◌+◌, ◌≤◌, Bool, true, false, cond, not, ◌&&◌, ◌||◌, List, [], ◌∷◌, ◌++◌, map, length, filter, drop, slice_get, Option, Some, None, option_map, refl, sym, ap, subst, ◌∙◌, arith, IsTrue, IsSomeAnd, bytes_eq, nat_eq}
+use Rattle.std.proofs.Common.{◌≡◌, ◌↔◌, ℕ, zero, suc, ◌+◌, ◌≤◌, Bool, true, false, cond, not, ◌&&◌, ◌||◌, List, [], ◌∷◌, ◌++◌, map, length, filter, drop, slice_get, Option, Some, None, refl, sym, ap, subst, ◌∙◌, arith, IsTrue, IsSomeAnd, bytes_eq, nat_eq, ⊎_elim, ◌⊎◌, inl, inr}
 use Rattle.std.specs.Prelude.{find}
-use Rattle.std.specs.List.{AllByRecursion, list_any}
-use Rattle.std.proofs.lemmas.Bool.{eqb-true}
+use Rattle.std.specs.List.{Contains, list_any}
+use Rattle.std.proofs.lemmas.Bool.{eq-eqb, eqb-true, or_cases, or_left, or_right}
 use Rattle.std.proofs.lemmas.Slice.Eq.{bytes_eq-Decides}
 use Rattle.keys_roles.specs.Plain.{Key, lms, Table, RoleRule, Signature, look_up}
-use Rattle.keys_roles.specs.Rules.{SpellsSignature}
+use Rattle.keys_roles.specs.Rules.{AreDistinct, SpellsSignature}
 use Rattle.keys_roles.specs.Verdicts.{Pair, same_key, same_pair, named_key, with_pair, pairs_from, Verdict, IsVerdict, AreVerdicts, is_known, unknown}
 use Rattle.keys_roles.specs.steps.Counting.{IsIn, TellOf}
 use Rattle.keys_roles.specs.declared.Verdict as held
 use Rattle.keys_roles.specs.Views.{verdict_view, verdict_views}
-use Rattle.keys_roles.proofs.Elements.{any_in}
+use Rattle.keys_roles.proofs.Elements.{any_in, contains_in, in_contains, in_front, in_back, in_either, distinct_more}
 
 -- the first of what is left stands at its place
 pub drop_at : {X : Type 0} → (n : ℕ) (xs : List X) (x : X) (ys : List X) → drop n xs ≡ x ∷ ys → (slice_get xs n ≡ Some x) × (drop (suc n) xs ≡ ys)
@@ -67,6 +67,35 @@ none_or : (here : Bool) (v : Verdict) (o : Option Verdict) (rest : Bool) → (o 
 none_or true v o rest later h = absurd (cc)
 none_or false v o rest later h = later h
 
+-- a pair is known where one of the verdicts is on it
+same_key_self : (k : Key) → same_key k k ≡ true
+same_key_self (lms b) = (bytes_eq-Decides b b).1 refl
+
+same_self : (p : Pair) → same_pair p p ≡ true
+same_self p = ap (λ b. b && same_key p.1 p.1) (eq-eqb p.0 p.0 refl) ∙ same_key_self p.1
+
+pub known_in : (vs : List Verdict) (pair : Pair) → IsIn (map (λ v. v.pair) vs) pair → IsTrue (is_known vs pair)
+known_in [] pair h = absurd h
+known_in (v ∷ vs) pair (inl h) = or_left (same_pair v.pair pair) (is_known vs pair) (subst (λ (p : Pair). same_pair v.pair p ≡ true) h (same_self v.pair))
+known_in (v ∷ vs) pair (inr h) = or_right (same_pair v.pair pair) (is_known vs pair) (known_in vs pair h)
+
+one_pair : (p q : Pair) → (p.0 ≡ q.0) × (p.1 ≡ q.1) → p ≡ q
+one_pair p q h = ap (λ (n : ℕ). (n, p.1)) h.0 ∙ ap (λ (k : Key). (q.0, k)) h.1
+
+pub in_known : (vs : List Verdict) (pair : Pair) → IsTrue (is_known vs pair) → IsIn (map (λ v. v.pair) vs) pair
+in_known [] pair h = absurd (cc)
+in_known (v ∷ vs) pair h =
+    ⊎_elim (λ l. inl (one_pair v.pair pair (same_pair_is v.pair pair l))) (λ r. inr (in_known vs pair r)) (or_cases (same_pair v.pair pair) (is_known vs pair) h)
+
+pub found_known : (known : List Verdict) (pair : Pair) (w : Verdict) → find (λ v. same_pair v.pair pair) known ≡ Some w → is_known known pair ≡ true
+found_known [] pair w h = absurd (cc)
+found_known (v ∷ vs) pair w h = some_or (same_pair v.pair pair) (λ k. found_known vs pair w k) h
+  where
+    some_or : (here : Bool) → (find (λ u. same_pair u.pair pair) vs ≡ Some w → is_known vs pair ≡ true)
+        → cond here (Some v) (find (λ u. same_pair u.pair pair) vs) ≡ Some w → (here || is_known vs pair) ≡ true
+    some_or true later k = refl
+    some_or false later k = later k
+
 pub none_known : (known : List Verdict) (pair : Pair) → find (λ v. same_pair v.pair pair) known ≡ None → is_known known pair ≡ false
 none_known [] pair h = refl
 none_known (v ∷ vs) pair h = none_or (same_pair v.pair pair) v (find (λ v. same_pair v.pair pair) vs) (is_known vs pair) (none_known vs pair) h
@@ -121,6 +150,50 @@ pub with_verdict : (vs : List held.Verdict) (v : held.Verdict) (ps : List Pair)
     → map (λ u. u.pair) (verdict_views (vs ++ v ∷ [])) ++ ps ≡ map (λ u. u.pair) (verdict_views vs) ++ ((verdict_view v).pair ∷ ps)
 with_verdict [] v ps = refl
 with_verdict (u ∷ us) v ps = ap (λ qs. (verdict_view u).pair ∷ qs) (with_verdict us v ps)
+
+-- verdicts with pairs that are left, and none of these where a verdict is on it already
+pub has_pair : (qs ps : List Pair) (q : Pair) → IsIn qs q → (p : Pair) → IsIn (qs ++ ps) p ↔ IsIn (qs ++ (q ∷ ps)) p
+has_pair qs ps q there p = (λ h. on (in_either qs ps p h), λ h. back (in_either qs (q ∷ ps) p h))
+  where
+    on : IsIn qs p ⊎ IsIn ps p → IsIn (qs ++ (q ∷ ps)) p
+    on (inl h) = in_front qs (q ∷ ps) p h
+    on (inr h) = in_back qs (q ∷ ps) p (inr h)
+
+    back : IsIn qs p ⊎ IsIn (q ∷ ps) p → IsIn (qs ++ ps) p
+    back (inl h) = in_front qs ps p h
+    back (inr (inl h)) = in_front qs ps p (subst (IsIn qs) h there)
+    back (inr (inr h)) = in_back qs ps p h
+
+-- all pairs of two lists, as what is known
+pub known_all : (vs old : List Verdict) (ps : List Pair) → ((p : Pair) → IsIn (map (λ v. v.pair) vs ++ []) p ↔ IsIn (map (λ v. v.pair) old ++ ps) p)
+    → (p : Pair) → IsTrue (is_known vs p) ↔ (IsTrue (is_known old p) ⊎ Contains ps p)
+known_all vs old ps same p = (
+  λ h. known (in_either (map (λ v. v.pair) old) ps p ((same p).0 (in_front (map (λ v. v.pair) vs) [] p (in_known vs p h)))),
+  λ h. known_in vs p (here (in_either (map (λ v. v.pair) vs) [] p ((same p).1 (there h)))),
+)
+  where
+    known : IsIn (map (λ v. v.pair) old) p ⊎ IsIn ps p → IsTrue (is_known old p) ⊎ Contains ps p
+    known (inl h) = inl (known_in old p h)
+    known (inr h) = inr (contains_in ps p h)
+
+    there : IsTrue (is_known old p) ⊎ Contains ps p → IsIn (map (λ v. v.pair) old ++ ps) p
+    there (inl h) = in_front (map (λ v. v.pair) old) ps p (in_known old p h)
+    there (inr h) = in_back (map (λ v. v.pair) old) ps p (in_contains ps p h)
+
+    here : IsIn (map (λ v. v.pair) vs) p ⊎ IsIn [] p → IsIn (map (λ v. v.pair) vs) p
+    here (inl h) = h
+    here (inr h) = absurd h
+
+-- a verdict on a pair of which nothing was known
+pub distinct_verdicts : (vs : List held.Verdict) (v : held.Verdict) → AreDistinct (map (λ u. u.pair) (verdict_views vs)) → is_known (verdict_views vs) (verdict_view v).pair ≡ false
+    → AreDistinct (map (λ u. u.pair) (verdict_views (vs ++ v ∷ [])))
+distinct_verdicts vs v distinct new =
+    subst AreDistinct (sym (last vs))
+    (distinct_more (map (λ u. u.pair) (verdict_views vs)) (verdict_view v).pair distinct (λ h. absurd (let k = known_in (verdict_views vs) (verdict_view v).pair h in let no = sym new ∙ k in cc)))
+  where
+    last : (us : List held.Verdict) → map (λ u. u.pair) (verdict_views (us ++ v ∷ [])) ≡ map (λ u. u.pair) (verdict_views us) ++ (verdict_view v).pair ∷ []
+    last [] = refl
+    last (u ∷ us) = ap (λ qs. (verdict_view u).pair ∷ qs) (last us)
 
 pub verdict_more : (signed : List ℕ) (entries : List Signature) (vs : List held.Verdict) (v : held.Verdict) → AreVerdicts signed entries (verdict_views vs)
     → IsVerdict signed entries (verdict_view v) → AreVerdicts signed entries (verdict_views (vs ++ v ∷ []))

@@ -1,5 +1,5 @@
 -- What is known of a file's signatures before they are checked.
-use Rattle.std.specs.Prelude.{◌≡◌, ◌↔◌, ℕ, suc, Bool, cond, not, ◌&&◌, List, [], ◌∷◌, length, filter, slice_get, Option, Some, None, bytes_eq, nat_eq, IsTrue, IsSomeAnd}
+use Rattle.std.specs.Prelude.{◌↔◌, ℕ, suc, Bool, cond, not, ◌&&◌, List, [], ◌∷◌, length, filter, slice_get, Option, Some, None, bytes_eq, nat_eq, IsTrue, IsSomeAnd}
 use Rattle.std.specs.List.{AllByRecursion, list_any}
 use Rattle.keys_roles.specs.Plain.{Key, lms, Table, RoleRule, Signature, look_up}
 use Rattle.keys_roles.specs.Rules.{SpellsSignature}

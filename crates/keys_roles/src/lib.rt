@@ -55,4 +55,4 @@ pub use ids::key_id;
 pub use lms::Steps;
 pub use meeting::{meets, meets_counted, meets_with, meets_with_counted};
 pub use rotation::same_rule;
-pub use verdicts::verdicts_of;
+pub use verdicts::with_verdicts;

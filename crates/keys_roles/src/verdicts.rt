@@ -1,7 +1,7 @@
 // What is known of a file's signatures, and what is found out of them.
-ghost use Rattle.std.specs.Prelude.{◌≡◌, ◌↔◌, ◌+◌, ◌<◌, ◌≤◌, ◌^◌, cond, find, map, option_map, IfOk, IsTrue};
-ghost use Rattle.keys_roles.specs.Rules.{SpellsSignature};
-ghost use Rattle.keys_roles.specs.Verdicts.{AreVerdicts, is_known, named_key, pairs, same_key, same_pair};
+ghost use Rattle.std.specs.Prelude.{◌≡◌, ◌↔◌, ◌⊎◌, ◌+◌, ◌<◌, ◌≤◌, ◌^◌, cond, find, map, option_map, Contains, IfOk, IsTrue};
+ghost use Rattle.keys_roles.specs.Rules.{AreDistinct, SpellsSignature};
+ghost use Rattle.keys_roles.specs.Verdicts.{AreVerdicts, Pair, is_known, named_key, pairs, same_key, same_pair};
 ghost use Rattle.keys_roles.specs.steps.Counting.{TellOf};
 ghost use Rattle.keys_roles.specs.Views.{entries_view, entry_view, id_text, key_view, rule_view, table_view, verdict_view, verdict_views};
 
@@ -9,38 +9,53 @@ use crate::digits::digits_verify;
 use crate::ids::{is_listed, key_of};
 use crate::{Key, KeyId, KeyTable, RoleRule, Signature, Verdict};
 use lms::Steps;
-use std::alloc::{AllocError, Global};
+use std::alloc::AllocError;
 
-/// The verdicts on a file under a rule: one on each listed signature whose id stands in the rule and names a key in the table,
-/// in their order. What is known already is not checked again.
-pub fn verdicts_of(
-    alloc: Global,
+/// Verdicts on a file with those under one more rule: one on each listed signature whose id stands in the rule and names a key
+/// in the table, where they have none on it yet. What is known already is not checked again.
+pub fn with_verdicts(
+    verdicts: Vec<Verdict>,
     rule: &RoleRule,
     table: &KeyTable,
     signed: &[u8],
     signatures: &[Signature],
     known: &[Verdict],
 ) -> Result<Vec<Verdict>, AllocError>
-    requires { AreVerdicts signed.now (entries_view signatures.now) (verdict_views known.now) }
-    ensures all { IfOk result (λ vs. map (λ v. v.pair) (verdict_views vs.items) ≡ pairs (rule_view rule.now) (table_view table.now) (entries_view signatures.now)) }
+    requires known { AreVerdicts signed.now (entries_view signatures.now) (verdict_views known.now) }
+    requires sound { AreVerdicts signed.now (entries_view signatures.now) (verdict_views verdicts.items) }
+    requires distinct { AreDistinct (map (λ v. v.pair) (verdict_views verdicts.items)) }
+    ensures all { IfOk result (λ vs. (p : Pair) → IsTrue (is_known (verdict_views vs.items) p) ↔ (IsTrue (is_known (verdict_views verdicts.items) p) ⊎ (Contains (pairs (rule_view rule.now) (table_view table.now) (entries_view signatures.now)) p))) }
     ensures sound { IfOk result (λ vs. AreVerdicts signed.now (entries_view signatures.now) (verdict_views vs.items)) }
+    ensures distinct { IfOk result (λ vs. AreDistinct (map (λ v. v.pair) (verdict_views vs.items))) }
 {
-    let mut verdicts = Vec::new(alloc);
+    let mut verdicts = verdicts;
     let mut place = 0usize;
     let mut rest = signatures;
     'entries: while let Some((entry, later)) = rest.split_first() {
         if let Some(key) = named(rule, table, &entry.keyid) {
-            let verifies = verdict(key, signed, place, entry, known, &mut Steps::new());
-            verdicts.push(Verdict {
-                place,
-                key: *key,
-                verifies,
-            })?;
+            if !is_held(&verdicts, place, key) {
+                let verifies = verdict(key, signed, place, entry, known, &mut Steps::new());
+                verdicts.push(Verdict {
+                    place,
+                    key: *key,
+                    verifies,
+                })?;
+            }
         }
         rest = later;
         place += 1;
     }
     Ok(verdicts)
+}
+
+// Whether something is known of the signature at this place with the key.
+fn is_held(verdicts: &[Verdict], place: usize, key: &Key) -> bool
+    ensures { result ≡ is_known (verdict_views verdicts.now) (place, key_view key.now) }
+{
+    match held(verdicts, place, key) {
+        Some(_) => true,
+        None => false,
+    }
 }
 
 /// The key that an id of the rule names in the table.

@@ -2,7 +2,7 @@ mod files;
 
 use files::DOCUMENTS;
 use metadata::{
-    Body, Document, Kind, Moment, Root, ShapeFault, live, one_document, one_shape, read_date_time,
+    Body, Delegation, Document, Kind, Moment, Root, ShapeFault, TargetPath, live, one_document, one_shape, read_date_time,
     read_document,
 };
 use std::alloc::Global;
@@ -109,6 +109,47 @@ fn what_targets_list(rt: HostRuntime) -> Result<(), Fail> {
             assert_eq!(rt; targets.targets.len(), 1);
             assert_eq!(rt; targets.targets[0].path.as_str(), "a/b.tgz");
             assert_eq!(rt; targets.targets[0].length, 3);
+        }
+        _ => assert!(rt; false),
+    }
+    Ok(())
+}
+
+// The role, how many keys and how many of them have to sign, and whether nothing behind it is searched.
+fn of_delegation(delegation: &Delegation) -> (&str, usize, u32, bool) {
+    (
+        delegation.name.as_str(),
+        delegation.rule.keyids.len(),
+        delegation.rule.threshold,
+        delegation.terminating,
+    )
+}
+
+#[test]
+fn what_delegations_say(rt: HostRuntime) -> Result<(), Fail> {
+    let text = DOCUMENTS[14].1;
+    let Document { body, .. } = read_document(rt.alloc(), Kind::Targets, text.as_bytes())?;
+    match body {
+        Body::Targets(targets) => {
+            let delegations = targets.delegations.ok_or("no delegations")?;
+            assert_eq!(rt; delegations.keys.entries.len(), 2);
+            let [first, second] = delegations.roles.as_slice() else {
+                return Err("not two delegations".into());
+            };
+            assert_eq!(rt; of_delegation(first), ("mirror", 2, 2, false));
+            assert_eq!(rt; of_delegation(second), ("all", 1, 1, true));
+            assert_eq!(rt; first.rule.keyids[1], second.rule.keyids[0]);
+            assert_eq!(rt; first.rule.keyids[0], delegations.keys.entries[1].0);
+            for (path, of_first, of_second) in [
+                ("a/b.tgz", true, true),
+                ("b.tgz", true, false),
+                ("a/b/c", false, true),
+                ("c", false, false),
+            ] {
+                let path = TargetPath::read(rt.alloc(), path)?.ok_or("no path")?;
+                assert_eq!(rt; first.covers(&path), of_first);
+                assert_eq!(rt; second.covers(&path), of_second);
+            }
         }
         _ => assert!(rt; false),
     }

@@ -1,21 +1,42 @@
 use crate::failure::Failure;
 use crate::rate::{now, percent, rate};
 use crate::repository::{FILE, PATH, Repository};
-use delegations::{Row, Rows, Shelf, has_hash, has_length, search};
+use delegations::{Row, Rows, Shelf, Steps, has_hash, has_length, search, search_counted};
 use keys_roles::meets;
 use lms::OtsType;
-use machine::{Batched, Offer, Outcome, State, batch, get, init, put_blob};
+use machine::{Batched, Offer, Outcome, State, batch, get, get_counted, init, put_blob};
 use metadata::{
     File, Moment, Root, Snapshot, digest_of, live, read_root_file, read_snapshot_file,
     read_targets_file,
 };
 use path_patterns::{RoleName, TargetPath};
-use std::alloc::Global;
+use std::alloc::{AllocError, Global};
 use std::rt::Clock;
 use std::time::{Duration, Instant};
 
 // A moment before all documents expire, in seconds since 1970.
 const MOMENT: u64 = 1_893_456_000;
+
+// The most delegations in a line that a search goes through.
+const MOST_DELEGATIONS: u32 = 31;
+
+// What a state has: targets, blobs, and delegations before the role that lists the targets.
+#[derive(Clone, Copy)]
+struct Size {
+    listings: u32,
+    blobs: u32,
+    delegations: u32,
+}
+
+impl Size {
+    fn new(listings: u32, blobs: u32, delegations: u32) -> Size {
+        Size {
+            listings,
+            blobs,
+            delegations,
+        }
+    }
+}
 
 // The times of all rounds.
 #[derive(Clone, Copy)]
@@ -50,12 +71,14 @@ impl Times {
     }
 }
 
-/// Prints, for a state of one target and one blob, and for one of the most blobs and a thousand targets, signed with two
-/// LM-OTS types, how many targets are served per second, and how the time of that splits.
+/// Prints, for a state of one target and one blob, for one of the most blobs and a thousand targets, and for one whose target is listed
+/// behind as many delegations as a search follows, signed with two LM-OTS types, how many targets are served per second, how the
+/// time of that splits, and how many signatures it checks, with what is known of them and without.
 pub fn measure(rt: &(impl Clock + Print + AllocGlobal), rounds: u32) -> Result<(), Failure> {
     for (name, ots) in [("w4", OtsType::W4), ("w8", OtsType::W8)] {
-        measure_state(rt, name, ots, 1, 1, rounds)?;
-        measure_state(rt, name, ots, 1000, 4096, rounds)?;
+        measure_state(rt, name, Size::new(1, 1, 0), ots, rounds)?;
+        measure_state(rt, name, Size::new(1000, 4096, 0), ots, rounds)?;
+        measure_state(rt, name, Size::new(1, 1, MOST_DELEGATIONS), ots, rounds)?;
     }
     Ok(())
 }
@@ -64,19 +87,23 @@ pub fn measure(rt: &(impl Clock + Print + AllocGlobal), rounds: u32) -> Result<(
 fn measure_state(
     rt: &(impl Clock + Print + AllocGlobal),
     name: &str,
+    size: Size,
     ots: OtsType,
-    listings: u32,
-    blobs: u32,
     rounds: u32,
 ) -> Result<(), Failure> {
-    let files = Repository::new(rt.alloc(), ots, listings)?;
+    let alloc = rt.alloc();
+    let files = Repository::new(alloc, ots, size.listings, size.delegations)?;
     let Some(moment) = Moment::new(MOMENT) else {
         return Err(Failure::NotServed);
     };
-    let state = state_of(rt.alloc(), &files, blobs, moment)?;
-    let times = times_of(rt, rt.alloc(), &files, &state, moment, rounds)?;
+    let state = state_of(alloc, &files, size.blobs, moment)?;
+    let times = times_of(rt, alloc, &files, &state, moment, rounds)?;
+    let (checks, cold) = checks_of(alloc, &files, &state, moment)?;
     println!(rt;
-        "{name} listings {listings} blobs {blobs} get {} search {} check {} lookups {} held {} without {} share {}",
+        "{name} listings {} blobs {} delegations {} get {} search {} check {} lookups {} held {} without {} share {} checks {checks} cold {cold}",
+        size.listings,
+        size.blobs,
+        size.delegations,
         rate(1, rounds, times.serving),
         rate(1, rounds, times.searching),
         rate(1, rounds, times.checking),
@@ -86,6 +113,32 @@ fn measure_state(
         percent(times.checking.as_nanos(), times.serving.as_nanos())
     )?;
     Ok(())
+}
+
+// How many signatures a target request checks, and how many a search that knows nothing of them.
+fn checks_of(
+    alloc: Global,
+    files: &Repository,
+    state: &State,
+    moment: Moment,
+) -> Result<(u64, u64), Failure> {
+    let path = path(alloc)?;
+    let mut warm = Steps::new();
+    get_counted(alloc, state, &path, moment, &mut warm)?;
+    let documents = documents_of(alloc, files)?;
+    let mut cold = Steps::new();
+    let shelf = shelf_of(&documents);
+    match search_counted(&shelf, &path, moment, &mut cold, &mut Steps::new()) {
+        Ok(_) => Ok((warm.count(), cold.count())),
+        Err(_) => Err(Failure::NotServed),
+    }
+}
+
+fn path(alloc: Global) -> Result<TargetPath, Failure> {
+    match TargetPath::read(alloc, PATH)? {
+        Some(path) => Ok(path),
+        None => Err(Failure::NotServed),
+    }
 }
 
 // The state that trusts the files and holds so many blobs, among them the file of each target.
@@ -120,18 +173,14 @@ fn begin(alloc: Global, state: &mut State, files: &Repository) -> Result<(), Fai
     }
 }
 
-// Trusts timestamp, snapshot and targets.
+// Trusts timestamp, snapshot and the documents of the line.
 fn renew(
     alloc: Global,
     state: &mut State,
     files: &Repository,
     moment: Moment,
 ) -> Result<(), Failure> {
-    let documents = [
-        (Offer::Timestamp, files.timestamp.as_slice()),
-        (Offer::Snapshot, files.snapshot.as_slice()),
-        (Offer::Targets(top_role(alloc)?), files.targets.as_slice()),
-    ];
+    let documents = offers(alloc, files)?;
     match batch(alloc, state, &documents, moment) {
         Ok(done) => {
             let Batched {
@@ -147,6 +196,23 @@ fn renew(
         }
         Err(refusal) => Err(Failure::from(refusal)),
     }
+}
+
+fn offers(alloc: Global, files: &Repository) -> Result<Vec<(Offer, &[u8])>, Failure> {
+    let mut offers = Vec::new(alloc);
+    offers
+        .push((Offer::Timestamp, files.timestamp.as_slice()))
+        .map_err(AllocError::from)?;
+    offers
+        .push((Offer::Snapshot, files.snapshot.as_slice()))
+        .map_err(AllocError::from)?;
+    for (name, file) in &files.line {
+        let role = role_of(alloc, name.as_str())?;
+        offers
+            .push((Offer::Targets(role), file.as_slice()))
+            .map_err(AllocError::from)?;
+    }
+    Ok(offers)
 }
 
 // Holds one more blob.
@@ -165,8 +231,8 @@ fn hold(alloc: Global, state: &mut State, bytes: &[u8]) -> Result<(), Failure> {
     }
 }
 
-fn top_role(alloc: Global) -> Result<RoleName, Failure> {
-    match RoleName::read(alloc, "targets")? {
+fn role_of(alloc: Global, name: &str) -> Result<RoleName, Failure> {
+    match RoleName::read(alloc, name)? {
         Some(role) => Ok(role),
         None => Err(Failure::NotServed),
     }
@@ -177,19 +243,29 @@ fn top_role(alloc: Global) -> Result<RoleName, Failure> {
 struct Documents {
     root: File<Root>,
     snapshot: File<Snapshot>,
-    row: [Row; 1],
+    rows: Vec<Row>,
 }
 
 fn documents_of(alloc: Global, files: &Repository) -> Result<Documents, Failure> {
+    let mut rows = Vec::new(alloc);
+    for (name, file) in &files.line {
+        let row = Row {
+            role: role_of(alloc, name.as_str())?,
+            version: 1,
+            file: read_targets_file(alloc, file)?,
+        };
+        rows.push(row).map_err(AllocError::from)?;
+    }
     Ok(Documents {
         root: read_root_file(alloc, &files.root)?,
         snapshot: read_snapshot_file(alloc, &files.snapshot)?,
-        row: [Row {
-            role: top_role(alloc)?,
-            version: 1,
-            file: read_targets_file(alloc, &files.targets)?,
-        }],
+        rows,
     })
+}
+
+fn shelf_of(documents: &Documents) -> Shelf<'_> {
+    let rows = rows_of(documents);
+    Shelf::new(&documents.root.body, &documents.snapshot.body, rows)
 }
 
 // The times of a target request, and of its parts alone. They take turns, so that what else the machine does slows them alike.
@@ -201,9 +277,7 @@ fn times_of(
     moment: Moment,
     rounds: u32,
 ) -> Result<Times, Failure> {
-    let Some(path) = TargetPath::read(alloc, PATH)? else {
-        return Err(Failure::NotServed);
-    };
+    let path = path(alloc)?;
     let documents = documents_of(alloc, files)?;
     let mut times = Times::none();
     for _ in 0..rounds {
@@ -244,23 +318,25 @@ fn time_of_search(
     moment: Moment,
 ) -> Result<Duration, Failure> {
     let start = now(rt)?;
-    let rows = rows_of(documents);
-    let shelf = Shelf::new(&documents.root.body, &documents.snapshot.body, rows);
+    let shelf = shelf_of(documents);
     let is_found = search(&shelf, path, moment).is_ok();
     timed(rt, start, is_found)
 }
 
-// How long the signature check of a search takes.
+// How long the signature checks of a search take. All rules are the one key's.
 fn time_of_check(rt: &impl Clock, documents: &Documents) -> Result<Duration, Failure> {
     let start = now(rt)?;
     let root = &documents.root.body;
-    let source = &documents.row[0].file.source;
-    let is_met = meets(
-        &root.targets,
-        &root.keys,
-        source.signed(),
-        source.signatures(),
-    );
+    let mut is_met = true;
+    for row in &documents.rows {
+        let source = &row.file.source;
+        is_met &= meets(
+            &root.targets,
+            &root.keys,
+            source.signed(),
+            source.signatures(),
+        );
+    }
     timed(rt, start, is_met)
 }
 
@@ -296,21 +372,28 @@ fn timed(rt: &impl Clock, start: Instant, is_done: bool) -> Result<Duration, Fai
 
 fn rows_of(documents: &Documents) -> Rows<'_> {
     Rows {
-        held: &documents.row,
-        added: &documents.row[..0],
+        held: &documents.rows,
+        added: &[],
     }
 }
 
-// Whether the path is listed: the search without its signature check.
+// Whether the path is listed at the end of the line: the search without its signature checks.
 fn is_listed(documents: &Documents, path: &TargetPath, moment: Moment) -> bool {
-    let Some(entry) = documents.snapshot.body.entry("targets") else {
-        return false;
-    };
-    let Some(file) = rows_of(documents).row_at("targets", entry.version) else {
-        return false;
-    };
-    has_length(entry, &file.source)
-        && has_hash(entry, &file.source)
-        && live(file.body.expires, moment)
-        && file.body.listing(path.as_str()).is_some()
+    let mut is_found = false;
+    for row in &documents.rows {
+        let Some(entry) = documents.snapshot.body.entry(row.role.as_str()) else {
+            return false;
+        };
+        let Some(file) = rows_of(documents).row_at(row.role.as_str(), entry.version) else {
+            return false;
+        };
+        is_found = file.body.listing(path.as_str()).is_some();
+        if !has_length(entry, &file.source)
+            || !has_hash(entry, &file.source)
+            || !live(file.body.expires, moment)
+        {
+            return false;
+        }
+    }
+    is_found
 }

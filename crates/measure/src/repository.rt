@@ -2,8 +2,8 @@ use crate::failure::Failure;
 use canonical_json::write;
 use metadata::digest_of;
 use signed_files::{
-    Entry, Keys, Leaf, Listing, OtsType, Root, Rule, Value, meta_signed, root_signed, signed_file,
-    targets_signed,
+    Delegation, Entry, Keys, Leaf, Listing, OtsType, Root, Rule, Scope, Targets, Value,
+    meta_signed, root_signed, signed_file, targets_signed,
 };
 use std::alloc::{AllocError, Global};
 
@@ -23,26 +23,51 @@ pub struct Repository {
     pub root: Vec<u8>,
     pub timestamp: Vec<u8>,
     pub snapshot: Vec<u8>,
-    pub targets: Vec<u8>,
+    /// The document of `targets`, then that of each role in the line that it leads, with their names.
+    pub line: Vec<(String, Vec<u8>)>,
 }
 
 impl Repository {
-    /// A repository of so many targets, whose key has this LM-OTS type at height 5.
-    pub fn new(alloc: Global, ots: OtsType, listings: u32) -> Result<Repository, Failure> {
+    /// A repository of so many targets, whose key has this LM-OTS type at height 5. The targets are listed behind so many delegations,
+    /// each in the document of the role before.
+    pub fn new(
+        alloc: Global,
+        ots: OtsType,
+        listings: u32,
+        delegations: u32,
+    ) -> Result<Repository, Failure> {
         let mut keys = Keys::new(alloc, ots);
         keys.make(SEED)?;
-        let targets = file(alloc, &keys, targets(alloc, listings)?, 3)?;
-        let signed = meta(alloc, "snapshot", "targets", &targets)?;
+        let mut line = Vec::new(alloc);
+        for number in 0..delegations {
+            let signed = delegating(alloc, &keys, number + 1)?;
+            let file = file(alloc, &keys, signed, 3)?;
+            line.push((name_of(alloc, number)?, file))
+                .map_err(AllocError::from)?;
+        }
+        let last = file(alloc, &keys, targets(alloc, &keys, listings)?, 3)?;
+        line.push((name_of(alloc, delegations)?, last))
+            .map_err(AllocError::from)?;
+        let signed = snapshot(alloc, &line)?;
         let snapshot = file(alloc, &keys, signed, 2)?;
-        let signed = meta(alloc, "timestamp", "snapshot", &snapshot)?;
+        let signed = timestamp(alloc, &snapshot)?;
         let timestamp = file(alloc, &keys, signed, 1)?;
         let root = file(alloc, &keys, root(alloc, &keys)?, 0)?;
         Ok(Repository {
             root,
             timestamp,
             snapshot,
-            targets,
+            line,
         })
+    }
+}
+
+// The name of a role in the line.
+fn name_of(alloc: Global, number: u32) -> Result<String, AllocError> {
+    if number == 0 {
+        String::from_str(alloc, "targets")
+    } else {
+        format!(in alloc; "r{number:03}")
     }
 }
 
@@ -54,14 +79,19 @@ fn file(alloc: Global, keys: &Keys, signed: Value, number: u32) -> Result<Vec<u8
     Ok(signed_file(alloc, keys, &text, &[leaf])?)
 }
 
-// Root metadata, with the one key for all roles.
-fn root(alloc: Global, keys: &Keys) -> Result<Value, Failure> {
+// The rule of the one key.
+fn rule(alloc: Global) -> Result<Rule, AllocError> {
     let mut seeds = Vec::new(alloc);
-    seeds.push(SEED).map_err(AllocError::from)?;
-    let rule = Rule {
+    seeds.push(SEED)?;
+    Ok(Rule {
         seeds,
         threshold: 1,
-    };
+    })
+}
+
+// Root metadata, with the one key for all roles.
+fn root(alloc: Global, keys: &Keys) -> Result<Value, Failure> {
+    let rule = rule(alloc)?;
     let said = Root {
         version: 1,
         expires: EXPIRES,
@@ -73,22 +103,37 @@ fn root(alloc: Global, keys: &Keys) -> Result<Value, Failure> {
     Ok(root_signed(alloc, keys, &said)?)
 }
 
-// The signed part of a timestamp or a snapshot, which says this of one role's file.
-fn meta(alloc: Global, kind: &str, role: &str, file: &[u8]) -> Result<Value, Failure> {
-    let entry = Entry {
+// What is said of a file.
+fn entry(file: &[u8]) -> Entry {
+    Entry {
         version: 1,
         length: u32::try_from(file.len()).ok(),
         digest: Some(digest_of(file)),
-    };
+    }
+}
+
+// The signed part of a snapshot of these files.
+fn snapshot(alloc: Global, line: &[(String, Vec<u8>)]) -> Result<Value, Failure> {
+    let mut roles = Vec::new(alloc);
+    for (role, file) in line {
+        roles
+            .push((role.clone()?, entry(file)))
+            .map_err(AllocError::from)?;
+    }
+    Ok(meta_signed(alloc, "snapshot", 1, EXPIRES, &roles)?)
+}
+
+// The signed part of a timestamp of this snapshot.
+fn timestamp(alloc: Global, snapshot: &[u8]) -> Result<Value, Failure> {
     let mut roles = Vec::new(alloc);
     roles
-        .push((String::from_str(alloc, role)?, entry))
+        .push((String::from_str(alloc, "snapshot")?, entry(snapshot)))
         .map_err(AllocError::from)?;
-    Ok(meta_signed(alloc, kind, 1, EXPIRES, &roles)?)
+    Ok(meta_signed(alloc, "timestamp", 1, EXPIRES, &roles)?)
 }
 
 // The signed part of targets metadata, which lists the one file under so many paths.
-fn targets(alloc: Global, listings: u32) -> Result<Value, Failure> {
+fn targets(alloc: Global, keys: &Keys, listings: u32) -> Result<Value, Failure> {
     let listing = Listing {
         length: u32::try_from(FILE.len()).unwrap_or(0),
         digest: digest_of(FILE),
@@ -98,5 +143,29 @@ fn targets(alloc: Global, listings: u32) -> Result<Value, Failure> {
         let path = format!(in alloc; "packages/p{number:03}.tgz")?;
         listed.push((path, listing)).map_err(AllocError::from)?;
     }
-    Ok(targets_signed(alloc, 1, EXPIRES, &listed)?)
+    Ok(targets_signed(alloc, keys, &saying(&listed, &[]))?)
+}
+
+// The signed part of targets metadata, which delegates all targets to this role of the line.
+fn delegating(alloc: Global, keys: &Keys, number: u32) -> Result<Value, Failure> {
+    let mut patterns = Vec::new(alloc);
+    patterns
+        .push(String::from_str(alloc, "packages/*")?)
+        .map_err(AllocError::from)?;
+    let delegation = Delegation {
+        name: name_of(alloc, number)?,
+        rule: rule(alloc)?,
+        terminating: false,
+        scope: Scope::Patterns(patterns),
+    };
+    Ok(targets_signed(alloc, keys, &saying(&[], &[delegation]))?)
+}
+
+fn saying<'a>(listings: &'a [(String, Listing)], delegations: &'a [Delegation]) -> Targets<'a> {
+    Targets {
+        version: 1,
+        expires: EXPIRES,
+        listings,
+        delegations,
+    }
 }

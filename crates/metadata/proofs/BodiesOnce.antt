@@ -6,9 +6,10 @@ use Rattle.keys_roles.specs.Plain.{Table, RoleRule}
 use Rattle.metadata.specs.Documents.{MetaFile, Root, Timestamp, Snapshot, LayoutReference, Listing, Delegations, Targets}
 use Rattle.metadata.specs.Members.{Has, IsObject}
 use Rattle.metadata.specs.Parts.{IsLength, IsHashes, IsTable, IsMetaFile}
-use Rattle.metadata.specs.Bodies.{IsRoot, IsTimestamp, IsMetaRow, AreMetaRows, IsSnapshot, HasLayoutReference, IsListing, IsTargets}
+use Rattle.metadata.specs.Bodies.{IsRoot, IsTimestamp, IsMetaRow, AreMetaRows, IsSnapshot, HasLayoutReference, IsListing, HasDelegations, IsTargets}
 use Rattle.metadata.proofs.Congruence.{same2, same3, same4, same7}
-use Rattle.metadata.proofs.Once.{IsOnce, has-once, object-once, number-once}
+use Rattle.metadata.proofs.Once.{IsOnce, has-once, may-once, object-once, number-once}
+use Rattle.metadata.proofs.DelegationsOnce.{delegations-once}
 use Rattle.metadata.proofs.PartsOnce.{expires-once, version-once, hashes-once, meta-once, table-once, rule-once, HasSomeRule, pair-is}
 
 -- ---- root, timestamp, snapshot
@@ -105,7 +106,7 @@ targets-once v a b p h k =
     (version-once (codes "version") v a.version b.version p h.head.1 k.head.1)
     (expires-once v a.expires b.expires p h.head.2 k.head.2)
     (has-once (codes "targets") (IsObject IsListing) (object-once IsListing listing-once) v a.targets b.targets p h.targets k.targets)
-    (h.delegations ∙ sym k.delegations)
+    (may-once (codes "delegations") HasDelegations delegations-once v a.delegations b.delegations p h.delegations k.delegations)
   where
     make : ℕ → ℕ → List Listing → Option Delegations → Targets
     make version expires targets delegations = record { version = version; expires = expires; targets = targets; delegations = delegations }

@@ -1,13 +1,15 @@
--- An object has one delegation.
-use Rattle.std.proofs.Common.{◌≡◌, ℕ, List, Bool, codes, ap, sym, ◌∙◌}
+-- An object has one delegation, and one list of them with its keys.
+use Rattle.std.proofs.Common.{◌≡◌, ℕ, List, Bool, codes, ap, sym, subst, ◌∙◌}
 use Rattle.canonical_json.specs.Json.{boolean}
 use Rattle.keys_roles.specs.Plain.{Table, RoleRule}
 use Rattle.path_patterns.specs.Grammar.{IsPattern, IsHashPrefix}
-use Rattle.metadata.specs.Documents.{Scope, patterns, prefixes, Delegation}
-use Rattle.metadata.specs.Bodies.{IsTextOf, AreTextsOf, HasScope, IsDelegable, IsDelegation}
-use Rattle.metadata.proofs.Congruence.{same4}
+use Rattle.metadata.specs.Documents.{Scope, patterns, prefixes, Delegation, Delegations}
+use Rattle.metadata.specs.Bodies.{IsTextOf, AreTextsOf, HasScope, IsDelegable, IsDelegation, AreDelegations, HasDelegations}
+use Rattle.metadata.specs.Members.{Has}
+use Rattle.metadata.specs.Parts.{IsTable}
+use Rattle.metadata.proofs.Congruence.{same2, same4}
 use Rattle.metadata.proofs.Once.{IsOnce, has-once, array-once, text-once}
-use Rattle.metadata.proofs.PartsOnce.{rule-once}
+use Rattle.metadata.proofs.PartsOnce.{table-once, rule-once}
 
 text-of-once : (Grammar : List ℕ → Type 0) → IsOnce (IsTextOf Grammar)
 text-of-once Grammar v a b p h k = text-once v a b p h.0 k.0
@@ -37,3 +39,15 @@ delegation-once keys v a b p h k =
   where
     make : List ℕ → RoleRule → Bool → Scope → Delegation
     make name rule terminating scope = record { name = name; rule = rule; terminating = terminating; scope = scope }
+
+list-once : (keys : Table) → IsOnce (AreDelegations keys)
+list-once keys v a b p h k = array-once (IsDelegation keys) (delegation-once keys) v a b p h.0 k.0
+
+pub delegations-once : IsOnce HasDelegations
+delegations-once v a b p h k =
+    let tables : a.keys ≡ b.keys = has-once (codes "keys") IsTable table-once v a.keys b.keys p h.0 k.0 in
+    let other = subst (λ (t : Table). Has v (codes "roles") (λ x. AreDelegations t x b.roles)) (sym tables) k.1 in
+    same2 make tables (has-once (codes "roles") (AreDelegations a.keys) (list-once a.keys) v a.roles b.roles p h.1 other)
+  where
+    make : Table → List Delegation → Delegations
+    make keys roles = record { keys = keys; roles = roles }

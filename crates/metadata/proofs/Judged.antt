@@ -1,18 +1,16 @@
 -- What the parts of a value say of the files that spell it.
-use Rattle.std.proofs.Common.{◌≡◌, ◌≢◌, ℕ, List, [], ◌∷◌, map, codes, refl, sym, subst, inl, inr, ◌∙◌}
-use Rattle.std.specs.Prelude.{flat_map}
+use Rattle.std.proofs.Common.{◌≡◌, ◌≢◌, ℕ, List, codes, refl, sym, subst, inl, inr, ◌∙◌}
 use Rattle.std.specs.List.{AllByRecursion}
 use Rattle.canonical_json.specs.Json.{Json, HasMember}
 use Rattle.canonical_json.specs.Spelling.{spelling, IsProper}
 use Rattle.keys_roles.specs.Plain.{Signature}
 use Rattle.metadata.specs.Documents.{Body, root, timestamp, snapshot, targets, Root, Timestamp, Snapshot, Targets}
+use Rattle.metadata.specs.steps.Entries.{AreNamed as AreTargetsNamed}
 use Rattle.metadata.specs.steps.Faults.{IsIll, IsFaulty}
 use Rattle.metadata.specs.Parts.{IsEnvelope, NamesAreIds}
 use Rattle.metadata.specs.Bodies.{IsRoot, IsTimestamp, IsSnapshot, IsTargets}
-use Rattle.metadata.specs.Shape.{kind_name, tables, reference_tables, IsBody, IsShapeFault}
+use Rattle.metadata.specs.Shape.{kind_name, tables, IsBody, IsShapeFault}
 use Rattle.metadata.specs.steps.Reads.{IsSignedAs, IsFaultOf}
-use Rattle.metadata.specs.Views.{listing_view}
-use Rattle.metadata.specs.declared.documents.Listing.{Listing}
 use Rattle.metadata.specs.declared.documents.Kind.{Kind}
 use Rattle.metadata.specs.declared.documents.Kind.TheVariants as kinds
 use Rattle.metadata.specs.declared.documents.ShapeFault.{ShapeFault}
@@ -59,13 +57,9 @@ timestamp_faulty es v none = inl (inr (refl, λ b. let t = timestamp_in es v b.0
 pub snapshot_faulty : (es : List Signature) (v : Json) (e : ShapeFault) → IsIll ((s : Snapshot) × IsSnapshot v s) e → IsFaulty (IsBody kinds.Snapshot es v) AreNamed e
 snapshot_faulty es v e h = inl (ill_again e h (λ b. snapshot_in es v b.0 b.1))
 
-pub targets_faulty : (es : List Signature) (v : Json) (e : ShapeFault) → IsIll ((t : Targets) × IsTargets v t) e → IsFaulty (IsBody kinds.Targets es v) AreNamed e
-targets_faulty es v e h = inl (ill_again e h (λ b. targets_in es v b.0 b.1))
-
--- listings without layouts have no tables
-pub no_tables : (ls : List Listing) → AllByRecursion NamesAreIds (flat_map (λ l. reference_tables l.layout) (map listing_view ls))
-no_tables [] = tt
-no_tables (l ∷ ls) = no_tables ls
+pub targets_faulty : (es : List Signature) (v : Json) (e : ShapeFault) → IsFaulty (IsTargets v) AreTargetsNamed e → IsFaulty (IsBody kinds.Targets es v) AreNamed e
+targets_faulty es v e (inl h) = inl (ill_again e h (λ b. targets_in es v b.0 b.1))
+targets_faulty es v e (inr h) = inr (h.0, (targets h.1.0, h.1.1, h.1.2))
 
 -- ---- values
 

@@ -20,3 +20,4 @@ pub mod PartsOnce
 pub mod RootRoles
 pub mod OneOfTwo
 pub mod SnapshotNames
+pub mod TargetsNamed

@@ -1,6 +1,6 @@
 -- What the signed part of each kind of document is (TUF 1.0, sections 4.3 to 4.6; this project's profile). Members that are
--- not named here may stand beside those that are, except where `HasJust` or an equation says otherwise. No delegations and
--- no layouts are judged yet: a document that has any is none.
+-- not named here may stand beside those that are, except where `HasJust` or an equation says otherwise. No layouts are
+-- judged yet: a document that has any is none.
 use Rattle.std.specs.Prelude.{◌≡◌, ◌≢◌, ℕ, ◌<◌, ◌≤◌, List, [], ◌∷◌, ◌++◌, length, codes, true, Option, Some, None, map, Contains, ◌⊎◌}
 use Rattle.std.specs.List.{AllByRecursion}
 use Rattle.canonical_json.specs.Json.{Json, boolean, HasMember, object, Members}
@@ -8,7 +8,7 @@ use Rattle.path_patterns.specs.Grammar.{IsTargetPath, IsName, IsPattern, IsHashP
 use Rattle.keys_roles.specs.Plain.{Table, RoleRule}
 use Rattle.keys_roles.specs.Rules.{AreDistinct}
 use Rattle.metadata.specs.Documents.{Root, Timestamp, Snapshot, MetaFile, LayoutReference, Listing, Scope, patterns, prefixes, Delegation, Delegations, Targets}
-use Rattle.metadata.specs.Members.{Has, HasJust, IsArray, IsObject, IsText}
+use Rattle.metadata.specs.Members.{Has, MayHave, HasJust, IsArray, IsObject, IsText}
 use Rattle.metadata.specs.Parts.{IsVersion, IsLength, HasExpires, IsSpecVersion, IsHashes, IsTable, HasRule, IsMetaFile}
 
 -- the names of the four roles that delegations can't give
@@ -142,5 +142,4 @@ HasDelegations v d =
 pub record IsTargets (signed : Json) (t : Targets) : Type 0 where
   pub head : HasHead signed t.version t.expires
   pub targets : Has signed (codes "targets") (λ x. IsObject IsListing x t.targets)
-  pub delegations : t.delegations ≡ None
-  pub flat : NoMember signed (codes "delegations")
+  pub delegations : MayHave signed (codes "delegations") HasDelegations t.delegations

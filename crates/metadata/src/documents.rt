@@ -1,4 +1,4 @@
-ghost use Rattle.std.specs.Prelude.{◌≡◌, ◌++◌, codes, false, is_some, map};
+ghost use Rattle.std.specs.Prelude.{◌++◌, codes, map};
 ghost use Rattle.std.proofs.Props.{props};
 ghost use Rattle.metadata.specs.Sorted.{AreInOrder};
 
@@ -140,8 +140,7 @@ pub struct Delegations {
     pub roles: Vec<Delegation>,
 }
 
-/// Targets metadata (TUF 1.0, section 4.5): the listings in the order of their paths, and the delegations. There are none
-/// yet: a file with delegations is of a wrong shape.
+/// Targets metadata (TUF 1.0, section 4.5): the listings in the order of their paths, and the delegations, if it has any.
 #[derive(Debug, Drop)]
 pub struct Targets {
     pub version: u32,
@@ -149,7 +148,6 @@ pub struct Targets {
     pub targets: Vec<Listing>,
     pub delegations: Option<Delegations>,
     ghost in_order: { AreInOrder (map (λ l. l.path) targets.items) } by { Prim.hlevel props },
-    ghost flat: { is_some delegations ≡ false } by { Prim.hlevel props },
 }
 
 /// What the signed part of a document says.

@@ -1,16 +1,21 @@
 // Targets metadata (TUF 1.0, section 4.5).
-ghost use Rattle.std.specs.Prelude.{◌≡◌, ◌↔◌, ℕ, List, codes, IsTrue, IfOk, IfErr, None};
+ghost use Rattle.std.specs.Prelude.{◌≡◌, ◌↔◌, ℕ, List, Option, codes, option_map, IsTrue, IfSome, IfOk, IfErr, None};
+ghost use Rattle.std.specs.List.{AllByRecursion};
 ghost use Rattle.canonical_json.specs.Json.{EachMember};
 ghost use Rattle.canonical_json.specs.Spelling.{IsProper, IsSound};
 ghost use Rattle.canonical_json.specs.View.{view, members_view};
-ghost use Rattle.metadata.specs.Bodies.{NoMember, HasLayoutReference, IsListing, IsTargets};
+ghost use Rattle.metadata.specs.Bodies.{NoMember, HasLayoutReference, IsListing, HasDelegations, IsTargets};
 ghost use Rattle.metadata.specs.Documents as plain;
-ghost use Rattle.metadata.specs.steps.Faults.{IsIll};
-ghost use Rattle.metadata.specs.Members.{Has, MembersAre, IsObject};
-ghost use Rattle.metadata.specs.steps.Entries.{listings_view, IsCustom};
-ghost use Rattle.metadata.specs.Views.{listing_view, targets_view};
+ghost use Rattle.metadata.specs.Parts.{NamesAreIds};
+ghost use Rattle.metadata.specs.Shape.{delegation_tables};
+ghost use Rattle.metadata.specs.steps.Faults.{IsIll, IsMisnamed, IsFaulty};
+ghost use Rattle.metadata.specs.Members.{MayHave, MembersAre, IsObject};
+ghost use Rattle.metadata.specs.steps.Entries.{listings_view, IsCustom, AreNamed};
+ghost use Rattle.metadata.specs.steps.Spelled.{spelled_delegations, AreAllOver};
+ghost use Rattle.metadata.specs.Views.{listing_view, delegations_view, targets_view};
 
-use crate::documents::{Listing, ShapeFault, Targets};
+use crate::delegations::{SpelledDelegations, name_delegations, read_delegations};
+use crate::documents::{Delegations, Listing, ShapeFault, Targets};
 use crate::head::read_head;
 use crate::members::{member_of, members_of};
 use crate::parts::{hashes_of, length_of};
@@ -18,28 +23,57 @@ use canonical_json::Value;
 use path_patterns::TargetPath;
 use std::alloc::Global;
 
-/// What the signed part of targets metadata says.
+/// The targets metadata that the signed part is, the keys of its delegations named by their ids.
 pub(crate) fn read_targets(alloc: Global, signed: &Value) -> Result<Targets, ShapeFault>
     requires { IsProper (view signed.now) }
-    ensures ok { IfOk result (λ t. IsTargets (view signed.now) (targets_view t)) }
-    ensures err { IfErr result (IsIll ((t : plain.Targets) × IsTargets (view signed.now) t)) }
+    ensures ok { IfOk result (λ t. IsTargets (view signed.now) (targets_view t) × AreNamed (targets_view t)) }
+    ensures err { IfErr result (IsFaulty (IsTargets (view signed.now)) AreNamed) }
 {
     let Some((version, expires)) = read_head(signed) else {
         return Err(ShapeFault::WrongShape);
     };
-    if !lacks(signed, "delegations") {
-        return Err(ShapeFault::WrongShape);
-    }
     let Some(found) = member_of(signed, "targets") else {
         return Err(ShapeFault::WrongShape);
     };
     let targets = read_table(alloc, found)?;
+    let spelled = delegations_of(alloc, signed)?;
+    let delegations = named(alloc, spelled)?;
     Ok(Targets {
         version,
         expires,
         targets,
-        delegations: None,
+        delegations,
     })
+}
+
+// The delegations that the object has, if it has any, whatever the names in their key table.
+fn delegations_of(alloc: Global, signed: &Value) -> Result<Option<SpelledDelegations>, ShapeFault>
+    requires { IsProper (view signed.now) }
+    ensures ok { IfOk result (λ o. MayHave (view signed.now) (codes "delegations") HasDelegations (option_map spelled_delegations o)) }
+    ensures err { IfErr result (IsIll ((o : Option plain.Delegations) × MayHave (view signed.now) (codes "delegations") HasDelegations o)) }
+{
+    let Some(found) = member_of(signed, "delegations") else {
+        return Ok(None);
+    };
+    let delegations = read_delegations(alloc, found)?;
+    Ok(Some(delegations))
+}
+
+// The delegations, each key named by its id.
+fn named(
+    alloc: Global,
+    spelled: Option<SpelledDelegations>,
+) -> Result<Option<Delegations>, ShapeFault>
+    requires { IfSome spelled AreAllOver }
+    ensures ok { IfOk result (λ o. (option_map delegations_view o ≡ option_map spelled_delegations spelled)
+        × AllByRecursion NamesAreIds (delegation_tables (option_map spelled_delegations spelled))) }
+    ensures err { IfErr result (IsMisnamed (AllByRecursion NamesAreIds (delegation_tables (option_map spelled_delegations spelled)))) }
+{
+    let Some(spelled) = spelled else {
+        return Ok(None);
+    };
+    let delegations = name_delegations(alloc, spelled)?;
+    Ok(Some(delegations))
 }
 
 /// Whether the value has no member of this name.

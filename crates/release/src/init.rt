@@ -1,9 +1,7 @@
 //! `init`: begins the trust with a first root.
-use crate::fault::Fault;
-use crate::files::{DOCUMENT_LIMIT, print, read_at_most};
 use crate::moments::moment;
-use crate::notes::Notes;
-use crate::repository::{applied, refused};
+use crate::repository::applied;
+use commands::{DOCUMENT_LIMIT, Fault, Notes, print, read_at_most, refused};
 use std::io::Write;
 use store::{Command, Reply};
 

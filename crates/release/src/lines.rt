@@ -1,8 +1,8 @@
 //! What is told of a connection.
 use crate::deadlines::Timer;
 use crate::incoming::Incoming;
-use crate::notes::Notes;
 use crate::outgoing::Outgoing;
+use commands::Notes;
 use metadata::Moment;
 use std::fmt;
 use std::io::Write;

@@ -3,16 +3,12 @@
 
 mod accepting;
 mod answering;
-mod arguments;
 mod deadlines;
 mod ending;
-mod fault;
-mod files;
 mod incoming;
 mod init;
 mod lines;
 mod moments;
-mod notes;
 mod outgoing;
 mod publish;
 mod put;
@@ -21,7 +17,7 @@ mod run;
 mod serve;
 mod standing;
 
-use fault::Fault;
+use commands::Fault;
 use run::{report, run};
 use std::env::{self, Env};
 use std::io;

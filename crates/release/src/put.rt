@@ -1,9 +1,7 @@
 //! `put`: stores a target file.
-use crate::fault::Fault;
-use crate::files::{print, read_at_most};
 use crate::moments::moment;
-use crate::notes::Notes;
-use crate::repository::{applied, refused};
+use crate::repository::applied;
+use commands::{Fault, Notes, print, read_at_most, refused};
 use http_messages::BLOB_LIMIT;
 use metadata::digest_of;
 use std::io::Write;

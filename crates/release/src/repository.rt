@@ -1,9 +1,5 @@
 //! The repository in a database file.
-ghost use Rattle.std.specs.Prelude.{◌≡◌, ℕ, Option};
-ghost use Rattle.denials.specs.declared.denial.Denial.{Denial as Denials};
-
-use crate::fault::Fault;
-use crate::notes::Notes;
+use commands::{Fault, Notes};
 use metadata::Moment;
 use sqlite::{Alter, Connection, Error, ErrorCode, FileFrom, FileStore, Wary};
 use std::fs::File;
@@ -94,14 +90,4 @@ pub fn applied<E: Write>(
     let reply = repository.apply(command, now);
     close(repository);
     told(reply, db, notes)
-}
-
-/// Why a command was not done, by its reply. A command has no other reply than a denial or its own.
-pub fn refused(reply: Reply) -> Fault
-    ensures { (d : Denials) (i : Option ℕ) → reply ≡ Reply.Denied d i → result ≡ Fault.Denied d i }
-{
-    match reply {
-        Reply::Denied(denial, index) => Fault::Denied(denial, index),
-        _ => Fault::Database,
-    }
 }

@@ -1,14 +1,12 @@
 //! A command from its words to its exit status.
-use crate::fault::Fault;
-use crate::files::{print, read};
 use crate::init::init;
 use crate::moments::moment;
-use crate::notes::Notes;
 use crate::publish::publish;
 use crate::put::put;
 use crate::serve::Server;
 use canon::canon;
 use command_line::{Subcommand, Task, task};
+use commands::{Fault, Notes, print, read};
 use std::io::Write;
 
 /// Does what the words ask for. What it prints goes to `out`, why it was not done to `err`, and the exit status is

@@ -1,5 +1,5 @@
 //! What is told of a repository before it is served: which root is trusted, and when the first of its documents expires.
-use crate::notes::Notes;
+use commands::Notes;
 use metadata::{Body, Kind, Moment, RoleName, read_document};
 use sqlite::Alter;
 use std::alloc::Global;

@@ -1,4 +1,5 @@
 //! Commands over the store, each answered by one line.
+use crate::cold::cold_search;
 use crate::descriptions::Kind;
 use crate::escapes::with_literals;
 use crate::failure::LineFault;
@@ -139,6 +140,22 @@ impl Session {
         let _ = get_counted(alloc, store.state(), &path, now, &mut checks);
         let count = checks.count();
         Ok(format!(in alloc; "{count} checks")?)
+    }
+
+    /// `cold PATH`: how many signatures a search for the target checks, and how many roles it visits, where nothing is known.
+    pub fn cold(&mut self, text: &str) -> Result<String, LineFault> {
+        let alloc = self.alloc;
+        let Some(path) = TargetPath::read(alloc, text)? else {
+            return Err(LineFault::NotUnderstood);
+        };
+        let Some(store) = self.base.store() else {
+            return Ok(told(alloc, "shut")?);
+        };
+        let Some(version) = store.root_version() else {
+            return Ok(told(alloc, "no root")?);
+        };
+        let (checks, visits) = cold_search(alloc, store.state(), version, &path, self.now)?;
+        Ok(format!(in alloc; "{checks} checks, {visits} visits")?)
     }
 
     /// `equal NAME NAME`: whether two files have the same bytes.

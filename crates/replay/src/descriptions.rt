@@ -4,11 +4,11 @@
 //! its documents expire in 2031, its timestamp names version 1 of the snapshot, and its snapshot version 1 of `targets`.
 use crate::failure::LineFault;
 use crate::files::{File, find};
-use crate::words::{entry_of, leaf_of, listing_of, number_of, rule_of};
+use crate::words::{delegation_of, entry_of, leaf_of, listing_of, number_of, rule_of};
 use canonical_json::write;
 use signed_files::{
-    Entry, Keys, Leaf, Listing, Root, Rule, Value, meta_signed, root_signed, signed_file,
-    targets_signed,
+    Delegation, Entry, Keys, Leaf, Listing, Root, Rule, Targets, Value, meta_signed, root_signed,
+    signed_file, targets_signed,
 };
 use std::alloc::Global;
 
@@ -53,6 +53,7 @@ struct Description {
     rules: Rules,
     entries: Vec<(String, Entry)>,
     listings: Vec<(String, Listing)>,
+    delegations: Vec<Delegation>,
     leaves: Vec<Leaf>,
 }
 
@@ -87,6 +88,7 @@ impl Description {
             rules: usual_rules(alloc)?,
             entries,
             listings: Vec::new(alloc),
+            delegations: Vec::new(alloc),
             leaves: Vec::new(alloc),
         })
     }
@@ -105,7 +107,10 @@ impl Description {
         match self.kind {
             Kind::Root => self.take_rule(name, value),
             Kind::Timestamp | Kind::Snapshot => self.take_entry(files, name, value),
-            Kind::Targets => self.take_listing(files, name, value),
+            Kind::Targets => match name.strip_prefix(">") {
+                Some(role) => self.take_delegation(role, value),
+                None => self.take_listing(files, name, value),
+            },
         }
     }
 
@@ -142,19 +147,35 @@ impl Description {
         Ok(())
     }
 
+    // A second `>` is that of a terminating delegation. A dash takes the delegation away.
+    fn take_delegation(&mut self, name: &str, value: &str) -> Result<(), LineFault> {
+        let (name, terminating) = match name.strip_prefix(">") {
+            Some(name) => (name, true),
+            None => (name, false),
+        };
+        self.delegations.retain(|held| held.name.as_str() != name);
+        if value != "-" {
+            let delegation = delegation_of(self.alloc, name, terminating, value)?;
+            self.delegations.push(delegation)?;
+        }
+        Ok(())
+    }
+
     // Makes the keys that the document names and that sign it.
     fn make_keys(&self, keys: &mut Keys) -> Result<(), LineFault> {
-        if self.kind == Kind::Root {
-            for rule in [
-                &self.rules.root,
-                &self.rules.timestamp,
-                &self.rules.snapshot,
-                &self.rules.targets,
-            ] {
-                for seed in &rule.seeds {
-                    keys.make(*seed)?;
+        match self.kind {
+            Kind::Root => {
+                make_rule(keys, &self.rules.root)?;
+                make_rule(keys, &self.rules.timestamp)?;
+                make_rule(keys, &self.rules.snapshot)?;
+                make_rule(keys, &self.rules.targets)?;
+            }
+            Kind::Targets => {
+                for delegation in &self.delegations {
+                    make_rule(keys, &delegation.rule)?;
                 }
             }
+            Kind::Timestamp | Kind::Snapshot => {}
         }
         make_signers(keys, &self.leaves)
     }
@@ -185,9 +206,25 @@ impl Description {
             Kind::Snapshot => {
                 meta_signed(self.alloc, "snapshot", self.version, expires, &self.entries)?
             }
-            Kind::Targets => targets_signed(self.alloc, self.version, expires, &self.listings)?,
+            Kind::Targets => targets_signed(
+                self.alloc,
+                keys,
+                &Targets {
+                    version: self.version,
+                    expires,
+                    listings: &self.listings,
+                    delegations: &self.delegations,
+                },
+            )?,
         })
     }
+}
+
+fn make_rule(keys: &mut Keys, rule: &Rule) -> Result<(), LineFault> {
+    for seed in &rule.seeds {
+        keys.make(*seed)?;
+    }
+    Ok(())
 }
 
 fn make_signers(keys: &mut Keys, leaves: &[Leaf]) -> Result<(), LineFault> {

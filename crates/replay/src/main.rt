@@ -4,6 +4,7 @@
 #![tactic(auto)]
 
 mod base;
+mod cold;
 mod commands;
 mod descriptions;
 mod escapes;

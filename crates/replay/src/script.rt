@@ -143,6 +143,7 @@ fn answer_line(session: &mut Session, line: &str) -> Result<String, LineFault> {
         "http" => session.request(rest),
         "update" => session.update(),
         "checks" => session.checks(rest),
+        "cold" => session.cold(rest),
         "rows" => session.look(),
         "reopen" => session.reopen(),
         "sql" => session.execute(rest),

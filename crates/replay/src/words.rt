@@ -2,7 +2,7 @@
 use crate::failure::LineFault;
 use crate::files::{File, find};
 use metadata::digest_of;
-use signed_files::{Digest, Entry, Leaf, Listing, Rule};
+use signed_files::{Delegation, Digest, Entry, Leaf, Listing, Rule, Scope};
 use std::alloc::Global;
 
 /// A number in decimal.
@@ -98,6 +98,38 @@ pub fn rule_of(alloc: Global, word: &str) -> Result<Rule, LineFault> {
         seeds.push(byte_of(seed)?)?;
     }
     Ok(Rule { seeds, threshold })
+}
+
+/// A delegation to the role: its rule, a semicolon, and the patterns, or behind a `#` the prefixes, that it covers: `6,7:2;a/*,b`,
+/// `6;#ba78,00`.
+pub fn delegation_of(
+    alloc: Global,
+    role: &str,
+    terminating: bool,
+    word: &str,
+) -> Result<Delegation, LineFault> {
+    let Some((rule, scope)) = word.split_once(';') else {
+        return Err(LineFault::NotUnderstood);
+    };
+    let scope = match scope.strip_prefix("#") {
+        Some(prefixes) => Scope::Prefixes(texts_of(alloc, prefixes)?),
+        None => Scope::Patterns(texts_of(alloc, scope)?),
+    };
+    Ok(Delegation {
+        name: String::from_str(alloc, role)?,
+        rule: rule_of(alloc, rule)?,
+        terminating,
+        scope,
+    })
+}
+
+fn texts_of(alloc: Global, word: &str) -> Result<Vec<String>, LineFault> {
+    let mut texts = Vec::new(alloc);
+    for text in word.split(',') {
+        let text = String::from_str(alloc, text)?;
+        texts.push(text)?;
+    }
+    Ok(texts)
 }
 
 /// A leaf of a seed: `3/1`.

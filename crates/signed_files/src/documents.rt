@@ -41,6 +41,32 @@ pub struct Listing {
     pub digest: Digest,
 }
 
+/// What a delegation covers: what one of these patterns matches, or what has a digest that begins with one of these prefixes.
+#[derive(Drop)]
+pub enum Scope {
+    Patterns(Vec<String>),
+    Prefixes(Vec<String>),
+}
+
+/// What targets metadata says of a role that it delegates to: its name, the rule of its keys, whether nothing behind it is searched
+/// for a path that it covers, and what it covers.
+#[derive(Drop)]
+pub struct Delegation {
+    pub name: String,
+    pub rule: Rule,
+    pub terminating: bool,
+    pub scope: Scope,
+}
+
+/// What targets metadata says: the targets by their paths, and the delegations in their order.
+#[derive(Clone, Copy)]
+pub struct Targets<'a> {
+    pub version: u32,
+    pub expires: &'a str,
+    pub listings: &'a [(String, Listing)],
+    pub delegations: &'a [Delegation],
+}
+
 /// The signed part of root metadata. Its key table has the keys of all rules.
 pub fn root_signed(alloc: Global, keys: &Keys, said: &Root<'_>) -> Result<Value, Fault> {
     let mut members = begun(alloc, "root", said.version, said.expires)?;
@@ -50,18 +76,29 @@ pub fn root_signed(alloc: Global, keys: &Keys, said: &Root<'_>) -> Result<Value,
     Ok(members.object())
 }
 
-// The keys of all rules, each once.
+// The keys of all rules.
 fn key_table(alloc: Global, keys: &Keys, said: &Root<'_>) -> Result<Value, Fault> {
     let mut seeds = Vec::new(alloc);
     for rule in [said.root, said.timestamp, said.snapshot, said.targets] {
-        for seed in &rule.seeds {
-            if !seeds.contains(seed) {
-                seeds.push(*seed)?;
-            }
+        add_seeds(&mut seeds, rule)?;
+    }
+    keys_of(alloc, keys, &seeds)
+}
+
+// Puts the seeds of a rule behind the others, each that is not there yet.
+fn add_seeds(seeds: &mut Vec<u8>, rule: &Rule) -> Result<(), Fault> {
+    for seed in &rule.seeds {
+        if !seeds.contains(seed) {
+            seeds.push(*seed)?;
         }
     }
+    Ok(())
+}
+
+// The keys of the seeds by their ids.
+fn keys_of(alloc: Global, keys: &Keys, seeds: &[u8]) -> Result<Value, Fault> {
     let mut table = Members::new(alloc);
-    for seed in &seeds {
+    for seed in seeds {
         table.put(keys.id(*seed)?, keys.key_value(*seed)?)?;
     }
     Ok(table.object())
@@ -77,15 +114,20 @@ fn roles(alloc: Global, keys: &Keys, said: &Root<'_>) -> Result<Value, Fault> {
 }
 
 fn rule_value(alloc: Global, keys: &Keys, rule: &Rule) -> Result<Value, Fault> {
+    let mut members = Members::new(alloc);
+    put_rule(alloc, keys, rule, &mut members)?;
+    Ok(members.object())
+}
+
+fn put_rule(alloc: Global, keys: &Keys, rule: &Rule, members: &mut Members) -> Result<(), Fault> {
     let mut ids = Vec::new(alloc);
     for seed in &rule.seeds {
         let id = text_value(alloc, keys.id(*seed)?)?;
         ids.push(id)?;
     }
-    let mut members = Members::new(alloc);
     members.put("keyids", Value::List(ids))?;
     members.put_number("threshold", rule.threshold)?;
-    Ok(members.object())
+    Ok(())
 }
 
 /// The signed part of metadata of the kind `timestamp` or `snapshot`, which says this of other files, by their roles' names.
@@ -125,20 +167,53 @@ fn hashes(alloc: Global, digest: &Digest) -> Result<Value, AllocError> {
     Ok(members.object())
 }
 
-/// The signed part of targets metadata, which lists these targets by their paths.
-pub fn targets_signed(
-    alloc: Global,
-    version: u32,
-    expires: &str,
-    listings: &[(String, Listing)],
-) -> Result<Value, Fault> {
+/// The signed part of targets metadata. It has the member `delegations` where there is one, and in it the keys of their rules.
+pub fn targets_signed(alloc: Global, keys: &Keys, said: &Targets<'_>) -> Result<Value, Fault> {
     let mut files = Members::new(alloc);
-    for (path, listing) in listings {
+    for (path, listing) in said.listings {
         files.put(path.as_str(), listing_value(alloc, listing)?)?;
     }
-    let mut members = begun(alloc, "targets", version, expires)?;
+    let mut members = begun(alloc, "targets", said.version, said.expires)?;
+    if !said.delegations.is_empty() {
+        members.put("delegations", delegations(alloc, keys, said.delegations)?)?;
+    }
     members.put("targets", files.object())?;
     Ok(members.object())
+}
+
+fn delegations(alloc: Global, keys: &Keys, said: &[Delegation]) -> Result<Value, Fault> {
+    let mut seeds = Vec::new(alloc);
+    let mut roles = Vec::new(alloc);
+    for delegation in said {
+        add_seeds(&mut seeds, &delegation.rule)?;
+        let role = delegation_value(alloc, keys, delegation)?;
+        roles.push(role)?;
+    }
+    let mut members = Members::new(alloc);
+    members.put("keys", keys_of(alloc, keys, &seeds)?)?;
+    members.put("roles", Value::List(roles))?;
+    Ok(members.object())
+}
+
+fn delegation_value(alloc: Global, keys: &Keys, said: &Delegation) -> Result<Value, Fault> {
+    let mut members = Members::new(alloc);
+    members.put_text("name", said.name.as_str())?;
+    put_rule(alloc, keys, &said.rule, &mut members)?;
+    members.put("terminating", Value::Bool(said.terminating))?;
+    match &said.scope {
+        Scope::Patterns(patterns) => members.put("paths", texts(alloc, patterns)?)?,
+        Scope::Prefixes(prefixes) => members.put("path_hash_prefixes", texts(alloc, prefixes)?)?,
+    }
+    Ok(members.object())
+}
+
+fn texts(alloc: Global, said: &[String]) -> Result<Value, AllocError> {
+    let mut list = Vec::new(alloc);
+    for text in said {
+        let value = text_value(alloc, text.as_str())?;
+        list.push(value).map_err(AllocError::from)?;
+    }
+    Ok(Value::List(list))
 }
 
 fn listing_value(alloc: Global, listing: &Listing) -> Result<Value, AllocError> {

@@ -1,6 +1,6 @@
 //! Metadata files that are signed by keys of test seeds, which anybody knows: for examples, measurements and tests.
 //!
-//! A file is described by plain values (`Root`, `Entry`, `Listing`), its signed part is written as canonical JSON, and leaves of
+//! A file is described by plain values (`Root`, `Targets`, `Entry`, `Listing`, `Delegation`), its signed part is written as canonical JSON, and leaves of
 //! seeds sign it (TUF 1.0, section 4; RFC 8554). Nothing here judges a file: what is described may be no metadata at all.
 #![tactic(auto)]
 
@@ -11,7 +11,10 @@ mod members;
 mod signing;
 
 pub use canonical_json::Value;
-pub use documents::{Entry, Listing, Root, Rule, meta_signed, root_signed, targets_signed};
+pub use documents::{
+    Delegation, Entry, Listing, Root, Rule, Scope, Targets, meta_signed, root_signed,
+    targets_signed,
+};
 pub use fault::Fault;
 pub use keys::Keys;
 pub use lms::OtsType;

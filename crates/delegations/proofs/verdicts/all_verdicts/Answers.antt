@@ -1,48 +1,118 @@
-use Rattle.std.proofs.Common.{◌≡◌, ◌≤◌, [], ◌∷◌, Ok, Err, Result, map, length, sym, ap, subst, ◌∙◌, arith, IfOk, option_map}
-use Rattle.keys_roles.specs.Plain.{look_up}
-use Rattle.keys_roles.specs.Verdicts.{pairs}
-use Rattle.keys_roles.specs.Views.{verdict_views}
-use Rattle.keys_roles.proofs.Knowing.{few_pairs}
-use Rattle.metadata.specs.File.{Name}
-use Rattle.metadata.specs.FileViews.{targets_file}
-use Rattle.delegations.specs.Delegation.{Edge}
+use Rattle.std.proofs.Common.{◌≡◌, ◌+◌, ◌++◌, ◌∙◌, List, [], ◌∷◌, Some, None, Option, IfSome, IfNone, codes, length, map, refl, sym, ap, subst, arith, string_bytes}
+use Rattle.std.proofs.lemmas.List.{length-map}
+use Rattle.keys_roles.specs.Views.{verdict_view}
+use Rattle.metadata.specs.File.{Name, Names}
+use Rattle.metadata.specs.Sorted.{AreInOrder}
+use Rattle.metadata.specs.Views.{meta_view}
+use Rattle.metadata.specs.declared.documents.Meta.{Meta}
 use Rattle.delegations.specs.Search.{doc}
-use Rattle.delegations.specs.Verdicts.{Table, IsComplete}
-use Rattle.delegations.specs.Views.{edge_view, rows_view, shelf_view}
-use Rattle.delegations.proofs.Files.{all_found}
-use Rattle.delegations.proofs.Flat.{flat_shelf}
-use Rattle.delegations.proofs.Knowing.{as_many, top_complete, none_complete}
+use Rattle.delegations.specs.Verdicts.{Table, verdict_count}
+use Rattle.delegations.specs.Views.{known_row, shelf_view, table_view}
+use Rattle.delegations.specs.declared.verdicts.RowVerdicts.{RowVerdicts}
+use Rattle.delegations.specs.steps.Gathering.{AreGathered, IsRow}
+use Rattle.delegations.proofs.Gathered.{count_more, listed_names, names_distinct, no_row, no_rows, with_row}
+use Rattle.delegations.proofs.Holding.{all_of_rows, all_true, complete, too_many}
 use Rattle.delegations.proofs.verdicts.all_verdicts.Goals as goal
 
-pub returns-in_default-clause-complete : goal.returns-in_default-clause-complete
-returns-in_default-clause-complete c =
+abbrev names : List (Name × Meta) → Names
+names es = map (λ e. e.0) es
+
+none_left : {A : Type 0} (xs : List A) → length xs ≡ 0 → xs ≡ []
+none_left [] h = refl
+none_left (x ∷ xs) h = absurd (omega (arith, h))
+
+rows_more : (rows : List RowVerdicts) (row : RowVerdicts) → table_view (rows ++ row ∷ []) ≡ table_view rows ++ known_row row ∷ []
+rows_more [] row = refl
+rows_more (r ∷ rows) row = ap (λ (T : Table). known_row r ∷ T) (rows_more rows row)
+
+of_some : {A : Type 0} (P : A → Type 0) (o : Option A) (x : A) → o ≡ Some x → IfSome o P → P x
+of_some P o x is h = subst (λ p. IfSome p P) is h
+
+of_none : {A : Type 0} (P : Type 0) (o : Option A) → o ≡ None → IfNone o P → P
+of_none P o is h = subst (λ p. IfNone p P) is h
+
+-- the names that are left, the first of them apart
+first_name : (rest : List (Name × Meta)) (e : Name × Meta) (later : List (Name × Meta)) (role : Name) → rest ≡ e ∷ later → role ≡ e.0 → names rest ≡ role ∷ names later
+first_name rest e later role at is = ap names at ∙ ap (λ (n : Name). n ∷ names later) (sym is)
+
+pub roles-init : goal.roles-init
+roles-init c =
     let V = shelf_view c.args.shelf.now in
-    let role = ap (λ (e : Edge). e.role) c.top-top.ensures in
-    subst (λ (t : Table). IsComplete V t) (sym c.new.ensures)
-    (none_complete V (flat_shelf c.args.shelf.now) (ap (doc V) (sym role) ∙ c.in_default.ensures.none))
+    let rows : List (Name × Meta) = c.args.shelf.now.snapshot.now.meta.items in
+    let slice : c.as_slice-rest.result.now ≡ rows = c.as_slice-rest.ensures.value in
+    let order : AreInOrder (map (λ e. e.0 ++ codes ".json") rows) = c.args.shelf.now.snapshot.now.in_order in
+    let start : AreGathered V (names rows) [] = no_rows V (names rows) (names_distinct rows order) (listed_names meta_view rows) in
+    let empty : table_view c.new-rows.result.items ≡ [] = ap table_view c.new-rows.ensures.items in
+    record {
+      gathered = subst (λ (T : Table). AreGathered V (names c.as_slice-rest.result.now) T) (sym empty) (subst (λ (es : List (Name × Meta)). AreGathered V (names es) []) (sym slice) start);
+      room = ap (λ (T : Table). 2048 + verdict_count T) empty;
+    }
 
-pub of_one-requires : goal.of_one-requires
-of_one-requires c =
-    let file = targets_file c.in-Some.file.now in
-    let top = edge_view c.top-top.result in
-    let few : length file.entries ≤ 16 = all_found (λ f. length f.entries ≤ 16) (rows_view c.args.shelf.now.rows) (c.top-top.result.role.now, c.in-Some.version) file c.requires.few (sym c.in-Some.ensures.there) in
-    let most = few_pairs top.rule top.table 0 file.entries in
-    let count : length c.in_ok-verdicts.verdicts.items ≡ length (pairs top.rule top.table file.entries) = as_many c.in_ok-verdicts.verdicts.items (pairs top.rule top.table file.entries) c.in_ok-verdicts.ensures.all in
-    omega (arith, few, most, count)
+pub returns-then-count-room-clause-sound : goal.returns-then-count-room-clause-sound
+returns-then-count-room-clause-sound c = all_true (shelf_view c.args.shelf.now) (table_view c.roles.rows.items) c.roles.invariant.gathered.rows
 
-weaker : {A E : Type 0} (P Q : A → Type 0) (r : Result A E) → ((x : A) → P x → Q x) → IfOk r P → IfOk r Q
-weaker P Q (Ok x) so h = so x h
-weaker P Q (Err e) so h = tt
+pub returns-then-count-room-clause-rows : goal.returns-then-count-room-clause-rows
+returns-then-count-room-clause-rows c = all_of_rows (shelf_view c.args.shelf.now) (table_view c.roles.rows.items) c.roles.invariant.gathered.rows
+
+pub returns-then-count-room-clause-complete : goal.returns-then-count-room-clause-complete
+returns-then-count-room-clause-complete c =
+    let V = shelf_view c.args.shelf.now in
+    let T : Table = table_view c.roles.rows.items in
+    let row : RowVerdicts = c.in-Some-2.row in
+    let later : Names = names c.in-Some.later.now in
+    let left : names c.roles.rest.now ≡ c.as_str.result.now ∷ later = first_name c.roles.rest.now c.in-Some.entry.now c.in-Some.later.now c.as_str.result.now c.in-Some.ensures.cases.0 c.as_str.ensures.value in
+    let gathered : AreGathered V (c.as_str.result.now ∷ later) T = subst (λ (ns : Names). AreGathered V ns T) left c.roles.invariant.gathered in
+    let is : IsRow V (known_row row) = of_some (λ r. IsRow V (known_row r)) c.in_ok-row.field-0 row c.in-Some-2.is c.in_ok-row.ensures.row in
+    let named : string_bytes row.role ≡ c.as_str.result.now = of_some (λ r. string_bytes r.role ≡ c.as_str.result.now) c.in_ok-row.field-0 row c.in-Some-2.is c.in_ok-row.ensures.named in
+    let many : length (known_row row).1 ≡ length row.verdicts.items = length-map row.verdicts.items verdict_view in
+    let count = c.len-count.ensures in
+    let over = c.if-count-room.true in
+    let room = c.roles.invariant.room in
+    too_many V c.as_str.result.now later T T (known_row row) is named gathered (omega (arith, many, count, over, room))
+
+pub roles-preserved-in_ok-push : goal.roles-preserved-in_ok-push
+roles-preserved-in_ok-push c =
+    let V = shelf_view c.args.shelf.now in
+    let T : Table = table_view c.roles.rows.items in
+    let row : RowVerdicts = c.in-Some-2.row in
+    let later : Names = names c.in-Some.later.now in
+    let left : names c.roles.rest.now ≡ c.as_str.result.now ∷ later = first_name c.roles.rest.now c.in-Some.entry.now c.in-Some.later.now c.as_str.result.now c.in-Some.ensures.cases.0 c.as_str.ensures.value in
+    let gathered : AreGathered V (c.as_str.result.now ∷ later) T = subst (λ (ns : Names). AreGathered V ns T) left c.roles.invariant.gathered in
+    let is : IsRow V (known_row row) = of_some (λ r. IsRow V (known_row r)) c.in_ok-row.field-0 row c.in-Some-2.is c.in_ok-row.ensures.row in
+    let named : string_bytes row.role ≡ c.as_str.result.now = of_some (λ r. string_bytes r.role ≡ c.as_str.result.now) c.in_ok-row.field-0 row c.in-Some-2.is c.in_ok-row.ensures.named in
+    let new : table_view c.push.new.self.items ≡ T ++ known_row row ∷ [] = ap table_view c.in_ok-push.ensures.items ∙ rows_more c.roles.rows.items row in
+    let many : length (known_row row).1 ≡ length row.verdicts.items = length-map row.verdicts.items verdict_view in
+    let count = c.len-count.ensures in
+    let within = c.if-count-room.false in
+    let room = c.roles.invariant.room in
+    let more = count_more T (known_row row) in
+    let sum : verdict_count (table_view c.push.new.self.items) ≡ verdict_count (T ++ known_row row ∷ []) = ap verdict_count new in
+    record {
+      gathered = subst (λ (U : Table). AreGathered V later U) (sym new) (with_row V c.as_str.result.now later T (known_row row) is named gathered);
+      room = omega (arith, many, count, within, room, more, sum);
+    }
+
+pub roles-preserved : goal.roles-preserved
+roles-preserved c =
+    let V = shelf_view c.args.shelf.now in
+    let T : Table = table_view c.roles.rows.items in
+    let later : Names = names c.in-Some.later.now in
+    let left : names c.roles.rest.now ≡ c.as_str.result.now ∷ later = first_name c.roles.rest.now c.in-Some.entry.now c.in-Some.later.now c.as_str.result.now c.in-Some.ensures.cases.0 c.as_str.ensures.value in
+    let gathered : AreGathered V (c.as_str.result.now ∷ later) T = subst (λ (ns : Names). AreGathered V ns T) left c.roles.invariant.gathered in
+    record {
+      gathered = no_row V c.as_str.result.now later T (of_none (doc V c.as_str.result.now ≡ None) c.in_ok-row.field-0 c.in_default-2.is c.in_ok-row.ensures.none) gathered;
+      room = c.roles.invariant.room;
+    }
+
+pub returns-clause-sound : goal.returns-clause-sound
+returns-clause-sound c = all_true (shelf_view c.args.shelf.now) (table_view c.roles.rows.items) c.roles.invariant.gathered.rows
+
+pub returns-clause-rows : goal.returns-clause-rows
+returns-clause-rows c = all_of_rows (shelf_view c.args.shelf.now) (table_view c.roles.rows.items) c.roles.invariant.gathered.rows
 
 pub returns-clause-complete : goal.returns-clause-complete
 returns-clause-complete c =
     let V = shelf_view c.args.shelf.now in
-    let top = c.top-top.ensures in
-    let role = ap (λ (e : Edge). e.role) top in
-    let vs = verdict_views c.in_ok-verdicts.verdicts.items in
-    let file = targets_file c.in-Some.file.now in
-    let all = subst (λ (e : Edge). map (λ v. v.pair) vs ≡ pairs e.rule e.table file.entries) top c.in_ok-verdicts.ensures.all in
-    let complete = top_complete V (flat_shelf c.args.shelf.now) c.in-Some.version file vs (ap (doc V) (sym role) ∙ c.in-Some.ensures.some)
-    (ap (λ r. option_map (λ e. e.version) (look_up V.listing r)) (sym role) ∙ c.in-Some.ensures.listed) all in
-    weaker (λ t. t ≡ ((c.top-top.result.role.now, c.in-Some.version), vs) ∷ []) (IsComplete V) c.of_one.result
-    (λ t is. subst (λ (T : Table). IsComplete V T) (sym (is ∙ ap (λ (r : Name). ((r, c.in-Some.version), vs) ∷ []) role)) complete) c.of_one.ensures
+    let T : Table = table_view c.roles.rows.items in
+    let none : names c.roles.rest.now ≡ [] = ap names (none_left c.roles.rest.now c.in_default.ensures.cases) in
+    complete V T (subst (λ (ns : Names). AreGathered V ns T) none c.roles.invariant.gathered)

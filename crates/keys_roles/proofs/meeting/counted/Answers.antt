@@ -1,6 +1,4 @@
-use Rattle.std.proofs.Common.{◌≡◌, ℕ, List, Some, None, refl, sym, ◌∙◌}
-use Rattle.keys_roles.specs.Plain.{Key}
-use Rattle.keys_roles.specs.Verdicts.{named_key}
+use Rattle.std.proofs.Common.{sym, ◌∙◌}
 use Rattle.keys_roles.specs.Views.{rule_view, table_view, entry_view, key_view}
 use Rattle.keys_roles.proofs.Knowing.{is_named, named_is}
 use Rattle.keys_roles.proofs.meeting.counted.Goals as goal

@@ -1,4 +1,4 @@
-use Rattle.std.proofs.Common.{◌≡◌, ℕ, ◌+◌, ◌≤◌, cond, sym, ap, arith}
+use Rattle.std.proofs.Common.{ℕ, cond, sym, ap, arith}
 use Rattle.keys_roles.specs.Views.{entry_view, key_view, verdict_view, verdict_views}
 use Rattle.keys_roles.proofs.Knowing.{found_tells, none_known}
 use Rattle.keys_roles.proofs.verdicts.verdict.Goals as goal

@@ -1,16 +1,14 @@
-use Rattle.std.proofs.Common.{Option, ◌++◌, flat_map, sym, subst}
+use Rattle.std.proofs.Common.{sym, subst}
 use Rattle.std.proofs.lemmas.Result.{err_from_is_err_and}
 use Rattle.std.specs.List.{AllByRecursion}
 use Rattle.canonical_json.specs.View.{view}
 use Rattle.keys_roles.specs.Views.{entries_view}
-use Rattle.metadata.specs.Documents.{Delegations, targets}
 use Rattle.metadata.specs.steps.Faults.{IsFaulty}
 use Rattle.metadata.specs.Parts.{NamesAreIds}
-use Rattle.metadata.specs.Shape.{delegation_tables, reference_tables, tables, IsBody}
-use Rattle.metadata.specs.Views.{targets_view}
+use Rattle.metadata.specs.Shape.{tables, IsBody}
 use Rattle.metadata.specs.declared.documents.Kind.{Kind}
 use Rattle.metadata.specs.declared.documents.ShapeFault.TheVariants.{WrongShape}
-use Rattle.metadata.proofs.Judged.{root_faulty, timestamp_faulty, no_tables}
+use Rattle.metadata.proofs.Judged.{root_faulty, timestamp_faulty, targets_faulty}
 use Rattle.metadata.proofs.document.read_body.Goals as goal
 
 pub returns-in_err-read_root-in-Root-clause-err : goal.returns-in_err-read_root-in-Root-clause-err
@@ -20,14 +18,14 @@ returns-in_err-read_root-in-Root-clause-err c =
     (subst (λ (k : Kind). IsFaulty (IsBody k (entries_view c.args.envelope.now.signatures.items) (view c.args.envelope.now.part.now)) (λ b. AllByRecursion NamesAreIds (tables b)) c.in_err-read_root-in-Root.field-0.0) (sym c.in-Root.is)
     (root_faulty (entries_view c.args.envelope.now.signatures.items) (view c.args.envelope.now.part.now) c.in_err-read_root-in-Root.field-0.0 c.in_err-read_root-in-Root.ensures.err))
 
+pub returns-in_err-read_targets-in-Targets-clause-err : goal.returns-in_err-read_targets-in-Targets-clause-err
+returns-in_err-read_targets-in-Targets-clause-err c =
+    let p = err_from_is_err_and c.from_residual-in_err-read_targets-in-Targets.result c.from_residual-in_err-read_targets-in-Targets.ensures.1 in
+    rw (p.1, p.2)
+    (subst (λ (k : Kind). IsFaulty (IsBody k (entries_view c.args.envelope.now.signatures.items) (view c.args.envelope.now.part.now)) (λ b. AllByRecursion NamesAreIds (tables b)) c.in_err-read_targets-in-Targets.field-0.0) (sym c.in-Targets.is)
+    (targets_faulty (entries_view c.args.envelope.now.signatures.items) (view c.args.envelope.now.part.now) c.in_err-read_targets-in-Targets.field-0.0 c.in_err-read_targets-in-Targets.ensures.err))
+
 pub returns-in-None-clause-err : goal.returns-in-None-clause-err
 returns-in-None-clause-err c =
     subst (λ (k : Kind). IsFaulty (IsBody k (entries_view c.args.envelope.now.signatures.items) (view c.args.envelope.now.part.now)) (λ b. AllByRecursion NamesAreIds (tables b)) WrongShape) (sym c.in-Timestamp.is)
     (timestamp_faulty (entries_view c.args.envelope.now.signatures.items) (view c.args.envelope.now.part.now) c.in-None.ensures)
-
-pub returns-in_ok-read_targets-in-Targets-clause-ok : goal.returns-in_ok-read_targets-in-Targets-clause-ok
-returns-in_ok-read_targets-in-Targets-clause-ok c = (
-  subst (λ (k : Kind). IsBody k (entries_view c.args.envelope.now.signatures.items) (view c.args.envelope.now.part.now) (targets (targets_view c.in_ok-read_targets-in-Targets.field-0))) (sym c.in-Targets.is) c.in_ok-read_targets-in-Targets.ensures.ok,
-  subst (λ (o : Option Delegations). AllByRecursion NamesAreIds (delegation_tables o ++ flat_map (λ l. reference_tables l.layout) (targets_view c.in_ok-read_targets-in-Targets.field-0).targets))
-      (sym c.in_ok-read_targets-in-Targets.ensures.ok.delegations) (no_tables c.in_ok-read_targets-in-Targets.field-0.targets.items),
-)

@@ -1,0 +1,163 @@
+//! Why a command was not done, with the exit status and the line on standard error.
+ghost use Rattle.std.specs.Prelude.{◌≡◌, ℕ, Option};
+ghost use Rattle.denials.specs.declared.denial.Denial.{Denial as Denials};
+ghost use Rattle.commands.specs.Statuses.{status_of};
+
+use canon::CanonFault;
+use command_line::Usage;
+use machine::Denial;
+use std::alloc::{AllocError, AllocFailed};
+use std::{fmt, io};
+use store::Reply;
+
+/// Why a command was not done. Its text is what standard error gets.
+#[derive(Debug, Drop)]
+pub enum Fault {
+    /// The fault text of the command line, with its line end.
+    Usage(String),
+    /// The help that the command line asks for, with its line end. It goes to standard output.
+    Help(String),
+    /// The first rule that fails, and of a batch the index of its document, or the number of the documents where it is what
+    /// they leave as a whole.
+    Denied(Denial, Option<usize>),
+    Memory,
+    /// The database could not be opened or used, or it has other tables than those of a store.
+    Database,
+    /// The tables hold the rows of no state.
+    Damaged,
+    Network,
+    File,
+    Clock,
+}
+
+impl Fault {
+    /// The exit status: 0 for help, 1 where the command was denied, 2 for the command line, 3 for all else.
+    pub fn status(&self) -> u8
+        ensures { result ≡ status_of self.now }
+    {
+        match self {
+            Fault::Help(_) => 0,
+            Fault::Denied(_, _) => 1,
+            Fault::Usage(_) => 2,
+            Fault::Memory
+            | Fault::Database
+            | Fault::Damaged
+            | Fault::Network
+            | Fault::File
+            | Fault::Clock => 3,
+        }
+    }
+}
+
+impl fmt::Display for Fault {
+    fn fmt<W: fmt::Write>(&self, f: &mut fmt::Formatter<W>) -> fmt::Result {
+        match self {
+            Fault::Usage(text) | Fault::Help(text) => f.write_str(text.as_str()),
+            Fault::Denied(denial, index) => write_denial(f, denial, *index),
+            Fault::Memory => f.write_str("fault memory\n"),
+            Fault::Database => f.write_str("fault database\n"),
+            Fault::Damaged => f.write_str("fault damaged\n"),
+            Fault::Network => f.write_str("fault network\n"),
+            Fault::File => f.write_str("fault file\n"),
+            Fault::Clock => f.write_str("fault clock\n"),
+        }
+    }
+}
+
+fn write_denial<W: fmt::Write>(
+    f: &mut fmt::Formatter<W>,
+    denial: &Denial,
+    index: Option<usize>,
+) -> fmt::Result {
+    let number = denial.number();
+    let name = denial.name();
+    match index {
+        None => writeln!(f, "denied {number} {name}"),
+        Some(index) => writeln!(f, "denied {number} {name} at {index}"),
+    }
+}
+
+impl From<AllocError> for Fault {
+    ghost use Rattle.std.specs.Prelude.{◌≡◌};
+    ghost use Rattle.commands.specs.declared.fault.Fault.TheVariants.{Memory};
+
+    ghost from_gives = { λ _ f. f ≡ Memory };
+
+    fn from(_: AllocError) -> Fault {
+        Fault::Memory
+    }
+}
+
+impl<T: Drop> From<AllocFailed<T>> for Fault {
+    ghost use Rattle.std.specs.Prelude.{◌≡◌};
+    ghost use Rattle.commands.specs.declared.fault.Fault.TheVariants.{Memory};
+
+    ghost from_gives = { λ _ f. f ≡ Memory };
+
+    fn from(_: AllocFailed<T>) -> Fault {
+        Fault::Memory
+    }
+}
+
+impl From<Usage> for Fault {
+    ghost use Rattle.std.specs.Prelude.{◌≡◌};
+    ghost use Rattle.commands.specs.Statuses.{fault_of_usage};
+
+    ghost from_gives = { λ u f. f ≡ fault_of_usage u };
+
+    fn from(usage: Usage) -> Fault {
+        match usage {
+            Usage::Text(text) => Fault::Usage(text),
+            Usage::Help(text) => Fault::Help(text),
+            Usage::OutOfMemory => Fault::Memory,
+        }
+    }
+}
+
+impl From<CanonFault> for Fault {
+    ghost use Rattle.std.specs.Prelude.{◌≡◌};
+    ghost use Rattle.commands.specs.Statuses.{fault_of_canon};
+
+    ghost from_gives = { λ c f. f ≡ fault_of_canon c };
+
+    fn from(fault: CanonFault) -> Fault {
+        match fault {
+            CanonFault::NotCanonical => Fault::Denied(Denial::NotCanonical, None),
+            CanonFault::OutOfMemory => Fault::Memory,
+        }
+    }
+}
+
+impl From<store::StoreFault> for Fault {
+    ghost use Rattle.std.specs.Prelude.{◌≡◌};
+    ghost use Rattle.commands.specs.Statuses.{fault_of_store};
+
+    ghost from_gives = { λ s f. f ≡ fault_of_store s };
+
+    fn from(fault: store::StoreFault) -> Fault {
+        match fault {
+            store::StoreFault::Damaged => Fault::Damaged,
+            store::StoreFault::Database => Fault::Database,
+            store::StoreFault::OutOfMemory => Fault::Memory,
+        }
+    }
+}
+
+/// What a failed use of a file comes to.
+pub fn file_fault(error: &io::Error) -> Fault {
+    if error.kind() == io::ErrorKind::OutOfMemory {
+        Fault::Memory
+    } else {
+        Fault::File
+    }
+}
+
+/// Why a command was not done, by its reply. A command has no other reply than a denial or its own.
+pub fn refused(reply: Reply) -> Fault
+    ensures { (d : Denials) (i : Option ℕ) → reply ≡ Reply.Denied d i → result ≡ Fault.Denied d i }
+{
+    match reply {
+        Reply::Denied(denial, index) => Fault::Denied(denial, index),
+        _ => Fault::Database,
+    }
+}
