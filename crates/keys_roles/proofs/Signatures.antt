@@ -1,9 +1,9 @@
 -- Signatures in hex digits: how long they are, and how they are read.
 use Rattle.std.proofs.Common.{◌≡◌, ℕ, zero, suc, ◌*◌, ◌<◌, ◌≤◌, List, [], ◌∷◌, length, Result, Ok, Err, ap, ◌∙◌, arith}
 use Rattle.std.specs.Prelude.{IsOk, OnOk}
-use Rattle.std.specs.List.{AllByRecursion}
 use Rattle.hex.specs.Hex.{lower_digits, decode_sized, IsBytes}
 use Rattle.hex.proofs.HexLemmas.{length-encode_with, decode_sized-encode_lower}
+use Rattle.path_patterns.proofs.Digits.{bytes_at}
 use Rattle.lms.specs.declared.OtsType.{OtsType}
 use Rattle.lms.specs.declared.OtsType.TheVariants.{W1, W2, W4, W8}
 use Rattle.lms.specs.declared.LmsType.{LmsType}
@@ -53,15 +53,6 @@ digits_length digits bytes are = ap length are.1 ∙ length-encode_with lower_di
 
 pub spelled_length : (key : Key) (signed digits : List ℕ) → SpellsSignature key signed digits → (n : ℕ) × (length digits ≡ 2 * n) × (n ≤ 9324)
 spelled_length key signed digits s = (length s.signature, digits_length digits s.signature s.spelled, longest key signed s.signature s.verifies)
-
-pub bytes_at : (bytes : List ℕ) → AllByRecursion (λ b. b < 256) bytes → IsBytes bytes
-bytes_at [] all i = omega arith
-bytes_at (b ∷ bs) all zero = all.0
-bytes_at (b ∷ bs) all (suc i) = bytes_at bs all.1 i
-
-pub bytes_each : (bytes : List ℕ) → IsBytes bytes → AllByRecursion (λ b. b < 256) bytes
-bytes_each [] at = tt
-bytes_each (b ∷ bs) at = (at zero, bytes_each bs (λ i. at (suc i)))
 
 -- the digits of some bytes decode to them, in room for as many
 pub decodes : (digits bytes : List ℕ) (n : ℕ) → AreDigitsOf digits bytes → length digits ≡ 2 * n → decode_sized digits n ≡ Ok bytes

@@ -6,6 +6,7 @@ ghost use Rattle.keys_roles.specs.Views.{key_view};
 
 use crate::Key;
 use lms::{Steps, verify};
+use path_patterns::are_hex_digits;
 
 // The bytes of the longest signature.
 const LONGEST: usize = 9324;
@@ -44,23 +45,9 @@ fn verifies(key: &Key, signed: &[u8], signature: &[u8], steps: &mut Steps) -> bo
 
 // Reads lower-case hex digits as bytes, two for each. Whether they are such digits.
 fn read_digits(digits: &[u8], bytes: &mut [u8]) -> bool
-    requires two { length digits.now ≡ 2 * length bytes.old }
-    requires few { length bytes.old ≤ 9324 }
+    requires { length digits.now ≡ 2 * length bytes.old }
     ensures read { IsTrue result → AreDigitsOf digits.now bytes.new }
     ensures all { (s : List ℕ) → AreDigitsOf digits.now s → IsTrue result × (bytes.new ≡ s) }
 {
-    if hex::decode_to_slice(digits, &mut *bytes).is_err() {
-        return false;
-    }
-    let mut text = [0; 2 * LONGEST];
-    spells(bytes, digits, &mut text[..digits.len()])
-}
-
-// Whether the digits are those of the bytes, which it writes as a text of its own.
-fn spells(bytes: &[u8], digits: &[u8], text: &mut [u8]) -> bool
-    requires { length text.old ≡ 2 * length bytes.now }
-    ensures { IsTrue result ↔ (AreDigitsOf digits.now bytes.now) }
-{
-    let _ = hex::encode_to_slice(bytes, &mut *text);
-    *digits == *text
+    are_hex_digits(digits) && hex::decode_to_slice(digits, bytes).is_ok()
 }

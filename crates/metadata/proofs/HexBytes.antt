@@ -1,19 +1,10 @@
 -- Bytes and their hex digits.
-use Rattle.std.proofs.Common.{◌≡◌, ℕ, zero, suc, ◌<◌, List, [], ◌∷◌, Ok, Err, Result, ap, ◌∙◌, arith}
+use Rattle.std.proofs.Common.{◌≡◌, ℕ, List, Ok, Err, Result, ap, ◌∙◌}
 use Rattle.std.specs.Prelude.{IsOk, OnOk}
-use Rattle.std.specs.List.{AllByRecursion}
-use Rattle.hex.specs.Hex.{encode_lower, decode_sized, IsBytes}
+use Rattle.hex.specs.Hex.{encode_lower, decode_sized}
+use Rattle.path_patterns.proofs.Digits.{bytes_at}
 use Rattle.metadata.specs.Parts.{AreBytes}
 use Rattle.hex.proofs.HexLemmas.{decode_sized-encode_lower}
-
-pub bytes_at : (bytes : List ℕ) → AllByRecursion (λ b. b < 256) bytes → IsBytes bytes
-bytes_at [] all i = omega arith
-bytes_at (b ∷ bs) all zero = all.0
-bytes_at (b ∷ bs) all (suc i) = bytes_at bs all.1 i
-
-pub bytes_each : (bytes : List ℕ) → IsBytes bytes → AllByRecursion (λ b. b < 256) bytes
-bytes_each [] h = tt
-bytes_each (b ∷ bs) h = (h 0, bytes_each bs (λ i. h (suc i)))
 
 -- the digits of so many bytes are read as these
 pub decodes : (n : ℕ) (digits bytes : List ℕ) → AreBytes n bytes → digits ≡ encode_lower bytes → decode_sized digits n ≡ Ok bytes

@@ -10,14 +10,12 @@ ghost use Rattle.keys_roles.specs.Views.{id_text, entry_view, entries_view};
 ghost use Rattle.metadata.specs.steps.Faults.{IsIll};
 ghost use Rattle.metadata.specs.Members.{Has, IsText, ItemsAre};
 ghost use Rattle.metadata.specs.Parts.{signature_object, ids_of, IsEntry, AreSignatures, AreSignatureDigits, IsEnvelope};
-ghost use Rattle.path_patterns.specs.Bytes.{is_hex};
-ghost use Rattle.std.specs.List.{list_all};
 
 use crate::documents::ShapeFault;
 use crate::members::{items_of, member_of, text_of, two_members};
 use canonical_json::Value;
 use keys_roles::{KeyId, Signature};
-use path_patterns::{Digest, one_digest};
+use path_patterns::{Digest, are_hex_digits, one_digest};
 use std::alloc::Global;
 
 // The most signatures of a file.
@@ -135,13 +133,6 @@ fn are_signature_digits(text: &[u8]) -> bool
     ensures { IsTrue result ↔ (AreSignatureDigits text.now) }
 {
     text.len() <= MOST_DIGITS && text.len() % 2 == 0 && are_hex_digits(text)
-}
-
-fn are_hex_digits(text: &[u8]) -> bool
-    ensures { result ≡ list_all is_hex text.now }
-{
-    text.iter()
-        .all(|b| b.is_ascii_digit() || matches!(*b, b'a'..=b'f'))
 }
 
 // Whether no key id stands twice.

@@ -77,8 +77,8 @@ fn are_bytes(bytes: &[u8])
     let _count = bytes.len();
 }
 
-// Whether each byte is a hex digit of lower case.
-pub(crate) fn are_hex_digits(text: &[u8]) -> bool
+/// Whether each byte is a hex digit of lower case. It takes no memory.
+pub fn are_hex_digits(text: &[u8]) -> bool
     ensures { result ≡ list_all is_hex text.now }
 {
     text.iter()

@@ -1,6 +1,7 @@
 use Rattle.std.proofs.Common.{sym, ◌∙◌, arith}
 use Rattle.std.proofs.lemmas.Slice.Eq.{bytes_eq-Decides}
-use Rattle.metadata.proofs.HexBytes.{bytes_each, on_ok}
+use Rattle.metadata.proofs.HexBytes.{on_ok}
+use Rattle.path_patterns.proofs.Digits.{bytes_each}
 use Rattle.metadata.proofs.keys.spells.Goals as goal
 
 pub returns : goal.returns
