@@ -1,28 +1,21 @@
 -- A database whose tables are the first of the five.
-use Rattle.std.proofs.Common.{◌≡◌, ◌≢◌, IfOk, length, ◌<◌, inl, inr, ℕ, zero, suc, List, [], ◌∷◌, None, Some, Option, Ok, Err, Result, codes, IsTrue, refl, sym, ap, subst, ◌∙◌, arith}
+use Rattle.std.proofs.Common.{◌≡◌, length, ◌<◌, inl, inr, ℕ, zero, suc, List, [], ◌∷◌, codes, refl, sym, ap, subst, ◌∙◌, arith}
 use Rattle.std.specs.List.{AllByRecursion}
 use Rattle.sqlite_tied.specs.Compute.{everything}
 use Rattle.sqlite_trees.specs.Tree.{Trees}
 use Rattle.sqlite_rules.specs.Lists.{Has}
-use Rattle.sqlite_resolve.specs.declared.compiled.Compiled.{Compiled}
-use Rattle.sqlite_resolve.specs.declared.error.CompileError.{CompileError}
-use Rattle.sqlite_schema.specs.declared.command.Returning.{Returning}
-use Rattle.sqlite.specs.Clock.{timed}
-use Rattle.sqlite.specs.Command.TheVariants.{Select}
-use Rattle.sqlite.specs.Effect.{Database}
 use Rattle.sqlite.specs.Listing.{understood}
 use Rattle.sqlite.specs.Order.{Row}
-use Rattle.sqlite.specs.State.{State, Shown, ShowsRows, IsUnchanged}
+use Rattle.sqlite.specs.State.{State}
 use Rattle.sqlite.specs.Schema.{Schema}
 use Rattle.sqlite.specs.Table.{Table}
-use Rattle.sqlite.specs.Term.{Term, col}
-use Rattle.sqlite.proofs.Callers.{IsPlain, command_of}
+use Rattle.sqlite.specs.Term.{col}
 use Rattle.tables.specs.Schema.{the_schema, beginning}
 use Rattle.contents.specs.Contents.{Contents}
-use Rattle.tables.specs.Tables.{AreBare, StandsFor, counted, version_row}
-use Rattle.tables.specs.steps.Making.{Asks, AsksBy, IsMade, LacksRest, every_row}
-use Rattle.tables.proofs.AnswerLemmas.{cells_of}
-use Rattle.tables.proofs.Queries.{loads, loads_same}
+use Rattle.tables.specs.Tables.{AreBare, StandsFor, version_row}
+use Rattle.sql_tables.specs.Schema.{counted}
+use Rattle.tables.specs.steps.Making.{LacksRest}
+use Rattle.sql_tables.specs.Making.{Asks, IsMade}
 
 -- ---- what is absent is empty, and what is there is as it is
 
@@ -102,89 +95,28 @@ stands_bare count trees t few (inr bare) = bare.0
 
 -- ---- the queries
 
-record Parts (tree : ℕ) (r : Result Compiled CompileError) : Type 0 where
-  pub terms : List Term
-  pub names : List (List ℕ)
-  pub reads : command_of r ≡ Select (record { lets = []; body = every_row tree terms }) names
-  pub plain : IsPlain r
-
-parts : (tree : ℕ) (r : Result Compiled CompileError) → AsksBy tree r → Parts tree r
-parts tree (Ok c) a = record { terms = a.0; names = a.1; reads = a.2; plain = (a.3, a.4) }
-parts tree (Err e) a = absurd a
-
 no_member : {X : Type 0} (xs : List X) → ((x : X) → Has xs x → ⊥) → xs ≡ []
 no_member [] none = refl
 no_member (x ∷ xs) none = absurd (none x (inl refl))
 
-module _ (sql : List ℕ) (tree : ℕ) (asks : Asks sql tree) (old new : State) (rows : List Row) (has : old.now.schema ≡ the_schema) (shown : Shown sql [] old new rows) where
-  pub asked_none : rows ≡ [] → old.now.trees tree ≡ []
-  asked_none none =
-      let it = parts tree (understood the_schema sql) asks.0 in
-      let l = loads sql tree it.terms [] it.names (cells_of it.terms []) [] it.reads it.plain asks.1 (λ r. refl) (λ r s. refl) old new rows has shown in
-      no_member (old.now.trees tree) (λ s h. subst (λ (xs : List Row). Has xs (cells_of it.terms [] s)) none (l.each s h))
-
-  pub asked_some : rows ≢ [] → old.now.trees tree ≢ []
-  asked_some some none =
-      let it = parts tree (understood the_schema sql) asks.0 in
-      let l = loads sql tree it.terms [] it.names (cells_of it.terms []) [] it.reads it.plain asks.1 (λ r. refl) (λ r s. refl) old new rows has shown in
-      some (no_member rows (λ x h. let s = l.from x h in subst (λ (xs : List Row). Has xs s.0) none s.1))
-
-  pub asked_same : IsUnchanged old new
-  asked_same =
-      let it = parts tree (understood the_schema sql) asks.0 in
-      loads_same sql tree it.terms [] it.names (cells_of it.terms []) [] it.reads it.plain asks.1 (λ r. refl) (λ r s. refl) old new rows has shown
-
-pub shown_was_open : (sql : List ℕ) (params : Row) (old new : State) (rows : List Row) → Shown sql params old new rows → IsTrue old.is_open
-unfolding Shown
-shown_was_open sql params old new rows h = go h.0.returning h.2
-  where
-    go : (r : Option Returning) → ShowsRows old new sql h.0 (timed params h.0.formats h.1.now) rows r → IsTrue old.is_open
-    go None it = it.3.0.was_open
-    go (Some what) it = it.1.shown.was_open
-
-pub asks_root : Asks (codes "SELECT version FROM root") 0
+pub asks_root : Asks the_schema (codes "SELECT version FROM root") 0
 unfolding understood everything
 asks_root = ((col 1 0 ∷ [], codes "version" ∷ [], refl, refl, refl), refl)
 
-pub asks_current : Asks (codes "SELECT version FROM current") 1
+pub asks_current : Asks the_schema (codes "SELECT version FROM current") 1
 unfolding understood everything
 asks_current = ((col 1 2 ∷ [], codes "version" ∷ [], refl, refl, refl), refl)
 
-pub asks_shelf : Asks (codes "SELECT version FROM shelf") 3
+pub asks_shelf : Asks the_schema (codes "SELECT version FROM shelf") 3
 unfolding understood everything
 asks_shelf = ((col 1 2 ∷ [], codes "version" ∷ [], refl, refl, refl), refl)
 
-pub asks_blob : Asks (codes "SELECT digest FROM blob") 5
+pub asks_blob : Asks the_schema (codes "SELECT digest FROM blob") 5
 unfolding understood everything
 asks_blob = ((col 1 1 ∷ [], codes "digest" ∷ [], refl, refl, refl), refl)
 
-pub asks_version : Asks (codes "SELECT version FROM schema") 7
+pub asks_version : Asks the_schema (codes "SELECT version FROM schema") 7
 unfolding understood everything
 asks_version = ((col 1 0 ∷ [], codes "version" ∷ [], refl, refl, refl), refl)
 
 -- ---- one look after another
-
-pub unchanged_then : (a b c : State) → IsUnchanged a b → IsUnchanged b c → IsUnchanged a c
-unchanged_then a b c one two = (
-  record {
-    was_open = one.0.was_open;
-    is_open = two.0.is_open;
-    now_is = two.0.now_is ∙ one.0.now_is;
-    committed_is = two.0.committed_is ∙ one.0.committed_is;
-    mode = two.0.mode ∙ one.0.mode;
-  },
-  record { changes = two.1.changes ∙ one.1.changes; last_rowid = two.1.last_rowid ∙ one.1.last_rowid },
-  two.2 ∙ one.2,
-)
-
-pub made_same : (rows : Trees) (old new : State) → IsUnchanged old new → IsMade rows the_schema old → IsMade rows the_schema new
-made_same rows old new same is = record {
-  is_open = same.0.is_open;
-  inside = same.0.mode ∙ is.inside;
-  schema_is = ap (λ (d : Database). d.schema) same.0.now_is ∙ is.schema_is;
-  holds = subst (λ (d : Database). AllByRecursion (λ (t : Table). d.trees t.tree ≡ rows t.tree) the_schema.tables) (sym same.0.now_is) is.holds;
-}
-
-pub IfOk_then : {A E : Type 0} {P Q : A → Type 0} (r : Result A E) → IfOk r P → ((a : A) → P a → Q a) → IfOk r Q
-IfOk_then (Ok a) p f = f a p
-IfOk_then (Err e) p f = tt

@@ -1,42 +1,9 @@
 -- The definitions of the five tables, as SQL reads them.
-use Rattle.sqlite.specs.Collation.TheVariants.{Binary}
-use Rattle.std.specs.Prelude.{◌≡◌, ◌-◌, true, false, [], ◌∷◌, None, Option, Some, codes, map, take, List, ℕ}
-use Rattle.sqlite.specs.declared.types.Value.TheVariants.{Null}
+use Rattle.std.specs.Prelude.{◌≡◌, ◌-◌, [], ◌∷◌, None, Some, codes, take, ℕ}
 use Rattle.sqlite.specs.Table.{Table}
-use Rattle.sqlite_schema.specs.declared.schema.Column.{Column}
-use Rattle.sqlite_schema.specs.declared.schema.Index.{Index}
-use Rattle.sqlite_schema.specs.declared.schema.Stamps.{Stamps}
-use Rattle.sqlite_value.specs.Keys.{plain}
 use Rattle.sqlite.specs.Schema.{Schema}
-use Rattle.sqlite.specs.Kind.{Kind}
 use Rattle.sqlite.specs.Kind.TheVariants.{Integer, Text, Any}
-
--- a column that is NOT NULL and has a type with an affinity
-abbrev pub required : List ℕ → Kind → Column
-required name kind = record { name = name; kind = kind; is_strict = false; not_null = true; default = Null; collation = Binary }
-
-abbrev pub no_stamps : Stamps
-no_stamps = record { places = []; terms = []; formats = [] }
-
-abbrev pub table : List ℕ → List Column → Option ℕ → List ℕ → List (List ℕ) → ℕ → Table
-table name columns key primary uniques tree = record {
-  name = name;
-  tree = tree;
-  columns = columns;
-  key = key;
-  primary = primary;
-  uniques = uniques;
-  orders = map (λ _. plain) uniques;
-  checks = [];
-  references = [];
-  computed = [];
-  stamps = no_stamps;
-  is_counted = false;
-}
-
--- no CHECK, no reference, no default that is computed, and no AUTOINCREMENT
-abbrev pub HasNoRule : Table → Type 0
-HasNoRule t = (t.checks ≡ []) × (t.references ≡ []) × (t.computed ≡ []) × (t.stamps ≡ no_stamps) × (t.is_counted ≡ false)
+use Rattle.sql_tables.specs.Schema.{required, table, unique_index}
 
 abbrev pub root_table : ℕ → Table
 root_table = table (codes "root") (required (codes "version") Integer ∷ required (codes "bytes") Any ∷ []) (Some 0) (0 ∷ []) []
@@ -52,9 +19,6 @@ blob_table = table (codes "blob") (required (codes "digest") Text ∷ required (
 
 abbrev pub version_table : ℕ → Table
 version_table = table (codes "schema") (required (codes "version") Integer ∷ []) (Some 0) (0 ∷ []) []
-
-abbrev pub unique_index : List ℕ → ℕ → ℕ → List ℕ → Index
-unique_index name tree on columns = record { name = name; tree = tree; table = on; columns = columns; order = plain; is_unique = true }
 
 abbrev pub the_schema : Schema
 the_schema = record {

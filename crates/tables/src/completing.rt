@@ -5,9 +5,11 @@ ghost use Rattle.sqlite.specs.State.{HasCleanDisk, IsUnchanged, KeepsCommit, Sur
 ghost use Rattle.sqlite.specs.Held.{state};
 ghost use Rattle.tables.specs.Schema.{the_schema, beginning};
 ghost use Rattle.contents.specs.Contents.{no_rows};
-ghost use Rattle.tables.specs.Tables.{AreBare, HoldsTables, IsStore, counted};
+ghost use Rattle.tables.specs.Tables.{AreBare, HoldsTables, IsStore};
+ghost use Rattle.sql_tables.specs.Schema.{counted};
 ghost use Rattle.tables.specs.steps.Writing.{IsInside, no_cells};
-ghost use Rattle.tables.specs.steps.Making.{Asks, IsMade, LacksRest};
+ghost use Rattle.tables.specs.steps.Making.{LacksRest};
+ghost use Rattle.sql_tables.specs.Making.{Asks, IsMade};
 
 use crate::making::{make_rest, put_version};
 use sqlite::{Alter, Connection, Error, Row, Transaction};
@@ -23,9 +25,9 @@ fn is_any(rows: &[Row]) -> bool
 // Whether the table that the text asks for has a row.
 fn has_row<S: Alter>(tx: &mut Transaction<'_, S>, sql: &str) -> Result<bool, Error>
     ensures same_reference { tx.new.conn.ghost_name ≡ tx.old.conn.ghost_name }
-    ensures rows { HasCleanDisk (state S.Store tx.new.conn.now) → (tree : _) → Asks sql.now tree → (state S.Store tx.old.conn.now).now.schema ≡ the_schema
+    ensures rows { HasCleanDisk (state S.Store tx.new.conn.now) → (tree : _) → Asks the_schema sql.now tree → (state S.Store tx.old.conn.now).now.schema ≡ the_schema
         → IfOk result (λ some. (some ≡ false → (state S.Store tx.old.conn.now).now.trees tree ≡ []) × (IsTrue some → (state S.Store tx.old.conn.now).now.trees tree ≢ [])) }
-    ensures unchanged { HasCleanDisk (state S.Store tx.new.conn.now) → (tree : _) → Asks sql.now tree → (state S.Store tx.old.conn.now).now.schema ≡ the_schema → OnOk result (IsUnchanged (state S.Store tx.old.conn.now) (state S.Store tx.new.conn.now)) }
+    ensures unchanged { HasCleanDisk (state S.Store tx.new.conn.now) → (tree : _) → Asks the_schema sql.now tree → (state S.Store tx.old.conn.now).now.schema ≡ the_schema → OnOk result (IsUnchanged (state S.Store tx.old.conn.now) (state S.Store tx.new.conn.now)) }
     ensures was_open { HasCleanDisk (state S.Store tx.new.conn.now) → OnOk result (IsTrue (state S.Store tx.old.conn.now).is_open) }
     ensures survives { Survives (state S.Store tx.old.conn.now) (state S.Store tx.new.conn.now) (λ _. ⊥) }
 {

@@ -9,7 +9,8 @@ ghost use Rattle.contents.specs.Contents.{no_rows};
 ghost use Rattle.tables.specs.Tables.{IsStore, HoldsTables, AreBare};
 ghost use Rattle.tables.specs.steps.Writing.{IsInside, no_cells};
 ghost use Rattle.tables.specs.Opening.{IsSettled};
-ghost use Rattle.tables.specs.steps.Making.{IsMade, Makes, LacksRest};
+ghost use Rattle.tables.specs.steps.Making.{LacksRest};
+ghost use Rattle.sql_tables.specs.Making.{IsMade, Makes};
 
 use crate::faults::StoreFault;
 use sqlite::{Alter, Connection, Error, Transaction};

@@ -1,6 +1,7 @@
 // Whether a schema is that of the five tables.
 ghost use Rattle.std.specs.Prelude.{◌≡◌, ◌≤◌, ◌-◌, ◌≢◌, IsTrue, MatchOption, true, [], ◌∷◌, codes, length, take, if◌then◌else◌};
-ghost use Rattle.tables.specs.Schema.{required, table, no_stamps, HasNoRule, unique_index, the_schema, beginning, IsBeginning, root_table, current_table, shelf_table, blob_table, version_table};
+ghost use Rattle.tables.specs.Schema.{the_schema, beginning, IsBeginning, root_table, current_table, shelf_table, blob_table, version_table};
+ghost use Rattle.sql_tables.specs.Schema.{required, table, no_stamps, HasNoRule, unique_index};
 ghost use Rattle.sqlite_value.specs.Keys.{plain};
 
 use sqlite_items::Items;

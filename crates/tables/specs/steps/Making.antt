@@ -1,60 +1,9 @@
 -- The making of the tables.
-use Rattle.std.specs.Prelude.{◌≡◌, ◌<◌, ◌≤◌, false, ℕ, pos, negsuc, List, [], Ok, Err, None, Result, IsTrue}
-use Rattle.std.specs.List.{AllByRecursion}
-use Rattle.sqlite.specs.Schema.{Schema}
-use Rattle.sqlite.specs.Table.{Table}
+use Rattle.std.specs.Prelude.{◌≡◌, ◌<◌, ◌≤◌, ℕ, []}
 use Rattle.sqlite_trees.specs.Tree.{Trees}
-use Rattle.sqlite_catalog.specs.Change.{created, next_tree}
-use Rattle.sqlite_resolve.specs.Compile.{table_defined_by}
-use Rattle.sqlite_resolve.specs.declared.compiled.Compiled.{Compiled}
-use Rattle.sqlite_resolve.specs.declared.error.CompileError.{CompileError}
-use Rattle.sqlite.specs.Command.TheVariants.{CreateTable, Select}
-use Rattle.sqlite.specs.Listing.{understood, reads_listing}
-use Rattle.sqlite.specs.Term.{Term, lit}
-use Rattle.sqlite.specs.declared.types.Value.TheVariants.{Int}
-use Rattle.sqlite_sql.specs.Query.{Query, inner, end}
-use Rattle.sqlite.specs.Does.{lacks_sequence}
-use Rattle.sqlite.specs.State.{State, text_of}
-use Rattle.tables.specs.Schema.{the_schema, beginning}
-
--- inside the transaction that makes the tables, where those that are there hold these rows
-pub record IsMade (rows : Trees) (schema : Schema) (s : State) : Type 0 where
-  pub is_open : IsTrue s.is_open
-  pub inside : IsTrue s.in_transaction
-  pub schema_is : s.now.schema ≡ schema
-  pub holds : AllByRecursion (λ (t : Table). s.now.trees t.tree ≡ rows t.tree) schema.tables
+use Rattle.sqlite_catalog.specs.Change.{next_tree}
+use Rattle.tables.specs.Schema.{beginning}
 
 -- none of the five tables behind the first ones has a row
 abbrev pub LacksRest : ℕ → Trees → Type 0
 LacksRest count rows = (n : ℕ) → count ≤ n → n < 5 → rows (next_tree (beginning n)) ≡ []
-
-abbrev pub MakesBy : Schema → List ℕ → Schema → Result Compiled CompileError → Type 0
-MakesBy before sql after (Ok c) =
-    (c.command ≡ CreateTable) × (c.returning ≡ None) × (c.formats ≡ []) × (made : Table) × (table_defined_by (text_of sql c) ≡ Ok made) × (created before made ≡ after) × (lacks_sequence after ≡ false)
-MakesBy before sql after (Err e) = ⊥
-
--- the text makes one schema of the other
-abbrev pub Makes : Schema → List ℕ → Schema → Type 0
-Makes before sql after = MakesBy before sql after (understood before sql)
-
--- a query of all rows of the tree, that shows these terms of each
-abbrev pub every_row : ℕ → List Term → Query
-every_row tree terms = record {
-  from = inner tree end;
-  filter = [];
-  group = None;
-  project = terms;
-  distinct = false;
-  collations = [];
-  order = [];
-  limit = lit (Int (negsuc 0));
-  offset = lit (Int (pos 0));
-}
-
-abbrev pub AsksBy : ℕ → Result Compiled CompileError → Type 0
-AsksBy tree (Ok c) = (terms : List Term) × (names : List (List ℕ)) × (c.command ≡ Select (record { lets = []; body = every_row tree terms }) names) × (c.returning ≡ None) × (c.formats ≡ [])
-AsksBy tree (Err e) = ⊥
-
--- the text asks for all rows of the tree of one of the five tables
-abbrev pub Asks : List ℕ → ℕ → Type 0
-Asks sql tree = AsksBy tree (understood the_schema sql) × (reads_listing the_schema sql ≡ false)

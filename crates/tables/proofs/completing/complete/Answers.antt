@@ -6,10 +6,12 @@ use Rattle.sqlite.proofs.StateLemmas.{survives_then}
 use Rattle.sqlite.proofs.Callers.{survives_begin}
 use Rattle.tables.specs.Schema.{beginning}
 use Rattle.contents.specs.Contents.{no_rows}
-use Rattle.tables.specs.Tables.{AreBare, HoldsTables, IsStore, counted}
-use Rattle.tables.specs.steps.Making.{IsMade}
+use Rattle.tables.specs.Tables.{AreBare, HoldsTables, IsStore}
+use Rattle.sql_tables.specs.Schema.{counted}
+use Rattle.sql_tables.specs.Making.{IsMade}
 use Rattle.tables.proofs.Beginnings.{as_counted, lacks}
-use Rattle.tables.proofs.Changes.{committed, keeps_then, to_tables}
+use Rattle.tables.proofs.Changes.{committed, to_tables}
+use Rattle.sql_tables.proofs.Calls.{keeps_then}
 use Rattle.tables.proofs.completing.complete.Goals as goal
 
 pub returns-then-not-branch-clause-found : goal.returns-then-not-branch-clause-found

@@ -1,6 +1,7 @@
 use Rattle.std.proofs.Common.{◌≢◌, ◌∙◌, [], subst, sym}
 use Rattle.sqlite.specs.Held.{state}
-use Rattle.tables.proofs.Beginnings.{asked_none, asked_same, asked_some, shown_was_open}
+use Rattle.sql_tables.proofs.Calls.{asked_none, asked_same, asked_some, shown_was_open}
+use Rattle.tables.specs.Schema.{the_schema}
 use Rattle.tables.proofs.completing.has_row.Goals as goal
 
 pub returns-clause-rows : goal.returns-clause-rows
@@ -8,13 +9,13 @@ returns-clause-rows g c clean tree asks schema =
     let old = state g.S.Store c.args.tx.now.conn.now in
     let new = state g.S.Store c.query_all.new.self.conn.now in
     let shown = c.in_ok-rows.ensures.ok clean in (
-      λ none. asked_none c.args.sql.now tree asks old new c.in_ok-rows.rows.items schema shown (sym c.as_slice.ensures.value ∙ c.is_any.ensures.none none),
-      λ some. asked_some c.args.sql.now tree asks old new c.in_ok-rows.rows.items schema shown (subst (λ rs. rs ≢ []) c.as_slice.ensures.value (c.is_any.ensures.some some)),
+      λ none. asked_none the_schema c.args.sql.now tree asks old new c.in_ok-rows.rows.items schema shown (sym c.as_slice.ensures.value ∙ c.is_any.ensures.none none),
+      λ some. asked_some the_schema c.args.sql.now tree asks old new c.in_ok-rows.rows.items schema shown (subst (λ rs. rs ≢ []) c.as_slice.ensures.value (c.is_any.ensures.some some)),
     )
 
 pub returns-clause-unchanged : goal.returns-clause-unchanged
 returns-clause-unchanged g c clean tree asks schema =
-    asked_same c.args.sql.now tree asks (state g.S.Store c.args.tx.now.conn.now) (state g.S.Store c.query_all.new.self.conn.now) c.in_ok-rows.rows.items schema (c.in_ok-rows.ensures.ok clean)
+    asked_same the_schema c.args.sql.now tree asks (state g.S.Store c.args.tx.now.conn.now) (state g.S.Store c.query_all.new.self.conn.now) c.in_ok-rows.rows.items schema (c.in_ok-rows.ensures.ok clean)
 
 pub returns-clause-was_open : goal.returns-clause-was_open
 returns-clause-was_open g c clean =

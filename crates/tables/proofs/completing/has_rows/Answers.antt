@@ -3,8 +3,8 @@ use Rattle.sqlite.specs.Effect.{Database}
 use Rattle.sqlite.specs.Held.{state}
 use Rattle.sqlite.specs.State.{HasCleanDisk, IsUnchanged}
 use Rattle.tables.specs.Schema.{the_schema}
-use Rattle.tables.proofs.Beginnings.{asks_root, asks_current, asks_shelf, asks_blob, asks_version, IfOk_then, unchanged_then}
-use Rattle.tables.proofs.Changes.{OnOk_then}
+use Rattle.tables.proofs.Beginnings.{asks_root, asks_current, asks_shelf, asks_blob, asks_version}
+use Rattle.sql_tables.proofs.Calls.{IfOk_then, unchanged_then, OnOk_then}
 use Rattle.tables.proofs.completing.has_rows.Goals as goal
 
 pub returns-then-branch-clause-rows : goal.returns-then-branch-clause-rows

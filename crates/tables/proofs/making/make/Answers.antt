@@ -1,5 +1,5 @@
 use Rattle.sqlite.specs.Held.{state}
-use Rattle.tables.proofs.MakingLemmas.{makes}
+use Rattle.sql_tables.proofs.MakingLemmas.{makes}
 use Rattle.tables.proofs.making.make.Goals as goal
 
 pub returns-clause-wrote : goal.returns-clause-wrote

@@ -2,7 +2,7 @@ use Rattle.std.proofs.Common.{◌∙◌, arith}
 use Rattle.sqlite.specs.Held.{state}
 use Rattle.sqlite.specs.State.{HasCleanDisk}
 use Rattle.sqlite.proofs.StateLemmas.{survives_then}
-use Rattle.tables.proofs.Changes.{keeps_then}
+use Rattle.sql_tables.proofs.Calls.{keeps_then}
 use Rattle.tables.proofs.making.make_rest.Goals as goal
 
 pub tables-preserved : goal.tables-preserved

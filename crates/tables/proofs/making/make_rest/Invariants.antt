@@ -3,7 +3,8 @@ use Rattle.sqlite_trees.specs.Tree.{Trees}
 use Rattle.sqlite.specs.State.{HasCleanDisk, KeepsCommit, Survives}
 use Rattle.sqlite.specs.Held.{state}
 use Rattle.tables.specs.Schema.{beginning}
-use Rattle.tables.specs.steps.Making.{IsMade, LacksRest}
+use Rattle.tables.specs.steps.Making.{LacksRest}
+use Rattle.sql_tables.specs.Making.{IsMade}
 use Rattle.tables.proofs.making.make_rest.Given as goal
 
 -- the tables up to this place are made, and nothing is committed

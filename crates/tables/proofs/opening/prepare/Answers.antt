@@ -1,8 +1,10 @@
 use Rattle.std.proofs.Common.{◌≡◌, ◌∙◌, ap, arith, subst, sym}
 use Rattle.sqlite.specs.Held.{state}
 use Rattle.tables.specs.Schema.{beginning}
-use Rattle.tables.specs.Tables.{StandsFor, counted}
-use Rattle.tables.proofs.Beginnings.{IfOk_then, from_counted, same_count}
+use Rattle.tables.specs.Tables.{StandsFor}
+use Rattle.sql_tables.specs.Schema.{counted}
+use Rattle.tables.proofs.Beginnings.{from_counted, same_count}
+use Rattle.sql_tables.proofs.Calls.{IfOk_then}
 use Rattle.tables.proofs.ItemLemmas.{none_rise}
 use Rattle.tables.proofs.opening.prepare.Goals as goal
 

@@ -1,0 +1,5 @@
+pub mod Schema
+pub mod Rows
+pub mod Making
+pub mod Writing
+pub mod Loading
