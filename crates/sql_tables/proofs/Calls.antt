@@ -117,3 +117,34 @@ failed_was_open sql params old new e stays (inr nothing) = go nothing.1.0.return
     go : (r : Option Returning) → ShowsRows old new sql nothing.1.0 (timed params nothing.1.0.formats nothing.1.1.now) [] r → IsTrue old.is_open
     go None it = it.3.0.was_open
     go (Some what) it = it.1.shown.was_open
+
+-- Nothing has changed, whether the connection is open or not.
+pub record Same (old new : State) : Type 0 where
+  pub open_is : new.is_open ≡ old.is_open
+  pub now_is : new.now ≡ old.now
+  pub committed_is : new.committed ≡ old.committed
+  pub mode : new.in_transaction ≡ old.in_transaction
+  pub changes : new.changes ≡ old.changes
+  pub last_rowid : new.last_rowid ≡ old.last_rowid
+  pub marks : new.marks ≡ old.marks
+
+pub same_self : (s : State) → Same s s
+same_self s = record { open_is = refl; now_is = refl; committed_is = refl; mode = refl; changes = refl; last_rowid = refl; marks = refl }
+
+pub same_then : (a b c : State) → Same a b → IsUnchanged b c → Same a c
+same_then a b c one two = record {
+  open_is = two.0.is_open ∙ sym two.0.was_open ∙ one.open_is;
+  now_is = two.0.now_is ∙ one.now_is;
+  committed_is = two.0.committed_is ∙ one.committed_is;
+  mode = two.0.mode ∙ one.mode;
+  changes = two.1.changes ∙ one.changes;
+  last_rowid = two.1.last_rowid ∙ one.last_rowid;
+  marks = two.2 ∙ one.marks;
+}
+
+pub same_unchanged : (old new : State) → IsTrue old.is_open → Same old new → IsUnchanged old new
+same_unchanged old new is_open same = (
+  record { was_open = is_open; is_open = same.open_is ∙ is_open; now_is = same.now_is; committed_is = same.committed_is; mode = same.mode },
+  record { changes = same.changes; last_rowid = same.last_rowid },
+  same.marks,
+)

@@ -9,3 +9,5 @@ pub mod Queries
 pub mod Statements
 pub mod MakingLemmas
 pub mod Calls
+pub mod Shapes
+pub mod Beginnings

@@ -1,5 +1,4 @@
 // Where an item stands among those that were read.
-ghost use Rattle.std.specs.Prelude.{◌≡◌, IsTrue};
 ghost use Rattle.sql_tables.specs.Loading.{IsPlaceOfEqual, IsPlacedBy};
 
 use std::cmp::Ordering;

@@ -11,6 +11,7 @@ use Rattle.sqlite.specs.Source.TheVariants.{Values}
 use Rattle.sqlite.specs.Command.TheVariants.{Insert, Delete}
 use Rattle.sqlite.specs.State.{State, ExecutesInside}
 use Rattle.sqlite.proofs.Callers.{runs_as}
+use Rattle.sql_tables.specs.Described.{table_of}
 use Rattle.tables.specs.Schema.{the_schema, root_table, current_table, shelf_table, blob_table}
 use Rattle.tables.specs.Rows.{current_cells, shelf_cells}
 use Rattle.sql_tables.specs.Rows.{AreRows}
@@ -27,7 +28,7 @@ stays : {shown : Row → Row} {rows next cells : List Row} → next ≡ rows →
 stays {shown} {cells = cells} same are = subst (λ r. AreRows shown r cells) (sym same) are
 
 root_news : (db : Trees) (version : ℕ) (bytes : List ℕ)
-    → (edit_of db (root_table 0) [] Chosen 0 ((Int (pos version) ∷ Null ∷ Blob bytes ∷ []) ∷ [])).news ≡ (Int (pos version) ∷ Null ∷ Blob bytes ∷ []) ∷ []
+    → (edit_of db (table_of root_table 0) [] Chosen 0 ((Int (pos version) ∷ Null ∷ Blob bytes ∷ []) ∷ [])).news ≡ (Int (pos version) ∷ Null ∷ Blob bytes ∷ []) ∷ []
 unfolding value_cmp unary lib.Ieee.is_nan lib.Ieee.lt
 root_news db version bytes = rw (cast_int (pos version)) refl
 
@@ -41,7 +42,7 @@ adds_root old new version bytes count c is h =
     let w = runs_as insert_root params old new the_schema is.schema (Insert 0 (Values key_values 3)) insert_root_is insert_root_plain count h.0 in
     let a = inserts the_schema 0 _ _ _ _ _ 0 refl (λ _ _. refl) old new params key_values 3 count _ is.schema w in
     let row : Row = Int (pos version) ∷ Null ∷ Blob bytes ∷ [] in
-    let edit = edit_of db (root_table 0) [] Chosen 0 ((Int (pos version) ∷ Null ∷ Blob bytes ∷ []) ∷ []) in
+    let edit = edit_of db (table_of root_table 0) [] Chosen 0 ((Int (pos version) ∷ Null ∷ Blob bytes ∷ []) ∷ []) in
     let news : edit.news ≡ row ∷ [] = root_news db version bytes in
     record {
       is_open = h.1.is_open;
@@ -64,7 +65,7 @@ adds_slot old new slot version bytes count c is h =
     let w = runs_as insert_slot params old new the_schema is.schema (Insert 1 (Values three_values 4)) insert_slot_is insert_slot_plain count h.0 in
     let a = inserts the_schema 1 _ _ _ _ _ 1 refl (λ _ _. refl) old new params three_values 4 count _ is.schema w in
     let row : Row = Int (next_rowid (db 1)) ∷ Text slot ∷ Int (pos version) ∷ Blob bytes ∷ [] in
-    let edit = edit_of db (current_table 1) [] Chosen 0 ((Null ∷ Text slot ∷ Int (pos version) ∷ Blob bytes ∷ []) ∷ []) in
+    let edit = edit_of db (table_of current_table 1) [] Chosen 0 ((Null ∷ Text slot ∷ Int (pos version) ∷ Blob bytes ∷ []) ∷ []) in
     let news : edit.news ≡ row ∷ [] = rw (cast_null, cast_int (pos version)) refl in
     record {
       is_open = h.1.is_open;
@@ -87,7 +88,7 @@ adds_row old new role version bytes count c is h =
     let w = runs_as insert_row params old new the_schema is.schema (Insert 2 (Values three_values 4)) insert_row_is insert_row_plain count h.0 in
     let a = inserts the_schema 2 _ _ _ _ _ 3 refl (λ _ _. refl) old new params three_values 4 count _ is.schema w in
     let row : Row = Int (next_rowid (db 3)) ∷ Text role ∷ Int (pos version) ∷ Blob bytes ∷ [] in
-    let edit = edit_of db (shelf_table 3) [] Chosen 0 ((Null ∷ Text role ∷ Int (pos version) ∷ Blob bytes ∷ []) ∷ []) in
+    let edit = edit_of db (table_of shelf_table 3) [] Chosen 0 ((Null ∷ Text role ∷ Int (pos version) ∷ Blob bytes ∷ []) ∷ []) in
     let news : edit.news ≡ row ∷ [] = rw (cast_null, cast_int (pos version)) refl in
     record {
       is_open = h.1.is_open;
@@ -110,7 +111,7 @@ adds_blob old new digits bytes count c is h =
     let w = runs_as insert_blob params old new the_schema is.schema (Insert 3 (Values two_values 3)) insert_blob_is insert_blob_plain count h.0 in
     let a = inserts the_schema 3 _ _ _ _ _ 5 refl (λ _ _. refl) old new params two_values 3 count _ is.schema w in
     let row : Row = Int (next_rowid (db 5)) ∷ Text digits ∷ Blob bytes ∷ [] in
-    let edit = edit_of db (blob_table 5) [] Chosen 0 ((Null ∷ Text digits ∷ Blob bytes ∷ []) ∷ []) in
+    let edit = edit_of db (table_of blob_table 5) [] Chosen 0 ((Null ∷ Text digits ∷ Blob bytes ∷ []) ∷ []) in
     let news : edit.news ≡ row ∷ [] = rw cast_null refl in
     record {
       is_open = h.1.is_open;

@@ -1,7 +1,6 @@
 -- The rows of a table as a set of cells, whatever their rowids.
 use Rattle.std.specs.Prelude.{[], ◌∷◌}
 use Rattle.sqlite.specs.Order.{Row, column}
-use Rattle.sqlite_trees.specs.Tree.{rowid}
 
 -- Column 0 of a stored row is the rowid, which a first column of type INTEGER PRIMARY KEY has as its value.
 abbrev pub root_cells : Row → Row

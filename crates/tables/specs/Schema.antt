@@ -1,35 +1,69 @@
--- The definitions of the five tables, as SQL reads them.
-use Rattle.std.specs.Prelude.{◌≡◌, ◌-◌, [], ◌∷◌, None, Some, codes, take, ℕ}
-use Rattle.sqlite.specs.Table.{Table}
+-- The five tables as data, and the schema that they are.
+use Rattle.std.specs.Prelude.{◌≡◌, [], ◌∷◌, codes, take, List, ℕ}
 use Rattle.sqlite.specs.Schema.{Schema}
 use Rattle.sqlite.specs.Kind.TheVariants.{Integer, Text, Any}
-use Rattle.sql_tables.specs.Schema.{required, table, unique_index}
+use Rattle.sql_tables.specs.Described.{Description, schema_of}
 
-abbrev pub root_table : ℕ → Table
-root_table = table (codes "root") (required (codes "version") Integer ∷ required (codes "bytes") Any ∷ []) (Some 0) (0 ∷ []) []
+abbrev pub root_table : Description
+root_table = record {
+  name = codes "root";
+  columns = (codes "version", Integer) ∷ (codes "bytes", Any) ∷ [];
+  key = [];
+  index = [];
+  make = codes "CREATE TABLE root (version INTEGER NOT NULL PRIMARY KEY, bytes BLOB NOT NULL)";
+  look = codes "SELECT version FROM root";
+}
 
-abbrev pub current_table : ℕ → Table
-current_table = table (codes "current") (required (codes "slot") Text ∷ required (codes "version") Integer ∷ required (codes "bytes") Any ∷ []) None (1 ∷ []) ((1 ∷ []) ∷ [])
+abbrev pub current_table : Description
+current_table = record {
+  name = codes "current";
+  columns = (codes "slot", Text) ∷ (codes "version", Integer) ∷ (codes "bytes", Any) ∷ [];
+  key = 1 ∷ [];
+  index = codes "sqlite_autoindex_current_1";
+  make = codes "CREATE TABLE current (slot TEXT NOT NULL PRIMARY KEY, version INTEGER NOT NULL, bytes BLOB NOT NULL)";
+  look = codes "SELECT version FROM current";
+}
 
-abbrev pub shelf_table : ℕ → Table
-shelf_table = table (codes "shelf") (required (codes "role") Text ∷ required (codes "version") Integer ∷ required (codes "bytes") Any ∷ []) None (1 ∷ 2 ∷ []) ((1 ∷ 2 ∷ []) ∷ [])
+abbrev pub shelf_table : Description
+shelf_table = record {
+  name = codes "shelf";
+  columns = (codes "role", Text) ∷ (codes "version", Integer) ∷ (codes "bytes", Any) ∷ [];
+  key = 1 ∷ 2 ∷ [];
+  index = codes "sqlite_autoindex_shelf_1";
+  make = codes "CREATE TABLE shelf (role TEXT NOT NULL, version INTEGER NOT NULL, bytes BLOB NOT NULL, PRIMARY KEY (role, version))";
+  look = codes "SELECT version FROM shelf";
+}
 
-abbrev pub blob_table : ℕ → Table
-blob_table = table (codes "blob") (required (codes "digest") Text ∷ required (codes "bytes") Any ∷ []) None (1 ∷ []) ((1 ∷ []) ∷ [])
+abbrev pub blob_table : Description
+blob_table = record {
+  name = codes "blob";
+  columns = (codes "digest", Text) ∷ (codes "bytes", Any) ∷ [];
+  key = 1 ∷ [];
+  index = codes "sqlite_autoindex_blob_1";
+  make = codes "CREATE TABLE blob (digest TEXT NOT NULL PRIMARY KEY, bytes BLOB NOT NULL)";
+  look = codes "SELECT digest FROM blob";
+}
 
-abbrev pub version_table : ℕ → Table
-version_table = table (codes "schema") (required (codes "version") Integer ∷ []) (Some 0) (0 ∷ []) []
+abbrev pub version_table : Description
+version_table = record {
+  name = codes "schema";
+  columns = (codes "version", Integer) ∷ [];
+  key = [];
+  index = [];
+  make = codes "CREATE TABLE schema (version INTEGER NOT NULL PRIMARY KEY)";
+  look = codes "SELECT version FROM schema";
+}
+
+-- in the order in which they are made
+abbrev pub five : List Description
+five = root_table ∷ current_table ∷ shelf_table ∷ blob_table ∷ version_table ∷ []
 
 abbrev pub the_schema : Schema
-the_schema = record {
-  tables = root_table 0 ∷ current_table 1 ∷ shelf_table 3 ∷ blob_table 5 ∷ version_table 7 ∷ [];
-  indexes = unique_index (codes "sqlite_autoindex_current_1") 2 1 (1 ∷ []) ∷ unique_index (codes "sqlite_autoindex_shelf_1") 4 3 (1 ∷ 2 ∷ []) ∷ unique_index (codes "sqlite_autoindex_blob_1") 6 5 (1 ∷ []) ∷ [];
-  views = [];
-}
+the_schema = schema_of five
 
 -- The first tables of the five, with their indexes: `current`, `shelf` and `blob`, the second to the fourth, have one each.
 abbrev pub beginning : ℕ → Schema
-beginning count = record { tables = take count the_schema.tables; indexes = take (count - 1) the_schema.indexes; views = [] }
+beginning count = schema_of (take count five)
 
 -- The tables are the first of the five in the order in which they are made: none, some or all, and nothing else.
 abbrev pub IsBeginning : Schema → Type 0

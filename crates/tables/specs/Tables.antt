@@ -10,12 +10,12 @@ use Rattle.sqlite_rules.specs.Lists.{Has}
 use Rattle.sqlite.specs.declared.types.Value.TheVariants.{Int, Text, Blob}
 use Rattle.sqlite.specs.Order.{Row}
 use Rattle.sqlite_trees.specs.Tree.{Trees}
-use Rattle.sqlite.specs.Table.{Table}
 use Rattle.sqlite.specs.Effect.{Database}
 use Rattle.sqlite.specs.State.{State}
 use Rattle.tables.specs.declared.change.Change.{Change}
 use Rattle.tables.specs.declared.change.Change.TheVariants.{PutRoot, Emptied, PutTimestamp, PutSnapshot, PutRow, PutBlob}
 use Rattle.contents.specs.Contents.{Contents, no_rows}
+use Rattle.sql_tables.specs.Described.{AreEmpty}
 use Rattle.tables.specs.Schema.{the_schema, IsBeginning}
 use Rattle.tables.specs.Rows.{root_cells, current_cells, shelf_cells, blob_cells, version_cells}
 use Rattle.sql_tables.specs.Rows.{AreRows, AreKeyed}
@@ -65,7 +65,7 @@ pub record IsStore (s : State) (t : Contents) : Type 0 where
 
 -- no row in any of the five tables
 abbrev pub AreBare : Trees → Type 0
-AreBare trees = AllByRecursion (λ (t : Table). trees t.tree ≡ []) the_schema.tables
+AreBare = AreEmpty the_schema
 
 -- What the trees of the five tables stand for. Five empty tables are no rows yet.
 abbrev pub StandsFor : Trees → Contents → Type 0
