@@ -36,7 +36,8 @@ use Rattle.machine.proofs.RowsOfOneState.{FilesOf, files_of, stored_read, stored
 use Rattle.tables.proofs.Orders.{row_cmp_total}
 use Rattle.sqlite.specs.Order.{Row}
 use Rattle.sqlite_trees.specs.Tree.{Trees}
-use Rattle.tables.specs.Tables.{AreKeyed, AreRising, AreSame, HoldsTables, IsDigest, StandsFor, version_row, IsFit, IsVersion, row_cmp}
+use Rattle.tables.specs.Tables.{AreRising, AreSame, HoldsTables, IsDigest, StandsFor, version_row, IsFit, IsVersion, row_cmp}
+use Rattle.sql_tables.specs.Rows.{AreKeyed}
 use Rattle.store.specs.StateRows.{rows_of}
 
 -- ---- digests

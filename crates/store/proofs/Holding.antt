@@ -3,7 +3,8 @@ use Rattle.std.proofs.Common.{List, subst₂}
 use Rattle.sqlite.specs.Order.{Row}
 use Rattle.sqlite.specs.State.{State}
 use Rattle.sqlite_trees.specs.Tree.{Trees}
-use Rattle.tables.specs.Rows.{AreRows, root_cells, current_cells, shelf_cells, blob_cells}
+use Rattle.tables.specs.Rows.{root_cells, current_cells, shelf_cells, blob_cells}
+use Rattle.sql_tables.specs.Rows.{AreRows}
 use Rattle.tables.specs.Tables.{AreSame, HoldsTables, IsStore, root_row, current_rows, shelf_row, blob_row}
 use Rattle.contents.specs.Contents.{Contents}
 use Rattle.store.proofs.SameRows.{SameItems, same_map}

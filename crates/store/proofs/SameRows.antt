@@ -14,7 +14,7 @@ use Rattle.machine.specs.Effects.{Effects, applied, last_or, renewed, with_blobs
 use Rattle.machine.specs.Contents.{contents_of, numbered, root_rows, shelf_rows}
 use Rattle.tables.specs.Tables.{AreSame}
 use Rattle.contents.specs.Contents.{Contents}
-use Rattle.tables.proofs.RowLemmas.{has_map, map_has}
+use Rattle.sql_tables.proofs.RowLemmas.{has_map, map_has}
 use Rattle.store.specs.StateRows.{rows_of}
 use Rattle.store.specs.steps.Changed.{changed, emptied_if, last_version, more_blobs, more_roots, more_rows, new_roots, new_snapshot, new_timestamp}
 

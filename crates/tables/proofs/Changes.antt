@@ -1,26 +1,16 @@
 -- What a change makes of the cells of the tables.
-use Rattle.std.proofs.Common.{◌≡◌, inl, inr, ℕ, List, [], ◌∷◌, ◌++◌, false, Some, None, Option, map, refl, sym, ap, subst, ◌∙◌, codes, OnOk, Result, Ok, Err}
+use Rattle.std.proofs.Common.{◌≡◌, ℕ, List, [], ◌∷◌, ◌++◌, false, Some, None, Option, map, refl, sym, ap, subst, ◌∙◌, codes}
 use Rattle.std.proofs.lemmas.List.{map-append}
 use Rattle.sqlite_rules.specs.Lists.{Has}
-use Rattle.sqlite_rules.proofs.ListLemmas.{has_left, has_right, has_either}
 use Rattle.sqlite.specs.Order.{Row}
 use Rattle.sqlite.specs.Effect.{Database}
-use Rattle.sqlite.specs.State.{State, Shows, IsUnchanged, KeepsCommit}
+use Rattle.sqlite.specs.State.{State, Shows}
 use Rattle.tables.specs.declared.change.Change.{Change}
-use Rattle.tables.specs.Rows.{AreRows}
 use Rattle.contents.specs.Contents.{Contents}
 use Rattle.tables.specs.Tables.{HoldsTables, IsStore, root_row, slot_row, slot_rows, current_rows, shelf_row, blob_row, with_root, with_row, with_blob, with_timestamp, with_snapshot, after, after_all}
-use Rattle.tables.specs.steps.Writing.{Cells, HoldsCells, IsInside, cells_of, without_text}
-use Rattle.tables.proofs.Statements.{text_test}
-
--- the cells of a table are a set
-pub rows_same : {shown : Row → Row} {rows c d : List Row} → AreRows shown rows c → ((x : Row) → Has c x → Has d x) → ((x : Row) → Has d x → Has c x) → AreRows shown rows d
-rows_same {shown} are there back = record {
-  keyed = are.keyed;
-  numbered = are.numbered;
-  sound = λ x h. there (shown x) (are.sound x h);
-  complete = λ c h. are.complete c (back c h);
-}
+use Rattle.tables.specs.steps.Writing.{Cells, HoldsCells, IsInside, cells_of}
+use Rattle.sql_tables.specs.Writing.{without_text}
+use Rattle.sql_tables.proofs.Statements.{text_test, rows_same, turned, turned_back}
 
 pub grown_root : (s : State) (t : Contents) (r : ℕ × List ℕ) → IsInside s (record (cells_of t) { root = map root_row t.roots ++ root_row r ∷ [] }) → IsInside s (cells_of (with_root r t))
 grown_root s t r is = subst (λ rows. IsInside s (record (cells_of t) { root = rows })) (sym (map-append root_row t.roots (r ∷ []))) is
@@ -51,13 +41,6 @@ without_snapshot (Some x) None = rw (text_test timestamp_slot snapshot_slot) ref
 without_snapshot None (Some y) = rw (text_test snapshot_slot snapshot_slot) refl
 without_snapshot (Some x) (Some y) = rw (text_test timestamp_slot snapshot_slot, text_test snapshot_slot snapshot_slot) refl
 
-turned : {X : Type 0} (xs : List X) (y x : X) → Has (xs ++ y ∷ []) x → Has (y ∷ xs) x
-turned xs y x h = elim (has_either xs (y ∷ []) x h) [ inl was ↦ inr was | inr (inl is) ↦ inl is | inr (inr none) ↦ absurd none ]
-
-turned_back : {X : Type 0} (xs : List X) (y x : X) → Has (y ∷ xs) x → Has (xs ++ y ∷ []) x
-turned_back xs y x (inl is) = has_right xs (y ∷ []) x (inl is)
-turned_back xs y x (inr was) = has_left xs (y ∷ []) x was
-
 with_current : (s : State) (c : Cells) (rows : List Row) → IsInside s c → ((x : Row) → Has c.current x → Has rows x) → ((x : Row) → Has rows x → Has c.current x) → IsInside s (record c { current = rows })
 with_current s c rows is there back = record {
   is_open = is.is_open;
@@ -79,10 +62,6 @@ new_snapshot s t r is = subst (λ rows. IsInside s (record (cells_of t) { curren
 
 -- ---- a transaction
 
-pub OnOk_then : {A E P Q : Type 0} (r : Result A E) → OnOk r P → (P → Q) → OnOk r Q
-OnOk_then (Ok a) p f = f p
-OnOk_then (Err e) p f = tt
-
 pub after_all_more : (cs : List Change) (c : Change) (t : Contents) → after_all (cs ++ c ∷ []) t ≡ after c (after_all cs t)
 after_all_more [] c t = refl
 after_all_more (x ∷ cs) c t = after_all_more cs c (after x t)
@@ -100,9 +79,3 @@ committed tx end t is shows = record {
   settled = shows.now_is ∙ sym shows.committed_is;
   holds = subst (λ (d : Database). HoldsTables d.trees t) (sym shows.now_is) (to_tables is.holds);
 }
-
-pub keeps_then : (a b c : State) → KeepsCommit a b → KeepsCommit b c → KeepsCommit a c
-keeps_then a b c one two = record { was_open = λ stays. one.was_open (two.was_open stays); committed = λ stays. two.committed stays ∙ one.committed (two.was_open stays) }
-
-pub unchanged_keeps : (old new : State) → IsUnchanged old new → KeepsCommit old new
-unchanged_keeps old new same = record { was_open = λ _. same.0.was_open; committed = λ _. same.0.committed_is }

@@ -1,32 +1,29 @@
 -- What the items of the answers say of the trees.
-use Rattle.std.proofs.Common.{◌≡◌, ◌≢◌, ◌⊎◌, inl, inr, ◌<◌, ◌*◌, ◌^◌, ◌+◌, ◌/◌, ◌%◌, ℕ, ℤ, zero, suc, pos, List, [], ◌∷◌, ◌++◌, map, length, Option, Some, None, true, false, IsTrue, refl, sym, ap, subst, subst₂, ◌∙◌, arith, codes, true≢false, slice_index}
+use Rattle.std.proofs.Common.{◌≡◌, ◌≢◌, inl, inr, ◌<◌, ◌^◌, ℕ, pos, List, [], ◌∷◌, map, Option, Some, None, true, refl, sym, ap, subst, subst₂, ◌∙◌, codes, true≢false}
 use Rattle.std.specs.List.Sorted.{IsStrictlySortedBy}
-use Rattle.std.specs.Ordering.{nat_cmp, is_lt, int_cmp, ordering_then, ordering_reverse}
-use Rattle.std.proofs.lemmas.Bool.{lt-ltb}
+use Rattle.std.specs.Ordering.{nat_cmp, ordering_then}
 use Rattle.std.specs.Cmp.Lexicographic.{slice_cmp}
-use Rattle.std.specs.declared.cmp.Ordering.{Ordering}
-use Rattle.std.specs.declared.cmp.Ordering.TheVariants.{Less, Equal, Greater}
+use Rattle.std.specs.declared.cmp.Ordering.TheVariants.{Less, Equal}
 use Rattle.hex.specs.Hex.{encode_lower, decode_of}
 use Rattle.hex.proofs.HexLemmas.{decode_of-encode_lower}
-use Rattle.sqlite_value.proofs.OrderLemmas.{value_cmp-Int, value_cmp-Text}
-use Rattle.sqlite.specs.declared.types.Value.{Value}
-use Rattle.sqlite.specs.declared.types.Value.TheVariants.{Int, Text, Blob}
+use Rattle.sqlite.specs.declared.types.Value.TheVariants.{Int, Text}
 use Rattle.sqlite.specs.Order.{Row, column, value_cmp}
 use Rattle.sqlite_trees.specs.Tree.{Trees}
 use Rattle.sqlite_rules.specs.Lists.{Has}
 use Rattle.sqlite_rules.proofs.ListLemmas.{all_has, all_from}
 use Rattle.tables.specs.declared.loading.Answers.{Answers}
-use Rattle.tables.specs.Rows.{AreRows, root_cells, current_cells, shelf_cells, blob_cells, version_cells}
+use Rattle.tables.specs.Rows.{root_cells, current_cells, shelf_cells, blob_cells, version_cells}
+use Rattle.sql_tables.specs.Rows.{AreRows, AreKeyed}
 use Rattle.contents.specs.Contents.{Contents, no_rows}
-use Rattle.tables.specs.Tables.{HoldsTables, AreBare, StandsFor, IsFit, IsDigest, AreKeyed, AreRising, root_row, slot_row, current_rows, shelf_row, blob_row, version_row, row_cmp}
-use Rattle.tables.specs.steps.Loading.{AllComeOnce, AreLoaded, AreRead, AreOrdered, AreSpoiled, AreAnswers, AreItems, with_rowid, AreSorted, AreDamaged, root, current, shelf, blob, IsRootRow, FitsRoot, IsSlotRow, FitsSlot, IsShelfRow, FitsShelf, IsBlobRow, FitsBlob, IsOne, rises, current_items, IsUnbegun}
-use Rattle.std.specs.Cmp.{IsTotalOrder, ranks}
-use Rattle.std.proofs.lemmas.Cmp.{tied_itself, int_cmp_total, nat_cmp_total, nat_list_cmp_total, by_ranked}
+use Rattle.tables.specs.Tables.{HoldsTables, AreBare, StandsFor, IsFit, IsDigest, AreRising, root_row, slot_row, current_rows, shelf_row, blob_row, version_row, row_cmp}
+use Rattle.tables.specs.steps.Loading.{AllComeOnce, AreAnswers, AreItems, AreSorted, AreDamaged, root, current, shelf, blob, IsRootRow, FitsRoot, IsSlotRow, FitsSlot, IsShelfRow, FitsShelf, IsBlobRow, FitsBlob, IsOne, current_items, IsUnbegun}
+use Rattle.sql_tables.specs.Loading.{AreLoaded, AreOrdered, with_rowid, rises}
+use Rattle.std.proofs.lemmas.Cmp.{nat_cmp_total, nat_list_cmp_total}
 use Rattle.tables.proofs.Slots.{has_timestamp, has_snapshot}
-use Rattle.tables.proofs.Gathering.{read_all, no_items}
-use Rattle.tables.proofs.NumberLemmas.{IsNumbered, numbered_by}
-use Rattle.tables.proofs.RowLemmas.{has_map}
+use Rattle.sql_tables.proofs.Gathering.{read_all, no_items}
+use Rattle.sql_tables.proofs.NumberLemmas.{IsNumbered, numbered_by}
 use Rattle.tables.proofs.Orders.{bytes_at, digits_less, row_cmp_total}
+use Rattle.sql_tables.proofs.ItemLemmas.{after_less, bytes_one, int_less, int_one, none_answered, none_read, none_stored, not_bare, pair_less, rising_keyed, text_less, text_one}
 
 -- ---- a row is that of one item
 
@@ -56,15 +53,6 @@ shelf_reads s x e = (ap (λ c. column c 0) e, ap (λ c. column c 1) e, ap (λ c.
 blob_reads : (s : Row) (x : List ℕ × List ℕ) → blob_cells s ≡ blob_row x → IsBlobRow (with_rowid blob_cells s) x
 blob_reads s x e = (ap (λ c. column c 0) e, ap (λ c. column c 1) e)
 
-int_one : (m n : ℕ) (v : Value) → v ≡ Int (pos m) → v ≡ Int (pos n) → m ≡ n
-int_one m n v a b = let e : Int (pos m) ≡ Int (pos n) = sym a ∙ b in let f : pos m ≡ pos n = cc in cc
-
-text_one : (s t : List ℕ) (v : Value) → v ≡ Text s → v ≡ Text t → s ≡ t
-text_one s t v a b = let e : Text s ≡ Text t = sym a ∙ b in cc
-
-bytes_one : (s t : List ℕ) (v : Value) → v ≡ Blob s → v ≡ Blob t → s ≡ t
-bytes_one s t v a b = let e : Blob s ≡ Blob t = sym a ∙ b in cc
-
 pub root_one : (r : Row) (x y : ℕ × List ℕ) → FitsRoot x → FitsRoot y → IsRootRow r x → IsRootRow r y → x ≡ y
 root_one r x y fx fy a b = let n = int_one x.0 y.0 _ a.0 b.0 in let v = bytes_one x.1 y.1 _ a.1 b.1 in λ i. (n i, v i)
 
@@ -85,36 +73,8 @@ blob_one r x y fx fy a b = let d = digest_one x.0 y.0 fx fy (text_one _ _ _ a.0 
 
 -- ---- the order of the rows is that of the items
 
-after_less : (o p : Ordering) → o ≡ Less → is_lt (ordering_then o p) ≡ true
-after_less Less p e = refl
-after_less Equal p e = absurd (let f = e in cc)
-after_less Greater p e = absurd (let f = e in cc)
-
-int_below : (m n : ℕ) → m < n → int_cmp (pos m) (pos n) ≡ Less
-int_below m n below = rw (lt-ltb m n below) refl
-
-int_same : (m n : ℕ) → m ≡ n → int_cmp (pos m) (pos n) ≡ Equal
-int_same m n same = ap (λ (k : ℕ). int_cmp (pos k) (pos n)) same ∙ tied_itself int_cmp_total (pos n)
-
-int_above : (m n : ℕ) → n < m → int_cmp (pos m) (pos n) ≡ Greater
-int_above m n above = int_cmp_total.antisymm (pos m) (pos n) ∙ ap ordering_reverse (int_below n m above)
-
-int_nat : (m n : ℕ) → int_cmp (pos m) (pos n) ≡ nat_cmp m n
-int_nat m n = by_ranked (m < n) (m ≡ n) (n < m) {G = int_cmp (pos m) (pos n) ≡ nat_cmp m n} (nat_cmp m n) (ranks m n) (λ is below. int_below m n below ∙ sym is) (λ is same. int_same m n same ∙ sym is) (λ is above. int_above m n above ∙ sym is)
-
-int_less : (a b : Value) (m n : ℕ) → a ≡ Int (pos m) → b ≡ Int (pos n) → value_cmp a b ≡ nat_cmp m n
-int_less a b m n x y = subst₂ (λ v w. value_cmp v w ≡ nat_cmp m n) (sym x) (sym y) (value_cmp-Int (pos m) (pos n) ∙ int_nat m n)
-
-text_less : (a b : Value) (s t : List ℕ) → a ≡ Text s → b ≡ Text t → value_cmp a b ≡ slice_cmp nat_cmp s t
-text_less a b s t x y = subst₂ (λ v w. value_cmp v w ≡ slice_cmp nat_cmp s t) (sym x) (sym y) (value_cmp-Text s t)
-
 root_ordered : (stored rows : List Row) → AreLoaded root_cells (rises ∷ []) stored rows → AreOrdered nat_cmp IsRootRow FitsRoot rows
 root_ordered stored rows l before r s rest x y e rx sy fx fy less = true≢false (sym (after_less _ _ (int_less (column s 0) (column r 0) y.0 x.0 sy.0 rx.0 ∙ less)) ∙ l.sorted before r s rest e)
-
-pair_less : (o p q : Ordering) → ordering_then o p ≡ Less → is_lt (ordering_then o (ordering_then p q)) ≡ true
-pair_less Less p q e = refl
-pair_less Equal p q e = after_less p q e
-pair_less Greater p q e = absurd (let f = e in cc)
 
 shelf_ordered : (stored rows : List Row) → AreLoaded (with_rowid shelf_cells) (rises ∷ rises ∷ []) stored rows → AreOrdered row_cmp IsShelfRow FitsShelf rows
 shelf_ordered stored rows l before r s rest x y e rx sy fx fy less =
@@ -166,20 +126,6 @@ holds_items trees a t n is items ones some = record {
   version = version_rows _ _ is.version ones some (numbered_by version_cells 0 (λ r. refl) _ _ is.version.once n.version);
 }
 
-no_member : {X : Type 0} (xs : List X) → ((x : X) → Has xs x → ⊥) → xs ≡ []
-no_member [] none = refl
-no_member (x ∷ xs) none = absurd (none x (inl refl))
-
--- a table of which no item was read is empty
-none_stored : {K V : Type 0} {shown : Row → Row} {Reads : Row → K × V → Type 0} {Fits : K × V → Type 0} (keys : _) (stored rows : List Row) (items : List (K × V)) → AreLoaded shown keys stored rows → AreRead Reads Fits rows items → items ≡ [] → stored ≡ []
-none_stored {shown = shown} keys stored rows items l read none = no_member stored (λ s h. let it = read.each (shown s) (l.each s h) in subst (λ xs. Has xs it.0) none it.1)
-
-none_answered : {shown : Row → Row} (keys : _) (stored rows : List Row) → AreLoaded shown keys stored rows → rows ≡ [] → stored ≡ []
-none_answered {shown} keys stored rows l none = no_member stored (λ s h. subst (λ xs. Has xs (shown s)) none (l.each s h))
-
-none_read : {K V : Type 0} {shown : Row → Row} {Reads : Row → K × V → Type 0} {Fits : K × V → Type 0} (keys : _) (stored rows : List Row) (items : List (K × V)) → AreLoaded shown keys stored rows → AreRead Reads Fits rows items → stored ≡ [] → items ≡ []
-none_read keys stored rows items l read none = no_member items (λ x h. let r = read.from x h in let s = l.from r.0 r.1 in subst (λ xs. Has xs s.0) none s.1)
-
 pub bare_items : (trees : Trees) (a : Answers) (t : Contents) → AreAnswers trees a → AreItems a t → a.versions.items ≡ [] → t ≡ no_rows → AreBare trees
 bare_items trees a t is items none bare =
     let root = none_stored _ _ _ _ is.root items.root.read (ap (λ (u : Contents). u.roots) bare) in
@@ -218,16 +164,6 @@ current_fits None (Some w) fa fb x (inr none) = absurd none
 current_fits (Some v) (Some w) fa fb x (inl is) = subst FitsSlot (sym is) (inl refl, fa v refl)
 current_fits (Some v) (Some w) fa fb x (inr (inl is)) = subst FitsSlot (sym is) (inr refl, fb w refl)
 current_fits (Some v) (Some w) fa fb x (inr (inr none)) = absurd none
-
-spoiled_has : {K V : Type 0} (Reads : Row → K × V → Type 0) (Fits : K × V → Type 0) (rows : List Row) → AreSpoiled Reads Fits rows → (r : Row) × Has rows r
-spoiled_has Reads Fits rows (inl bad) = (bad.0, bad.1)
-spoiled_has Reads Fits rows (inr bad) = (bad.0, bad.4)
-
-not_bare : {K V : Type 0} {shown : Row → Row} (keys : _) (Reads : Row → K × V → Type 0) (Fits : K × V → Type 0) (stored rows : List Row) → AreLoaded shown keys stored rows → AreSpoiled Reads Fits rows → stored ≡ [] → ⊥
-not_bare keys Reads Fits stored rows l bad none =
-    let r = spoiled_has Reads Fits rows bad in
-    let s = l.from r.0 r.1 in
-    subst (λ xs. Has xs s.0) none s.1
 
 pub damaged_items : (trees : Trees) (a : Answers) → AreAnswers trees a → AreDamaged a → (t : Contents) → IsFit t → StandsFor trees t → ⊥
 damaged_items trees a is (root bad) t fit (inl holds) = no_items IsRootRow FitsRoot root_row root_cells root_cells _ _ _ is.root root_reads root_one bad t.roots (λ x h. all_has FitsRoot t.roots x fit.roots h) fit.one_root holds.root
@@ -271,21 +207,6 @@ unbegun trees a t is items none = record { bare = bare_items trees a t is items 
         not (λ i. record { roots = roots i; timestamp = slots.0 i; snapshot = slots.1 i; shelf = rows i; blobs = blobs i })
 
 -- ---- what was read fits
-
-module _ {K V : Type 0} (cmp : K → K → Ordering) (order : IsTotalOrder cmp) where
-  rising_keyed : (xs : List (K × V)) → IsStrictlySortedBy cmp (map (λ x. x.0) xs) → AreKeyed xs
-  unfolding IsStrictlySortedBy
-  rising_keyed [] up x y in_x in_y same = absurd in_x
-  rising_keyed (z ∷ xs) up x y (inl a) (inl b) same = a ∙ sym b
-  rising_keyed (z ∷ xs) up x y (inl a) (inr b) same = absurd (less_itself y.0 (subst (λ k. cmp k y.0 ≡ Less) (ap (λ (w : K × V). w.0) (sym a) ∙ same) (all_has (λ k. cmp z.0 k ≡ Less) (map (λ x. x.0) xs) y.0 up.0 (has_map (λ x. x.0) xs y b))))
-    where
-      less_itself : (k : K) → cmp k k ≡ Less → ⊥
-      less_itself k less = let e = sym less ∙ tied_itself order k in cc
-  rising_keyed (z ∷ xs) up x y (inr a) (inl b) same = absurd (less_itself x.0 (subst (λ k. cmp k x.0 ≡ Less) (ap (λ (w : K × V). w.0) (sym b) ∙ sym same) (all_has (λ k. cmp z.0 k ≡ Less) (map (λ x. x.0) xs) x.0 up.0 (has_map (λ x. x.0) xs x a))))
-    where
-      less_itself : (k : K) → cmp k k ≡ Less → ⊥
-      less_itself k less = let e = sym less ∙ tied_itself order k in cc
-  rising_keyed (z ∷ xs) up x y (inr a) (inr b) same = rising_keyed xs up.1 x y a b same
 
 pub items_fit : (a : Answers) (t : Contents) → AreItems a t → IsFit t
 items_fit a t items = record {

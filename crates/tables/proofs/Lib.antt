@@ -1,17 +1,11 @@
 pub mod Texts
-pub mod Insert
-pub mod RowLemmas
-pub mod AnswerLemmas
-pub mod NumberLemmas
 pub mod Statements
 pub mod Changes
 pub mod MakingLemmas
 pub mod Beginnings
-pub mod Gathering
 pub mod Views
 pub mod Orders
 pub mod Slots
-pub mod Queries
 pub mod Selects
 pub mod ItemLemmas
 pub mod Openings

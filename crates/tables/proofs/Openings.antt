@@ -1,12 +1,11 @@
 -- What an opening and a look at the connection leave.
-use Rattle.std.proofs.Common.{◌≡◌, inl, inr, [], None, Some, Option, Ok, Err, IsTrue, sym, ap, subst, ◌∙◌}
+use Rattle.std.proofs.Common.{◌≡◌, inl, inr, [], None, Ok, Err, IsTrue, sym, ap, subst, ◌∙◌}
 use Rattle.sqlite.specs.Order.{Row}
 use Rattle.sqlite.specs.Effect.{Database}
-use Rattle.sqlite.specs.State.{State, IsUnchanged, IsRolledBack, QueriesRow, FailsToQuery, FailsToShow, IsNotRun, Shown, ShowsRows}
+use Rattle.sqlite.specs.State.{State, IsUnchanged, IsRolledBack, QueriesRow, FailsToQuery, FailsToShow, IsNotRun}
 use Rattle.sqlite.specs.Clock.{timed}
 use Rattle.sqlite.specs.Listing.{understood}
 use Rattle.sqlite.specs.declared.error.Error.{Error}
-use Rattle.sqlite_schema.specs.declared.command.Returning.{Returning}
 use Rattle.sqlite.proofs.Callers.{IsPlain}
 use Rattle.tables.specs.Schema.{the_schema}
 use Rattle.contents.specs.Contents.{Contents}
@@ -57,28 +56,3 @@ look_failed old new e t stays (inl (inr shows)) is =
     let none : shows.0.returning ≡ None = (subst IsPlain (sym known) select_version_plain).0 in
     store_same old new t (subst (FailsToShow old new select_version shows.0 (timed [] shows.0.formats shows.1.now) e) none shows.2).3 is
 look_failed old new e t stays (inr nothing) is = store_same old new t (select_version_same old new [] is.schema nothing.1) is
-
-pub row_means_open : (sql : _) (params : Row) (old new : State) (row : Row) → QueriesRow sql params old new (Ok row) → IsTrue old.is_open × IsTrue new.is_open
-unfolding QueriesRow Shown
-row_means_open sql params old new row (inl begins) = (begins.1.0.was_open, begins.1.0.is_open)
-row_means_open sql params old new row (inr shown) = go shown.1.0.returning shown.1.2
-  where
-    go : (r : Option Returning) → ShowsRows old new sql shown.1.0 (timed params shown.1.0.formats shown.1.1.now) shown.0 r → IsTrue old.is_open × IsTrue new.is_open
-    go None it = (it.3.0.was_open, it.3.0.is_open)
-    go (Some what) it = (it.1.shown.was_open, it.1.shown.is_open)
-
-pub failed_was_open : (sql : _) (params : Row) (old new : State) (e : Error) → IsTrue new.is_open → QueriesRow sql params old new (Err e) → IsTrue old.is_open
-unfolding QueriesRow FailsToQuery IsNotRun Shown
-failed_was_open sql params old new e stays (inl (inl (inl none))) = none.1.0.was_open
-failed_was_open sql params old new e stays (inl (inl (inr fails))) = fails.3.was_open stays
-failed_was_open sql params old new e stays (inl (inr shows)) = go shows.0.returning shows.2
-  where
-    go : (r : Option Returning) → FailsToShow old new sql shows.0 (timed params shows.0.formats shows.1.now) e r → IsTrue old.is_open
-    go None it = it.3.0.was_open
-    go (Some what) (inl misplaced) = misplaced.1.0.was_open
-    go (Some what) (inr fails) = fails.3.was_open stays
-failed_was_open sql params old new e stays (inr nothing) = go nothing.1.0.returning nothing.1.2
-  where
-    go : (r : Option Returning) → ShowsRows old new sql nothing.1.0 (timed params nothing.1.0.formats nothing.1.1.now) [] r → IsTrue old.is_open
-    go None it = it.3.0.was_open
-    go (Some what) it = it.1.shown.was_open

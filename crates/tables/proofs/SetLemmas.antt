@@ -4,12 +4,12 @@ use Rattle.sqlite.specs.Order.{Row, column}
 use Rattle.sqlite_trees.specs.Tree.{Trees}
 use Rattle.sqlite_rules.specs.Lists.{Has}
 use Rattle.sqlite_rules.proofs.ListLemmas.{all_has}
-use Rattle.tables.specs.Rows.{AreRows}
+use Rattle.sql_tables.specs.Rows.{AreRows}
 use Rattle.contents.specs.Contents.{Contents}
 use Rattle.tables.specs.Tables.{HoldsTables, AreSame, IsFit, root_row, slot_row, current_rows, shelf_row, blob_row}
 use Rattle.tables.specs.steps.Loading.{FitsRoot, FitsSlot, FitsShelf, FitsBlob, current_items}
-use Rattle.tables.proofs.RowLemmas.{has_map, map_has}
-use Rattle.tables.proofs.Changes.{rows_same}
+use Rattle.sql_tables.proofs.RowLemmas.{has_map, map_has}
+use Rattle.sql_tables.proofs.Statements.{rows_same}
 use Rattle.tables.proofs.Slots.{has_timestamp, has_snapshot}
 use Rattle.tables.proofs.ItemLemmas.{root_one, slot_one, shelf_one, blob_one, items_rows, apart_slots, current_fits}
 

@@ -1,47 +1,11 @@
 -- Items that are read from rows in any order, and the two slots of `current`.
-use Rattle.std.proofs.Common.{◌≡◌, ◌≢◌, ◌⊎◌, inl, inr, ℕ, List, [], ◌∷◌, ◌++◌, Option, Some, None, refl, sym, ap, subst, codes}
+use Rattle.std.proofs.Common.{◌≡◌, ◌⊎◌, inl, inr, ℕ, List, [], ◌∷◌, ◌++◌, Option, Some, None, refl, sym, subst, codes}
 use Rattle.sqlite.specs.Order.{Row}
 use Rattle.sqlite_rules.specs.Lists.{Has}
 use Rattle.sqlite_rules.proofs.ListLemmas.{has_left, has_right, has_either}
-use Rattle.tables.specs.steps.Loading.{AreRead, AreSpoiled, IsSlotRow, FitsSlot, slot_items, current_items}
-
-module _ {K V : Type 0} (Reads : Row → K × V → Type 0) (Fits : K × V → Type 0) where
-  pub read_none : AreRead Reads Fits [] []
-  read_none = record { from = λ x none. absurd none; each = λ r none. absurd none; fit = λ x none. absurd none }
-
-  pub read_more : (rows : List Row) (items news : List (K × V)) (r : Row) (x : K × V) → AreRead Reads Fits rows items → Reads r x → Fits x
-      → ((z : K × V) → Has news z → Has items z ⊎ (z ≡ x)) → ((z : K × V) → Has items z → Has news z) → Has news x → AreRead Reads Fits (rows ++ r ∷ []) news
-  read_more rows items news r x all reads fits old kept new = record {
-    from = λ z h. elim (old z h) [
-      | inl was ↦ let it = all.from z was in (it.0, has_left rows _ it.0 it.1, it.2)
-      | inr is ↦ (r, has_right rows _ r (inl refl), subst (Reads r) (sym is) reads)
-    ];
-    each = λ s h. elim (has_either rows (r ∷ []) s h) [
-      | inl was ↦ let it = all.each s was in (it.0, kept it.0 it.1, it.2)
-      | inr (inl is) ↦ (x, new, subst (λ q. Reads q x) (sym is) reads)
-      | inr (inr none) ↦ absurd none
-    ];
-    fit = λ z h. elim (old z h) [ inl was ↦ all.fit z was | inr is ↦ subst Fits (sym is) fits ];
-  }
-
-  pub spoiled_slot : (rows done rest : List Row) (items : List (K × V)) (r : Row) (k : K) (v y : V) → rows ≡ (done ++ r ∷ []) ++ rest → AreRead Reads Fits done items → Has items (k, y)
-      → Reads r (k, v) → Fits (k, v) → v ≢ y → AreSpoiled Reads Fits rows
-  spoiled_slot rows done rest items r k v y split all has reads fits other =
-      let s = all.from (k, y) has in
-      inr (
-        r,
-        s.0,
-        (k, v),
-        (k, y),
-        subst (λ rs. Has rs r) (sym split) (has_left _ rest r (has_right done _ r (inl refl))),
-        subst (λ rs. Has rs s.0) (sym split) (has_left _ rest s.0 (has_left done _ s.0 s.1)),
-        reads,
-        s.2,
-        fits,
-        all.fit (k, y) has,
-        refl,
-        λ e. other (ap (λ (w : K × V). w.1) e),
-      )
+use Rattle.tables.specs.steps.Loading.{IsSlotRow, FitsSlot, slot_items, current_items}
+use Rattle.sql_tables.specs.Loading.{AreRead}
+use Rattle.sql_tables.proofs.ItemLemmas.{read_more}
 
 abbrev Slots : Type 0
 Slots = Option (ℕ × List ℕ)

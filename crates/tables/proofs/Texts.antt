@@ -12,7 +12,7 @@ use Rattle.sqlite.specs.Command.TheVariants.{Insert, Select, Delete}
 use Rattle.sqlite.specs.declared.types.Value.TheVariants.{Null}
 use Rattle.sqlite.specs.Listing.{understood, reads_listing}
 use Rattle.sqlite.proofs.Callers.{IsPlain, command_of}
-use Rattle.tables.proofs.AnswerLemmas.{plain_query}
+use Rattle.sql_tables.proofs.AnswerLemmas.{plain_query}
 
 -- ---- INSERT
 

@@ -2,7 +2,8 @@
 use Rattle.std.specs.Prelude.{◌≡◌, IsTrue}
 use Rattle.sqlite.specs.State.{State}
 use Rattle.tables.specs.Schema.{IsBeginning}
-use Rattle.tables.specs.Tables.{AreBare, counted}
+use Rattle.tables.specs.Tables.{AreBare}
+use Rattle.sql_tables.specs.Schema.{counted}
 
 -- what stands for no rows yet: no table of the five, some or all, without a row
 abbrev pub StandsEmpty : State → Type 0

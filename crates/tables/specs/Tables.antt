@@ -1,5 +1,5 @@
 -- What the tables hold, and what a change makes of it.
-use Rattle.std.specs.Prelude.{◌≡◌, ◌⊎◌, ◌<◌, ◌^◌, ◌==◌, ◌||◌, Bool, false, ℕ, pos, List, [], ◌∷◌, ◌++◌, if◌then◌else◌, map, Option, Some, None, IsTrue, IsUtf8, codes, length}
+use Rattle.std.specs.Prelude.{◌≡◌, ◌⊎◌, ◌<◌, ◌^◌, ℕ, pos, List, [], ◌∷◌, ◌++◌, map, Option, Some, None, IsTrue, IsUtf8, codes, length}
 use Rattle.std.specs.List.{AllByRecursion}
 use Rattle.std.specs.Ordering.{nat_cmp, on, then_cmp}
 use Rattle.std.specs.declared.cmp.Ordering.{Ordering}
@@ -10,15 +10,16 @@ use Rattle.sqlite_rules.specs.Lists.{Has}
 use Rattle.sqlite.specs.declared.types.Value.TheVariants.{Int, Text, Blob}
 use Rattle.sqlite.specs.Order.{Row}
 use Rattle.sqlite_trees.specs.Tree.{Trees}
-use Rattle.sqlite.specs.Table.{Table}
-use Rattle.sqlite.specs.Schema.{Schema}
 use Rattle.sqlite.specs.Effect.{Database}
 use Rattle.sqlite.specs.State.{State}
 use Rattle.tables.specs.declared.change.Change.{Change}
 use Rattle.tables.specs.declared.change.Change.TheVariants.{PutRoot, Emptied, PutTimestamp, PutSnapshot, PutRow, PutBlob}
 use Rattle.contents.specs.Contents.{Contents, no_rows}
+use Rattle.sql_tables.specs.Described.{AreEmpty}
 use Rattle.tables.specs.Schema.{the_schema, IsBeginning}
-use Rattle.tables.specs.Rows.{AreRows, root_cells, current_cells, shelf_cells, blob_cells, version_cells}
+use Rattle.tables.specs.Rows.{root_cells, current_cells, shelf_cells, blob_cells, version_cells}
+use Rattle.sql_tables.specs.Rows.{AreRows, AreKeyed}
+use Rattle.sql_tables.specs.Schema.{counted}
 
 -- ---- the cells of the rows
 
@@ -64,20 +65,11 @@ pub record IsStore (s : State) (t : Contents) : Type 0 where
 
 -- no row in any of the five tables
 abbrev pub AreBare : Trees → Type 0
-AreBare trees = AllByRecursion (λ (t : Table). trees t.tree ≡ []) the_schema.tables
+AreBare = AreEmpty the_schema
 
 -- What the trees of the five tables stand for. Five empty tables are no rows yet.
 abbrev pub StandsFor : Trees → Contents → Type 0
 StandsFor trees t = HoldsTables trees t ⊎ (AreBare trees × (t ≡ no_rows))
-
--- one of the tables has this tree
-abbrev pub is_there : List Table → ℕ → Bool
-is_there [] tree = false
-is_there (t ∷ ts) tree = (t.tree == tree) || is_there ts tree
-
--- the rows by tree, where a table that is absent counts as empty
-abbrev pub counted : Schema → Trees → Trees
-counted schema trees tree = if is_there schema.tables tree then trees tree else []
 
 -- What a database stands for: its tables are the first of the five, or all, and hold the rows, and the absent ones count as empty.
 abbrev pub Stands : Database → Contents → Type 0
@@ -99,10 +91,6 @@ IsVersion n = n < 2 ^ 32
 -- a digest of 32 bytes
 abbrev pub IsDigest : List ℕ → Type 0
 IsDigest d = (length d ≡ 32) × AllByRecursion (λ b. b < 256) d
-
--- at most one row for each key
-abbrev pub AreKeyed : {K V : Type 0} → List (K × V) → Type 0
-AreKeyed {K} {V} rows = (x y : K × V) → Has rows x → Has rows y → x.0 ≡ y.0 → x ≡ y
 
 pub record IsFit (t : Contents) : Type 0 where
   pub roots : AllByRecursion (λ r. IsVersion r.0) t.roots

@@ -5,24 +5,12 @@ ghost use Rattle.std.specs.Cmp.Lexicographic.{slice_cmp};
 ghost use Rattle.sqlite.specs.Order.{column};
 ghost use Rattle.sqlite.specs.declared.types.Value.TheVariants.{Int, Text, Blob};
 ghost use Rattle.tables.specs.Tables.{IsVersion};
-ghost use Rattle.tables.specs.steps.Loading.{IsPlaceOfEqual, IsPlacedBy};
 
 use crate::faults::StoreFault;
 use sqlite::Row;
 use sqlite_value::value::ValueRef;
 use std::alloc::Global;
 use std::cmp::Ordering;
-
-// Where an item stands to the last one before it.
-#[derive(Clone, Copy)]
-pub(crate) enum Place {
-    // its key is higher
-    Behind,
-    // it is the same
-    Same,
-    // neither
-    Neither,
-}
 
 // The text of a cell, if it is one.
 pub(crate) fn text_at(row: &Row, at: usize) -> Option<&[u8]>
@@ -76,26 +64,4 @@ pub(crate) fn is_same(a: &[u8], b: &[u8]) -> bool
     ensures other { a.now ≡ b.now → IsTrue result }
 {
     a == b
-}
-
-// The place of an item whose key is the last one's.
-fn place_of_equal(last: &[u8], value: &[u8]) -> Place
-    ensures { IsPlaceOfEqual last.now value.now result }
-{
-    if is_same(last, value) {
-        Place::Same
-    } else {
-        Place::Neither
-    }
-}
-
-// The place of an item, by how the last key stands to its key. The values are compared only where the keys are the same.
-pub(crate) fn place_by(order: Ordering, last: &[u8], value: &[u8]) -> Place
-    ensures { IsPlacedBy order last.now value.now result }
-{
-    match order {
-        Ordering::Less => Place::Behind,
-        Ordering::Equal => place_of_equal(last, value),
-        Ordering::Greater => Place::Neither,
-    }
 }

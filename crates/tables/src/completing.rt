@@ -1,37 +1,19 @@
 // Completing a database whose tables are the first of the five, or none.
-ghost use Rattle.std.specs.Prelude.{◌≡◌, ◌≢◌, ◌<◌, ◌≤◌, true, false, [], IsTrue, IfOk, OnOk};
+ghost use Rattle.std.specs.Prelude.{◌≡◌, ◌<◌, ◌≤◌, true, false, IsTrue, IfOk, OnOk};
 ghost use Rattle.sqlite_trees.specs.Tree.{Trees};
 ghost use Rattle.sqlite.specs.State.{HasCleanDisk, IsUnchanged, KeepsCommit, Survives};
 ghost use Rattle.sqlite.specs.Held.{state};
-ghost use Rattle.tables.specs.Schema.{the_schema, beginning};
+ghost use Rattle.tables.specs.Schema.{the_schema, beginning, five};
+ghost use Rattle.sql_tables.specs.Described.{LacksRest};
 ghost use Rattle.contents.specs.Contents.{no_rows};
-ghost use Rattle.tables.specs.Tables.{AreBare, HoldsTables, IsStore, counted};
+ghost use Rattle.tables.specs.Tables.{AreBare, HoldsTables, IsStore};
+ghost use Rattle.sql_tables.specs.Schema.{counted};
 ghost use Rattle.tables.specs.steps.Writing.{IsInside, no_cells};
-ghost use Rattle.tables.specs.steps.Making.{Asks, IsMade, LacksRest};
+ghost use Rattle.sql_tables.specs.Making.{IsMade};
 
+use crate::described::five_tables;
 use crate::making::{make_rest, put_version};
-use sqlite::{Alter, Connection, Error, Row, Transaction};
-
-// Whether there is a row.
-fn is_any(rows: &[Row]) -> bool
-    ensures none { result ≡ false → rows.now ≡ [] }
-    ensures some { IsTrue result → rows.now ≢ [] }
-{
-    !rows.is_empty()
-}
-
-// Whether the table that the text asks for has a row.
-fn has_row<S: Alter>(tx: &mut Transaction<'_, S>, sql: &str) -> Result<bool, Error>
-    ensures same_reference { tx.new.conn.ghost_name ≡ tx.old.conn.ghost_name }
-    ensures rows { HasCleanDisk (state S.Store tx.new.conn.now) → (tree : _) → Asks sql.now tree → (state S.Store tx.old.conn.now).now.schema ≡ the_schema
-        → IfOk result (λ some. (some ≡ false → (state S.Store tx.old.conn.now).now.trees tree ≡ []) × (IsTrue some → (state S.Store tx.old.conn.now).now.trees tree ≢ [])) }
-    ensures unchanged { HasCleanDisk (state S.Store tx.new.conn.now) → (tree : _) → Asks sql.now tree → (state S.Store tx.old.conn.now).now.schema ≡ the_schema → OnOk result (IsUnchanged (state S.Store tx.old.conn.now) (state S.Store tx.new.conn.now)) }
-    ensures was_open { HasCleanDisk (state S.Store tx.new.conn.now) → OnOk result (IsTrue (state S.Store tx.old.conn.now).is_open) }
-    ensures survives { Survives (state S.Store tx.old.conn.now) (state S.Store tx.new.conn.now) (λ _. ⊥) }
-{
-    let rows = tx.query_all(sql, &[])?;
-    Ok(is_any(rows.as_slice()))
-}
+use sqlite::{Alter, Connection, Error, Transaction};
 
 // Whether any of the five tables has a row.
 fn has_rows<S: Alter>(tx: &mut Transaction<'_, S>) -> Result<bool, Error>
@@ -42,28 +24,16 @@ fn has_rows<S: Alter>(tx: &mut Transaction<'_, S>) -> Result<bool, Error>
     ensures was_open { HasCleanDisk (state S.Store tx.new.conn.now) → OnOk result (IsTrue (state S.Store tx.old.conn.now).is_open) }
     ensures survives { Survives (state S.Store tx.old.conn.now) (state S.Store tx.new.conn.now) (λ _. ⊥) }
 {
-    if has_row(tx, "SELECT version FROM root")? {
-        return Ok(true);
-    }
-    if has_row(tx, "SELECT version FROM current")? {
-        return Ok(true);
-    }
-    if has_row(tx, "SELECT version FROM shelf")? {
-        return Ok(true);
-    }
-    if has_row(tx, "SELECT digest FROM blob")? {
-        return Ok(true);
-    }
-    has_row(tx, "SELECT version FROM schema")
+    sql_tables::has_rows(tx, &five_tables())
 }
 
 // Makes the tables that are absent, and puts the row of `schema` where no table has a row. Answers whether none has.
 fn fill<S: Alter>(tx: &mut Transaction<'_, S>, count: usize) -> Result<bool, Error>
     requires { count ≤ 5 }
     ensures same_reference { tx.new.conn.ghost_name ≡ tx.old.conn.ghost_name }
-    ensures made { HasCleanDisk (state S.Store tx.new.conn.now) → (rows : Trees) → LacksRest count rows → IsMade rows (beginning count) (state S.Store tx.old.conn.now)
+    ensures made { HasCleanDisk (state S.Store tx.new.conn.now) → (rows : Trees) → LacksRest five count rows → IsMade rows (beginning count) (state S.Store tx.old.conn.now)
         → IfOk result (λ bare. (IsTrue bare → AreBare rows × IsInside (state S.Store tx.new.conn.now) no_cells) × (bare ≡ false → AreBare rows → ⊥)) }
-    ensures kept { HasCleanDisk (state S.Store tx.new.conn.now) → (rows : Trees) → LacksRest count rows → IsMade rows (beginning count) (state S.Store tx.old.conn.now)
+    ensures kept { HasCleanDisk (state S.Store tx.new.conn.now) → (rows : Trees) → LacksRest five count rows → IsMade rows (beginning count) (state S.Store tx.old.conn.now)
         → IfOk result (λ bare. bare ≡ false → KeepsCommit (state S.Store tx.old.conn.now) (state S.Store tx.new.conn.now)) }
     ensures was_open { HasCleanDisk (state S.Store tx.new.conn.now) → OnOk result (IsTrue (state S.Store tx.old.conn.now).is_open) }
     ensures survives { Survives (state S.Store tx.old.conn.now) (state S.Store tx.new.conn.now) (λ _. ⊥) }

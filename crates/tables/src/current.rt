@@ -3,7 +3,8 @@ ghost use Rattle.std.specs.Prelude.{◌≡◌, ◌≢◌, [], List, ℕ, Err, If
 ghost use Rattle.sqlite.specs.Order.{Row};
 ghost use Rattle.sqlite_rules.specs.Lists.{Has};
 ghost use Rattle.contents.specs.Contents.{slot_view, value_view};
-ghost use Rattle.tables.specs.steps.Loading.{AreRead, AreSpoiled, FitsSlot, IsOne, IsSlotRow, current_items, slot_name};
+ghost use Rattle.tables.specs.steps.Loading.{FitsSlot, IsOne, IsSlotRow, current_items, slot_name};
+ghost use Rattle.sql_tables.specs.Loading.{AreRead, AreSpoiled};
 
 use crate::cells::{blob_at, copied, is_same, text_at, version_at};
 use crate::faults::StoreFault;

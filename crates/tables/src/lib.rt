@@ -5,6 +5,7 @@ mod cells;
 mod change;
 mod completing;
 mod current;
+mod described;
 mod faults;
 mod laws;
 mod loading;

@@ -5,7 +5,8 @@ ghost use Rattle.sqlite.specs.Held.{state};
 ghost use Rattle.tables.specs.Schema.{the_schema};
 ghost use Rattle.tables.specs.Rows.{root_cells, current_cells, shelf_cells, blob_cells, version_cells};
 ghost use Rattle.contents.specs.Contents.{contents_view};
-ghost use Rattle.tables.specs.steps.Loading.{AreLoaded, AreAnswers, AreItems, AreSorted, AreDamaged, rises, with_rowid};
+ghost use Rattle.tables.specs.steps.Loading.{AreAnswers, AreItems, AreSorted, AreDamaged};
+ghost use Rattle.sql_tables.specs.Loading.{AreLoaded, rises, with_rowid};
 
 use crate::current::current_of;
 use crate::faults::StoreFault;

@@ -1,75 +1,31 @@
 // The making of the tables, and a connection between two transactions.
-ghost use Rattle.std.specs.Prelude.{◌≡◌, ◌≢◌, ◌<◌, ◌≤◌, ◌+◌, Err, true, false, [], ◌∷◌, IsTrue, IfOk, OnOk, OnErr};
+ghost use Rattle.std.specs.Prelude.{◌≡◌, ◌≢◌, ◌<◌, ◌≤◌, ◌+◌, Err, false, [], IsTrue, IfOk, OnOk};
 ghost use Rattle.sqlite.specs.State.{HasCleanDisk, KeepsCommit, Survives};
 ghost use Rattle.sqlite.specs.Held.{state};
 ghost use Rattle.sqlite_trees.specs.Tree.{Trees};
-ghost use Rattle.sqlite_catalog.specs.Change.{next_tree};
-ghost use Rattle.tables.specs.Schema.{the_schema, beginning};
+ghost use Rattle.tables.specs.Schema.{the_schema, beginning, five};
+ghost use Rattle.sql_tables.specs.Described.{LacksRest};
 ghost use Rattle.contents.specs.Contents.{no_rows};
 ghost use Rattle.tables.specs.Tables.{IsStore, HoldsTables, AreBare};
 ghost use Rattle.tables.specs.steps.Writing.{IsInside, no_cells};
 ghost use Rattle.tables.specs.Opening.{IsSettled};
-ghost use Rattle.tables.specs.steps.Making.{IsMade, Makes, LacksRest};
+ghost use Rattle.sql_tables.specs.Making.{IsMade, Makes};
 
+use crate::described::five_tables;
 use crate::faults::StoreFault;
 use sqlite::{Alter, Connection, Error, Transaction};
 use sqlite_trees::store::Store;
 use std::alloc::Global;
 
-fn make<S: Alter>(tx: &mut Transaction<'_, S>, sql: &str) -> Result<(), Error>
-    ensures same_reference { tx.new.conn.ghost_name ≡ tx.old.conn.ghost_name }
-    ensures wrote { HasCleanDisk (state S.Store tx.new.conn.now) → (before after : _) → Makes before sql.now after → (rows : Trees) → rows (next_tree before) ≡ [] → IsMade rows before (state S.Store tx.old.conn.now) → OnOk result (IsMade rows after (state S.Store tx.new.conn.now)) }
-    ensures kept { HasCleanDisk (state S.Store tx.new.conn.now) → KeepsCommit (state S.Store tx.old.conn.now) (state S.Store tx.new.conn.now) }
-    ensures survives { Survives (state S.Store tx.old.conn.now) (state S.Store tx.new.conn.now) (λ _. ⊥) }
-{
-    tx.execute(sql, &[])?;
-    Ok(())
-}
-
-// Makes the table of this place.
-fn make_at<S: Alter>(tx: &mut Transaction<'_, S>, at: usize) -> Result<(), Error>
-    requires { at < 5 }
-    ensures same_reference { tx.new.conn.ghost_name ≡ tx.old.conn.ghost_name }
-    ensures wrote { HasCleanDisk (state S.Store tx.new.conn.now) → (rows : Trees) → rows (next_tree (beginning at)) ≡ [] → IsMade rows (beginning at) (state S.Store tx.old.conn.now) → OnOk result (IsMade rows (beginning (at + 1)) (state S.Store tx.new.conn.now)) }
-    ensures kept { HasCleanDisk (state S.Store tx.new.conn.now) → KeepsCommit (state S.Store tx.old.conn.now) (state S.Store tx.new.conn.now) }
-    ensures survives { Survives (state S.Store tx.old.conn.now) (state S.Store tx.new.conn.now) (λ _. ⊥) }
-{
-    match at {
-        0 => make(
-            tx,
-            "CREATE TABLE root (version INTEGER NOT NULL PRIMARY KEY, bytes BLOB NOT NULL)",
-        ),
-        1 => make(
-            tx,
-            "CREATE TABLE current (slot TEXT NOT NULL PRIMARY KEY, version INTEGER NOT NULL, bytes BLOB NOT NULL)",
-        ),
-        2 => make(
-            tx,
-            "CREATE TABLE shelf (role TEXT NOT NULL, version INTEGER NOT NULL, bytes BLOB NOT NULL, PRIMARY KEY (role, version))",
-        ),
-        3 => make(
-            tx,
-            "CREATE TABLE blob (digest TEXT NOT NULL PRIMARY KEY, bytes BLOB NOT NULL)",
-        ),
-        _ => make(
-            tx,
-            "CREATE TABLE schema (version INTEGER NOT NULL PRIMARY KEY)",
-        ),
-    }
-}
-
 // Makes the tables from this place on.
 pub(crate) fn make_rest<S: Alter>(tx: &mut Transaction<'_, S>, count: usize) -> Result<(), Error>
     requires { count ≤ 5 }
     ensures same_reference { tx.new.conn.ghost_name ≡ tx.old.conn.ghost_name }
-    ensures wrote { HasCleanDisk (state S.Store tx.new.conn.now) → (rows : Trees) → LacksRest count rows → IsMade rows (beginning count) (state S.Store tx.old.conn.now) → OnOk result (IsMade rows the_schema (state S.Store tx.new.conn.now)) }
+    ensures wrote { HasCleanDisk (state S.Store tx.new.conn.now) → (rows : Trees) → LacksRest five count rows → IsMade rows (beginning count) (state S.Store tx.old.conn.now) → OnOk result (IsMade rows the_schema (state S.Store tx.new.conn.now)) }
     ensures kept { HasCleanDisk (state S.Store tx.new.conn.now) → KeepsCommit (state S.Store tx.old.conn.now) (state S.Store tx.new.conn.now) }
     ensures survives { Survives (state S.Store tx.old.conn.now) (state S.Store tx.new.conn.now) (λ _. ⊥) }
 {
-    'tables: for at in count..5 {
-        make_at(tx, at)?;
-    }
-    Ok(())
+    sql_tables::make_rest(tx, &five_tables(), count)
 }
 
 // Puts the row of `schema` into tables that are all empty.

@@ -4,7 +4,8 @@ ghost use Rattle.std.specs.Prelude.{◌≡◌, ◌≢◌, true, List, ℤ, map, 
 ghost use Rattle.std.specs.List.Sorted.{IsPermutation};
 ghost use Rattle.sqlite.specs.Order.{column};
 ghost use Rattle.sqlite.specs.declared.types.Value.TheVariants.{Int};
-ghost use Rattle.tables.specs.steps.Loading.{AllComeOnce, ComeOnce, comes_first, rise};
+ghost use Rattle.tables.specs.steps.Loading.{AllComeOnce};
+ghost use Rattle.sql_tables.specs.Loading.{ComeOnce, comes_first, rise};
 
 use crate::faults::StoreFault;
 use crate::loading::Answers;

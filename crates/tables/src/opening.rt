@@ -5,7 +5,8 @@ ghost use Rattle.sqlite.specs.Held.{state};
 ghost use Rattle.tables.specs.Schema.{the_schema, beginning, IsBeginning};
 ghost use Rattle.contents.specs.Contents as plain;
 ghost use Rattle.contents.specs.Contents.{contents_view, no_rows};
-ghost use Rattle.tables.specs.Tables.{HoldsTables, IsStore, IsFit, AreBare, AreRising, Stands, StandsFor, counted};
+ghost use Rattle.tables.specs.Tables.{HoldsTables, IsStore, IsFit, AreBare, AreRising, Stands, StandsFor};
+ghost use Rattle.sql_tables.specs.Schema.{counted};
 ghost use Rattle.tables.specs.Opening.{IsSettled, StandsEmpty};
 ghost use Rattle.tables.specs.steps.Loading.{IsUnbegun};
 

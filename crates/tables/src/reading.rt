@@ -5,10 +5,12 @@ ghost use Rattle.std.specs.Ordering.{nat_cmp};
 ghost use Rattle.std.specs.Cmp.Lexicographic.{slice_cmp};
 ghost use Rattle.hex.specs.Hex.{encode_lower};
 ghost use Rattle.tables.specs.Tables.{IsDigest, row_cmp};
-ghost use Rattle.tables.specs.steps.Loading.{AreGathered, AreOrdered, AreSpoiled, FitsBlob, FitsRoot, FitsShelf, IsBlobRow, IsPlace, IsRootRow, IsShelfRow};
+ghost use Rattle.tables.specs.steps.Loading.{FitsBlob, FitsRoot, FitsShelf, IsBlobRow, IsRootRow, IsShelfRow};
+ghost use Rattle.sql_tables.specs.Loading.{AreGathered, AreOrdered, AreSpoiled, IsPlace};
 
-use crate::cells::{Place, blob_at, copied, is_same, place_by, text_at, text_order, version_at};
+use crate::cells::{blob_at, copied, is_same, text_at, text_order, version_at};
 use crate::faults::StoreFault;
+use sql_tables::{Place, place_by};
 use sqlite::Row;
 use std::alloc::Global;
 use std::cmp::Ordering;

@@ -5,7 +5,8 @@ ghost use Rattle.sqlite.specs.Held.{state};
 ghost use Rattle.sqlite.specs.declared.types.Value.TheVariants.{Text, Blob};
 ghost use Rattle.contents.specs.Contents.{Contents};
 ghost use Rattle.tables.specs.Tables.{IsStore, HoldsTables, after, after_all, slot_row, with_root, with_row, with_blob, with_timestamp, with_snapshot, emptied};
-ghost use Rattle.tables.specs.steps.Writing.{Cells, IsInside, cells_of, without_text};
+ghost use Rattle.tables.specs.steps.Writing.{Cells, IsInside, cells_of};
+ghost use Rattle.sql_tables.specs.Writing.{without_text};
 
 use crate::change::Change;
 use crate::faults::StoreFault;

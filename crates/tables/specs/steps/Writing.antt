@@ -1,15 +1,11 @@
 -- What the tables hold inside a transaction, cell by cell.
-use Rattle.std.specs.Prelude.{◌≡◌, ℕ, List, [], ◌∷◌, map, filter, not, Bool, IsTrue}
-use Rattle.sqlite.specs.declared.types.Value.TheVariants.{Text}
-use Rattle.sqlite.specs.Order.{Row, column}
-use Rattle.sqlite_sql.specs.Ops.{binary, is_true}
-use Rattle.sqlite_sql.specs.declared.ops.BinaryOp.TheVariants.{Compare}
-use Rattle.sqlite_sql.specs.declared.ops.CompareOp.TheVariants.{Eq}
-use Rattle.sqlite_value.specs.declared.keys.Collation.TheVariants.{Binary}
+use Rattle.std.specs.Prelude.{◌≡◌, List, [], ◌∷◌, map, IsTrue}
+use Rattle.sqlite.specs.Order.{Row}
 use Rattle.sqlite_trees.specs.Tree.{Trees}
 use Rattle.sqlite.specs.State.{State}
 use Rattle.tables.specs.Schema.{the_schema}
-use Rattle.tables.specs.Rows.{AreRows, root_cells, current_cells, shelf_cells, blob_cells, version_cells}
+use Rattle.tables.specs.Rows.{root_cells, current_cells, shelf_cells, blob_cells, version_cells}
+use Rattle.sql_tables.specs.Rows.{AreRows}
 use Rattle.contents.specs.Contents.{Contents}
 use Rattle.tables.specs.Tables.{root_row, current_rows, shelf_row, blob_row, version_row}
 
@@ -44,10 +40,3 @@ pub record IsInside (s : State) (c : Cells) : Type 0 where
   pub inside : IsTrue s.in_transaction
   pub schema : s.now.schema ≡ the_schema
   pub holds : HoldsCells s.now.trees c
-
--- the first cell is this text, as SQL tests it
-abbrev pub has_text : List ℕ → Row → Bool
-has_text text c = is_true (binary (Compare Eq Binary) (column c 0) (Text text))
-
-abbrev pub without_text : List ℕ → List Row → List Row
-without_text text cells = filter (λ c. not (has_text text c)) cells

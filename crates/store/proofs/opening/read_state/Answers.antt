@@ -4,7 +4,8 @@ use Rattle.contents.specs.Contents.{Contents, contents_view}
 use Rattle.machine.proofs.ShapedOnce.{Shapes}
 use Rattle.tables.specs.declared.faults.StoreFault.TheVariants.{Damaged}
 use Rattle.sqlite.specs.Held.{state}
-use Rattle.tables.specs.Tables.{IsStore, Stands, counted}
+use Rattle.tables.specs.Tables.{IsStore, Stands}
+use Rattle.sql_tables.specs.Schema.{counted}
 use Rattle.store.specs.StateRows.{rows_of}
 use Rattle.store.proofs.Fitting.{one_stands, state_fits, state_rises}
 use Rattle.store.proofs.opening.read_state.Goals as goal

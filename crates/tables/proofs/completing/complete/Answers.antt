@@ -4,12 +4,14 @@ use Rattle.sqlite.specs.Held.{state}
 use Rattle.sqlite.specs.State.{HasCleanDisk, KeepsCommit, Survives}
 use Rattle.sqlite.proofs.StateLemmas.{survives_then}
 use Rattle.sqlite.proofs.Callers.{survives_begin}
-use Rattle.tables.specs.Schema.{beginning}
+use Rattle.tables.specs.Schema.{beginning, five}
 use Rattle.contents.specs.Contents.{no_rows}
-use Rattle.tables.specs.Tables.{AreBare, HoldsTables, IsStore, counted}
-use Rattle.tables.specs.steps.Making.{IsMade}
-use Rattle.tables.proofs.Beginnings.{as_counted, lacks}
-use Rattle.tables.proofs.Changes.{committed, keeps_then, to_tables}
+use Rattle.tables.specs.Tables.{AreBare, HoldsTables, IsStore}
+use Rattle.sql_tables.specs.Schema.{counted}
+use Rattle.sql_tables.specs.Making.{IsMade}
+use Rattle.sql_tables.proofs.Beginnings.{as_counted, lacks}
+use Rattle.tables.proofs.Changes.{committed, to_tables}
+use Rattle.sql_tables.proofs.Calls.{keeps_then}
 use Rattle.tables.proofs.completing.complete.Goals as goal
 
 pub returns-then-not-branch-clause-found : goal.returns-then-not-branch-clause-found
@@ -24,8 +26,8 @@ returns-then-not-branch-clause-found g c clean schema =
     let is_open = subst (λ h. IsTrue (state g.S.Store h).is_open) c.transaction-tx.ensures.begun (c.in_ok-fill.ensures.was_open early) in
     let begun : IsMade rows (beginning c.args.count) (state g.S.Store c.transaction-tx.result.conn.now) =
     subst (λ h. IsMade rows (beginning c.args.count) (state g.S.Store h)) (sym c.transaction-tx.ensures.begun)
-    (record { is_open = is_open; inside = refl; schema_is = schema; holds = as_counted c.args.count old.now.trees c.requires.few }) in
-    let made = c.in_ok-fill.ensures.made early rows (lacks c.args.count old.now.trees) begun in
+    (record { is_open = is_open; inside = refl; schema_is = schema; holds = as_counted (beginning c.args.count) old.now.trees }) in
+    let made = c.in_ok-fill.ensures.made early rows (lacks five c.args.count old.now.trees) begun in
     (λ e. absurd (true≢false (sym e)), λ _. made.1 c.if-not-branch.true)
 
 pub returns-then-not-branch-clause-kept : goal.returns-then-not-branch-clause-kept
@@ -40,8 +42,8 @@ returns-then-not-branch-clause-kept g c clean schema =
     let is_open = subst (λ h. IsTrue (state g.S.Store h).is_open) c.transaction-tx.ensures.begun (c.in_ok-fill.ensures.was_open early) in
     let begun : IsMade rows (beginning c.args.count) (state g.S.Store c.transaction-tx.result.conn.now) =
     subst (λ h. IsMade rows (beginning c.args.count) (state g.S.Store h)) (sym c.transaction-tx.ensures.begun)
-    (record { is_open = is_open; inside = refl; schema_is = schema; holds = as_counted c.args.count old.now.trees c.requires.few }) in
-    let kept = c.in_ok-fill.ensures.kept early rows (lacks c.args.count old.now.trees) begun c.if-not-branch.true in
+    (record { is_open = is_open; inside = refl; schema_is = schema; holds = as_counted (beginning c.args.count) old.now.trees }) in
+    let kept = c.in_ok-fill.ensures.kept early rows (lacks five c.args.count old.now.trees) begun c.if-not-branch.true in
     let first : KeepsCommit old tx = record {
       was_open = λ stays. subst (λ h. IsTrue (state g.S.Store h).is_open) c.transaction-tx.ensures.begun (kept.was_open stays);
       committed = λ stays. kept.committed stays ∙ ap (λ h. (state g.S.Store h).committed) c.transaction-tx.ensures.begun;
@@ -61,8 +63,8 @@ returns-clause-found g c clean schema =
     let is_open = subst (λ h. IsTrue (state g.S.Store h).is_open) c.transaction-tx.ensures.begun (c.in_ok-fill.ensures.was_open early) in
     let begun : IsMade rows (beginning c.args.count) (state g.S.Store c.transaction-tx.result.conn.now) =
     subst (λ h. IsMade rows (beginning c.args.count) (state g.S.Store h)) (sym c.transaction-tx.ensures.begun)
-    (record { is_open = is_open; inside = refl; schema_is = schema; holds = as_counted c.args.count old.now.trees c.requires.few }) in
-    let made = (c.in_ok-fill.ensures.made early rows (lacks c.args.count old.now.trees) begun).0 c.if-not-branch.false in (
+    (record { is_open = is_open; inside = refl; schema_is = schema; holds = as_counted (beginning c.args.count) old.now.trees }) in
+    let made = (c.in_ok-fill.ensures.made early rows (lacks five c.args.count old.now.trees) begun).0 c.if-not-branch.false in (
       λ _. (made.0, subst (λ h. IsStore (state g.S.Store h) no_rows) same (committed tx (state g.S.Store end) no_rows made.1 (c.in_ok-commit.ensures.ok late).1)),
       λ e. absurd (true≢false e),
     )
@@ -77,11 +79,11 @@ returns-clause-crash g c =
     let first : Survives old tx (λ _. ⊥) = survives_begin g.S.Store c.args.conn.now tx (λ _. ⊥) (subst (λ h. Survives (state g.S.Store h) tx (λ _. ⊥)) c.transaction-tx.ensures.begun c.fill.ensures.survives) in
     let begun : IsTrue old.is_open → old.now.schema ≡ beginning c.args.count → IsMade rows (beginning c.args.count) (state g.S.Store c.transaction-tx.result.conn.now) =
     λ is_open schema. subst (λ h. IsMade rows (beginning c.args.count) (state g.S.Store h)) (sym c.transaction-tx.ensures.begun)
-    (record { is_open = is_open; inside = refl; schema_is = schema; holds = as_counted c.args.count old.now.trees c.requires.few }) in
+    (record { is_open = is_open; inside = refl; schema_is = schema; holds = as_counted (beginning c.args.count) old.now.trees }) in
     let all = survives_then old tx (state g.S.Store end) (λ _. ⊥) (λ db. db ≡ tx.now.trees) P (λ _ db none. absurd none)
     (λ clean db is is_open schema.
     let early : HasCleanDisk tx = omega (arith, clean, c.commit.ensures.survives.clean) in
-    let made = (c.in_ok-fill.ensures.made early rows (lacks c.args.count old.now.trees) (begun is_open schema)).0 c.if-not-branch.false in
+    let made = (c.in_ok-fill.ensures.made early rows (lacks five c.args.count old.now.trees) (begun is_open schema)).0 c.if-not-branch.false in
     (made.0, subst (λ (d : Trees). HoldsTables d no_rows) (sym is) (to_tables made.1.holds)))
     first c.commit.ensures.survives in
     let same : end ≡ c.conn-2-1.given.0 = search rules in
@@ -97,11 +99,11 @@ returns-in_err-commit-clause-crash g c =
     let first : Survives old tx (λ _. ⊥) = survives_begin g.S.Store c.args.conn.now tx (λ _. ⊥) (subst (λ h. Survives (state g.S.Store h) tx (λ _. ⊥)) c.transaction-tx.ensures.begun c.fill.ensures.survives) in
     let begun : IsTrue old.is_open → old.now.schema ≡ beginning c.args.count → IsMade rows (beginning c.args.count) (state g.S.Store c.transaction-tx.result.conn.now) =
     λ is_open schema. subst (λ h. IsMade rows (beginning c.args.count) (state g.S.Store h)) (sym c.transaction-tx.ensures.begun)
-    (record { is_open = is_open; inside = refl; schema_is = schema; holds = as_counted c.args.count old.now.trees c.requires.few }) in
+    (record { is_open = is_open; inside = refl; schema_is = schema; holds = as_counted (beginning c.args.count) old.now.trees }) in
     let all = survives_then old tx (state g.S.Store end) (λ _. ⊥) (λ db. db ≡ tx.now.trees) P (λ _ db none. absurd none)
     (λ clean db is is_open schema.
     let early : HasCleanDisk tx = omega (arith, clean, c.commit.ensures.survives.clean) in
-    let made = (c.in_ok-fill.ensures.made early rows (lacks c.args.count old.now.trees) (begun is_open schema)).0 c.if-not-branch.false in
+    let made = (c.in_ok-fill.ensures.made early rows (lacks five c.args.count old.now.trees) (begun is_open schema)).0 c.if-not-branch.false in
     (made.0, subst (λ (d : Trees). HoldsTables d no_rows) (sym is) (to_tables made.1.holds)))
     first c.commit.ensures.survives in
     let same : end ≡ c.conn-2-1.given.0 = search rules in

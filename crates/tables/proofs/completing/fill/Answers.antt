@@ -1,8 +1,9 @@
 use Rattle.std.proofs.Common.{true≢false, arith}
 use Rattle.sqlite.specs.Held.{state}
 use Rattle.sqlite.specs.State.{HasCleanDisk}
-use Rattle.tables.proofs.Beginnings.{bare_made, made_same}
-use Rattle.tables.proofs.Changes.{keeps_then, unchanged_keeps}
+use Rattle.sql_tables.proofs.Beginnings.{bare_made}
+use Rattle.sql_tables.proofs.Calls.{made_same, keeps_then, unchanged_keeps}
+use Rattle.tables.specs.Schema.{the_schema}
 use Rattle.tables.proofs.completing.fill.Goals as goal
 
 pub returns-clause-made : goal.returns-clause-made
@@ -12,9 +13,9 @@ returns-clause-made g c clean rows lacks is =
     let late : HasCleanDisk two = omega (arith, clean, c.put_version.ensures.survives.clean) in
     let early : HasCleanDisk one = omega (arith, late, c.has_rows.ensures.survives.clean) in
     let full = c.in_ok-make_rest.ensures.wrote early rows lacks is in
-    let bare = bare_made rows one full ((c.in_ok-has_rows.ensures.rows late full.schema_is).0 c.if-branch.false) in
+    let bare = bare_made rows the_schema one full ((c.in_ok-has_rows.ensures.rows late full.schema_is).0 c.if-branch.false) in
     let same = c.in_ok-has_rows.ensures.unchanged late full.schema_is in
-    (λ _. (bare, c.in_ok-put_version.ensures.wrote clean rows bare (made_same rows one two same full)), λ e. absurd (true≢false e))
+    (λ _. (bare, c.in_ok-put_version.ensures.wrote clean rows bare (made_same rows the_schema one two same full)), λ e. absurd (true≢false e))
 
 pub returns-then-branch-clause-kept : goal.returns-then-branch-clause-kept
 returns-then-branch-clause-kept g c clean rows lacks is =

@@ -2,10 +2,12 @@ use Rattle.std.proofs.Common.{◌≡◌, ◌+◌, ◌++◌, [], ◌∷◌, inl, 
 use Rattle.std.proofs.lemmas.List.{take_more, take-append-drop}
 use Rattle.sqlite_rules.specs.Lists.{Has}
 use Rattle.sqlite_rules.proofs.ListLemmas.{has_left, has_right}
-use Rattle.tables.specs.steps.Loading.{AreRead, IsSlotRow, FitsSlot, slot_name, current_items}
+use Rattle.tables.specs.steps.Loading.{IsSlotRow, FitsSlot, slot_name, current_items}
+use Rattle.sql_tables.specs.Loading.{AreRead}
 use Rattle.contents.specs.Contents.{slot_view, value_view}
-use Rattle.tables.proofs.Gathering.{handed_on}
-use Rattle.tables.proofs.Slots.{filled_timestamp, filled_snapshot, spoiled_slot, has_timestamp, has_snapshot}
+use Rattle.sql_tables.proofs.Gathering.{handed_on}
+use Rattle.tables.proofs.Slots.{filled_timestamp, filled_snapshot, has_timestamp, has_snapshot}
+use Rattle.sql_tables.proofs.ItemLemmas.{spoiled_slot}
 use Rattle.tables.proofs.current.current_of.Goals as goal
 use Rattle.tables.proofs.current.current_of.Goals.{then-is_timestamp, else-is_timestamp}
 

@@ -1,5 +1,6 @@
 use Rattle.std.proofs.Common.{take}
-use Rattle.tables.specs.steps.Loading.{AreRead, IsSlotRow, FitsSlot, current_items}
+use Rattle.tables.specs.steps.Loading.{IsSlotRow, FitsSlot, current_items}
+use Rattle.sql_tables.specs.Loading.{AreRead}
 use Rattle.contents.specs.Contents.{slot_view}
 use Rattle.tables.proofs.current.current_of.Given as goal
 

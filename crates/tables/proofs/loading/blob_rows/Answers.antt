@@ -1,6 +1,6 @@
 use Rattle.std.proofs.Common.{[]}
 use Rattle.sqlite.specs.Held.{state}
-use Rattle.tables.proofs.Queries.{commits_nothing}
+use Rattle.sql_tables.proofs.Queries.{commits_nothing}
 use Rattle.tables.proofs.Texts.{select_blob}
 use Rattle.tables.proofs.Selects.{select_blob_loads, select_blob_same, select_blob_quiet}
 use Rattle.tables.proofs.loading.blob_rows.Goals as goal

@@ -1,8 +1,9 @@
 use Rattle.std.proofs.Common.{Err, ap, subst, sym}
 use Rattle.std.specs.Ordering.{nat_cmp}
 use Rattle.tables.specs.Tables.{row_cmp}
-use Rattle.tables.specs.steps.Loading.{AreSpoiled, AreOrdered, IsRootRow, FitsRoot, IsSlotRow, FitsSlot, IsShelfRow, FitsShelf, root, current, shelf, blob}
-use Rattle.tables.proofs.Gathering.{handed_on}
+use Rattle.tables.specs.steps.Loading.{IsRootRow, FitsRoot, IsSlotRow, FitsSlot, IsShelfRow, FitsShelf, root, current, shelf, blob}
+use Rattle.sql_tables.specs.Loading.{AreSpoiled, AreOrdered}
+use Rattle.sql_tables.proofs.Gathering.{handed_on}
 use Rattle.tables.proofs.loading.contents_of.Goals as goal
 
 pub returns-in_err-roots-clause-damaged : goal.returns-in_err-roots-clause-damaged

@@ -1,6 +1,6 @@
 use Rattle.std.proofs.Common.{[]}
 use Rattle.sqlite.specs.Held.{state}
-use Rattle.tables.proofs.Queries.{commits_nothing}
+use Rattle.sql_tables.proofs.Queries.{commits_nothing}
 use Rattle.tables.proofs.Texts.{select_current}
 use Rattle.tables.proofs.Selects.{select_current_loads, select_current_same, select_current_quiet}
 use Rattle.tables.proofs.loading.current_rows.Goals as goal

@@ -1,6 +1,6 @@
 use Rattle.std.proofs.Common.{[]}
 use Rattle.sqlite.specs.Held.{state}
-use Rattle.tables.proofs.Queries.{commits_nothing}
+use Rattle.sql_tables.proofs.Queries.{commits_nothing}
 use Rattle.tables.proofs.Texts.{select_root}
 use Rattle.tables.proofs.Selects.{select_root_loads, select_root_same, select_root_quiet}
 use Rattle.tables.proofs.loading.root_rows.Goals as goal

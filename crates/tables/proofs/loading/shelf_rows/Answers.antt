@@ -1,6 +1,6 @@
 use Rattle.std.proofs.Common.{[]}
 use Rattle.sqlite.specs.Held.{state}
-use Rattle.tables.proofs.Queries.{commits_nothing}
+use Rattle.sql_tables.proofs.Queries.{commits_nothing}
 use Rattle.tables.proofs.Texts.{select_shelf}
 use Rattle.tables.proofs.Selects.{select_shelf_loads, select_shelf_same, select_shelf_quiet}
 use Rattle.tables.proofs.loading.shelf_rows.Goals as goal

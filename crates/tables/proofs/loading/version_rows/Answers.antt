@@ -1,6 +1,6 @@
 use Rattle.std.proofs.Common.{[]}
 use Rattle.sqlite.specs.Held.{state}
-use Rattle.tables.proofs.Queries.{commits_nothing}
+use Rattle.sql_tables.proofs.Queries.{commits_nothing}
 use Rattle.tables.proofs.Texts.{select_version}
 use Rattle.tables.proofs.Selects.{select_version_loads, select_version_same, select_version_quiet}
 use Rattle.tables.proofs.loading.version_rows.Goals as goal

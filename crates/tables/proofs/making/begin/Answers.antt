@@ -7,8 +7,9 @@ use Rattle.sqlite.proofs.Callers.{survives_begin}
 use Rattle.tables.specs.Schema.{the_schema}
 use Rattle.contents.specs.Contents.{no_rows}
 use Rattle.tables.specs.Tables.{AreBare, HoldsTables, IsStore}
-use Rattle.tables.specs.steps.Making.{IsMade}
-use Rattle.tables.proofs.Changes.{OnOk_then, committed, to_tables}
+use Rattle.sql_tables.specs.Making.{IsMade}
+use Rattle.tables.proofs.Changes.{committed, to_tables}
+use Rattle.sql_tables.proofs.Calls.{OnOk_then}
 use Rattle.tables.proofs.making.begin.Goals as goal
 
 pub returns-clause-wrote : goal.returns-clause-wrote

@@ -1,19 +1,12 @@
-use Rattle.std.proofs.Common.{◌∙◌, arith}
+use Rattle.std.proofs.Common.{List, OnOk, subst}
 use Rattle.sqlite.specs.Held.{state}
-use Rattle.sqlite.specs.State.{HasCleanDisk}
-use Rattle.sqlite.proofs.StateLemmas.{survives_then}
-use Rattle.tables.proofs.Changes.{keeps_then}
+use Rattle.sql_tables.specs.Making.{IsMade}
+use Rattle.sql_tables.specs.Described.{AllMake, Description, LacksRest, beginning, schema_of}
+use Rattle.tables.proofs.MakingLemmas.{all_make}
 use Rattle.tables.proofs.making.make_rest.Goals as goal
 
-pub tables-preserved : goal.tables-preserved
-tables-preserved g c =
+pub returns-clause-wrote : goal.returns-clause-wrote
+returns-clause-wrote g c clean =
     let old = state g.S.Store c.args.tx.now.conn.now in
-    let was = state g.S.Store c.tables.tx.conn.now in
-    let now = state g.S.Store c.make_at.new.tx.conn.now in
-    let so = c.tables.invariant in
-    let early : HasCleanDisk now → HasCleanDisk was = λ clean. omega (arith, c.make_at.ensures.survives.clean) in (
-      c.make_at.ensures.same_reference ∙ so.0,
-      survives_then old was now (λ _. ⊥) (λ _. ⊥) (λ _. ⊥) (λ _ db none. none) (λ _ db none. none) so.1 c.make_at.ensures.survives,
-      λ clean. keeps_then old was now (so.2 (early clean)) (c.make_at.ensures.kept clean),
-      λ clean rows lacks is. c.in_ok-make_at.ensures.wrote clean rows (lacks c.tables.at (omega arith) (omega arith)) (so.3 (early clean) rows lacks is),
-    )
+    let new = state g.S.Store c.make_rest.new.tx.conn.now in
+    subst (λ (ds : List Description). AllMake ds → (rows : _) → LacksRest ds c.args.count rows → IsMade rows (beginning ds c.args.count) old → OnOk c.make_rest.result (IsMade rows (schema_of ds) new)) c.five_tables.ensures (c.make_rest.ensures.wrote clean) all_make

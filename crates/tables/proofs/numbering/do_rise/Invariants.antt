@@ -1,5 +1,5 @@
 use Rattle.std.proofs.Common.{◌≡◌, length}
-use Rattle.tables.specs.steps.Loading.{rise}
+use Rattle.sql_tables.specs.Loading.{rise}
 use Rattle.tables.proofs.numbering.do_rise.Given as goal
 
 abbrev pub invariant-ids : goal.invariant-ids

@@ -1,9 +1,10 @@
 use Rattle.std.proofs.Common.{[]}
 use Rattle.sqlite.specs.Held.{state}
-use Rattle.tables.proofs.Queries.{commits_nothing}
+use Rattle.sql_tables.proofs.Queries.{commits_nothing}
 use Rattle.tables.proofs.Texts.{select_version}
 use Rattle.tables.proofs.Selects.{select_version_quiet}
-use Rattle.tables.proofs.Openings.{failed_was_open, look_failed, looked, row_means_open}
+use Rattle.tables.proofs.Openings.{look_failed, looked}
+use Rattle.sql_tables.proofs.Calls.{failed_was_open, row_means_open}
 use Rattle.tables.proofs.opening.check_open.Goals as goal
 
 pub returns-clause-open : goal.returns-clause-open

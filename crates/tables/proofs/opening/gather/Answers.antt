@@ -2,7 +2,7 @@ use Rattle.std.proofs.Common.{◌≢◌, [], Err, ap, subst, sym, ◌∙◌}
 use Rattle.sqlite.specs.Held.{state}
 use Rattle.sqlite_rules.specs.Lists.{Has}
 use Rattle.contents.specs.Contents.{contents_view}
-use Rattle.tables.proofs.Gathering.{handed_on}
+use Rattle.sql_tables.proofs.Gathering.{handed_on}
 use Rattle.tables.proofs.ItemLemmas.{holds_items, unbegun, items_fit, items_rise, damaged_items, all_sorted}
 use Rattle.tables.proofs.opening.gather.Goals as goal
 

@@ -7,8 +7,8 @@ use Rattle.sqlite.proofs.StateLemmas.{survives_then}
 use Rattle.tables.specs.Schema.{the_schema}
 use Rattle.contents.specs.Contents.{contents_view, no_rows}
 use Rattle.tables.specs.Tables.{AreBare, HoldsTables}
-use Rattle.tables.proofs.Changes.{unchanged_keeps}
-use Rattle.tables.proofs.Gathering.{handed_on}
+use Rattle.sql_tables.proofs.Calls.{unchanged_keeps}
+use Rattle.sql_tables.proofs.Gathering.{handed_on}
 use Rattle.tables.proofs.opening.load.Goals as goal
 
 pub returns-in_err-contents-clause-damaged : goal.returns-in_err-contents-clause-damaged

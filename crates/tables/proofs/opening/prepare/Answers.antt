@@ -1,15 +1,18 @@
 use Rattle.std.proofs.Common.{◌≡◌, ◌∙◌, ap, arith, subst, sym}
 use Rattle.sqlite.specs.Held.{state}
-use Rattle.tables.specs.Schema.{beginning}
-use Rattle.tables.specs.Tables.{StandsFor, counted}
-use Rattle.tables.proofs.Beginnings.{IfOk_then, from_counted, same_count}
+use Rattle.tables.specs.Schema.{beginning, five as tables}
+use Rattle.tables.specs.Tables.{StandsFor}
+use Rattle.sql_tables.specs.Schema.{counted}
+use Rattle.tables.proofs.Beginnings.{from_counted}
+use Rattle.sql_tables.proofs.Beginnings.{same_count}
+use Rattle.sql_tables.proofs.Calls.{IfOk_then}
 use Rattle.tables.proofs.ItemLemmas.{none_rise}
 use Rattle.tables.proofs.opening.prepare.Goals as goal
 
 pub returns-then-count-eq5-clause-made : goal.returns-then-count-eq5-clause-made
 returns-then-count-eq5-clause-made g c clean count few schema =
     let five : c.args.conn.now.schema ≡ beginning 5 = sym c.schema.ensures.value ∙ c.in-Some.ensures.0 ∙ ap beginning c.if-count-eq5.true in
-    absurd (omega (arith, few, same_count count 5 (omega (arith, few)) (omega arith) (sym schema ∙ five)))
+    absurd (omega (arith, few, same_count tables count 5 (omega (arith, few)) (omega arith) (sym schema ∙ five)))
 
 pub returns-then-count-eq5-clause-damaged : goal.returns-then-count-eq5-clause-damaged
 returns-then-count-eq5-clause-damaged g c clean is =

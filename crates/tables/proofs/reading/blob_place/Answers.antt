@@ -3,9 +3,10 @@ use Rattle.std.specs.Ordering.{nat_cmp}
 use Rattle.std.specs.Cmp.Lexicographic.{slice_cmp}
 use Rattle.std.proofs.lemmas.Cmp.{nat_list_cmp_total}
 use Rattle.std.proofs.lemmas.Map.Lookups.{exact_bytes}
-use Rattle.tables.specs.steps.Loading.{IsPlacedBy}
-use Rattle.tables.proofs.Gathering.{is_place}
-use Rattle.tables.proofs.Views.{blob_view, mapped_last}
+use Rattle.sql_tables.specs.Loading.{IsPlacedBy}
+use Rattle.sql_tables.proofs.Gathering.{is_place}
+use Rattle.tables.proofs.Views.{blob_view}
+use Rattle.sql_tables.proofs.ListLemmas.{mapped_last}
 use Rattle.tables.proofs.reading.blob_place.Goals as goal
 
 pub returns : goal.returns

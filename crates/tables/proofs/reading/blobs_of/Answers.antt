@@ -6,9 +6,11 @@ use Rattle.std.proofs.lemmas.Cmp.{nat_list_cmp_total}
 use Rattle.std.proofs.lemmas.Map.Lookups.{exact_bytes}
 use Rattle.sqlite_rules.specs.Lists.{Has}
 use Rattle.sqlite_rules.proofs.ListLemmas.{has_right}
-use Rattle.tables.specs.steps.Loading.{AreGathered, IsPlace, IsBlobRow, FitsBlob}
-use Rattle.tables.proofs.Gathering.{gathers_none, gathers_more, gathers_same, spoiled_row, spoiled_pair, handed_on}
-use Rattle.tables.proofs.Views.{blob_view, given_and_left, mapped_last}
+use Rattle.tables.specs.steps.Loading.{IsBlobRow, FitsBlob}
+use Rattle.sql_tables.specs.Loading.{AreGathered, IsPlace}
+use Rattle.sql_tables.proofs.Gathering.{gathers_none, gathers_more, gathers_same, spoiled_row, spoiled_pair, handed_on}
+use Rattle.tables.proofs.Views.{blob_view}
+use Rattle.sql_tables.proofs.ListLemmas.{given_and_left, mapped_last}
 use Rattle.tables.proofs.reading.blobs_of.Goals as goal
 use Rattle.tables.proofs.reading.blobs_of.Goals.{in-Behind+in_ok-push-in-Behind, in-Same}
 

@@ -1,7 +1,8 @@
 use Rattle.std.proofs.Common.{map}
 use Rattle.std.specs.Ordering.{nat_cmp}
 use Rattle.std.specs.Cmp.Lexicographic.{slice_cmp}
-use Rattle.tables.specs.steps.Loading.{AreGathered, IsBlobRow, FitsBlob}
+use Rattle.tables.specs.steps.Loading.{IsBlobRow, FitsBlob}
+use Rattle.sql_tables.specs.Loading.{AreGathered}
 use Rattle.tables.proofs.Views.{blob_view}
 use Rattle.tables.proofs.reading.blobs_of.Given as goal
 

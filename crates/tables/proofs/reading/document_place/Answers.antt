@@ -2,9 +2,10 @@ use Rattle.std.proofs.Common.{ℕ, List, ap, subst₂, ◌∙◌, map}
 use Rattle.tables.specs.Tables.{row_cmp}
 use Rattle.tables.proofs.Orders.{row_cmp_total, exact_rows}
 use Rattle.std.specs.String.{string_bytes}
-use Rattle.tables.specs.steps.Loading.{IsPlacedBy}
-use Rattle.tables.proofs.Gathering.{is_place}
-use Rattle.tables.proofs.Views.{document_view, mapped_last}
+use Rattle.sql_tables.specs.Loading.{IsPlacedBy}
+use Rattle.sql_tables.proofs.Gathering.{is_place}
+use Rattle.tables.proofs.Views.{document_view}
+use Rattle.sql_tables.proofs.ListLemmas.{mapped_last}
 use Rattle.tables.proofs.reading.document_place.Goals as goal
 
 pub returns : goal.returns

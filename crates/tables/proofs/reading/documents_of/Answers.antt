@@ -4,9 +4,11 @@ use Rattle.tables.specs.Tables.{row_cmp}
 use Rattle.tables.proofs.Orders.{row_cmp_total, exact_rows}
 use Rattle.sqlite_rules.specs.Lists.{Has}
 use Rattle.sqlite_rules.proofs.ListLemmas.{has_left, has_right}
-use Rattle.tables.specs.steps.Loading.{AreGathered, IsPlace, IsShelfRow, FitsShelf}
-use Rattle.tables.proofs.Gathering.{gathers_none, gathers_more, gathers_same, spoiled_row, spoiled_pair, handed_on}
-use Rattle.tables.proofs.Views.{document_view, mapped_last}
+use Rattle.tables.specs.steps.Loading.{IsShelfRow, FitsShelf}
+use Rattle.sql_tables.specs.Loading.{AreGathered, IsPlace}
+use Rattle.sql_tables.proofs.Gathering.{gathers_none, gathers_more, gathers_same, spoiled_row, spoiled_pair, handed_on}
+use Rattle.tables.proofs.Views.{document_view}
+use Rattle.sql_tables.proofs.ListLemmas.{mapped_last}
 use Rattle.tables.proofs.reading.documents_of.Goals as goal
 use Rattle.tables.proofs.reading.documents_of.Goals.{in-Behind+in_ok-push-in-Behind, in-Same}
 

@@ -1,6 +1,7 @@
 use Rattle.std.proofs.Common.{take, map}
 use Rattle.tables.specs.Tables.{row_cmp}
-use Rattle.tables.specs.steps.Loading.{AreGathered, IsShelfRow, FitsShelf}
+use Rattle.tables.specs.steps.Loading.{IsShelfRow, FitsShelf}
+use Rattle.sql_tables.specs.Loading.{AreGathered}
 use Rattle.tables.proofs.Views.{document_view}
 use Rattle.tables.proofs.reading.documents_of.Given as goal
 

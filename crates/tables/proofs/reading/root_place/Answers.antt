@@ -2,9 +2,10 @@ use Rattle.std.proofs.Common.{subst₂, map}
 use Rattle.std.specs.Ordering.{nat_cmp}
 use Rattle.std.proofs.lemmas.Cmp.{nat_cmp_total}
 use Rattle.std.proofs.lemmas.Map.Lookups.{exact_unsigned}
-use Rattle.tables.specs.steps.Loading.{IsPlacedBy}
-use Rattle.tables.proofs.Gathering.{is_place}
-use Rattle.tables.proofs.Views.{value_view, mapped_last}
+use Rattle.sql_tables.specs.Loading.{IsPlacedBy}
+use Rattle.sql_tables.proofs.Gathering.{is_place}
+use Rattle.tables.proofs.Views.{value_view}
+use Rattle.sql_tables.proofs.ListLemmas.{mapped_last}
 use Rattle.tables.proofs.reading.root_place.Goals as goal
 
 pub returns : goal.returns

@@ -5,9 +5,11 @@ use Rattle.std.proofs.lemmas.Cmp.{nat_cmp_total}
 use Rattle.std.proofs.lemmas.Map.Lookups.{exact_unsigned}
 use Rattle.sqlite_rules.specs.Lists.{Has}
 use Rattle.sqlite_rules.proofs.ListLemmas.{has_left, has_right}
-use Rattle.tables.specs.steps.Loading.{AreGathered, IsPlace, IsRootRow, FitsRoot}
-use Rattle.tables.proofs.Gathering.{gathers_none, gathers_more, gathers_same, spoiled_row, spoiled_pair, handed_on}
-use Rattle.tables.proofs.Views.{value_view, mapped_last}
+use Rattle.tables.specs.steps.Loading.{IsRootRow, FitsRoot}
+use Rattle.sql_tables.specs.Loading.{AreGathered, IsPlace}
+use Rattle.sql_tables.proofs.Gathering.{gathers_none, gathers_more, gathers_same, spoiled_row, spoiled_pair, handed_on}
+use Rattle.tables.proofs.Views.{value_view}
+use Rattle.sql_tables.proofs.ListLemmas.{mapped_last}
 use Rattle.tables.proofs.reading.roots_of.Goals as goal
 use Rattle.tables.proofs.reading.roots_of.Goals.{in-Behind+in_ok-push-in-Behind, in-Same}
 

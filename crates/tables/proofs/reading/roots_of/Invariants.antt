@@ -1,6 +1,7 @@
 use Rattle.std.proofs.Common.{take, map}
 use Rattle.std.specs.Ordering.{nat_cmp}
-use Rattle.tables.specs.steps.Loading.{AreGathered, IsRootRow, FitsRoot}
+use Rattle.tables.specs.steps.Loading.{IsRootRow, FitsRoot}
+use Rattle.sql_tables.specs.Loading.{AreGathered}
 use Rattle.tables.proofs.Views.{value_view}
 use Rattle.tables.proofs.reading.roots_of.Given as goal
 

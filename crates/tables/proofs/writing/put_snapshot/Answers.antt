@@ -2,7 +2,8 @@ use Rattle.std.proofs.Common.{arith}
 use Rattle.sqlite.specs.Held.{state}
 use Rattle.sqlite.specs.State.{HasCleanDisk}
 use Rattle.tables.specs.steps.Writing.{cells_of}
-use Rattle.tables.proofs.Changes.{OnOk_then, new_snapshot}
+use Rattle.tables.proofs.Changes.{new_snapshot}
+use Rattle.sql_tables.proofs.Calls.{OnOk_then}
 use Rattle.tables.proofs.writing.put_snapshot.Goals as goal
 
 pub returns-clause-wrote : goal.returns-clause-wrote

@@ -9,7 +9,8 @@ use Rattle.tables.specs.declared.change.Change.TheVariants.{PutRoot}
 use Rattle.contents.specs.Contents.{Contents}
 use Rattle.tables.specs.Tables.{IsStore, HoldsTables, after_all}
 use Rattle.tables.specs.steps.Writing.{IsInside, cells_of}
-use Rattle.tables.proofs.Changes.{OnOk_then, after_all_more, committed, keeps_then, to_tables}
+use Rattle.tables.proofs.Changes.{after_all_more, committed, to_tables}
+use Rattle.sql_tables.proofs.Calls.{OnOk_then, keeps_then}
 use Rattle.tables.proofs.writing.write_changes.Goals as goal
 
 pub writes-preserved : goal.writes-preserved

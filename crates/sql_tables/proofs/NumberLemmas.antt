@@ -17,8 +17,8 @@ use Rattle.sqlite_trees.specs.Tree.{rowid}
 use Rattle.sqlite_trees.proofs.ListLemmas.{map-map}
 use Rattle.sqlite_rules.specs.Lists.{Has}
 use Rattle.sqlite_rules.proofs.ListLemmas.{all_has, contains_had, has_contained}
-use Rattle.tables.specs.steps.Loading.{ComeOnce, comes_first, rise}
-use Rattle.tables.proofs.RowLemmas.{has_map, map_has}
+use Rattle.sql_tables.specs.Loading.{ComeOnce, comes_first, rise}
+use Rattle.sql_tables.proofs.RowLemmas.{has_map, map_has}
 
 -- the rowids of these rows are integers, and come once
 pub record IsNumbered (rows : List Row) : Type 0 where

@@ -19,7 +19,7 @@ use Rattle.sqlite.specs.Effect.{Database, Answers, value_rows}
 use Rattle.sqlite.specs.State.{State, mode_of, Writes}
 use Rattle.sqlite.proofs.Callers.{one_step}
 use Rattle.sqlite.specs.declared.run.Mode.{Mode}
-use Rattle.tables.specs.Schema.{table}
+use Rattle.sql_tables.specs.Schema.{table}
 
 -- a part that gave a value did not stop on the way
 pub went : {B E R : Type 0} {b : B} {Stops : E → Type 0} → ((stop : E) × Stops stop × (Ok b ≡ Err stop)) ⊎ R → R

@@ -3,7 +3,7 @@ use Rattle.std.proofs.Common.{◌≡◌, ◌⊎◌, inl, inr, ℤ, List, [], ◌
 use Rattle.std.specs.Ordering.{is_eq, int_cmp}
 use Rattle.std.proofs.lemmas.Bool.{and_parts, not-true}
 use Rattle.std.proofs.lemmas.Cmp.{tied_itself}
-use Rattle.sqlite_value.proofs.OrderLemmas.{value_cmp_total}
+use Rattle.sqlite_value.proofs.OrderLemmas.{value_cmp_total, value_cmp-Int}
 use Rattle.sqlite.specs.declared.types.Value.TheVariants.{Int}
 use Rattle.sqlite.specs.Order.{Row, value_cmp}
 use Rattle.sqlite_trees.specs.Tree.{rowid, has_rowid, without_rowid}
@@ -14,9 +14,8 @@ use Rattle.sqlite_rules.proofs.ListLemmas.{some_from, has_left, has_right, has_e
 use Rattle.sqlite_rules.proofs.TableLemmas.{put_all_has, put_all_keeps, put_all_adds, without_all_has}
 use Rattle.std.specs.declared.cmp.Ordering.{Ordering}
 use Rattle.std.specs.declared.cmp.Ordering.TheVariants.{Less, Equal, Greater}
-use Rattle.sqlite_value.proofs.OrderLemmas.{value_cmp-Int}
 use Rattle.std.proofs.lemmas.Map.Lookups.{exact_signed}
-use Rattle.tables.specs.Rows.{AreRows}
+use Rattle.sql_tables.specs.Rows.{AreRows}
 
 pub has_map : {A B : Type 0} (f : A → B) (xs : List A) (x : A) → Has xs x → Has (map f xs) (f x)
 has_map f [] x h = absurd h

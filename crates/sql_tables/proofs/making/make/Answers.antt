@@ -1,6 +1,6 @@
 use Rattle.sqlite.specs.Held.{state}
-use Rattle.tables.proofs.MakingLemmas.{makes}
-use Rattle.tables.proofs.making.make.Goals as goal
+use Rattle.sql_tables.proofs.MakingLemmas.{makes}
+use Rattle.sql_tables.proofs.making.make.Goals as goal
 
 pub returns-clause-wrote : goal.returns-clause-wrote
 returns-clause-wrote g c clean before after m rows lacks is =

@@ -13,7 +13,7 @@ use Rattle.sqlite_rules.specs.Lists.{Has}
 use Rattle.sqlite_trees.proofs.ListLemmas.{map-map}
 use Rattle.std.specs.List.Sorted.{IsPermutation}
 use Rattle.sqlite_rules.proofs.ListLemmas.{has_left, has_right, has_either, has_contained, contains_had}
-use Rattle.tables.proofs.RowLemmas.{has_map, map_has}
+use Rattle.sql_tables.proofs.RowLemmas.{has_map, map_has}
 
 abbrev pub plain_query : ℕ → List Term → List Term → List (Term × Key) → Query
 plain_query tree filter project order = record {

@@ -13,13 +13,12 @@ use Rattle.sqlite.specs.Order.{Row}
 use Rattle.sqlite_value.specs.declared.keys.Key.{Key}
 use Rattle.sqlite_rules.specs.Lists.{Has}
 use Rattle.sqlite_rules.proofs.ListLemmas.{has_left, has_right, has_either}
-use Rattle.tables.specs.declared.cells.Place.{Place}
-use Rattle.tables.specs.declared.cells.Place.TheVariants.{Behind, Same, Neither}
-use Rattle.tables.specs.Rows.{AreRows}
-use Rattle.tables.specs.Tables.{AreKeyed}
-use Rattle.tables.specs.steps.Loading.{AreLoaded, AreRead, AreGathered, AreOrdered, AreSpoiled, IsPlace, IsPlacedBy}
-use Rattle.tables.proofs.RowLemmas.{has_map, map_has}
-use Rattle.tables.proofs.NumberLemmas.{IsNumbered}
+use Rattle.sql_tables.specs.declared.places.Place.{Place}
+use Rattle.sql_tables.specs.declared.places.Place.TheVariants.{Behind, Same, Neither}
+use Rattle.sql_tables.specs.Rows.{AreRows, AreKeyed}
+use Rattle.sql_tables.specs.Loading.{AreLoaded, AreRead, AreGathered, AreOrdered, AreSpoiled, IsPlace, IsPlacedBy}
+use Rattle.sql_tables.proofs.RowLemmas.{has_map, map_has}
+use Rattle.sql_tables.proofs.NumberLemmas.{IsNumbered}
 
 -- the fault that a `?` hands on
 pub handed_on : {A E : Type 0} {x y : E} (r : Result A E) → IsErrAnd r (λ e. e ≡ x) → r ≡ Err y → x ≡ y

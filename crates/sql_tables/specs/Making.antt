@@ -1,10 +1,10 @@
--- The making of the tables.
-use Rattle.std.specs.Prelude.{◌≡◌, ◌<◌, ◌≤◌, false, ℕ, pos, negsuc, List, [], Ok, Err, None, Result, IsTrue}
+-- The making of tables, and a look whether one has rows.
+use Rattle.std.specs.Prelude.{◌≡◌, false, ℕ, pos, negsuc, List, [], Ok, Err, None, Result, IsTrue}
 use Rattle.std.specs.List.{AllByRecursion}
 use Rattle.sqlite.specs.Schema.{Schema}
 use Rattle.sqlite.specs.Table.{Table}
 use Rattle.sqlite_trees.specs.Tree.{Trees}
-use Rattle.sqlite_catalog.specs.Change.{created, next_tree}
+use Rattle.sqlite_catalog.specs.Change.{created}
 use Rattle.sqlite_resolve.specs.Compile.{table_defined_by}
 use Rattle.sqlite_resolve.specs.declared.compiled.Compiled.{Compiled}
 use Rattle.sqlite_resolve.specs.declared.error.CompileError.{CompileError}
@@ -15,7 +15,6 @@ use Rattle.sqlite.specs.declared.types.Value.TheVariants.{Int}
 use Rattle.sqlite_sql.specs.Query.{Query, inner, end}
 use Rattle.sqlite.specs.Does.{lacks_sequence}
 use Rattle.sqlite.specs.State.{State, text_of}
-use Rattle.tables.specs.Schema.{the_schema, beginning}
 
 -- inside the transaction that makes the tables, where those that are there hold these rows
 pub record IsMade (rows : Trees) (schema : Schema) (s : State) : Type 0 where
@@ -23,10 +22,6 @@ pub record IsMade (rows : Trees) (schema : Schema) (s : State) : Type 0 where
   pub inside : IsTrue s.in_transaction
   pub schema_is : s.now.schema ≡ schema
   pub holds : AllByRecursion (λ (t : Table). s.now.trees t.tree ≡ rows t.tree) schema.tables
-
--- none of the five tables behind the first ones has a row
-abbrev pub LacksRest : ℕ → Trees → Type 0
-LacksRest count rows = (n : ℕ) → count ≤ n → n < 5 → rows (next_tree (beginning n)) ≡ []
 
 abbrev pub MakesBy : Schema → List ℕ → Schema → Result Compiled CompileError → Type 0
 MakesBy before sql after (Ok c) =
@@ -55,6 +50,6 @@ abbrev pub AsksBy : ℕ → Result Compiled CompileError → Type 0
 AsksBy tree (Ok c) = (terms : List Term) × (names : List (List ℕ)) × (c.command ≡ Select (record { lets = []; body = every_row tree terms }) names) × (c.returning ≡ None) × (c.formats ≡ [])
 AsksBy tree (Err e) = ⊥
 
--- the text asks for all rows of the tree of one of the five tables
-abbrev pub Asks : List ℕ → ℕ → Type 0
-Asks sql tree = AsksBy tree (understood the_schema sql) × (reads_listing the_schema sql ≡ false)
+-- under this schema the text asks for all rows of the tree
+abbrev pub Asks : Schema → List ℕ → ℕ → Type 0
+Asks schema sql tree = AsksBy tree (understood schema sql) × (reads_listing schema sql ≡ false)

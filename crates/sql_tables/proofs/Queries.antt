@@ -23,9 +23,8 @@ use Rattle.sqlite.specs.Listing.{understood, reads_listing, listing_schema, if_s
 use Rattle.sqlite.proofs.Callers.{IsPlain, command_of, reads_as}
 use Rattle.sqlite.proofs.StateLemmas.{survives_weaker}
 use Rattle.sqlite_rules.specs.Lists.{Has}
-use Rattle.tables.specs.Schema.{the_schema}
-use Rattle.tables.specs.steps.Loading.{AreLoaded}
-use Rattle.tables.proofs.AnswerLemmas.{plain_query, answer_from, answer_has, answer_whole, cells_of, outputs_from}
+use Rattle.sql_tables.specs.Loading.{AreLoaded}
+use Rattle.sql_tables.proofs.AnswerLemmas.{plain_query, answer_from, answer_has, answer_whole, cells_of, outputs_from}
 
 -- ---- no query commits
 
@@ -80,16 +79,16 @@ has_at [] k d below = absurd (omega (arith, below))
 has_at (x ∷ xs) zero d below = inl refl
 has_at (x ∷ xs) (suc k) d below = inr (has_at xs k d (omega (arith, below)))
 
-module _ (sql : List ℕ) (tree : ℕ) (terms : List Term) (order : List (Term × Key)) (names : List (List ℕ)) (shown : Row → Row) (keys : List Key)
-    (is : command_of (understood the_schema sql) ≡ Select (record { lets = []; body = plain_query tree [] terms order }) names) (plain : IsPlain (understood the_schema sql)) (unlisted : reads_listing the_schema sql ≡ false)
+module _ (schema : Schema) (sql : List ℕ) (tree : ℕ) (terms : List Term) (order : List (Term × Key)) (names : List (List ℕ)) (shown : Row → Row) (keys : List Key)
+    (is : command_of (understood schema sql) ≡ Select (record { lets = []; body = plain_query tree [] terms order }) names) (plain : IsPlain (understood schema sql)) (unlisted : reads_listing schema sql ≡ false)
     (cells : (r : Row) → cells_of terms [] r ≡ shown r)
     (keyed : (r s : Row) → key_cmp 0 (map (λ k. k.1) order) (cells_of (map (λ k. k.0) order) [] r) (cells_of (map (λ k. k.0) order) [] s) ≡ key_cmp 0 keys (shown r) (shown s)) where
   abbrev the_query : Query
   the_query = plain_query tree [] terms order
 
-  pub loads : (old new : State) (rows : List Row) → old.now.schema ≡ the_schema → Shown sql [] old new rows → AreLoaded shown keys (old.now.trees tree) rows
+  pub loads : (old new : State) (rows : List Row) → old.now.schema ≡ schema → Shown sql [] old new rows → AreLoaded shown keys (old.now.trees tree) rows
   loads old new rows has h =
-      let read = reads_as sql [] old new the_schema has (Select (record { lets = []; body = the_query }) names) is plain unlisted rows h in
+      let read = reads_as sql [] old new schema has (Select (record { lets = []; body = the_query }) names) is plain unlisted rows h in
       let answer : IsAnswer the_query (overlay old.now.trees []) [] rows = read.answer Null in
       record {
         from = λ x h. let r = answer_from tree [] terms order old.now.trees [] rows answer x h in (r.0, r.1, r.3 ∙ cells r.0);
@@ -115,7 +114,7 @@ module _ (sql : List ℕ) (tree : ℕ) (terms : List Term) (order : List (Term �
             (subst (λ o. is_lt o ≡ false) (keyed s.0 r.0) (subst₂ (λ y x. is_lt (output_cmp the_query y x) ≡ false) s.1 r.1 up));
       }
 
-  pub loads_same : (old new : State) (rows : List Row) → old.now.schema ≡ the_schema → Shown sql [] old new rows → IsUnchanged old new
+  pub loads_same : (old new : State) (rows : List Row) → old.now.schema ≡ schema → Shown sql [] old new rows → IsUnchanged old new
   unfolding Shown
   loads_same old new rows has h =
       let known = sym h.1.is ∙ ap (λ s. understood s sql) has in

@@ -1,0 +1,13 @@
+pub mod RowLemmas
+pub mod AnswerLemmas
+pub mod NumberLemmas
+pub mod ListLemmas
+pub mod Gathering
+pub mod ItemLemmas
+pub mod Insert
+pub mod Queries
+pub mod Statements
+pub mod MakingLemmas
+pub mod Calls
+pub mod Shapes
+pub mod Beginnings

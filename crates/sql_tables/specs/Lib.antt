@@ -1,0 +1,6 @@
+pub mod Schema
+pub mod Rows
+pub mod Making
+pub mod Described
+pub mod Writing
+pub mod Loading
