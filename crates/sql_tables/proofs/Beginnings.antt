@@ -16,11 +16,11 @@ use Rattle.sql_tables.specs.Described.{AreEmpty, Description, LacksRest, beginni
 use Rattle.sql_tables.proofs.MakingLemmas.{all_then}
 use Rattle.sql_tables.proofs.Shapes.{tables_count, tree_is}
 
-past_above : (key : List ℕ) (tree : ℕ) → tree < past_key key tree
+pub past_above : (key : List ℕ) (tree : ℕ) → tree < past_key key tree
 past_above [] tree = omega arith
 past_above (k ∷ ks) tree = omega arith
 
-tree_above : (tree : ℕ) (ds : List Description) (n : ℕ) → tree ≤ tree_from tree ds n
+pub tree_above : (tree : ℕ) (ds : List Description) (n : ℕ) → tree ≤ tree_from tree ds n
 tree_above tree [] n = omega arith
 tree_above tree (d ∷ ds) zero = omega arith
 tree_above tree (d ∷ ds) (suc n) = omega (arith, past_above d.key tree, tree_above (past_key d.key tree) ds n)

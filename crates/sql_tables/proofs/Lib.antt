@@ -11,3 +11,4 @@ pub mod MakingLemmas
 pub mod Calls
 pub mod Shapes
 pub mod Beginnings
+pub mod Editing

@@ -1,5 +1,5 @@
 -- What a change makes of the cells of the tables.
-use Rattle.std.proofs.Common.{◌≡◌, ℕ, List, [], ◌∷◌, ◌++◌, false, Some, None, Option, map, refl, sym, ap, subst, ◌∙◌, codes}
+use Rattle.std.proofs.Common.{◌≡◌, ℕ, List, [], ◌∷◌, ◌++◌, false, Some, None, Option, map, refl, sym, ap, subst, ◌∙◌, codes, ◌<◌, zero, suc, IsTrue, length, arith}
 use Rattle.std.proofs.lemmas.List.{map-append}
 use Rattle.sqlite_rules.specs.Lists.{Has}
 use Rattle.sqlite.specs.Order.{Row}
@@ -7,10 +7,15 @@ use Rattle.sqlite.specs.Effect.{Database}
 use Rattle.sqlite.specs.State.{State, Shows}
 use Rattle.tables.specs.declared.change.Change.{Change}
 use Rattle.contents.specs.Contents.{Contents}
+use Rattle.sql_tables.proofs.Editing.{same_inside}
+use Rattle.sql_tables.specs.Inside.{shown_of, cells_at}
+use Rattle.sql_tables.specs.Rows.{AreRows}
+use Rattle.sql_tables.specs.Described.{at_place, tree_from}
+use Rattle.tables.specs.Schema.{five, the_schema}
+use Rattle.tables.specs.steps.Writing.{listed, Cells, IsInside, cells_of}
 use Rattle.tables.specs.Tables.{HoldsTables, IsStore, root_row, slot_row, slot_rows, current_rows, shelf_row, blob_row, with_root, with_row, with_blob, with_timestamp, with_snapshot, after, after_all}
-use Rattle.tables.specs.steps.Writing.{Cells, HoldsCells, IsInside, cells_of}
 use Rattle.sql_tables.specs.Writing.{without_text}
-use Rattle.sql_tables.proofs.Statements.{text_test, rows_same, turned, turned_back}
+use Rattle.sql_tables.proofs.Statements.{text_test, turned, turned_back}
 
 pub grown_root : (s : State) (t : Contents) (r : ℕ × List ℕ) → IsInside s (record (cells_of t) { root = map root_row t.roots ++ root_row r ∷ [] }) → IsInside s (cells_of (with_root r t))
 grown_root s t r is = subst (λ rows. IsInside s (record (cells_of t) { root = rows })) (sym (map-append root_row t.roots (r ∷ []))) is
@@ -42,12 +47,7 @@ without_snapshot None (Some y) = rw (text_test snapshot_slot snapshot_slot) refl
 without_snapshot (Some x) (Some y) = rw (text_test timestamp_slot snapshot_slot, text_test snapshot_slot snapshot_slot) refl
 
 with_current : (s : State) (c : Cells) (rows : List Row) → IsInside s c → ((x : Row) → Has c.current x → Has rows x) → ((x : Row) → Has rows x → Has c.current x) → IsInside s (record c { current = rows })
-with_current s c rows is there back = record {
-  is_open = is.is_open;
-  inside = is.inside;
-  schema = is.schema;
-  holds = record { root = is.holds.root; current = rows_same is.holds.current there back; shelf = is.holds.shelf; blob = is.holds.blob; version = is.holds.version };
-}
+with_current s c rows is there back = same_inside five 1 (omega arith) (λ _ _. refl) s (listed c) rows is (omega arith) there back
 
 pub new_timestamp : (s : State) (t : Contents) (r : ℕ × List ℕ)
     → IsInside s (record (cells_of t) { current = without_text timestamp_slot (current_rows t.timestamp t.snapshot) ++ slot_row timestamp_slot r ∷ [] }) → IsInside s (cells_of (with_timestamp r t))
@@ -66,16 +66,30 @@ pub after_all_more : (cs : List Change) (c : Change) (t : Contents) → after_al
 after_all_more [] c t = refl
 after_all_more (x ∷ cs) c t = after_all_more cs c (after x t)
 
-pub to_tables : {trees : _} {t : Contents} → HoldsCells trees (cells_of t) → HoldsTables trees t
-to_tables holds = record { root = holds.root; current = holds.current; shelf = holds.shelf; blob = holds.blob; version = holds.version }
+pub to_tables : {s : State} {t : Contents} → IsInside s (cells_of t) → HoldsTables s.now.trees t
+to_tables is = record {
+  root = is.holds 0 (omega arith);
+  current = is.holds 1 (omega arith);
+  shelf = is.holds 2 (omega arith);
+  blob = is.holds 3 (omega arith);
+  version = is.holds 4 (omega arith);
+}
 
-pub to_cells : {trees : _} {t : Contents} → HoldsTables trees t → HoldsCells trees (cells_of t)
-to_cells holds = record { root = holds.root; current = holds.current; shelf = holds.shelf; blob = holds.blob; version = holds.version }
+pub inside : (s : State) (t : Contents) → IsTrue s.is_open → IsTrue s.in_transaction → s.now.schema ≡ the_schema → HoldsTables s.now.trees t → IsInside s (cells_of t)
+inside s t is_open within schema holds = record { is_open = is_open; inside = within; schema = schema; holds = each }
+  where
+    each : (n : ℕ) → n < length five → AreRows (shown_of (at_place five n)) (s.now.trees (tree_from 0 five n)) (cells_at (listed (cells_of t)) n)
+    each zero few = holds.root
+    each (suc zero) few = holds.current
+    each (suc (suc zero)) few = holds.shelf
+    each (suc (suc (suc zero))) few = holds.blob
+    each (suc (suc (suc (suc zero)))) few = holds.version
+    each (suc (suc (suc (suc (suc n))))) few = absurd (omega (arith, few))
 
 pub committed : (tx end : State) (t : Contents) → IsInside tx (cells_of t) → Shows tx end tx.now tx.now false → IsStore end t
 committed tx end t is shows = record {
   is_open = shows.is_open;
   schema = ap (λ (d : Database). d.schema) shows.now_is ∙ is.schema;
   settled = shows.now_is ∙ sym shows.committed_is;
-  holds = subst (λ (d : Database). HoldsTables d.trees t) (sym shows.now_is) (to_tables is.holds);
+  holds = subst (λ (d : Database). HoldsTables d.trees t) (sym shows.now_is) (to_tables is);
 }

@@ -84,7 +84,7 @@ returns-clause-crash g c =
     (λ clean db is is_open schema.
     let early : HasCleanDisk tx = omega (arith, clean, c.commit.ensures.survives.clean) in
     let made = (c.in_ok-fill.ensures.made early rows (lacks five c.args.count old.now.trees) (begun is_open schema)).0 c.if-not-branch.false in
-    (made.0, subst (λ (d : Trees). HoldsTables d no_rows) (sym is) (to_tables made.1.holds)))
+    (made.0, subst (λ (d : Trees). HoldsTables d no_rows) (sym is) (to_tables made.1)))
     first c.commit.ensures.survives in
     let same : end ≡ c.conn-2-1.given.0 = search rules in
     subst (λ h. Survives old (state g.S.Store h) P) same all
@@ -104,7 +104,7 @@ returns-in_err-commit-clause-crash g c =
     (λ clean db is is_open schema.
     let early : HasCleanDisk tx = omega (arith, clean, c.commit.ensures.survives.clean) in
     let made = (c.in_ok-fill.ensures.made early rows (lacks five c.args.count old.now.trees) (begun is_open schema)).0 c.if-not-branch.false in
-    (made.0, subst (λ (d : Trees). HoldsTables d no_rows) (sym is) (to_tables made.1.holds)))
+    (made.0, subst (λ (d : Trees). HoldsTables d no_rows) (sym is) (to_tables made.1)))
     first c.commit.ensures.survives in
     let same : end ≡ c.conn-2-1.given.0 = search rules in
     subst (λ h. Survives old (state g.S.Store h) P) same all

@@ -41,7 +41,7 @@ returns-clause-crash g c =
     let begun : IsMade old.now.trees the_schema (state g.S.Store c.transaction-tx.result.conn.now) =
     subst (λ h. IsMade old.now.trees the_schema (state g.S.Store h)) (sym c.transaction-tx.ensures.begun)
     (record { is_open = is_open; inside = refl; schema_is = schema; holds = (refl, (refl, (refl, (refl, (refl, tt))))) }) in
-    subst (λ (d : Trees). HoldsTables d no_rows) (sym is) (to_tables (c.in_ok-put_version.ensures.wrote early old.now.trees bare begun).holds))
+    subst (λ (d : Trees). HoldsTables d no_rows) (sym is) (to_tables (c.in_ok-put_version.ensures.wrote early old.now.trees bare begun)))
     first c.commit.ensures.survives in
     let same : end ≡ c.conn-2-1.given.0 = search rules in
     subst (λ h. Survives old (state g.S.Store h) P) same all

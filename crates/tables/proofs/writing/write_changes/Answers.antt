@@ -1,4 +1,4 @@
-use Rattle.std.proofs.Common.{◌≡◌, ◌+◌, ◌++◌, [], ◌∷◌, take, slice_index_or, sym, ap, subst, ◌∙◌, arith, rules, OnOk}
+use Rattle.std.proofs.Common.{◌≡◌, ◌+◌, ◌++◌, [], ◌∷◌, take, slice_index_or, refl, sym, ap, subst, ◌∙◌, arith, rules, OnOk}
 use Rattle.std.proofs.lemmas.List.{take_more, take_all}
 use Rattle.sqlite_trees.specs.Tree.{Trees}
 use Rattle.sqlite.specs.State.{HasCleanDisk, Survives}
@@ -9,9 +9,16 @@ use Rattle.tables.specs.declared.change.Change.TheVariants.{PutRoot}
 use Rattle.contents.specs.Contents.{Contents}
 use Rattle.tables.specs.Tables.{IsStore, HoldsTables, after_all}
 use Rattle.tables.specs.steps.Writing.{IsInside, cells_of}
-use Rattle.tables.proofs.Changes.{after_all_more, committed, to_tables}
+use Rattle.tables.proofs.Changes.{after_all_more, committed, inside, to_tables}
 use Rattle.sql_tables.proofs.Calls.{OnOk_then, keeps_then}
 use Rattle.tables.proofs.writing.write_changes.Goals as goal
+
+pub writes-init : goal.writes-init
+writes-init g c =
+    let was = c.args.conn.now in
+    let began : (t : Contents) → IsStore (state g.S.Store was) t → IsInside (state g.S.Store c.transaction-tx.result.conn.now) (cells_of t) =
+    λ t is. subst (λ h. IsInside (state g.S.Store h) (cells_of t)) (sym c.transaction-tx.ensures.begun) (inside _ t is.is_open refl is.schema is.holds) in
+    (search rules, search rules, search rules, λ clean t is. began t is)
 
 pub writes-preserved : goal.writes-preserved
 writes-preserved g c =
@@ -49,7 +56,7 @@ returns-clause-crash g c =
     let P = λ (trees : Trees). (t : Contents) → IsStore old t → HoldsTables trees (after_all c.args.changes.now t) in
     let whole : take c.writes.change-index c.args.changes.now ≡ c.args.changes.now = take_all c.writes.change-index c.args.changes.now (omega arith) in
     let all = survives_then old tx (state g.S.Store end) (λ _. ⊥) (λ db. db ≡ tx.now.trees) P (λ _ db none. absurd none)
-    (λ clean db is t store. subst (λ es. HoldsTables db (after_all es t)) whole (subst (λ (d : Trees). HoldsTables d (after_all (take c.writes.change-index c.args.changes.now) t)) (sym is) (to_tables (c.writes.invariant.3 (omega (arith, c.commit.ensures.survives.clean)) t store).holds)))
+    (λ clean db is t store. subst (λ es. HoldsTables db (after_all es t)) whole (subst (λ (d : Trees). HoldsTables d (after_all (take c.writes.change-index c.args.changes.now) t)) (sym is) (to_tables (c.writes.invariant.3 (omega (arith, c.commit.ensures.survives.clean)) t store))))
     c.writes.invariant.1 c.commit.ensures.survives in
     let same : end ≡ c.conn-2-1.given.0 = search rules in
     subst (λ h. Survives old (state g.S.Store h) P) same all
