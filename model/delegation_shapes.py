@@ -1,12 +1,15 @@
 """The member `delegations` of targets metadata: what is read and what is not.
 
-Without the program by hand; before the program, where it reads them, with every part changed.
+Without the program by hand; with every part changed before the program `verdicts`, which only reads files, and before `release`.
 """
+import subprocess
+
 import canonical_json
 import document_shapes
 import signed_documents as make
 from denials import Denied
-from documents import judge_ids, key_id, read_delegations
+from documents import judge_ids, key_id, read_checked, read_delegations
+from pattern_cases import VERDICTS
 from scenes import LIVE, ZEROS
 from test_keys import KEYS
 
@@ -144,6 +147,26 @@ class Cases(document_shapes.Cases):
             self.delegate(f"delegation {said} and another", {"keys": make.key_table(KEYS[0:1]), "roles": [said, GOOD]})
         self.two_changes()
         return self.files
+
+
+def number_of(text):
+    """What `verdicts` prints of a file of targets metadata: `ok`, or the number of the check that fails first."""
+    try:
+        read_checked("targets", text)
+    except Denied as denied:
+        return str(denied.number)
+    return "ok"
+
+
+def compare_reader(session, random):
+    """The same files beside the program `verdicts`, which only reads them."""
+    files = Cases(random).all()
+    lines = [f"document targets {text.hex() or '-'}" for _, text in files]
+    ran = subprocess.run([VERDICTS], input="\n".join(lines).encode(), stdout=subprocess.PIPE, check=False)
+    printed = ran.stdout.decode().splitlines()
+    session.check("one verdict a file", len(files), len(printed))
+    for (label, text), found in zip(files, printed):
+        session.check(f"read by verdicts: {label}", number_of(text), found)
 
 
 def compare_shapes(session, random):
