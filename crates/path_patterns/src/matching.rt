@@ -1,5 +1,6 @@
 // What patterns and prefixes cover.
-ghost use Rattle.std.specs.Prelude.{◌≡◌, ◌↔◌, ℕ, List, IsTrue};
+ghost use Rattle.std.specs.Prelude.{◌≡◌, ◌↔◌, ℕ, List, IsTrue, map, nat_eq, string_bytes};
+ghost use Rattle.std.specs.List.{list_any, starts_with};
 ghost use Rattle.hex.specs.Hex.{encode_lower};
 ghost use Rattle.sha2.specs.Sha256.{sha256};
 ghost use Rattle.path_patterns.specs.Matching.{MatchesSegmented, MatchesFlat, PrefixCovers};
@@ -34,6 +35,28 @@ pub fn prefix_covers(prefix: &str, path: &TargetPath) -> bool
     ensures { IsTrue result ↔ (PrefixCovers prefix.now path.now) }
 {
     digits_of(path).starts_with(prefix.as_bytes())
+}
+
+/// Whether one of the prefixes covers the path, as `prefix_covers` says of each. The path is hashed once. It takes no memory.
+pub fn some_prefix_covers(prefixes: &[String], path: &TargetPath) -> bool
+    ensures { result ≡ list_any (λ p. tests.prefix_covers p path.now) (map string_bytes prefixes.now) }
+{
+    let digits = digits_of(path);
+    let mut rest = prefixes;
+    'prefixes: while let Some((prefix, later)) = rest.split_first() {
+        if begin_with(&digits, prefix.as_str()) {
+            return true;
+        }
+        rest = later;
+    }
+    false
+}
+
+// Whether the digits begin with the prefix.
+fn begin_with(digits: &[u8; 64], prefix: &str) -> bool
+    ensures { result ≡ starts_with nat_eq digits.now prefix.now }
+{
+    digits.starts_with(prefix.as_bytes())
 }
 
 // The hex digits of the path's digest.
