@@ -58,19 +58,6 @@ shown_was_open sql params old new rows h = go h.0.returning h.2
     go None it = it.3.0.was_open
     go (Some what) it = it.1.shown.was_open
 
-pub unchanged_then : (a b c : State) → IsUnchanged a b → IsUnchanged b c → IsUnchanged a c
-unchanged_then a b c one two = (
-  record {
-    was_open = one.0.was_open;
-    is_open = two.0.is_open;
-    now_is = two.0.now_is ∙ one.0.now_is;
-    committed_is = two.0.committed_is ∙ one.0.committed_is;
-    mode = two.0.mode ∙ one.0.mode;
-  },
-  record { changes = two.1.changes ∙ one.1.changes; last_rowid = two.1.last_rowid ∙ one.1.last_rowid },
-  two.2 ∙ one.2,
-)
-
 pub made_same : (rows : Trees) (schema : Schema) (old new : State) → IsUnchanged old new → IsMade rows schema old → IsMade rows schema new
 made_same rows schema old new same is = record {
   is_open = same.0.is_open;
@@ -127,9 +114,6 @@ pub record Same (old new : State) : Type 0 where
   pub changes : new.changes ≡ old.changes
   pub last_rowid : new.last_rowid ≡ old.last_rowid
   pub marks : new.marks ≡ old.marks
-
-pub same_self : (s : State) → Same s s
-same_self s = record { open_is = refl; now_is = refl; committed_is = refl; mode = refl; changes = refl; last_rowid = refl; marks = refl }
 
 pub same_then : (a b c : State) → Same a b → IsUnchanged b c → Same a c
 same_then a b c one two = record {

@@ -26,7 +26,7 @@ use Rattle.sql_tables.specs.Inside.{IsInside, cells_at, put_at, shown_of}
 use Rattle.sql_tables.proofs.AnswerLemmas.{passes, plain_query}
 use Rattle.sql_tables.proofs.Beginnings.{past_above, tree_above}
 use Rattle.sql_tables.proofs.Insert.{deletes, inserts}
-use Rattle.sql_tables.proofs.Shapes.{tree_is}
+use Rattle.sql_tables.proofs.Shapes.{at_each}
 use Rattle.sql_tables.proofs.Statements.{added, removed, rows_same}
 use Rattle.sql_tables.proofs.MakingLemmas.{no_rows}
 use Rattle.sql_tables.specs.Making.{IsMade}
@@ -46,11 +46,6 @@ trees_apart tree (d ∷ ds) zero zero few few' other same = other refl
 trees_apart tree (d ∷ ds) zero (suc m) few few' other same = absurd (omega (arith, same, past_above d.key tree, tree_above (past_key d.key tree) ds m))
 trees_apart tree (d ∷ ds) (suc n) zero few few' other same = absurd (omega (arith, same, past_above d.key tree, tree_above (past_key d.key tree) ds n))
 trees_apart tree (d ∷ ds) (suc n) (suc m) few few' other same = trees_apart (past_key d.key tree) ds n m (omega (arith, few)) (omega (arith, few')) (λ e. other (ap suc e)) same
-
-pub at_each : (P : ℕ → Type 0) (tree : ℕ) (ds : List Description) → AllByRecursion (λ (t : Table). P t.tree) (tables_from tree ds) → (n : ℕ) → n < length ds → P (tree_from tree ds n)
-at_each P tree [] all n few = absurd (omega (arith, few))
-at_each P tree (d ∷ ds) all zero few = subst P (tree_is d.key d tree) all.0
-at_each P tree (d ∷ ds) all (suc n) few = at_each P (past_key d.key tree) ds all.1 n (omega (arith, few))
 
 put_here : (cells : List (List Row)) (place : ℕ) (rows : List Row) → place < length cells → cells_at (put_at place rows cells) place ≡ rows
 put_here [] place rows few = absurd (omega (arith, few))

@@ -1,10 +1,10 @@
 -- What the making of a table leaves.
-use Rattle.std.proofs.Common.{◌≡◌, inl, inr, ℕ, ℤ, List, [], ◌∷◌, ◌++◌, false, Ok, Err, Result, refl, sym, ap, subst, ◌∙◌}
+use Rattle.std.proofs.Common.{◌≡◌, ℕ, List, [], ◌∷◌, ◌++◌, false, Ok, Err, Result, sym, ap, subst, ◌∙◌}
 use Rattle.std.specs.List.{AllByRecursion}
 use Rattle.sqlite.specs.Schema.{Schema}
 use Rattle.sqlite.specs.Table.{Table}
 use Rattle.sqlite.specs.Order.{Row}
-use Rattle.sqlite_trees.specs.Tree.{Trees, rowid}
+use Rattle.sqlite_trees.specs.Tree.{Trees}
 use Rattle.sqlite_catalog.specs.Change.{created, next_tree, KeepsRows}
 use Rattle.sqlite_resolve.specs.Compile.{table_defined_by}
 use Rattle.sqlite_resolve.specs.declared.compiled.Compiled.{Compiled}
@@ -16,8 +16,6 @@ use Rattle.sqlite.specs.Effect.{Database}
 use Rattle.sqlite.specs.State.{State, ExecutesInside}
 use Rattle.sqlite.proofs.Callers.{IsPlain, command_of, statement_of, runs_as}
 use Rattle.sql_tables.specs.Making.{IsMade, MakesBy, Makes}
-use Rattle.sqlite.specs.declared.types.Value.TheVariants.{Int}
-use Rattle.sqlite_rules.specs.Lists.{Has}
 use Rattle.sql_tables.specs.Rows.{AreRows}
 use Rattle.sql_tables.proofs.Insert.{went, same_value}
 
@@ -70,22 +68,3 @@ makes before after sql rows old new count m lacks is h =
 
 pub no_rows : (shown : Row → Row) → AreRows shown [] []
 no_rows shown = record { keyed = λ x y none. absurd none; numbered = λ x none. absurd none; sound = λ x none. absurd none; complete = λ c none. absurd none }
-
-pub only : {x y : Row} → Has (y ∷ []) x → x ≡ y
-only (inl is) = is
-only (inr none) = absurd none
-
-pub one_row : (shown : Row → Row) (row : Row) (n : ℤ) (cells : Row) → rowid row ≡ Int n → shown row ≡ cells → AreRows shown (row ∷ []) (cells ∷ [])
-one_row shown row n cells id is = record {
-  keyed = λ x y in_x in_y same. only in_x ∙ sym (only in_y);
-  numbered = λ x in_x. (n, ap rowid (only in_x) ∙ id);
-  sound = λ x in_x. inl (ap shown (only in_x) ∙ is);
-  complete = λ c in_c. (row, inl refl, is ∙ sym (only in_c));
-}
-
-pub stays : {shown : Row → Row} {rows next cells : List Row} → next ≡ rows → AreRows shown rows cells → AreRows shown next cells
-stays {shown} {cells = cells} same are = subst (λ r. AreRows shown r cells) (sym same) are
-
--- a table that was empty and is not written
-pub empty_still : (shown : Row → Row) {rows next : List Row} → next ≡ rows → rows ≡ [] → AreRows shown next []
-empty_still shown same none = stays (same ∙ none) (no_rows shown)

@@ -120,3 +120,27 @@ module _ (schema : Schema) (sql : List ℕ) (tree : ℕ) (terms : List Term) (or
       let known = sym h.1.is ∙ ap (λ s. understood s sql) has in
       let none : h.0.returning ≡ None = (subst IsPlain (sym known) plain).0 in
       (subst (ShowsRows old new sql h.0 (with_time [] h.0.formats h.1.now) rows) none h.2).3
+
+-- ---- a query by the facts of its text
+
+-- what is known of the text of a query of one table: what it asks for, and that it commits nothing
+pub record Reads (schema : Schema) (sql : List ℕ) (tree : ℕ) (shown : Row → Row) (keys : List Key) : Type 0 where
+  pub terms : List Term
+  pub order : List (Term × Key)
+  pub names : List (List ℕ)
+  pub is : command_of (understood schema sql) ≡ Select (record { lets = []; body = plain_query tree [] terms order }) names
+  pub plain : IsPlain (understood schema sql)
+  pub unlisted : reads_listing schema sql ≡ false
+  pub quiet : IsQuiet (first sql)
+  pub cells : (r : Row) → cells_of terms [] r ≡ shown r
+  pub keyed : (r s : Row) → key_cmp 0 (map (λ k. k.1) order) (cells_of (map (λ k. k.0) order) [] r) (cells_of (map (λ k. k.0) order) [] s) ≡ key_cmp 0 keys (shown r) (shown s)
+
+module _ {schema : Schema} {sql : List ℕ} {tree : ℕ} {shown : Row → Row} {keys : List Key} (reads : Reads schema sql tree shown keys) where
+  pub read_rows : (old new : State) (rows : List Row) → old.now.schema ≡ schema → Shown sql [] old new rows → AreLoaded shown keys (old.now.trees tree) rows
+  read_rows = loads schema sql tree reads.terms reads.order reads.names shown keys reads.is reads.plain reads.unlisted reads.cells reads.keyed
+
+  pub read_same : (old new : State) (rows : List Row) → old.now.schema ≡ schema → Shown sql [] old new rows → IsUnchanged old new
+  read_same = loads_same schema sql tree reads.terms reads.order reads.names shown keys reads.is reads.plain reads.unlisted reads.cells reads.keyed
+
+  pub read_quietly : (old new : State) → Survives old new (CommitsShowing sql [] old) → Survives old new (λ _. ⊥)
+  read_quietly old new = commits_nothing sql [] old new reads.quiet

@@ -1,15 +1,13 @@
 -- When a schema is the beginning of a list.
-use Rattle.std.proofs.Common.{◌≡◌, ◌<◌, ◌≤◌, ℕ, zero, suc, List, [], ◌∷◌, map, length, take, refl, sym, ap, ◌∙◌, arith}
+use Rattle.std.proofs.Common.{subst, ◌≡◌, ◌<◌, ◌≤◌, ℕ, zero, suc, List, [], ◌∷◌, map, length, take, refl, sym, ap, ◌∙◌, arith, slice_index_or}
 use Rattle.std.proofs.lemmas.List.{length-take}
 use Rattle.std.proofs.Math.Seq.{take-length}
-use Rattle.std.proofs.Common.{slice_index_or}
 use Rattle.sql_tables.specs.declared.described.Described.{Described}
 use Rattle.std.specs.List.{AllByRecursion}
 use Rattle.sqlite_trees.specs.Tree.{Trees}
-use Rattle.sql_tables.specs.Described.{at_place, described_view, tree_from}
+use Rattle.sql_tables.specs.Described.{at_place, described_view, tree_from, Description, keyed_table, tables_from, past_key, schema_of, beginning, IsBeginning}
 use Rattle.sqlite.specs.Table.{Table}
 use Rattle.sqlite.specs.Schema.{Schema}
-use Rattle.sql_tables.specs.Described.{Description, keyed_table, tables_from, past_key, schema_of, beginning, IsBeginning}
 
 pub tables_count : (tree : ℕ) (ds : List Description) → length (tables_from tree ds) ≡ length ds
 tables_count tree [] = refl
@@ -70,7 +68,8 @@ empty_by_place trees tree [] each = tt
 empty_by_place trees tree (d ∷ ds) each =
     (ap trees (tree_is d.key d tree) ∙ each zero (omega arith), empty_by_place trees (past_key d.key tree) ds (λ n below. each (suc n) (omega (arith, below))))
 
-pub place_is_empty : (trees : Trees) (tree : ℕ) (ds : List Description) → AllByRecursion (λ (t : Table). trees t.tree ≡ []) (tables_from tree ds) → (n : ℕ) → n < length ds → trees (tree_from tree ds n) ≡ []
-place_is_empty trees tree [] all n below = absurd (omega (arith, below))
-place_is_empty trees tree (d ∷ ds) all zero below = ap trees (sym (tree_is d.key d tree)) ∙ all.0
-place_is_empty trees tree (d ∷ ds) all (suc n) below = place_is_empty trees (past_key d.key tree) ds all.1 n (omega (arith, below))
+-- what is said of the tree of each table
+pub at_each : (P : ℕ → Type 0) (tree : ℕ) (ds : List Description) → AllByRecursion (λ (t : Table). P t.tree) (tables_from tree ds) → (n : ℕ) → n < length ds → P (tree_from tree ds n)
+at_each P tree [] all n few = absurd (omega (arith, few))
+at_each P tree (d ∷ ds) all zero few = subst P (tree_is d.key d tree) all.0
+at_each P tree (d ∷ ds) all (suc n) few = at_each P (past_key d.key tree) ds all.1 n (omega (arith, few))

@@ -7,11 +7,11 @@ use Rattle.sqlite.specs.Clock.{timed}
 use Rattle.sqlite.specs.Listing.{understood}
 use Rattle.sqlite.specs.declared.error.Error.{Error}
 use Rattle.sqlite.proofs.Callers.{IsPlain}
+use Rattle.sql_tables.proofs.Queries.{read_same}
+use Rattle.tables.proofs.Selects.{reads_version, select_version}
 use Rattle.tables.specs.Schema.{the_schema}
 use Rattle.contents.specs.Contents.{Contents}
 use Rattle.tables.specs.Tables.{HoldsTables, IsStore}
-use Rattle.tables.proofs.Texts.{select_version, select_version_plain}
-use Rattle.tables.proofs.Selects.{select_version_same}
 
 pub loaded_store : (old new : State) (t : Contents) → IsUnchanged old new → old.now ≡ old.committed → old.now.schema ≡ the_schema → HoldsTables old.now.trees t → IsStore new t
 loaded_store old new t same settled schema holds = record {
@@ -45,7 +45,7 @@ store_back old new t stays back is =
 pub looked : (old new : State) (row : Row) (t : Contents) → QueriesRow select_version [] old new (Ok row) → IsStore old t → IsStore new t
 unfolding QueriesRow
 looked old new row t (inl begins) is = store_same old new t begins.1 is
-looked old new row t (inr shown) is = store_same old new t (select_version_same old new shown.0 is.schema shown.1) is
+looked old new row t (inr shown) is = store_same old new t (read_same reads_version old new shown.0 is.schema shown.1) is
 
 pub look_failed : (old new : State) (e : Error) (t : Contents) → IsTrue new.is_open → QueriesRow select_version [] old new (Err e) → IsStore old t → IsStore new t
 unfolding QueriesRow FailsToQuery IsNotRun
@@ -53,6 +53,6 @@ look_failed old new e t stays (inl (inl (inl none))) is = store_same old new t n
 look_failed old new e t stays (inl (inl (inr fails))) is = store_back old new t stays fails.3 is
 look_failed old new e t stays (inl (inr shows)) is =
     let known = sym shows.1.is ∙ ap (λ s. understood s select_version) is.schema in
-    let none : shows.0.returning ≡ None = (subst IsPlain (sym known) select_version_plain).0 in
+    let none : shows.0.returning ≡ None = (subst IsPlain (sym known) reads_version.plain).0 in
     store_same old new t (subst (FailsToShow old new select_version shows.0 (timed [] shows.0.formats shows.1.now) e) none shows.2).3 is
-look_failed old new e t stays (inr nothing) is = store_same old new t (select_version_same old new [] is.schema nothing.1) is
+look_failed old new e t stays (inr nothing) is = store_same old new t (read_same reads_version old new [] is.schema nothing.1) is

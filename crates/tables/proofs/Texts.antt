@@ -1,16 +1,15 @@
 -- What the texts mean.
-use Rattle.std.proofs.Common.{◌≡◌, List, ℕ, [], ◌∷◌, codes, false, refl}
+use Rattle.std.proofs.Common.{◌≡◌, List, ℕ, [], ◌∷◌, codes, refl}
 use Rattle.sqlite_tied.specs.Compute.{everything}
 use Rattle.tables.specs.Schema.{the_schema}
 use Rattle.sqlite.specs.Term.{Term, lit, col, op2}
 use Rattle.sqlite_sql.specs.declared.ops.BinaryOp.TheVariants.{Compare}
 use Rattle.sqlite_sql.specs.declared.ops.CompareOp.TheVariants.{Eq}
 use Rattle.sqlite_value.specs.declared.keys.Collation.TheVariants.{Binary}
-use Rattle.sqlite_value.specs.declared.keys.Key.{Key}
 use Rattle.sqlite.specs.Source.TheVariants.{Values}
-use Rattle.sqlite.specs.Command.TheVariants.{Insert, Select, Delete}
+use Rattle.sqlite.specs.Command.TheVariants.{Insert, Delete}
 use Rattle.sqlite.specs.declared.types.Value.TheVariants.{Null}
-use Rattle.sqlite.specs.Listing.{understood, reads_listing}
+use Rattle.sqlite.specs.Listing.{understood}
 use Rattle.sqlite.proofs.Callers.{IsPlain, command_of}
 use Rattle.sql_tables.proofs.AnswerLemmas.{plain_query}
 
@@ -107,128 +106,3 @@ delete_shelf_is = refl
 pub delete_shelf_plain : IsPlain (understood the_schema delete_shelf)
 unfolding understood everything
 delete_shelf_plain = (refl, refl)
-
--- ---- SELECT
-
-abbrev pub rises : Key
-rises = record { collation = Binary; descending = false }
-
-abbrev pub select_root : List ℕ
-select_root = codes "SELECT version, bytes FROM root ORDER BY version"
-
-abbrev pub select_root_order : List (Term × Key)
-select_root_order = (col 1 0, rises) ∷ []
-
-abbrev pub select_root_terms : List Term
-select_root_terms = col 1 0 ∷ col 1 2 ∷ []
-
-abbrev pub select_root_names : List (List ℕ)
-select_root_names = codes "version" ∷ codes "bytes" ∷ []
-
-pub select_root_is : command_of (understood the_schema select_root) ≡ Select (record { lets = []; body = plain_query 0 [] select_root_terms select_root_order }) select_root_names
-unfolding understood everything
-select_root_is = refl
-
-pub select_root_plain : IsPlain (understood the_schema select_root)
-unfolding understood everything
-select_root_plain = (refl, refl)
-
-pub select_root_unlisted : reads_listing the_schema select_root ≡ false
-unfolding everything
-select_root_unlisted = refl
-
-abbrev pub select_current : List ℕ
-select_current = codes "SELECT slot, version, bytes, rowid FROM current"
-
-abbrev pub select_current_order : List (Term × Key)
-select_current_order = []
-
-abbrev pub select_current_terms : List Term
-select_current_terms = col 1 1 ∷ col 1 2 ∷ col 1 3 ∷ col 1 0 ∷ []
-
-abbrev pub select_current_names : List (List ℕ)
-select_current_names = codes "slot" ∷ codes "version" ∷ codes "bytes" ∷ codes "rowid" ∷ []
-
-pub select_current_is : command_of (understood the_schema select_current) ≡ Select (record { lets = []; body = plain_query 1 [] select_current_terms select_current_order }) select_current_names
-unfolding understood everything
-select_current_is = refl
-
-pub select_current_plain : IsPlain (understood the_schema select_current)
-unfolding understood everything
-select_current_plain = (refl, refl)
-
-pub select_current_unlisted : reads_listing the_schema select_current ≡ false
-unfolding everything
-select_current_unlisted = refl
-
-abbrev pub select_shelf : List ℕ
-select_shelf = codes "SELECT role, version, bytes, rowid FROM shelf ORDER BY role, version"
-
-abbrev pub select_shelf_order : List (Term × Key)
-select_shelf_order = (col 1 1, rises) ∷ (col 1 2, rises) ∷ []
-
-abbrev pub select_shelf_terms : List Term
-select_shelf_terms = col 1 1 ∷ col 1 2 ∷ col 1 3 ∷ col 1 0 ∷ []
-
-abbrev pub select_shelf_names : List (List ℕ)
-select_shelf_names = codes "role" ∷ codes "version" ∷ codes "bytes" ∷ codes "rowid" ∷ []
-
-pub select_shelf_is : command_of (understood the_schema select_shelf) ≡ Select (record { lets = []; body = plain_query 3 [] select_shelf_terms select_shelf_order }) select_shelf_names
-unfolding understood everything
-select_shelf_is = refl
-
-pub select_shelf_plain : IsPlain (understood the_schema select_shelf)
-unfolding understood everything
-select_shelf_plain = (refl, refl)
-
-pub select_shelf_unlisted : reads_listing the_schema select_shelf ≡ false
-unfolding everything
-select_shelf_unlisted = refl
-
-abbrev pub select_blob : List ℕ
-select_blob = codes "SELECT digest, bytes, rowid FROM blob ORDER BY digest"
-
-abbrev pub select_blob_order : List (Term × Key)
-select_blob_order = (col 1 1, rises) ∷ []
-
-abbrev pub select_blob_terms : List Term
-select_blob_terms = col 1 1 ∷ col 1 2 ∷ col 1 0 ∷ []
-
-abbrev pub select_blob_names : List (List ℕ)
-select_blob_names = codes "digest" ∷ codes "bytes" ∷ codes "rowid" ∷ []
-
-pub select_blob_is : command_of (understood the_schema select_blob) ≡ Select (record { lets = []; body = plain_query 5 [] select_blob_terms select_blob_order }) select_blob_names
-unfolding understood everything
-select_blob_is = refl
-
-pub select_blob_plain : IsPlain (understood the_schema select_blob)
-unfolding understood everything
-select_blob_plain = (refl, refl)
-
-pub select_blob_unlisted : reads_listing the_schema select_blob ≡ false
-unfolding everything
-select_blob_unlisted = refl
-
-abbrev pub select_version : List ℕ
-select_version = codes "SELECT version FROM schema"
-
-abbrev pub select_version_order : List (Term × Key)
-select_version_order = []
-
-abbrev pub select_version_terms : List Term
-select_version_terms = col 1 0 ∷ []
-
-abbrev pub select_version_names : List (List ℕ)
-select_version_names = codes "version" ∷ []
-
-pub select_version_is : command_of (understood the_schema select_version) ≡ Select (record { lets = []; body = plain_query 7 [] select_version_terms select_version_order }) select_version_names
-unfolding understood everything
-select_version_is = refl
-
-pub select_version_plain : IsPlain (understood the_schema select_version)
-unfolding understood everything
-select_version_plain = (refl, refl)
-
-pub select_version_unlisted : reads_listing the_schema select_version ≡ false
-unfolding everything
-select_version_unlisted = refl

@@ -9,7 +9,7 @@ use Rattle.sqlite.proofs.StateLemmas.{survives_then}
 use Rattle.sql_tables.specs.Making.{Asks}
 use Rattle.sql_tables.specs.Described.{AllLook, Description, described_view, schema_of, tree_from}
 use Rattle.sql_tables.proofs.Calls.{Same, same_then, same_unchanged}
-use Rattle.sql_tables.proofs.Shapes.{at_view, blank, empty_by_place, place_is_empty}
+use Rattle.sql_tables.proofs.Shapes.{at_view, blank, empty_by_place, at_each}
 use Rattle.sql_tables.proofs.looking.has_rows.Goals as goal
 
 pub returns-then-branch-clause-rows : goal.returns-then-branch-clause-rows
@@ -24,7 +24,7 @@ returns-then-branch-clause-rows g c clean texts schema =
     let known = ap (λ (d : Database). d.schema) same.now_is ∙ schema in
     let asks = subst₂ (λ (s : Schema) (d : Description). Asks s d.look (tree_from 0 ds at)) (sym known) (at_view c.args.described.now at blank (omega arith)) (texts at few) in
     let rows = c.in_ok-has_row.ensures.rows clean (tree_from 0 ds at) asks in
-    (λ e. absurd (true≢false e), λ _ bare. rows.1 c.if-branch.true (ap (λ (d : Database). d.trees (tree_from 0 ds at)) same.now_is ∙ place_is_empty old.now.trees 0 ds bare at few))
+    (λ e. absurd (true≢false e), λ _ bare. rows.1 c.if-branch.true (ap (λ (d : Database). d.trees (tree_from 0 ds at)) same.now_is ∙ at_each (λ t. old.now.trees t ≡ []) 0 ds bare at few))
 
 pub returns-then-branch-clause-unchanged : goal.returns-then-branch-clause-unchanged
 returns-then-branch-clause-unchanged g c clean texts schema =

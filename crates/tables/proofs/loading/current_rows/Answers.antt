@@ -1,18 +1,16 @@
-use Rattle.std.proofs.Common.{[]}
 use Rattle.sqlite.specs.Held.{state}
-use Rattle.sql_tables.proofs.Queries.{commits_nothing}
-use Rattle.tables.proofs.Texts.{select_current}
-use Rattle.tables.proofs.Selects.{select_current_loads, select_current_same, select_current_quiet}
+use Rattle.sql_tables.proofs.Queries.{read_rows, read_same, read_quietly}
+use Rattle.tables.proofs.Selects.{reads_current}
 use Rattle.tables.proofs.loading.current_rows.Goals as goal
 
 pub returns-clause-rows : goal.returns-clause-rows
-returns-clause-rows g c clean has = select_current_loads (state g.S.Store c.args.conn.now) (state g.S.Store c.query_all.new.self) c.in_ok-query_all.field-0.items has (c.in_ok-query_all.ensures.ok clean)
+returns-clause-rows g c clean has = read_rows reads_current (state g.S.Store c.args.conn.now) (state g.S.Store c.query_all.new.self) c.in_ok-query_all.field-0.items has (c.in_ok-query_all.ensures.ok clean)
 
 pub returns-clause-unchanged : goal.returns-clause-unchanged
-returns-clause-unchanged g c clean has = select_current_same (state g.S.Store c.args.conn.now) (state g.S.Store c.query_all.new.self) c.in_ok-query_all.field-0.items has (c.in_ok-query_all.ensures.ok clean)
+returns-clause-unchanged g c clean has = read_same reads_current (state g.S.Store c.args.conn.now) (state g.S.Store c.query_all.new.self) c.in_ok-query_all.field-0.items has (c.in_ok-query_all.ensures.ok clean)
 
 pub returns-clause-survives : goal.returns-clause-survives
-returns-clause-survives g c = commits_nothing select_current [] (state g.S.Store c.args.conn.now) (state g.S.Store c.query_all.new.self) select_current_quiet c.query_all.ensures.survives
+returns-clause-survives g c = read_quietly reads_current (state g.S.Store c.args.conn.now) (state g.S.Store c.query_all.new.self) c.query_all.ensures.survives
 
 pub returns-in_err-query_all-clause-survives : goal.returns-in_err-query_all-clause-survives
-returns-in_err-query_all-clause-survives g c = commits_nothing select_current [] (state g.S.Store c.args.conn.now) (state g.S.Store c.query_all.new.self) select_current_quiet c.query_all.ensures.survives
+returns-in_err-query_all-clause-survives g c = read_quietly reads_current (state g.S.Store c.args.conn.now) (state g.S.Store c.query_all.new.self) c.query_all.ensures.survives
