@@ -1,12 +1,12 @@
 // Which paths a delegation covers.
-ghost use Rattle.std.specs.Prelude.{◌≡◌, map, string_bytes};
+ghost use Rattle.std.specs.Prelude.{◌≡◌};
 ghost use Rattle.std.specs.List.{list_any};
 ghost use Rattle.path_patterns.specs.Tests as tests;
 ghost use Rattle.metadata.specs.Covers.{covers};
 ghost use Rattle.metadata.specs.Views.{delegation_view};
 
 use crate::documents::{Delegation, Scope};
-use path_patterns::{Pattern, TargetPath, matches_segmented, prefix_covers, tests_tell};
+use path_patterns::{Pattern, TargetPath, matches_segmented, some_prefix_covers, tests_tell};
 
 impl Delegation {
     /// Whether the delegation covers the path: one of its patterns matches it, a wildcard standing for no slash, or its digest
@@ -16,7 +16,7 @@ impl Delegation {
     {
         match &self.scope {
             Scope::Patterns(patterns) => some_matches(patterns, path),
-            Scope::Prefixes(prefixes) => some_covers(prefixes, path),
+            Scope::Prefixes(prefixes) => some_prefix_covers(prefixes, path),
         }
     }
 }
@@ -35,30 +35,9 @@ fn some_matches(patterns: &[Pattern], path: &TargetPath) -> bool
     false
 }
 
-// Whether one of the prefixes covers the path.
-fn some_covers(prefixes: &[String], path: &TargetPath) -> bool
-    ensures { result ≡ list_any (λ p. tests.prefix_covers p path.now) (map string_bytes prefixes.now) }
-{
-    let mut rest = prefixes;
-    'prefixes: while let Some((prefix, later)) = rest.split_first() {
-        if is_covering(prefix.as_str(), path) {
-            return true;
-        }
-        rest = later;
-    }
-    false
-}
-
 fn is_match(pattern: &Pattern, path: &TargetPath) -> bool
     ensures { result ≡ tests.matches_segmented pattern.now path.now }
 {
     tests_tell();
     matches_segmented(pattern, path)
-}
-
-fn is_covering(prefix: &str, path: &TargetPath) -> bool
-    ensures { result ≡ tests.prefix_covers prefix.now path.now }
-{
-    tests_tell();
-    prefix_covers(prefix, path)
 }
