@@ -19,12 +19,13 @@ const USAGE: &str =
   documents N    reads a snapshot of 128 roles and 256,000 bytes and targets metadata of 1,000 listings, each N times,
                  and prints the bytes of each and how many are read per second: `snapshot B read R` and
                  `targets B read R`
-  get N          serves one target N times from a state in memory of 1 listing and 1 blob, and from one of 1,000 and 4,096,
-                 each signed once with W4, then with W8, and prints per second: the targets served, the searches, the
-                 signature checks of a search, the searches without that check, the findings of the held file, the last
-                 two together (so a target without its signature check), and the share of the check in the time of a
-                 target in hundredths:
-                 `w4 listings L blobs B get G search S check C lookups U held H without W share P`
+  get N          serves one target N times from a state in memory of 1 listing and 1 blob, from one of 1,000 and 4,096, and
+                 from one whose listing stands behind a line of 31 delegations, each signed once with W4, then with W8, and
+                 prints per second: the targets served, the searches that know nothing of the signatures, the signature
+                 checks of such a search, the searches without these checks, the findings of the held file, the last two
+                 together, and the share of the checks in the time of a target in hundredths; then how many signatures
+                 the request checks, and how many a search that knows nothing of them:
+                 `w4 listings L blobs B delegations D get G search S check C lookups U held H without W share P checks N cold M`
   patterns N     holds a usual pattern against a usual path, and `*a*a*a*b` and the pattern of 99 such stars against a path
                  of 200 letters a, each N times, and prints how many times per second: `usual match R`, `three match R`
                  and `most match R`";
