@@ -45,7 +45,7 @@ pub const SERVE: &str = behind!("release serve --db repository.db --port 8080 --
 // The numbers and names of the denials, each with the first rule that fails.
 const DENIALS: &str = concat!(
     "A denial has the number and the name of the first rule that fails. Of an HTTP request the status is 404 for 33, 35\n",
-    "and 37, and 403 for all others. Those from 41 to 50, and 34, cannot occur yet.\n\n",
+    "and 37, and 403 for all others. Those from 41 to 50 cannot occur yet.\n\n",
     " 1  TooLong                The file has over 262,144 bytes\n",
     " 2  NotCanonical           The file is no canonical JSON\n",
     " 3  WrongShape             The members are not those of the kind\n",

@@ -1,4 +1,4 @@
--- The rows of a table as a set of cells, whatever their rowids.
+-- The cells of a stored row of each table.
 use Rattle.std.specs.Prelude.{[], ◌∷◌}
 use Rattle.sqlite.specs.Order.{Row, column}
 
