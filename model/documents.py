@@ -231,8 +231,8 @@ def read_targets(document, signed):
 READERS = {"root": read_root, "timestamp": read_timestamp, "snapshot": read_snapshot, "targets": read_targets}
 
 
-def read_checked(kind, text):
-    """The checks in their order: length, canonical form, envelope, type, members, key table."""
+def read_envelope(text):
+    """The first checks in their order: length, canonical form, envelope. Gives the signatures, the signed part and its bytes."""
     deny_unless(len(text) <= MAXIMUM_LENGTH, "TooLong")
     try:
         envelope, spans = canonical_json.read(text)
@@ -240,9 +240,16 @@ def read_checked(kind, text):
         raise Denied("NotCanonical") from None
     shape(type(envelope) is dict and set(envelope) == {"signatures", "signed"})
     signed = envelope["signed"]
-    document = Document()
-    document.signatures = read_signatures(envelope["signatures"])
+    signatures = read_signatures(envelope["signatures"])
     shape(type(signed) is dict and type(signed.get("_type")) is str)
+    first, end = spans["signed"]
+    return signatures, signed, text[first:end]
+
+
+def read_checked(kind, text):
+    """The checks in their order: those of the envelope, type, members, key table."""
+    document = Document()
+    document.signatures, signed, document.signed_bytes = read_envelope(text)
     deny_unless(signed["_type"] == kind, "WrongType")
     specification = signed.get("spec_version")
     shape(type(specification) is str and re.fullmatch(r"1\.0\.[0-9]{1,3}", specification) is not None)
@@ -250,9 +257,7 @@ def read_checked(kind, text):
     document.version = signed["version"]
     document.expires = moment_of(signed.get("expires"))
     shape(document.expires is not None)
-    first, end = spans["signed"]
     document.bytes = text
-    document.signed_bytes = text[first:end]
     document.digest = hashlib.sha256(text).hexdigest()
     READERS[kind](document, signed)
     return document

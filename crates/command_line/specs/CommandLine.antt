@@ -3,12 +3,14 @@ use Rattle.std.specs.Prelude.{◌≡◌, ℕ, ◌≤◌, Bool, List, Option, Som
 use Rattle.std.specs.declared.alloc.Global.{Global}
 use Rattle.std.specs.Str.Parse.{digits_value, without_leading_plus}
 use Rattle.limits.specs.Limits.{most_documents}
+use Rattle.lms.specs.declared.Params.{Params}
+use Rattle.lms.specs.Parameters.{height, signing_type, width}
 use Rattle.clap.specs.Words.{App, Rule, Row, Text, all_of, count_of, first_of, new_app, new_rule, subcommand_of, with_rule, with_subcommand}
 use Rattle.clap.specs.declared.builder.action.ArgAction.TheVariants.{Append, Count, Set}
 use Rattle.clap.specs.declared.builder.value_parser.ValueParser.TheVariants.{Unsigned}
 use Rattle.command_line.specs.declared.tasks.Task.{Task}
 use Rattle.command_line.specs.declared.tasks.Subcommand.{Subcommand}
-use Rattle.command_line.specs.declared.tasks.Subcommand.TheVariants.{Canon, Init, Publish, Put, Serve}
+use Rattle.command_line.specs.declared.tasks.Subcommand.TheVariants.{Canon, Init, Key, Publish, Put, Serve, Sign}
 
 -- ---- the arguments
 
@@ -31,6 +33,21 @@ verbose_rule = record (new_rule (codes "verbose")) { long = Some (codes "verbose
 -- `--db FILE`, which has to be there
 abbrev pub db_rule : Rule
 db_rule = record (option_rule (codes "db")) { required = true }
+
+-- `--book B`, which has to be there
+abbrev pub book_rule : Rule
+book_rule = record (option_rule (codes "book")) { required = true }
+
+-- `--seed S`, which has to be there
+abbrev pub seed_rule : Rule
+seed_rule = record (option_rule (codes "seed")) { required = true }
+
+-- `--ots W` and `--height H`, which have to be there
+abbrev pub ots_rule : Rule
+ots_rule = record (option_rule (codes "ots")) { required = true; parser = Some (Unsigned 1 8) }
+
+abbrev pub height_rule : Rule
+height_rule = record (option_rule (codes "height")) { required = true; parser = Some (Unsigned 5 10) }
 
 -- an operand, which has to be there
 abbrev pub operand_rule : Text → Rule
@@ -72,6 +89,13 @@ canon_line = with_rule (begun_line (codes "canon")) (operand_rule (codes "file")
 abbrev pub init_line : App
 init_line = with_rule (stored_line (codes "init")) (operand_rule (codes "root"))
 
+-- a subcommand that is told a key pair
+abbrev pub with_key_pair : App → App
+with_key_pair a = with_rule (with_rule (with_rule a seed_rule) ots_rule) height_rule
+
+abbrev pub key_line : App
+key_line = with_key_pair (begun_line (codes "key"))
+
 abbrev pub publish_line : App
 publish_line = with_rule (stored_line (codes "publish")) documents_rule
 
@@ -80,6 +104,9 @@ put_line = with_rule (stored_line (codes "put")) (operand_rule (codes "file"))
 
 abbrev pub serve_line : App
 serve_line = with_rule (with_rule (stored_line (codes "serve")) port_rule) count_rule
+
+abbrev pub sign_line : App
+sign_line = with_rule (with_key_pair (with_rule (begun_line (codes "sign")) book_rule)) (operand_rule (codes "file"))
 
 abbrev pub needs_subcommand : App → App
 needs_subcommand a = record a { top = record a.top { subcommand_required = true } }
@@ -92,8 +119,8 @@ with_version a = record a { top = record a.top { has_version = true } }
 
 -- the whole command line
 abbrev pub release_line : App
-release_line = with_command (with_command (with_command (with_command (with_command (needs_subcommand (with_version (new_app (codes "release"))))
-    canon_line) init_line) publish_line) put_line) serve_line
+release_line = with_command (with_command (with_command (with_command (with_command (with_command (with_command (needs_subcommand (with_version (new_app (codes "release"))))
+    canon_line) init_line) key_line) publish_line) put_line) serve_line) sign_line
 
 -- ---- what is found for a subcommand's arguments
 
@@ -119,23 +146,32 @@ MayHaveNumber rows id least most (Some n) = HasNumber rows id least most n
 abbrev pub HasTexts : List Row → Text → ℕ → List (String Global) → Type 0
 HasTexts rows id most ss = (all_of id rows ≡ Some (map string_bytes ss)) × (1 ≤ length ss) × (length ss ≤ most)
 
+-- the width of the one-time signatures and the height of the tree
+abbrev pub HasParams : List Row → Params → Type 0
+HasParams rows p = HasNumber rows (codes "ots") 1 8 (width p.ots) × HasNumber rows (codes "height") 5 10 (height (signing_type p.height))
+
 -- ---- tasks
 
 abbrev pub name_of : Subcommand → Text
 name_of (Canon file) = codes "canon"
 name_of (Init db root) = codes "init"
+name_of (Key seed params) = codes "key"
 name_of (Publish db documents) = codes "publish"
 name_of (Put db file) = codes "put"
 name_of (Serve db port count) = codes "serve"
+name_of (Sign book seed params file) = codes "sign"
 
 -- the subcommand has the options and operands that were found
 abbrev pub HasArguments : List Row → Subcommand → Type 0
 HasArguments rows (Canon file) = HasText rows (codes "file") file
 HasArguments rows (Init db root) = HasText rows (codes "db") db × HasText rows (codes "root") root
+HasArguments rows (Key seed params) = HasText rows (codes "seed") seed × HasParams rows params
 HasArguments rows (Publish db documents) = HasText rows (codes "db") db × HasTexts rows (codes "document") most_documents documents.items
 HasArguments rows (Put db file) = HasText rows (codes "db") db × HasText rows (codes "file") file
 HasArguments rows (Serve db port count) = HasText rows (codes "db") db × HasNumber rows (codes "port") 1 last_port port
     × MayHaveNumber rows (codes "count") 1 most_connections count
+HasArguments rows (Sign book seed params file) = HasText rows (codes "book") book × HasText rows (codes "seed") seed × HasParams rows params
+    × HasText rows (codes "file") file
 
 -- a subcommand of this name with what was found for it
 abbrev pub IsAsked : Text → List Row → Subcommand → Type 0

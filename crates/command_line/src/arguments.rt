@@ -2,7 +2,7 @@
 ghost use Rattle.std.specs.Prelude.{◌≡◌, IfOk, codes, false};
 ghost use Rattle.clap.specs.Words.{app_of, rule_of, with_rule};
 ghost use Rattle.clap.specs.declared.builder.command.Command.TheViews.{out-Command};
-ghost use Rattle.command_line.specs.CommandLine.{begun_line, canon_line, count_rule, db_rule, documents_rule, init_line, moment_rule, operand_rule, port_rule, publish_line, put_line, serve_line, stored_line, verbose_rule};
+ghost use Rattle.command_line.specs.CommandLine.{begun_line, canon_line, count_rule, db_rule, documents_rule, height_rule, init_line, key_line, book_rule, moment_rule, operand_rule, ots_rule, port_rule, publish_line, put_line, seed_rule, serve_line, sign_line, stored_line, verbose_rule, with_key_pair};
 
 use crate::help;
 use clap::{Arg, ArgAction, Command, value_parser};
@@ -30,6 +30,16 @@ pub fn init<'a>(alloc: Global) -> Result<Command<'a>, AllocError>
         command,
         operand(alloc, "root", "ROOT", "The file of the root metadata"),
     )
+}
+
+/// `key [--at SECONDS] [--verbose] --seed S --ots W --height H`
+pub fn key<'a>(alloc: Global) -> Result<Command<'a>, AllocError>
+    ensures line { IfOk result (λ c. app_of c ≡ key_line) }
+    ensures local { IfOk result (λ c. (out-Command c).has_globals ≡ false) }
+{
+    let about = "Print the public key object of a seed";
+    let command = begun(alloc, "key", about, help::KEY)?;
+    with_key(alloc, command)
 }
 
 /// `publish [--at SECONDS] [--verbose] --db FILE ROLE:FILE ..`
@@ -63,6 +73,21 @@ pub fn serve<'a>(alloc: Global) -> Result<Command<'a>, AllocError>
     with(command, count(alloc))
 }
 
+/// `sign [--at SECONDS] [--verbose] --book B --seed S --ots W --height H DOC`
+pub fn sign<'a>(alloc: Global) -> Result<Command<'a>, AllocError>
+    ensures line { IfOk result (λ c. app_of c ≡ sign_line) }
+    ensures local { IfOk result (λ c. (out-Command c).has_globals ≡ false) }
+{
+    let about = "Sign a document by a leaf that no other document gets";
+    let command = begun(alloc, "sign", about, help::SIGN)?;
+    let command = with(command, book(alloc))?;
+    let command = with_key(alloc, command)?;
+    with(
+        command,
+        operand(alloc, "file", "DOC", "The document to sign"),
+    )
+}
+
 // A subcommand over a database.
 fn stored<'a>(
     alloc: Global,
@@ -90,6 +115,17 @@ fn begun<'a>(
     let command = Command::new(alloc, name).about(about).after_help(behind);
     let command = with(command, at(alloc))?;
     with(command, verbose(alloc))
+}
+
+// The command with the arguments that say a key pair.
+fn with_key<'a>(alloc: Global, command: Command<'a>) -> Result<Command<'a>, AllocError>
+    requires no_globals { (out-Command command).has_globals ≡ false }
+    ensures line { IfOk result (λ c. app_of c ≡ with_key_pair (app_of command.entry)) }
+    ensures local { IfOk result (λ c. (out-Command c).has_globals ≡ false) }
+{
+    let command = with(command, seed(alloc))?;
+    let command = with(command, ots(alloc))?;
+    with(command, height(alloc))
 }
 
 // The command with one more argument.
@@ -135,6 +171,56 @@ fn db<'a>(alloc: Global) -> Arg<'a>
         .help("The database file of the repository, made where there is none")
         .required(true)
         .action(ArgAction::Set)
+}
+
+fn book<'a>(alloc: Global) -> Arg<'a>
+    ensures rule { rule_of result ≡ book_rule }
+    ensures local { result.global ≡ false }
+{
+    Arg::new(alloc, "book")
+        .long("book")
+        .value_name("B")
+        .help("The database file of the leaves that are spent, made where there is none")
+        .required(true)
+        .action(ArgAction::Set)
+}
+
+fn seed<'a>(alloc: Global) -> Arg<'a>
+    ensures rule { rule_of result ≡ seed_rule }
+    ensures local { result.global ≡ false }
+{
+    Arg::new(alloc, "seed")
+        .long("seed")
+        .value_name("S")
+        .help("The seed file: 96 hex digits of lower case, I and SEED, and a line feed")
+        .required(true)
+        .action(ArgAction::Set)
+}
+
+fn ots<'a>(alloc: Global) -> Arg<'a>
+    ensures rule { rule_of result ≡ ots_rule }
+    ensures local { result.global ≡ false }
+{
+    Arg::new(alloc, "ots")
+        .long("ots")
+        .value_name("W")
+        .help("The width of the one-time signatures: 1, 2, 4 or 8")
+        .required(true)
+        .action(ArgAction::Set)
+        .value_parser(value_parser!(u64).range(1..=8))
+}
+
+fn height<'a>(alloc: Global) -> Arg<'a>
+    ensures rule { rule_of result ≡ height_rule }
+    ensures local { result.global ≡ false }
+{
+    Arg::new(alloc, "height")
+        .long("height")
+        .value_name("H")
+        .help("The height of the tree: 5 for 32 signatures, 10 for 1,024")
+        .required(true)
+        .action(ArgAction::Set)
+        .value_parser(value_parser!(u64).range(5..=10))
 }
 
 fn port<'a>(alloc: Global) -> Arg<'a>

@@ -2,12 +2,14 @@
 ghost use Rattle.std.specs.Prelude.{◌≡◌, ◌≤◌, IfOk, Some, codes, map, string_bytes};
 ghost use Rattle.std.specs.Str.Parse.{digits_value, without_leading_plus};
 ghost use Rattle.clap.specs.Words.{found_of, rows_of};
-ghost use Rattle.command_line.specs.CommandLine.{HasNumber, HasText, HasTexts, MayHaveNumber, is_used, last_moment, last_port, most_connections};
+ghost use Rattle.lms.specs.Parameters.{height, signing_type, width};
+ghost use Rattle.command_line.specs.CommandLine.{HasNumber, HasText, HasTexts, HasParams, MayHaveNumber, is_used, last_moment, last_port, most_connections};
 ghost use Rattle.limits.specs.Limits.{most_documents};
 
 use crate::tasks::{LAST_MOMENT, LAST_PORT, MOST_CONNECTIONS, Usage};
 use clap::ArgMatches;
 use limits::MOST_DOCUMENTS;
+use lms::{OtsType, Params, SigningHeight};
 use std::alloc::{AllocError, Global};
 
 /// The text that is given for an argument.
@@ -78,6 +80,39 @@ pub fn port_of(alloc: Global, given: &ArgMatches<'_>) -> Result<u16, Usage>
         return Err(fault(alloc, "error: no port\n"));
     };
     Ok(port as u16)
+}
+
+/// The parameters of a key pair that are given.
+pub fn params_of(alloc: Global, given: &ArgMatches<'_>) -> Result<Params, Usage>
+    ensures { IfOk result (HasParams (rows_of (found_of given.now))) }
+{
+    let ots = ots_of(alloc, given)?;
+    let height = height_of(alloc, given)?;
+    Ok(Params { ots, height })
+}
+
+// The LM-OTS type of the width that is given.
+fn ots_of(alloc: Global, given: &ArgMatches<'_>) -> Result<OtsType, Usage>
+    ensures { IfOk result (λ t. HasNumber (rows_of (found_of given.now)) (codes "ots") 1 8 (width t)) }
+{
+    match number_of(alloc, given, "ots", 1, 8)? {
+        Some(1) => Ok(OtsType::W1),
+        Some(2) => Ok(OtsType::W2),
+        Some(4) => Ok(OtsType::W4),
+        Some(8) => Ok(OtsType::W8),
+        _ => Err(fault(alloc, "error: '--ots' is 1, 2, 4 or 8\n")),
+    }
+}
+
+// The height that is given.
+fn height_of(alloc: Global, given: &ArgMatches<'_>) -> Result<SigningHeight, Usage>
+    ensures { IfOk result (λ h. HasNumber (rows_of (found_of given.now)) (codes "height") 5 10 (height (signing_type h))) }
+{
+    match number_of(alloc, given, "height", 5, 10)? {
+        Some(5) => Ok(SigningHeight::H5),
+        Some(10) => Ok(SigningHeight::H10),
+        _ => Err(fault(alloc, "error: '--height' is 5 or 10\n")),
+    }
 }
 
 // The number that is given for an argument within its range, if there is one.

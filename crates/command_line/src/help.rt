@@ -31,6 +31,9 @@ pub const CANON: &str = behind!("release canon document.json > canonical.json");
 /// Behind the help of `init`.
 pub const INIT: &str = behind!("release init --db repository.db root.json");
 
+/// Behind the help of `key`.
+pub const KEY: &str = behind!("release key --seed root.seed --ots 8 --height 10");
+
 /// Behind the help of `publish`.
 pub const PUBLISH: &str = behind!(
     "release publish --db repository.db timestamp:timestamp.json snapshot:snapshot.json targets:targets.json"
@@ -41,6 +44,11 @@ pub const PUT: &str = behind!("release put --db repository.db hello.txt");
 
 /// Behind the help of `serve`.
 pub const SERVE: &str = behind!("release serve --db repository.db --port 8080 --verbose");
+
+/// Behind the help of `sign`.
+pub const SIGN: &str = behind!(
+    "release sign --book book.db --seed root.seed --ots 8 --height 10 root.json > root.signed.json"
+);
 
 // The numbers and names of the denials, each with the first rule that fails.
 const DENIALS: &str = concat!(

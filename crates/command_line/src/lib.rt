@@ -11,10 +11,10 @@ mod given;
 mod help;
 mod tasks;
 
-use arguments::{canon, init, publish, put, serve};
+use arguments::{canon, init, key, publish, put, serve, sign};
 use clap::error::ErrorKind;
 use clap::{ArgMatches, Command};
-use given::{count_of, fault, is_verbose, moment_of, port_of, text_of, texts_of};
+use given::{count_of, fault, is_verbose, moment_of, params_of, port_of, text_of, texts_of};
 use std::alloc::{AllocError, Global};
 pub use tasks::{Subcommand, Task, Usage};
 
@@ -40,9 +40,11 @@ fn release<'a>(alloc: Global) -> Result<Command<'a>, AllocError>
     let command = begun(alloc);
     let command = with(command, canon(alloc)?)?;
     let command = with(command, init(alloc)?)?;
+    let command = with(command, key(alloc)?)?;
     let command = with(command, publish(alloc)?)?;
     let command = with(command, put(alloc)?)?;
-    with(command, serve(alloc)?)
+    let command = with(command, serve(alloc)?)?;
+    with(command, sign(alloc)?)
 }
 
 // The program, before its subcommands.
@@ -91,9 +93,11 @@ fn asked(alloc: Global, name: &str, given: &ArgMatches<'_>) -> Result<Subcommand
     match name {
         "canon" => canon_asked(alloc, given),
         "init" => init_asked(alloc, given),
+        "key" => key_asked(alloc, given),
         "publish" => publish_asked(alloc, given),
         "put" => put_asked(alloc, given),
         "serve" => serve_asked(alloc, given),
+        "sign" => sign_asked(alloc, given),
         _ => Err(fault(alloc, "error: no such subcommand\n")),
     }
 }
@@ -111,6 +115,14 @@ fn init_asked(alloc: Global, given: &ArgMatches<'_>) -> Result<Subcommand, Usage
     let db = text_of(alloc, given, "db")?;
     let root = text_of(alloc, given, "root")?;
     Ok(Subcommand::Init { db, root })
+}
+
+fn key_asked(alloc: Global, given: &ArgMatches<'_>) -> Result<Subcommand, Usage>
+    ensures { IfOk result (IsAsked (codes "key") (rows_of (found_of given.now))) }
+{
+    let seed = text_of(alloc, given, "seed")?;
+    let params = params_of(alloc, given)?;
+    Ok(Subcommand::Key { seed, params })
 }
 
 fn publish_asked(alloc: Global, given: &ArgMatches<'_>) -> Result<Subcommand, Usage>
@@ -136,6 +148,21 @@ fn serve_asked(alloc: Global, given: &ArgMatches<'_>) -> Result<Subcommand, Usag
     let port = port_of(alloc, given)?;
     let count = count_of(alloc, given)?;
     Ok(Subcommand::Serve { db, port, count })
+}
+
+fn sign_asked(alloc: Global, given: &ArgMatches<'_>) -> Result<Subcommand, Usage>
+    ensures { IfOk result (IsAsked (codes "sign") (rows_of (found_of given.now))) }
+{
+    let book = text_of(alloc, given, "book")?;
+    let seed = text_of(alloc, given, "seed")?;
+    let params = params_of(alloc, given)?;
+    let file = text_of(alloc, given, "file")?;
+    Ok(Subcommand::Sign {
+        book,
+        seed,
+        params,
+        file,
+    })
 }
 
 // The text of a fault of the command line.

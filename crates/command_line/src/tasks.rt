@@ -1,4 +1,5 @@
 //! What a command line can ask for.
+use lms::Params;
 use std::alloc::AllocError;
 use thiserror::Error;
 
@@ -33,6 +34,11 @@ pub enum Subcommand {
         db: String,
         root: String,
     },
+    /// `key --seed S --ots W --height H`: prints the key object of a seed.
+    Key {
+        seed: String,
+        params: Params,
+    },
     /// `publish --db FILE ROLE:FILE ..`: offers 1 to 160 documents in order, together.
     Publish {
         db: String,
@@ -48,6 +54,13 @@ pub enum Subcommand {
         db: String,
         port: u16,
         count: Option<u64>,
+    },
+    /// `sign --book B --seed S --ots W --height H DOC`: signs a file with a leaf that the book keeps for it.
+    Sign {
+        book: String,
+        seed: String,
+        params: Params,
+        file: String,
     },
 }
 

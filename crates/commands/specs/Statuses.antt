@@ -2,7 +2,7 @@
 use Rattle.std.specs.Prelude.{ℕ, None}
 use Rattle.denials.specs.declared.denial.Denial.TheVariants as denials
 use Rattle.commands.specs.declared.fault.Fault.{Fault}
-use Rattle.commands.specs.declared.fault.Fault.TheVariants.{Usage, Help, Denied, Memory, Database, Damaged, Network, File, Clock}
+use Rattle.commands.specs.declared.fault.Fault.TheVariants.{Usage, Help, Denied, LeavesSpent, Memory, Database, Damaged, Network, File, Clock}
 use Rattle.command_line.specs.declared.tasks.Usage.{Usage as Usages}
 use Rattle.command_line.specs.declared.tasks.Usage.TheVariants as usages
 use Rattle.canon.specs.declared.CanonFault.{CanonFault}
@@ -14,6 +14,7 @@ use Rattle.tables.specs.declared.faults.StoreFault.TheVariants as store_faults
 abbrev pub status_of : Fault → ℕ
 status_of (Help text) = 0
 status_of (Denied denial index) = 1
+status_of LeavesSpent = 1
 status_of (Usage text) = 2
 status_of Memory = 3
 status_of Database = 3

@@ -20,6 +20,8 @@ pub enum Fault {
     /// The first rule that fails, and of a batch the index of its document, or the number of the documents where it is what
     /// they leave as a whole.
     Denied(Denial, Option<usize>),
+    /// All leaves of a key are spent.
+    LeavesSpent,
     Memory,
     /// The database could not be opened or used, or it has other tables than those of a store.
     Database,
@@ -37,7 +39,7 @@ impl Fault {
     {
         match self {
             Fault::Help(_) => 0,
-            Fault::Denied(_, _) => 1,
+            Fault::Denied(_, _) | Fault::LeavesSpent => 1,
             Fault::Usage(_) => 2,
             Fault::Memory
             | Fault::Database
@@ -54,6 +56,7 @@ impl fmt::Display for Fault {
         match self {
             Fault::Usage(text) | Fault::Help(text) => f.write_str(text.as_str()),
             Fault::Denied(denial, index) => write_denial(f, denial, *index),
+            Fault::LeavesSpent => f.write_str("leaves spent\n"),
             Fault::Memory => f.write_str("fault memory\n"),
             Fault::Database => f.write_str("fault database\n"),
             Fault::Damaged => f.write_str("fault damaged\n"),

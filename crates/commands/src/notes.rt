@@ -19,6 +19,16 @@ impl<'e, E: Write> Notes<'e, E> {
         self.verbose
     }
 
+    /// Tells what takes a while, in a line. A write that fails is disregarded.
+    pub fn progress<F: Display>(&mut self, fact: &F) {
+        let _ = writeln!(self.err, "{fact}");
+    }
+
+    /// Warns of what has this name, in a line, also where facts are not told. A write that fails is disregarded.
+    pub fn warn<N: Display, F: Display>(&mut self, name: &N, fact: &F) {
+        let _ = writeln!(self.err, "warning: {name}: {fact}");
+    }
+
     /// Tells one fact of what has this name, in a line. A write that fails is disregarded.
     pub fn tell<N: Display, F: Display>(&mut self, name: &N, fact: &F) {
         if self.verbose {

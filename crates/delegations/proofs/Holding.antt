@@ -17,7 +17,7 @@ use Rattle.delegations.specs.Search.{Shelf, doc}
 use Rattle.delegations.specs.Verdicts.{Table, known_at, AreTrue, AreOfRows, IsWanted, AreFew, IsComplete, most_verdicts, verdict_count}
 use Rattle.delegations.specs.steps.Gathering.{IsRow, AreGathered}
 use Rattle.delegations.proofs.Gathered.{count_more, or_none, roles_distinct}
-use Rattle.delegations.proofs.Places.{place_one}
+use Rattle.delegations.proofs.KeyOrder.{place_one}
 
 -- ---- each verdict is true, of a row of the shelf
 

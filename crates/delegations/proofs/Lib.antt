@@ -1,14 +1,17 @@
 pub mod Walk
+pub mod ByHalves
 pub mod Chains
 pub mod Complete
 pub mod Files
 pub mod Free
 pub mod Gathered
 pub mod Holding
+pub mod KeyOrder
 pub mod GoodVisits
 pub mod Places
 pub mod PutIn
 pub mod Rising
+pub mod RisingKeys
 pub mod Rooted
 pub mod Visits
 pub mod Firsts

@@ -1,5 +1,6 @@
 pub mod Delegation
 pub mod Missed
+pub mod RowViews
 pub mod Rows
 pub mod Search
 pub mod Verdicts

@@ -12,7 +12,7 @@ use Rattle.delegations.specs.Search as plain
 use Rattle.delegations.specs.Search.{top_name}
 use Rattle.delegations.specs.Rows as shelves
 use Rattle.delegations.specs.Verdicts as verdicts
-use Rattle.delegations.specs.declared.rows.Row.{Row}
+pub use Rattle.delegations.specs.RowViews.{row_views}
 use Rattle.delegations.specs.declared.rows.Rows.{Rows}
 use Rattle.delegations.specs.declared.shelf.Shelf.{Shelf}
 use Rattle.delegations.specs.declared.shelf.Edge.{Edge}
@@ -20,9 +20,6 @@ use Rattle.delegations.specs.declared.shelf.Found.{Found}
 use Rattle.delegations.specs.declared.shelf.SearchDenial.{SearchDenial}
 use Rattle.delegations.specs.declared.shelf.SearchDenial.TheVariants as denials
 use Rattle.delegations.specs.declared.verdicts.RowVerdicts.{RowVerdicts}
-
-abbrev pub row_views : List Row → shelves.Rows
-row_views rows = map (λ r. ((r.role, r.version), targets_file r.file)) rows
 
 abbrev pub rows_view : Rows → shelves.Rows
 rows_view r = shelves.with_rows (row_views r.held.now) (row_views r.added.now)

@@ -22,7 +22,7 @@ pub use metadata::{
     File, KeyTable, Listing, Meta, Moment, RoleName, RoleRule, Root, Snapshot, Source, TargetPath,
     Targets,
 };
-pub use rows::{Row, Rows};
+pub use rows::{Row, Rows, are_in_order};
 pub use searching::{search, search_counted, search_with, search_with_counted};
 pub use shelf::{Found, SearchDenial, Shelf};
 pub use verdicts::{Verdicts, all_verdicts};

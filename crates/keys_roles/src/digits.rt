@@ -43,8 +43,8 @@ fn verifies(key: &Key, signed: &[u8], signature: &[u8], steps: &mut Steps) -> bo
     }
 }
 
-// Reads lower-case hex digits as bytes, two for each. Whether they are such digits.
-fn read_digits(digits: &[u8], bytes: &mut [u8]) -> bool
+/// Reads lower-case hex digits as bytes, two for each. Whether they are such digits. It takes no memory.
+pub fn read_digits(digits: &[u8], bytes: &mut [u8]) -> bool
     requires { length digits.now ≡ 2 * length bytes.old }
     ensures read { IsTrue result → AreDigitsOf digits.now bytes.new }
     ensures all { (s : List ℕ) → AreDigitsOf digits.now s → IsTrue result × (bytes.new ≡ s) }

@@ -1,5 +1,5 @@
 // Key ids, and keys by their ids (TUF 1.0, section 4.2).
-ghost use Rattle.std.specs.Prelude.{◌≡◌, ◌↔◌, ◌++◌, List, ℕ, Some, None, IsTrue, IsOkAnd, MatchOption};
+ghost use Rattle.std.specs.Prelude.{◌≡◌, ◌↔◌, ◌++◌, List, ℕ, Some, None, IfOk, IsTrue, IsOkAnd, MatchOption};
 ghost use Rattle.std.specs.List.{list_any};
 ghost use Rattle.std.specs.Str.{bytes_eq};
 ghost use Rattle.sha2.specs.Sha256.{sha256};
@@ -13,6 +13,11 @@ use crate::{Key, KeyId, NoMemory};
 use sha2::{Digest, Sha256};
 use std::alloc::Global;
 
+// The key object of an LMS key, before and behind the digits of its public key.
+const LMS_FRONT: &[u8; 37] = b"{\"keytype\":\"lms\",\"keyval\":{\"public\":\"";
+
+const LMS_BACK: &[u8; 25] = b"\"},\"scheme\":\"lms-sha256\"}";
+
 /// The id of a key: the SHA-256 of the canonical form of its key object (TUF 1.0, section 4.2). It takes no memory, so it is
 /// always answered.
 pub fn key_id(alloc: Global, key: &Key) -> Result<KeyId, NoMemory>
@@ -20,6 +25,35 @@ pub fn key_id(alloc: Global, key: &Key) -> Result<KeyId, NoMemory>
 {
     let _ = alloc;
     Ok(KeyId(object_digest(key)))
+}
+
+/// The key object of a key in canonical JSON (TUF 1.0, section 4.2), 174 bytes for an LMS key. Its SHA-256 is the key's id.
+pub fn key_object(alloc: Global, key: &Key) -> Result<Vec<u8>, NoMemory>
+    ensures { IfOk result (λ object. object.items ≡ key_bytes (key_view key.now)) }
+{
+    match key {
+        Key::Lms(public) => lms_object(alloc, public),
+    }
+}
+
+// The same for an LMS key.
+fn lms_object(alloc: Global, public: &[u8; 56]) -> Result<Vec<u8>, NoMemory>
+    ensures { IfOk result (λ object. object.items ≡ key_bytes (lms public.now)) }
+{
+    let digits = digits_of(public);
+    let mut object = Vec::from_slice(alloc, LMS_FRONT)?;
+    object.extend_from_slice(&digits)?;
+    object.extend_from_slice(LMS_BACK)?;
+    Ok(object)
+}
+
+// The hex digits of a public key.
+fn digits_of(public: &[u8; 56]) -> [u8; 112]
+    ensures { result ≡ encode_lower public.now }
+{
+    let mut digits = [0; 112];
+    let _ = hex::encode_to_slice(public, &mut digits);
+    digits
 }
 
 // The SHA-256 of the canonical form of the key object.
@@ -35,13 +69,7 @@ fn object_digest(key: &Key) -> [u8; 32]
 fn lms_digest(public: &[u8; 56]) -> [u8; 32]
     ensures { result ≡ sha256 (key_bytes (lms public.now)) }
 {
-    let mut digits = [0; 112];
-    let _ = hex::encode_to_slice(public, &mut digits);
-    digest_around(
-        b"{\"keytype\":\"lms\",\"keyval\":{\"public\":\"",
-        &digits,
-        b"\"},\"scheme\":\"lms-sha256\"}",
-    )
+    digest_around(LMS_FRONT, &digits_of(public), LMS_BACK)
 }
 
 // The SHA-256 of the digits between what stands before them and what stands behind them.

@@ -51,7 +51,8 @@ mod meeting;
 mod rotation;
 mod verdicts;
 
-pub use ids::key_id;
+pub use digits::read_digits;
+pub use ids::{key_id, key_object};
 pub use lms::Steps;
 pub use meeting::{meets, meets_counted, meets_with, meets_with_counted};
 pub use rotation::same_rule;

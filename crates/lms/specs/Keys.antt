@@ -62,3 +62,11 @@ signature_of seed params q message = signature_bytes (signing_type params.height
 
 abbrev pub leaf_count : Params → ℕ
 leaf_count params = 2 ^ height (signing_type params.height)
+
+-- a seed with what a key pair is made by besides
+pub record Pair : Type 0 where
+  pub seed : Seed
+  pub params : Params
+
+abbrev pub pair : Seed → Params → Pair
+pair seed params = record { seed = seed; params = params }

@@ -71,6 +71,7 @@ pub enum SignFault {
 mod arrays;
 mod chains;
 mod hashes;
+mod key_pairs;
 mod keys;
 mod lanes;
 mod parameters;
@@ -80,6 +81,7 @@ mod steps;
 mod tree;
 mod verifying;
 
+pub use key_pairs::KeyPair;
 pub use keys::public_of;
 pub use signing::sign;
 pub use steps::Steps;

@@ -7,6 +7,7 @@ ghost use Rattle.lms.specs.Chains.{below};
 ghost use Rattle.lms.specs.Verifies.{Verifies};
 ghost use Rattle.lms.specs.Keys.{element, path_hash, public_of, signature_of, signature_bytes, leaf_count};
 ghost use Rattle.lms.specs.steps.Lanes.{all_ends, element_chains as element_chains_of};
+ghost use Rattle.lms.specs.steps.Leaves.{IsKnown};
 
 use crate::chains::{chain, coef, message_hash, with_checksum};
 use crate::keys::{derived, node_hash};
@@ -81,8 +82,9 @@ fn put_elements(ots: OtsType, seed: &Seed, q: u32, hash: &[u8; 32], out: &mut Ve
 }
 
 // Appends the siblings on the way from leaf `q` to the root. Each node of the tree beside the way is hashed once.
-fn put_path(lms: LmsType, ots: OtsType, seed: &Seed, q: u32, out: &mut Vec<u8>)
+fn put_path(lms: LmsType, ots: OtsType, seed: &Seed, known: &[[u8; 32]], q: u32, out: &mut Vec<u8>)
     requires leaf { q < 2 ^ height lms }
+    requires known { IsKnown ots seed.now.identifier seed.now.secret (2 ^ height lms) known.now }
     requires room { vec_len out.old + 32 * height lms ≤ vec_capacity out.old }
     ensures items { out.new.items ≡ out.old.items ++ concat (map (path_hash lms ots seed.now.identifier seed.now.secret q) (below (height lms))) }
     ensures len { vec_len out.new ≡ vec_len out.old + 32 * height lms }
@@ -92,14 +94,23 @@ fn put_path(lms: LmsType, ots: OtsType, seed: &Seed, q: u32, out: &mut Vec<u8>)
     let levels = lms.height();
     for i in 0..levels {
         let sibling = ((leaves + q) >> i) ^ 1;
-        let hash = node_hash(ots, seed, leaves, i, sibling);
+        let hash = node_hash(ots, seed, leaves, known, i, sibling);
         put(out, &hash);
     }
 }
 
 // Appends the signature, for which there is room.
-fn put_signature(lms: LmsType, ots: OtsType, seed: &Seed, q: u32, message: &[u8], out: &mut Vec<u8>)
+fn put_signature(
+    lms: LmsType,
+    ots: OtsType,
+    seed: &Seed,
+    known: &[[u8; 32]],
+    q: u32,
+    message: &[u8],
+    out: &mut Vec<u8>,
+)
     requires leaf { q < 2 ^ height lms }
+    requires known { IsKnown ots seed.now.identifier seed.now.secret (2 ^ height lms) known.now }
     requires room { vec_len out.old + signature_len_of ots lms ≤ vec_capacity out.old }
     ensures { out.new.items ≡ out.old.items ++ signature_bytes lms ots seed.now.identifier seed.now.secret q message.now }
 {
@@ -110,7 +121,34 @@ fn put_signature(lms: LmsType, ots: OtsType, seed: &Seed, q: u32, message: &[u8]
     put(out, &randomizer);
     put_elements(ots, seed, q, &hash, out);
     put(out, &lms.code().to_be_bytes());
-    put_path(lms, ots, seed, q, out);
+    put_path(lms, ots, seed, known, q, out);
+}
+
+/// Appends the signature, where the first leaves of the tree are known.
+pub fn sign_over(
+    seed: &Seed,
+    params: Params,
+    known: &[[u8; 32]],
+    q: u32,
+    message: &[u8],
+    out: &mut Vec<u8>,
+) -> Result<(), SignFault>
+    requires { IsKnown params.ots seed.now.identifier seed.now.secret (leaf_count params) known.now }
+    ensures ok { OnOk result ((q < leaf_count params) × (out.new.items ≡ out.old.items ++ signature_of seed.now params q message.now)) }
+    ensures verifies { q < leaf_count params → Verifies (public_of seed.now params) message.now (signature_of seed.now params q message.now) }
+    ensures range { leaf_count params ≤ q → result ≡ Err SignFault.LeafRange }
+    ensures fault { IfErr result (λ e. ((e ≡ SignFault.OutOfMemory) × (vec_capacity out.old < vec_len out.old + signature_len_of params.ots (signing_type params.height))) ⊎ ((e ≡ SignFault.LeafRange) × (leaf_count params ≤ q))) }
+    ensures unchanged { OnErr result (out.new.items ≡ out.old.items) }
+{
+    let lms = params.height.lms_type();
+    if q >= lms.leaves() {
+        return Err(SignFault::LeafRange);
+    }
+    if out.try_reserve(signature_len(lms, params.ots)).is_err() {
+        return Err(SignFault::OutOfMemory);
+    }
+    put_signature(lms, params.ots, seed, known, q, message, out);
+    Ok(())
 }
 
 /// Appends the signature of the message with leaf `q`, in 12 + 32 (p + 1) + 32 h bytes. The same arguments always make
@@ -129,13 +167,5 @@ pub fn sign(
     ensures fault { IfErr result (λ e. ((e ≡ SignFault.OutOfMemory) × (vec_capacity out.old < vec_len out.old + signature_len_of params.ots (signing_type params.height))) ⊎ ((e ≡ SignFault.LeafRange) × (leaf_count params ≤ q))) }
     ensures unchanged { OnErr result (out.new.items ≡ out.old.items) }
 {
-    let lms = params.height.lms_type();
-    if q >= lms.leaves() {
-        return Err(SignFault::LeafRange);
-    }
-    if out.try_reserve(signature_len(lms, params.ots)).is_err() {
-        return Err(SignFault::OutOfMemory);
-    }
-    put_signature(lms, params.ots, seed, q, message, out);
-    Ok(())
+    sign_over(seed, params, &[], q, message, out)
 }

@@ -9,7 +9,7 @@ use Rattle.denials.specs.Orders.{Order}
 use Rattle.delegations.specs.Rows.{Rows, AllFiles}
 use Rattle.delegations.specs.Search.{Shelf, shelf_of, visited}
 use Rattle.delegations.specs.Verdicts.{AreFew, Table, AreTrue, AreOfRows, IsComplete, Costs}
-use Rattle.machine.specs.State.{State, Trusted, IsState, IsShelfRow}
+use Rattle.machine.specs.State.{State, Trusted, IsState, IsTrusted, IsShelfRow}
 use Rattle.machine.specs.Commands.{BatchOrder}
 use Rattle.machine.specs.Effects as changed
 use Rattle.machine.specs.Effects.{applied, brought}
@@ -64,13 +64,13 @@ pub ok_all : {A E : Type 0} (P Q R S : A → Type 0) (r : Result A E) → ((x : 
 ok_all P Q R S (Ok x) so p q r = so x p q r
 ok_all P Q R S (Err e) so p q r = tt
 
--- no document of a state has more than 16 signatures
+-- no document of what is trusted has more than 16 signatures
 few_in : (rows : Rows) → AllByRecursion IsShelfRow rows → AllFiles (λ f. length f.entries ≤ 16) rows
 few_in [] all = tt
 few_in (row ∷ rows) all = (all.0.document.read.file.envelope.signatures.1, few_in rows all.1)
 
-pub few_entries : (S : State) → IsState S → AllFiles (λ f. length f.entries ≤ 16) S.trusted.shelf
-few_entries S valid = few_in S.trusted.shelf (recursion_from_All IsShelfRow S.trusted.shelf valid.trusted.rows)
+pub few_entries : (T : Trusted) → IsTrusted T → AllFiles (λ f. length f.entries ≤ 16) T.shelf
+few_entries T valid = few_in T.shelf (recursion_from_All IsShelfRow T.shelf valid.rows)
 
 -- a request that makes no search checks nothing
 pub no_checks : (root : Option (File Root)) (snap : Option (File Snapshot)) (shelf : Rows) (t : Table) (path : Bytes) (now count : ℕ) → count ≡ 0 → ChecksFew root snap shelf t path now count

@@ -66,14 +66,14 @@ began S b new E e f g h =
     subst (λ T. init S b (Ok T)) (sym (ap (λ (F : changes.Effects). applied S F) g ∙ first_root S new e f)) h
 
 -- what an offer to a draft has taken
-pub offered : (S : State) (m : Trusted → Order Trusted) (T : Trusted) (P : State) (E F : changes.Effects) (b : Bool) → T ≡ S.trusted → P ≡ S → F ≡ E → b ≡ true
-    → Ends (m T) T (brought P.trusted F) (Ok b) → m S.trusted (Ok (brought S.trusted E))
+pub offered : (S : State) (m : Trusted → Order Trusted) (T P : Trusted) (E F : changes.Effects) (b : Bool) → T ≡ S.trusted → P ≡ S.trusted → F ≡ E → b ≡ true
+    → Ends (m T) T (brought P F) (Ok b) → m S.trusted (Ok (brought S.trusted E))
 offered S m T P E F b e f g t h =
     let there : Ends (m S.trusted) S.trusted (brought S.trusted E) (Ok true) =
     subst (λ (x : Bool). Ends (m S.trusted) S.trusted (brought S.trusted E) (Ok x)) t
     (subst (λ (G : changes.Effects). Ends (m S.trusted) S.trusted (brought S.trusted G) (Ok b)) g
-    (subst (λ (Q : State). Ends (m S.trusted) S.trusted (brought Q.trusted F) (Ok b)) f
-    (subst (λ (U : Trusted). Ends (m U) U (brought P.trusted F) (Ok b)) e h))) in
+    (subst (λ (Q : Trusted). Ends (m S.trusted) S.trusted (brought Q F) (Ok b)) f
+    (subst (λ (U : Trusted). Ends (m U) U (brought P F) (Ok b)) e h))) in
     taken there
   where
     taken : {k : Order Trusted} {old new : Trusted} → Ends k old new (Ok true) → k (Ok new)

@@ -13,7 +13,7 @@ use Rattle.limits.specs.Limits.{most_held}
 use Rattle.machine.specs.Effects.{Effects, applied, last_or, renewed, with_blobs}
 use Rattle.machine.specs.steps.Loading.{AreBlobs, IsBare, AreShelfRows, laid}
 use Rattle.machine.proofs.PutInRoom.{same_state}
-use Rattle.machine.proofs.RowsInOrder.{Orders, orders_bytes, orders_places}
+use Rattle.delegations.proofs.KeyOrder.{Orders, orders_bytes, orders_places}
 
 -- what holds where there is nothing, from what else does
 pub if_none_both : {A : Type 0} (P Q R : Type 0) (o : Option A) → (P → Q → R) → IfNone o P → IfNone o Q → IfNone o R

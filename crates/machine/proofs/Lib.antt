@@ -1,6 +1,5 @@
 pub mod AnswersMakeStates
 pub mod BatchOneByOne
-pub mod ByHalves
 pub mod Carrying
 pub mod ChangesMake
 pub mod CoherentSteps

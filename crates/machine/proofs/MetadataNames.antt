@@ -7,11 +7,11 @@ use Rattle.metadata.specs.File.{Bytes, File}
 use Rattle.metadata.specs.FileViews.{root_file}
 use Rattle.metadata.specs.declared.file.File.{File as KeptFile}
 use Rattle.metadata.specs.declared.documents.Root.{Root as KeptRoot}
-use Rattle.machine.specs.Views.{parts_view, last_bytes}
-use Rattle.machine.specs.declared.parts.Parts.{Parts}
-use Rattle.machine.specs.State.{State, Trusted, dotted, root_version, root_files, metadata_of}
+use Rattle.machine.specs.Views.{trusted_view, last_bytes}
+use Rattle.machine.specs.declared.parts.Trusted.{Trusted as CodeTrusted}
+use Rattle.machine.specs.State.{Trusted, dotted, root_version, root_files, metadata_of}
 use Rattle.machine.specs.steps.NamedFiles.{earlier_files, shelf_files, timestamp_files, snapshot_files}
-use Rattle.machine.proofs.RowsInOrder.{by_test}
+use Rattle.delegations.proofs.Walk.{by_test}
 
 pub found_first : {A : Type 0} (xs ys : List (Bytes × A)) (name : Bytes) (a : A) → look_up xs name ≡ Some a → look_up (xs ++ ys) name ≡ Some a
 found_first [] ys name a h = let none : None ≡ Some a = h in cc
@@ -74,13 +74,13 @@ pub one_missed : (d b name : Bytes) → bytes_eq d name ≡ false → look_up ((
 one_missed d b name f = rw f refl
 
 -- the files of the roots that are kept, the last of them apart
-pub roots_kept : (p : Parts) (last : KeptFile KeptRoot) (name : Bytes) → p.root ≡ Some last
-    → look_up (root_files (parts_view p).trusted 0 (parts_view p).trusted.roots) name
-    ≡ look_up (earlier_files last.body.version (map (λ b. b.items) p.earlier.items)
+pub roots_kept : (t : CodeTrusted) (last : KeptFile KeptRoot) (name : Bytes) → t.root ≡ Some last
+    → look_up (root_files (trusted_view t) 0 (trusted_view t).roots) name
+    ≡ look_up (earlier_files last.body.version (map (λ b. b.items) t.earlier.items)
     ++ (dotted last.body.version (codes "root"), last.source.bytes) ∷ []) name
-roots_kept p last name e =
-    roots_named (parts_view p).trusted (root_file last) (ap (option_map root_file) e) (map (λ b. b.items) p.earlier.items) last.source.bytes name
-    (ap (λ (o : Option (KeptFile KeptRoot)). map (λ b. b.items) p.earlier.items ++ last_bytes o) e)
+roots_kept t last name e =
+    roots_named (trusted_view t) (root_file last) (ap (option_map root_file) e) (map (λ b. b.items) t.earlier.items) last.source.bytes name
+    (ap (λ (o : Option (KeptFile KeptRoot)). map (λ b. b.items) t.earlier.items ++ last_bytes o) e)
 
-pub same_name : (S T : State) (n m : Bytes) → S ≡ T → n ≡ m → metadata_of S.trusted n ≡ metadata_of T.trusted m
-same_name S T n m e f = ap (λ (R : State). metadata_of R.trusted n) e ∙ ap (λ (k : Bytes). metadata_of T.trusted k) f
+pub same_name : (S T : Trusted) (n m : Bytes) → S ≡ T → n ≡ m → metadata_of S n ≡ metadata_of T m
+same_name S T n m e f = ap (λ (R : Trusted). metadata_of R n) e ∙ ap (λ (k : Bytes). metadata_of T k) f

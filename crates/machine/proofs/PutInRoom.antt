@@ -8,9 +8,9 @@ use Rattle.metadata.specs.File.{Bytes, File}
 use Rattle.metadata.specs.Documents.{Root, Timestamp, Snapshot}
 use Rattle.delegations.specs.Delegation.{before}
 use Rattle.delegations.specs.Rows.{Rows, with_row}
-use Rattle.machine.specs.State.{State}
+use Rattle.machine.specs.State.{State, Trusted}
 use Rattle.machine.specs.Effects.{last_or, renewed, with_blobs}
-use Rattle.machine.proofs.RowsInOrder.{by_test}
+use Rattle.delegations.proofs.Walk.{by_test}
 
 -- what is put before the first that is greater stands at its place in the order
 pub put_in_order : {A K V : Type 0} (below : K → K → Bool) (f : A → K × V) (xs : List A) (y : A)
@@ -59,13 +59,23 @@ pub map_twice : {A B C : Type 0} (g : B → C) (f : A → B) (xs : List A) → m
 map_twice g f [] = refl
 map_twice {A} {B} {C} g f (x ∷ xs) = ap (λ (l : List C). g (f x) ∷ l) (map_twice g f xs)
 
+-- what is trusted, of equal parts
+pub same_trusted : (roots roots' : List Bytes) (root root' : Option (File Root)) (stamp stamp' : Option (File Timestamp))
+    → (snap snap' : Option (File Snapshot)) (shelf shelf' : Rows)
+    → roots ≡ roots' → root ≡ root' → stamp ≡ stamp' → snap ≡ snap' → shelf ≡ shelf'
+    → ◌≡◌ {A = Trusted} (record { roots = roots; root = root; timestamp = stamp; snapshot = snap; shelf = shelf })
+    (record { roots = roots'; root = root'; timestamp = stamp'; snapshot = snap'; shelf = shelf' })
+same_trusted roots roots' root root' stamp stamp' snap snap' shelf shelf' e f g h i = rw (e, f, g, h, i) refl
+
 -- states of equal parts
 pub same_state : (roots roots' : List Bytes) (root root' : Option (File Root)) (stamp stamp' : Option (File Timestamp))
     → (snap snap' : Option (File Snapshot)) (shelf shelf' : Rows) (blobs blobs' : List (Bytes × Bytes))
     → roots ≡ roots' → root ≡ root' → stamp ≡ stamp' → snap ≡ snap' → shelf ≡ shelf' → blobs ≡ blobs'
     → ◌≡◌ {A = State} (record { trusted = record { roots = roots; root = root; timestamp = stamp; snapshot = snap; shelf = shelf }; blobs = blobs })
     (record { trusted = record { roots = roots'; root = root'; timestamp = stamp'; snapshot = snap'; shelf = shelf' }; blobs = blobs' })
-same_state roots roots' root root' stamp stamp' snap snap' shelf shelf' blobs blobs' e f g h i j = rw (e, f, g, h, i, j) refl
+same_state roots roots' root root' stamp stamp' snap snap' shelf shelf' blobs blobs' e f g h i j =
+    let trusted = same_trusted roots roots' root root' stamp stamp' snap snap' shelf shelf' e f g h i in
+    λ k. record { trusted = trusted k; blobs = j k }
 
 pub map_emptied : {A B : Type 0} (f : A → B) (emptied : Bool) (xs : List A) → map f (cond emptied [] xs) ≡ cond emptied [] (map f xs)
 map_emptied f true xs = refl

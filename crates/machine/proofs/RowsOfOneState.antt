@@ -1,6 +1,6 @@
 -- The rows of a state, and the files that they spell.
 use Rattle.std.proofs.Common.{◌≡◌, ◌⊎◌, inl, inr, ℕ, false, suc, ◌+◌, ◌-◌, List, [], ◌∷◌, ◌++◌, map, length, Option, Some, None, Result, Ok, Err, refl, sym, ap, ◌∙◌, subst, arith}
-use Rattle.std.specs.Prelude.{◌≤◌, All, IfOk, IfSome, IfNone, IsSome, option_map, unwrap_or}
+use Rattle.std.specs.Prelude.{◌≤◌, All, IfErr, IfOk, IfSome, IfNone, IsErrAnd, IsSome, option_map, unwrap_or}
 use Rattle.std.proofs.lemmas.Bool.{true≢false}
 use Rattle.std.proofs.lemmas.List.{length-append, length-map, map-append}
 use Rattle.std.proofs.lemmas.List.Elements.{All-nil, All-cons, All-head, All-tail}
@@ -23,27 +23,45 @@ use Rattle.machine.proofs.PutInRoom.{same_state}
 use Rattle.machine.proofs.ShapedOnce.{Shapes, Tells, file-once, root-tells, timestamp-tells, snapshot-tells, targets-tells}
 
 -- a fault of a file that is not want of memory
-pub real_fault : (P Q : Type 0) → P ⊎ Q → (P → ⊥) → Q
+real_fault : (P Q : Type 0) → P ⊎ Q → (P → ⊥) → Q
 real_fault P Q (inl p) k = absurd (k p)
 real_fault P Q (inr q) k = q
 
 module _ (law : Shapes) where
-  pub not_stored : {A : Type 0} (form : Form A) (version : A → ℕ) (row : ℕ × Bytes) (e : ShapeFault) → IsShapeFault form.kind row.1 e
+  not_stored : {A : Type 0} (form : Form A) (version : A → ℕ) (row : ℕ × Bytes) (e : ShapeFault) → IsShapeFault form.kind row.1 e
       → (f : File A) → IsStored form version row f → ⊥
   not_stored form version row e k f h =
       law.none form.kind row.1 (document_of form f) e
       (subst (λ (z : Bytes). IsDocument form.kind z (document_of form f)) (ap (λ r. r.1) h.is) h.document) k
 
-  pub not_shelved : (row : Place × Bytes) (e : ShapeFault) → IsShapeFault targets_form.kind row.1 e → (held : Place × File Targets) → IsShelved row held → ⊥
+  not_shelved : (row : Place × Bytes) (e : ShapeFault) → IsShapeFault targets_form.kind row.1 e → (held : Place × File Targets) → IsShelved row held → ⊥
   not_shelved row e k held h =
       law.none targets_form.kind row.1 (document_of targets_form held.1) e
       (subst (λ (z : Bytes). IsDocument targets_form.kind z (document_of targets_form held.1)) (ap (λ r. r.1) h.is) h.document) k
+
+  -- where what was read is no file, no file is stored in the row
+  pub unstored : {A X : Type 0} (form : Form A) (version : A → ℕ) (row : ℕ × Bytes) (r : Result X ShapeFault)
+      → IfErr r (λ e. (e ≡ OutOfMemory) ⊎ IsShapeFault form.kind row.1 e) → IsErrAnd r (λ e. ¬ (e ≡ OutOfMemory))
+      → (f : File A) → IsStored form version row f → ⊥
+  unstored form version row (Ok x) h k = absurd k
+  unstored form version row (Err e) h k = not_stored form version row e (real_fault _ _ h k)
+
+  pub unshelved : {X : Type 0} (row : Place × Bytes) (r : Result X ShapeFault)
+      → IfErr r (λ e. (e ≡ OutOfMemory) ⊎ IsShapeFault targets_form.kind row.1 e) → IsErrAnd r (λ e. ¬ (e ≡ OutOfMemory))
+      → (held : Place × File Targets) → IsShelved row held → ⊥
+  unshelved row (Ok x) h k = absurd k
+  unshelved row (Err e) h k = not_shelved row e (real_fault _ _ h k)
 
   pub other_version : {A : Type 0} (form : Form A) → Tells form → (version : A → ℕ) (v : ℕ) (b : Bytes) (g : File A) → IsFileOf form g → g.bytes ≡ b
       → (version g.body ≡ v → ⊥) → (f : File A) → IsStored form version (v, b) f → ⊥
   other_version {A} form tells version v b g doc is unlike f h =
       let same : f ≡ g = file-once law form tells f g h.document doc (ap (λ r. r.1) h.is ∙ sym is) in
       unlike (subst (λ (x : File A). version x.body ≡ v) same (ap (λ r. r.0) h.is))
+
+-- a file of this version, with the bytes of the row
+pub as_stored : {A : Type 0} (form : Form A) (version : A → ℕ) (v : ℕ) (b : Bytes) (f : File A) → IsFileOf form f → version f.body ≡ v → f.bytes ≡ b
+    → IsStored form version (v, b) f
+as_stored form version v b f document same bytes = record { document = document; is = λ i. (same i, bytes i) }
 
 pub nothing_together : {A B : Type 0} (R : A → B → Type 0) (x : A) → ((y : B) → R x y → ⊥) → (o : Option B) → Together R (Some x) o → ⊥
 nothing_together R x none None h = h

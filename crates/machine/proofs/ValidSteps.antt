@@ -21,7 +21,10 @@ use Rattle.machine.specs.Commands.{KeepsRoles, with_root, emptied, kept, rotated
 use Rattle.machine.specs.Runs.{Command, Reply, Outcome, Init, Batch, OfferOne, PutBlob, Metadata, Target, with_trusted, settled, batch_outcome, Steps, Runs, done, next}
 use Rattle.machine.proofs.CoherentSteps.{led}
 use Rattle.machine.proofs.LinesGive.{checked_each, Gives, line, gives, checked, differed, needed, read, given_by}
-use Rattle.machine.proofs.RowsInOrder.{by_test, orders_bytes, orders_places, all_with_row, length_with_row, rises_with_row, none_rise}
+use Rattle.delegations.proofs.KeyOrder.{orders_bytes, orders_places}
+use Rattle.delegations.proofs.RisingKeys.{none_rise}
+use Rattle.delegations.proofs.Walk.{by_test}
+use Rattle.machine.proofs.RowsInOrder.{all_with_row, length_with_row, rises_with_row}
 
 -- ---- rules that stay
 

@@ -20,8 +20,8 @@ pub record WithRoom : Type 0 where
 -- the least number of free places: for roots, for shelf rows, for blobs
 abbrev pub room_of : Parts → ℕ
 room_of p =
-    min (vec_capacity p.earlier - vec_len p.earlier)
-    (min (vec_capacity p.shelf - vec_len p.shelf) (vec_capacity p.blobs - vec_len p.blobs))
+    min (vec_capacity p.trusted.earlier - vec_len p.trusted.earlier)
+    (min (vec_capacity p.trusted.shelf - vec_len p.trusted.shelf) (vec_capacity p.blobs - vec_len p.blobs))
 
 abbrev pub with_room : Parts → Table → WithRoom
 with_room p table = record { state = parts_view p; room = room_of p; verdicts = table }

@@ -10,8 +10,10 @@ use Rattle.machine.specs.Commands as commands
 use Rattle.machine.specs.Effects as changes
 use Rattle.machine.specs.State as plain
 use Rattle.machine.specs.declared.effects.Blob.{Blob}
+use Rattle.machine.specs.declared.effects.Changes.{Changes}
 use Rattle.machine.specs.declared.effects.Effects.{Effects}
 use Rattle.machine.specs.declared.parts.Parts.{Parts}
+use Rattle.machine.specs.declared.parts.Trusted.{Trusted}
 use Rattle.machine.specs.declared.draft.Draft.{Draft}
 use Rattle.machine.specs.declared.outcome.Offer.{Offer}
 use Rattle.machine.specs.declared.outcome.Offer.TheVariants as offers
@@ -19,34 +21,38 @@ use Rattle.machine.specs.declared.outcome.Offer.TheVariants as offers
 abbrev pub blob_views : List Blob → List (spec.Bytes × spec.Bytes)
 blob_views blobs = map (λ b. (b.digest.0, b.bytes.items)) blobs
 
-abbrev pub effects_view : Effects → changes.Effects
-effects_view e = record {
-  roots = map root_file e.roots.items;
-  emptied = e.emptied;
-  timestamp = option_map timestamp_file e.timestamp;
-  snapshot = option_map snapshot_file e.snapshot;
-  rows = row_views e.rows.items;
-  blobs = blob_views e.blobs.items;
+-- changes of what is trusted, as changes without blobs
+abbrev pub changes_view : Changes → changes.Effects
+changes_view c = record {
+  roots = map root_file c.roots.items;
+  emptied = c.emptied;
+  timestamp = option_map timestamp_file c.timestamp;
+  snapshot = option_map snapshot_file c.snapshot;
+  rows = row_views c.rows.items;
+  blobs = [];
 }
+
+abbrev pub effects_view : Effects → changes.Effects
+effects_view e = record (changes_view e.changes) { blobs = blob_views e.blobs.items }
 
 abbrev pub last_bytes : Option (File Root) → List spec.Bytes
 last_bytes None = []
 last_bytes (Some file) = file.source.bytes ∷ []
 
-abbrev pub parts_view : Parts → plain.State
-parts_view p = record {
-  trusted = record {
-    roots = map (λ b. b.items) p.earlier.items ++ last_bytes p.root;
-    root = option_map root_file p.root;
-    timestamp = option_map timestamp_file p.timestamp;
-    snapshot = option_map snapshot_file p.snapshot;
-    shelf = row_views p.shelf.items;
-  };
-  blobs = blob_views p.blobs.items;
+abbrev pub trusted_view : Trusted → plain.Trusted
+trusted_view t = record {
+  roots = map (λ b. b.items) t.earlier.items ++ last_bytes t.root;
+  root = option_map root_file t.root;
+  timestamp = option_map timestamp_file t.timestamp;
+  snapshot = option_map snapshot_file t.snapshot;
+  shelf = row_views t.shelf.items;
 }
 
+abbrev pub parts_view : Parts → plain.State
+parts_view p = record { trusted = trusted_view p.trusted; blobs = blob_views p.blobs.items }
+
 abbrev pub draft_view : Draft → plain.Trusted
-draft_view d = changes.brought (parts_view d.base.now).trusted (effects_view d.effects)
+draft_view d = changes.brought (trusted_view d.base.now) (changes_view d.changes)
 
 abbrev pub offer_view : Offer → commands.Offer
 offer_view offers.Root = commands.RootOffer

@@ -12,6 +12,7 @@ ghost use Rattle.machine.specs.Views.{documents_view, draft_view};
 use crate::calls::offer_one;
 use crate::compared::are_coherent;
 use crate::draft::Draft;
+use crate::effects::Effects;
 use crate::knowing::batch_with_verdicts;
 use crate::laws::stays_valid;
 use crate::outcome::{Batched, Offer};
@@ -47,7 +48,7 @@ fn judge_batch(
     ensures { AnswersBatch state.now.state (commands.batch state.now.state.trusted (documents_view documents.now) now) result }
 {
     stays_valid();
-    let draft = Draft::new(alloc, state.parts());
+    let draft = Draft::new(alloc, state.trusted());
     let progress = judge_all(alloc, draft, documents, now)?;
     let Progress {
         draft,
@@ -58,7 +59,7 @@ fn judge_batch(
         return Err(BatchRefusal::Denied(Denial::Incoherent, documents.len()));
     }
     Ok(Batched {
-        effects: draft.into_effects(),
+        effects: Effects::of(alloc, draft.into_changes()),
         accepted,
         same,
     })
@@ -82,7 +83,7 @@ fn judge_all<'a>(
     ensures ok { IfOk result (λ p. (r : Result commands.Batched (orders.Denial × ℕ))
         → Ended (record { trusted = draft_view p.draft; accepted = p.accepted; same = p.same }) (length documents.now) r
         → commands.batch (draft_view draft.entry) (documents_view documents.now) now r) }
-    ensures rest { IfOk result (λ p. (p.draft.base.now ≡ draft.entry.base.now) × (p.draft.effects.blobs ≡ draft.entry.effects.blobs)) }
+    ensures base { IfOk result (λ p. p.draft.base.now ≡ draft.entry.base.now) }
     ensures err { IfErr result (IsDeniedAt (commands.batch (draft_view draft.entry) (documents_view documents.now) now)) }
 {
     let mut draft = draft;

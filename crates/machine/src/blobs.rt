@@ -92,7 +92,7 @@ fn judge_blob(parts: &Parts, digest: &Digest, bytes: &[u8]) -> Result<bool, Refu
     ensures { Judges (commands.put_blob (parts_view parts.now) digest.now.0 bytes.now)
         (record (parts_view parts.now) { blobs = with_row before (parts_view parts.now).blobs digest.now.0 bytes.now }) result }
 {
-    if parts.root.is_none() {
+    if parts.trusted.root.is_none() {
         return Err(Refusal::Denied(Denial::NoRoot));
     }
     if !is_short(bytes) {

@@ -10,7 +10,7 @@ ghost use Rattle.machine.specs.Views.{draft_view, effects_view, offer_view};
 
 use crate::checks::is_signed;
 use crate::draft::Draft;
-use crate::effects::Effects;
+use crate::effects::{Changes, Effects};
 use crate::files::new_root;
 use crate::knowing::with_verdicts;
 use crate::laws::stays_valid;
@@ -21,7 +21,6 @@ use crate::snapshots::offer_snapshot;
 use crate::state::State;
 use crate::targets_metadata::offer_targets;
 use crate::timestamps::offer_timestamp;
-use delegations::Verdicts;
 use denials::Denial;
 use metadata::{File, Moment, Root};
 use std::alloc::{AllocError, Global};
@@ -41,7 +40,7 @@ fn judge_first(alloc: Global, state: &State, bytes: &[u8]) -> Result<Outcome, Re
     ensures { Answers state.now.state (commands.init state.now.state bytes.now) result }
 {
     stays_valid();
-    if state.parts().root.is_some() {
+    if state.trusted().root.is_some() {
         return Err(Refusal::Denied(Denial::RootExists));
     }
     let new = new_root(alloc, bytes)?;
@@ -56,17 +55,9 @@ fn judge_first(alloc: Global, state: &State, bytes: &[u8]) -> Result<Outcome, Re
 fn first_root(alloc: Global, root: File<Root>) -> Result<Effects, AllocError>
     ensures { IfOk result (λ e. effects_view e ≡ record no_effects { roots = root_file root ∷ [] }) }
 {
-    let mut roots = Vec::new(alloc);
-    roots.push(root)?;
-    Ok(Effects {
-        roots,
-        emptied: false,
-        timestamp: None,
-        snapshot: None,
-        rows: Vec::new(alloc),
-        blobs: Vec::new(alloc),
-        verdicts: Verdicts::new(alloc),
-    })
+    let mut changes = Changes::new(alloc);
+    changes.roots.push(root)?;
+    Ok(Effects::of(alloc, changes))
 }
 
 /// Offers one document at a moment (TUF 1.0, sections 5.3 to 5.6).
@@ -95,11 +86,11 @@ fn judge_offer(
     ensures { Answers state.now.state (on_state state.now.state (commands.offer state.now.state.trusted (offer_view offer.now) bytes.now now)) result }
 {
     stays_valid();
-    let mut draft = Draft::new(alloc, state.parts());
+    let mut draft = Draft::new(alloc, state.trusted());
     if !offer_one(alloc, &mut draft, offer, bytes, now)? {
         return Ok(Outcome::Same);
     }
-    Ok(Outcome::Changed(draft.into_effects()))
+    Ok(Outcome::Changed(Effects::of(alloc, draft.into_changes())))
 }
 
 // Offers one document to a draft. The answer is whether it was taken.
@@ -111,7 +102,7 @@ pub(crate) fn offer_one(
     now: Moment,
 ) -> Result<bool, Refusal>
     ensures ends { Ends (commands.offer (draft_view draft.old) (offer_view offer.now) bytes.now now) (draft_view draft.old) (draft_view draft.new) result }
-    ensures rest { (draft.new.base.now ≡ draft.old.base.now) × (draft.new.effects.blobs ≡ draft.old.effects.blobs) }
+    ensures base { draft.new.base.now ≡ draft.old.base.now }
 {
     match offer {
         Offer::Root => offer_root(alloc, draft, bytes),

@@ -2,60 +2,65 @@
 ghost use Rattle.std.specs.Prelude.{◌≡◌, ◌↔◌, ◌<◌, ◌+◌, ◌^◌, [], None, Some, MatchOption, IfOk, IsTrue, length, cond};
 ghost use Rattle.std.specs.Option.{option_map};
 ghost use Rattle.metadata.specs.FileViews.{root_file, timestamp_file, snapshot_file, targets_file};
-ghost use Rattle.delegations.specs.Rows.{row_at, with_row, place_before};
-ghost use Rattle.delegations.specs.Views.{row_views, rows_view};
+ghost use Rattle.delegations.specs.Rows.{Rises, place_before};
+ghost use Rattle.delegations.specs.RowViews.{row_views};
 ghost use Rattle.limits.specs.Limits.{most_held};
 ghost use Rattle.machine.specs.Commands.{with_root, emptied};
-ghost use Rattle.machine.specs.Views.{draft_view, effects_view, parts_view};
-ghost use Rattle.machine.specs.Effects.{no_effects};
 
-use crate::effects::Effects;
-use crate::parts::Parts;
+use crate::effects::Changes;
+use crate::parts::Trusted;
 use delegations::{Row, Rows};
 use limits::MOST_HELD;
 use metadata::{File, Root, Snapshot, Targets, Timestamp};
 use std::alloc::{AllocError, Global};
 
-/// A state, and the changes made to it so far.
+/// What a state trusts, and the changes made to it so far.
 #[derive(Drop)]
 pub(crate) struct Draft<'a> {
-    base: &'a Parts,
-    pub effects: Effects,
+    base: &'a Trusted,
+    changes: Changes,
+    ghost in_order: { Rises place_before (row_views base.now.shelf.items) },
 }
 
 impl<'a> Draft<'a> {
-    /// The state as it is.
-    pub fn new(alloc: Global, base: &'a Parts) -> Draft<'a>
-        ensures view { draft_view result ≡ (parts_view base.now).trusted }
-        ensures base { (result.base.now ≡ base.now) × (effects_view result.effects ≡ no_effects) }
+    ghost use Rattle.delegations.specs.Rows.{row_at, with_row};
+    ghost use Rattle.delegations.specs.Views.{rows_view};
+    ghost use Rattle.machine.specs.Views.{draft_view, trusted_view};
+
+    /// What is trusted as it is.
+    pub fn new(alloc: Global, base: &'a Trusted) -> Draft<'a>
+        requires { Rises place_before (trusted_view base.now).shelf }
+        ensures view { draft_view result ≡ trusted_view base.now }
+        ensures base { result.base.now ≡ base.now }
     {
         Draft {
             base,
-            effects: Effects::new(alloc),
+            changes: Changes::new(alloc),
         }
     }
 
-    /// The state with these changes.
-    pub fn over(base: &'a Parts, effects: Effects) -> Draft<'a>
+    /// What is trusted with these changes.
+    pub fn over(base: &'a Trusted, changes: Changes) -> Draft<'a>
+        requires { Rises place_before (trusted_view base.now).shelf }
         ensures base { result.base.now ≡ base.now }
-        ensures effects { result.effects ≡ effects }
+        ensures changes { result.changes ≡ changes }
     {
-        Draft { base, effects }
+        Draft { base, changes }
     }
 
     /// The changes.
-    pub fn into_effects(self) -> Effects
-        ensures { result ≡ self.entry.effects }
+    pub fn into_changes(self) -> Changes
+        ensures { result ≡ self.entry.changes }
     {
-        let Draft { base: _, effects } = self;
-        effects
+        let Draft { base: _, changes } = self;
+        changes
     }
 
     /// The last root.
     pub fn root(&self) -> Option<&File<Root>>
         ensures { MatchOption result ((draft_view self.now).root ≡ None) (λ f. (draft_view self.now).root ≡ Some (root_file f.now)) }
     {
-        match self.effects.roots.last() {
+        match self.changes.roots.last() {
             Some(file) => Some(file),
             None => self.base.root.as_ref(),
         }
@@ -65,8 +70,8 @@ impl<'a> Draft<'a> {
     pub fn timestamp(&self) -> Option<&File<Timestamp>>
         ensures { option_map (λ f. timestamp_file f.now) result ≡ (draft_view self.now).timestamp }
     {
-        if self.effects.timestamp.is_some() || self.effects.emptied {
-            self.effects.timestamp.as_ref()
+        if self.changes.timestamp.is_some() || self.changes.emptied {
+            self.changes.timestamp.as_ref()
         } else {
             self.base.timestamp.as_ref()
         }
@@ -76,8 +81,8 @@ impl<'a> Draft<'a> {
     pub fn snapshot(&self) -> Option<&File<Snapshot>>
         ensures { option_map (λ f. snapshot_file f.now) result ≡ (draft_view self.now).snapshot }
     {
-        if self.effects.snapshot.is_some() || self.effects.emptied {
-            self.effects.snapshot.as_ref()
+        if self.changes.snapshot.is_some() || self.changes.emptied {
+            self.changes.snapshot.as_ref()
         } else {
             self.base.snapshot.as_ref()
         }
@@ -86,16 +91,16 @@ impl<'a> Draft<'a> {
     /// The shelf.
     pub fn rows(&self) -> Rows<'_>
         ensures view { rows_view result ≡ (draft_view self.now).shelf }
-        ensures held { row_views result.held.now ≡ cond self.now.effects.emptied [] (parts_view self.now.base.now).trusted.shelf }
+        ensures held { row_views result.held.now ≡ cond self.now.changes.emptied [] (trusted_view self.now.base.now).shelf }
     {
-        let held = if self.effects.emptied {
+        let held = if self.changes.emptied {
             &self.base.shelf[..0]
         } else {
             &self.base.shelf[..]
         };
         Rows {
             held,
-            added: &self.effects.rows,
+            added: &self.changes.rows,
         }
     }
 
@@ -118,7 +123,7 @@ impl<'a> Draft<'a> {
     pub fn has_room_for_root(&self) -> bool
         ensures { IsTrue result ↔ length (draft_view self.now).roots < most_held }
     {
-        let held = self.base.earlier.len() + self.effects.roots.len();
+        let held = self.base.earlier.len() + self.changes.roots.len();
         held + usize::from(self.base.root.is_some()) < MOST_HELD
     }
 
@@ -126,14 +131,14 @@ impl<'a> Draft<'a> {
     pub fn put_root(&mut self, file: File<Root>, keeps: bool) -> Result<(), AllocError>
         ensures view { IfOk result (λ _. draft_view self.new
             ≡ cond keeps (with_root (draft_view self.old) (root_file file)) (emptied (with_root (draft_view self.old) (root_file file)))) }
-        ensures rest { (self.new.base.now ≡ self.old.base.now) × (self.new.effects.blobs ≡ self.old.effects.blobs) }
+        ensures base { self.new.base.now ≡ self.old.base.now }
     {
-        self.effects.roots.push(file)?;
+        self.changes.roots.push(file)?;
         if !keeps {
-            self.effects.emptied = true;
-            self.effects.timestamp = None;
-            self.effects.snapshot = None;
-            self.effects.rows.clear();
+            self.changes.emptied = true;
+            self.changes.timestamp = None;
+            self.changes.snapshot = None;
+            self.changes.rows.clear();
         }
         Ok(())
     }
@@ -141,26 +146,26 @@ impl<'a> Draft<'a> {
     /// Puts a timestamp there.
     pub fn put_timestamp(&mut self, file: File<Timestamp>)
         ensures view { draft_view self.new ≡ record (draft_view self.old) { timestamp = Some (timestamp_file file) } }
-        ensures rest { (self.new.base.now ≡ self.old.base.now) × (self.new.effects.blobs ≡ self.old.effects.blobs) }
+        ensures base { self.new.base.now ≡ self.old.base.now }
     {
-        self.effects.timestamp = Some(file);
+        self.changes.timestamp = Some(file);
     }
 
     /// Puts a snapshot there.
     pub fn put_snapshot(&mut self, file: File<Snapshot>)
         ensures view { draft_view self.new ≡ record (draft_view self.old) { snapshot = Some (snapshot_file file) } }
-        ensures rest { (self.new.base.now ≡ self.old.base.now) × (self.new.effects.blobs ≡ self.old.effects.blobs) }
+        ensures base { self.new.base.now ≡ self.old.base.now }
     {
-        self.effects.snapshot = Some(file);
+        self.changes.snapshot = Some(file);
     }
 
     /// Puts a row on the shelf.
     pub fn put_row(&mut self, row: Row) -> Result<(), AllocError>
         ensures view { IfOk result (λ _. draft_view self.new
             ≡ record (draft_view self.old) { shelf = with_row place_before (draft_view self.old).shelf (row.role, row.version) (targets_file row.file) }) }
-        ensures rest { (self.new.base.now ≡ self.old.base.now) × (self.new.effects.blobs ≡ self.old.effects.blobs) }
+        ensures base { self.new.base.now ≡ self.old.base.now }
     {
-        self.effects.rows.push(row)?;
+        self.changes.rows.push(row)?;
         Ok(())
     }
 }

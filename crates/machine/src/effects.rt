@@ -1,7 +1,7 @@
 //! What a command changes.
 ghost use Rattle.std.specs.Prelude.{◌≡◌};
 ghost use Rattle.machine.specs.Effects.{no_effects};
-ghost use Rattle.machine.specs.Views.{effects_view};
+ghost use Rattle.machine.specs.Views.{changes_view, effects_view};
 
 use delegations::{Row, Verdicts};
 use metadata::{File, Root, Snapshot, Timestamp};
@@ -15,18 +15,38 @@ pub struct Blob {
     pub bytes: Vec<u8>,
 }
 
-/// What a command changes: new roots in order; whether a rotation empties timestamp, snapshot and shelf; the timestamp, the
-/// snapshot and the shelf rows that are put there after that; new blobs; and what is known of the signatures on the shelf after all
-/// this.
+/// What a command changes of what is trusted: new roots in order; whether a rotation empties timestamp, snapshot and shelf; the
+/// timestamp, the snapshot and the shelf rows that are put there after that.
 #[derive(Drop)]
-pub struct Effects {
+pub struct Changes {
     pub roots: Vec<File<Root>>,
     pub emptied: bool,
     pub timestamp: Option<File<Timestamp>>,
     pub snapshot: Option<File<Snapshot>>,
     pub rows: Vec<Row>,
+}
+
+/// What a command changes: what is trusted; new blobs; and what is known of the signatures on the shelf after all this.
+#[derive(Drop)]
+pub struct Effects {
+    pub changes: Changes,
     pub blobs: Vec<Blob>,
     pub verdicts: Verdicts,
+}
+
+impl Changes {
+    /// No change.
+    pub fn new(alloc: Global) -> Changes
+        ensures { changes_view result ≡ no_effects }
+    {
+        Changes {
+            roots: Vec::new(alloc),
+            emptied: false,
+            timestamp: None,
+            snapshot: None,
+            rows: Vec::new(alloc),
+        }
+    }
 }
 
 impl Effects {
@@ -34,12 +54,15 @@ impl Effects {
     pub fn new(alloc: Global) -> Effects
         ensures { effects_view result ≡ no_effects }
     {
+        Effects::of(alloc, Changes::new(alloc))
+    }
+
+    /// Changes of what is trusted alone, after which nothing is known.
+    pub(crate) fn of(alloc: Global, changes: Changes) -> Effects
+        ensures { effects_view result ≡ changes_view changes }
+    {
         Effects {
-            roots: Vec::new(alloc),
-            emptied: false,
-            timestamp: None,
-            snapshot: None,
-            rows: Vec::new(alloc),
+            changes,
             blobs: Vec::new(alloc),
             verdicts: Verdicts::new(alloc),
         }

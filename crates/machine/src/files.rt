@@ -5,7 +5,7 @@ ghost use Rattle.metadata.specs.FileViews.{root_file, timestamp_file, snapshot_f
 ghost use Rattle.metadata.specs.Shaped.{shaped};
 ghost use Rattle.machine.specs.Answers.{Gives};
 
-use crate::refusal::{Refusal, refused_shape};
+use crate::refusal::Refusal;
 use metadata::{
     File, Root, Snapshot, Targets, Timestamp, read_root_file, read_snapshot_file,
     read_targets_file, read_timestamp_file,
@@ -17,10 +17,7 @@ pub(crate) fn new_root(alloc: Global, bytes: &[u8]) -> Result<File<Root>, Refusa
     ensures shape { Gives (shaped root_form bytes.now) root_file result }
     ensures bytes { IfOk result (λ f. (root_file f).bytes ≡ bytes.now) }
 {
-    match read_root_file(alloc, bytes) {
-        Ok(file) => Ok(file),
-        Err(fault) => Err(refused_shape(fault)),
-    }
+    Ok(read_root_file(alloc, bytes)?)
 }
 
 /// The file as timestamp metadata, or the first check of its shape that fails.
@@ -28,10 +25,7 @@ pub(crate) fn new_timestamp(alloc: Global, bytes: &[u8]) -> Result<File<Timestam
     ensures shape { Gives (shaped timestamp_form bytes.now) timestamp_file result }
     ensures bytes { IfOk result (λ f. (timestamp_file f).bytes ≡ bytes.now) }
 {
-    match read_timestamp_file(alloc, bytes) {
-        Ok(file) => Ok(file),
-        Err(fault) => Err(refused_shape(fault)),
-    }
+    Ok(read_timestamp_file(alloc, bytes)?)
 }
 
 /// The file as snapshot metadata, or the first check of its shape that fails.
@@ -39,10 +33,7 @@ pub(crate) fn new_snapshot(alloc: Global, bytes: &[u8]) -> Result<File<Snapshot>
     ensures shape { Gives (shaped snapshot_form bytes.now) snapshot_file result }
     ensures bytes { IfOk result (λ f. (snapshot_file f).bytes ≡ bytes.now) }
 {
-    match read_snapshot_file(alloc, bytes) {
-        Ok(file) => Ok(file),
-        Err(fault) => Err(refused_shape(fault)),
-    }
+    Ok(read_snapshot_file(alloc, bytes)?)
 }
 
 /// The file as targets metadata, or the first check of its shape that fails.
@@ -50,8 +41,5 @@ pub(crate) fn new_targets(alloc: Global, bytes: &[u8]) -> Result<File<Targets>, 
     ensures shape { Gives (shaped targets_form bytes.now) targets_file result }
     ensures bytes { IfOk result (λ f. (targets_file f).bytes ≡ bytes.now) }
 {
-    match read_targets_file(alloc, bytes) {
-        Ok(file) => Ok(file),
-        Err(fault) => Err(refused_shape(fault)),
-    }
+    Ok(read_targets_file(alloc, bytes)?)
 }

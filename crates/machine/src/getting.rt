@@ -1,7 +1,7 @@
 //! What a target is (TUF 1.0, section 5.7).
 ghost use Rattle.std.specs.Prelude.{◌≡◌, ◌↔◌, ◌-◌, ◌≤◌, ◌<◌, ◌^◌, None, Err, IfSome, IsTrue, length, option_map};
 ghost use Rattle.delegations.specs.Delegation.{before};
-ghost use Rattle.delegations.specs.Rows.{Rises};
+ghost use Rattle.delegations.specs.Rows.{Rises, place_before};
 ghost use Rattle.delegations.specs.Search.{search};
 ghost use Rattle.delegations.specs.Verdicts.{AreFew, AreTrue, Costs, IsComplete};
 ghost use Rattle.delegations.specs.Views as searches;
@@ -12,13 +12,13 @@ ghost use Rattle.path_patterns.specs.Grammar.{IsTargetPath};
 ghost use Rattle.machine.specs.Answers.{Gives};
 ghost use Rattle.machine.specs.Commands as commands;
 ghost use Rattle.machine.specs.Knowing.{ChecksFew, WantsFew};
-ghost use Rattle.machine.specs.Views.{parts_view};
+ghost use Rattle.machine.specs.Views.{parts_view, trusted_view};
 
 use crate::blobs::blob_of;
 use crate::checks::are_same;
 use crate::effects::Blob;
 use crate::liveness::live_snapshot;
-use crate::parts::Parts;
+use crate::parts::{Parts, Trusted};
 use crate::refusal::Refusal;
 use crate::state::State;
 use delegations::{Found, Rows, SearchDenial, Shelf, Steps, Verdicts, search_with_counted};
@@ -95,11 +95,17 @@ fn granted<'a>(
 {
     is_path(path);
     let parts = state.parts();
-    let Some(root) = parts.root.as_ref() else {
+    let trusted = &parts.trusted;
+    let Some(root) = trusted.root.as_ref() else {
         return Err(Refusal::Denied(Denial::NoRoot));
     };
-    let snapshot = live_snapshot(parts.timestamp.as_ref(), parts.snapshot.as_ref(), root, now)?;
-    let shelf = Shelf::new(&root.body, &snapshot.body, held_rows(parts));
+    let snapshot = live_snapshot(
+        trusted.timestamp.as_ref(),
+        trusted.snapshot.as_ref(),
+        root,
+        now,
+    )?;
+    let shelf = Shelf::new(&root.body, &snapshot.body, held_rows(trusted));
     let found = find(alloc, &shelf, state.verdicts(), path, now, checks)?;
     asked_blob(alloc, parts, path, found.listing, asked)
 }
@@ -134,12 +140,13 @@ fn find<'a>(
 }
 
 // The rows on the shelf.
-fn held_rows(parts: &Parts) -> Rows<'_>
-    ensures { searches.rows_view result ≡ (parts_view parts.now).trusted.shelf }
+fn held_rows(trusted: &Trusted) -> Rows<'_>
+    requires { Rises place_before (trusted_view trusted.now).shelf }
+    ensures { searches.rows_view result ≡ (trusted_view trusted.now).shelf }
 {
     Rows {
-        held: &parts.shelf,
-        added: &parts.shelf[..0],
+        held: &trusted.shelf,
+        added: &[],
     }
 }
 

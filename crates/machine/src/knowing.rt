@@ -4,14 +4,14 @@ ghost use Rattle.delegations.specs.Rows.{AllFiles};
 ghost use Rattle.delegations.specs.Verdicts.{AreTrue};
 ghost use Rattle.machine.specs.Effects.{applied};
 ghost use Rattle.machine.specs.Knowing.{BatchCarriesKnown, CarriesKnown, IsKnown};
-ghost use Rattle.machine.specs.State.{IsState};
+ghost use Rattle.machine.specs.State.{IsState, IsTrusted};
 ghost use Rattle.machine.specs.steps.Carrying.{IsSameBatch, IsSameOutcome, MakesState};
-ghost use Rattle.machine.specs.Views.{draft_view, effects_view, parts_view};
+ghost use Rattle.machine.specs.Views.{draft_view, effects_view, trusted_view};
 
 use crate::draft::Draft;
 use crate::effects::Effects;
 use crate::outcome::{Batched, Outcome};
-use crate::parts::Parts;
+use crate::parts::Trusted;
 use crate::refusal::{BatchRefusal, Refusal};
 use crate::state::State;
 use delegations::{Shelf, Verdicts, all_verdicts};
@@ -71,24 +71,31 @@ pub(crate) fn effects_with_verdicts(
     ensures same { IfOk result (λ e. effects_view e ≡ effects_view effects) }
     ensures known { IfOk result (λ e. IsKnown (applied state.now.state (effects_view effects)).trusted e.verdicts) }
 {
-    let draft = Draft::over(state.parts(), effects);
+    let Effects {
+        changes,
+        blobs,
+        verdicts: _,
+    } = effects;
+    let draft = Draft::over(state.trusted(), changes);
     let verdicts = draft_verdicts(alloc, &draft, state.verdicts())?;
-    let mut effects = draft.into_effects();
-    effects.verdicts = verdicts;
-    Ok(effects)
+    Ok(Effects {
+        changes: draft.into_changes(),
+        blobs,
+        verdicts,
+    })
 }
 
-/// What is known of the shelf of a state.
-pub(crate) fn parts_verdicts(alloc: Global, parts: &Parts) -> Result<Verdicts, AllocError>
-    requires { IsState (parts_view parts.now) }
-    ensures { IfOk result (λ t. IsKnown (parts_view parts.now).trusted t) }
+/// What is known of the shelf of a state, found out anew.
+pub(crate) fn trusted_verdicts(alloc: Global, trusted: &Trusted) -> Result<Verdicts, AllocError>
+    requires { IsTrusted (trusted_view trusted.now) }
+    ensures { IfOk result (λ t. IsKnown (trusted_view trusted.now) t) }
 {
-    draft_verdicts(alloc, &Draft::new(alloc, parts), &Verdicts::new(alloc))
+    draft_verdicts(alloc, &Draft::new(alloc, trusted), &Verdicts::new(alloc))
 }
 
 // What is known after changes, where this is known of the state before them.
 fn draft_verdicts(alloc: Global, draft: &Draft<'_>, held: &Verdicts) -> Result<Verdicts, AllocError>
-    requires sound { AreTrue (parts_view draft.now.base.now).trusted.shelf held.now }
+    requires sound { AreTrue (trusted_view draft.now.base.now).shelf held.now }
     requires few { AllFiles (λ f. length f.entries ≤ 16) (draft_view draft.now).shelf }
     ensures { IfOk result (λ t. IsKnown (draft_view draft.now) t) }
 {

@@ -35,7 +35,7 @@ pub use delegations::{
     File, Moment, RoleName, Root, Row, Snapshot, Steps, TargetPath, Targets, Verdicts,
 };
 pub use denials::Denial;
-pub use effects::{Blob, Effects};
+pub use effects::{Blob, Changes, Effects};
 pub use getting::{get, get_counted, target};
 pub use laws::{nothing_is_valid, one_judgement, rows_stay, stays_coherent, stays_valid};
 pub use metadata::{Digest, Timestamp};

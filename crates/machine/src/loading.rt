@@ -3,20 +3,20 @@ ghost use Rattle.std.specs.Prelude.{◌≡◌, ◌↔◌, map, None, Some, All, 
 ghost use Rattle.metadata.specs.File.{IsFileOf, root_form, targets_form};
 ghost use Rattle.metadata.specs.FileViews.{root_file, timestamp_file, snapshot_file, targets_file};
 ghost use Rattle.delegations.specs.Delegation.{before};
-ghost use Rattle.delegations.specs.Rows.{place_before};
 ghost use Rattle.delegations.specs.Views.{row_views};
+ghost use Rattle.delegations.specs.steps.Rising.{comes_first, rises};
 ghost use Rattle.machine.specs.State.{FollowsRoot, IsBlob, IsHeldUnder, IsRootChain, IsShelfRow, IsState, MeetsTop};
 ghost use Rattle.machine.specs.Effects.{last_or};
-ghost use Rattle.machine.specs.steps.Loading.{AreBlobs, AreRead, RowsAreRead, FollowOn, IsBare, IsChain, AreShelfRows, laid, comes_first, rises};
+ghost use Rattle.machine.specs.steps.Loading.{AreBlobs, AreRead, RowsAreRead, FollowOn, IsBare, IsChain, AreShelfRows, laid};
 ghost use Rattle.machine.specs.Views.{blob_views, effects_view};
 
 use crate::blobs::{is_digest_of, is_short};
 use crate::checks::is_signed;
 use crate::effects::{Blob, Effects};
-use crate::knowing::parts_verdicts;
+use crate::knowing::trusted_verdicts;
 use crate::state::State;
-use crate::taking::{is_before, is_place_before, laid_parts};
-use delegations::Row;
+use crate::taking::{is_before, laid_parts};
+use delegations::{Row, are_in_order};
 use limits::MOST_HELD;
 use metadata::{File, Root, Snapshot, Timestamp, is_listable, one_document, one_shape};
 use std::alloc::{AllocError, Global};
@@ -118,30 +118,6 @@ fn each_is_row(rows: &[Row]) -> bool
     true
 }
 
-// Whether a row's place is before that of the first of these.
-fn is_before_rows(row: &Row, later: &[Row]) -> bool
-    ensures { result ≡ comes_first place_before (row.now.role, row.now.version) (row_views later.now) }
-{
-    match later.first() {
-        Some(next) => is_place_before(row.role.as_str(), row.version, next),
-        None => true,
-    }
-}
-
-// Whether the places rise.
-fn rows_rise(rows: &[Row]) -> bool
-    ensures { result ≡ rises place_before (row_views rows.now) }
-{
-    let mut rest = rows;
-    'rows: while let Some((row, later)) = rest.split_first() {
-        if !is_before_rows(row, later) {
-            return false;
-        }
-        rest = later;
-    }
-    true
-}
-
 // Whether these may be the shelf of a state.
 pub(crate) fn is_shelf(rows: &[Row]) -> bool
     requires { RowsAreRead (row_views rows.now) }
@@ -150,7 +126,7 @@ pub(crate) fn is_shelf(rows: &[Row]) -> bool
     if rows.len() > MOST_HELD {
         return false;
     }
-    if !rows_rise(rows) {
+    if !are_in_order(rows) {
         return false;
     }
     each_is_row(rows)
@@ -218,33 +194,33 @@ fn snapshot_meets(root: &File<Root>, file: &Option<File<Snapshot>>) -> bool
 // Whether the files meet the rules of the last root.
 fn is_held(files: &Effects, root: &File<Root>) -> bool
     requires read { AreRead (effects_view files.now) }
-    requires last { last_or None (map root_file files.now.roots.items) ≡ Some (root_file root.now) }
+    requires last { last_or None (map root_file files.now.changes.roots.items) ≡ Some (root_file root.now) }
     ensures { IsTrue result ↔ (IsHeldUnder (laid (effects_view files.now)).trusted (root_file root.now)) }
 {
-    if !is_chain(&files.roots) {
+    if !is_chain(&files.changes.roots) {
         return false;
     }
-    if !timestamp_meets(root, &files.timestamp) {
+    if !timestamp_meets(root, &files.changes.timestamp) {
         return false;
     }
-    snapshot_meets(root, &files.snapshot)
+    snapshot_meets(root, &files.changes.snapshot)
 }
 
 // Whether there is no file but roots.
 fn is_bare(files: &Effects) -> bool
     ensures { IsTrue result ↔ (IsBare (effects_view files.now)) }
 {
-    if files.timestamp.is_some() || files.snapshot.is_some() {
+    if files.changes.timestamp.is_some() || files.changes.snapshot.is_some() {
         return false;
     }
-    files.rows.is_empty() && files.blobs.is_empty()
+    files.changes.rows.is_empty() && files.blobs.is_empty()
 }
 
 // The last root.
 fn last_root(files: &Effects) -> Option<&File<Root>>
     ensures { option_map (λ f. root_file f.now) result ≡ last_or None (effects_view files.now).roots }
 {
-    match files.roots.last() {
+    match files.changes.roots.last() {
         Some(root) => Some(root),
         None => None,
     }
@@ -269,10 +245,10 @@ pub(crate) fn is_state(files: &Effects) -> bool
     requires { AreRead (effects_view files.now) }
     ensures { IsTrue result ↔ (IsState (laid (effects_view files.now))) }
 {
-    if files.roots.len() > MOST_HELD {
+    if files.changes.roots.len() > MOST_HELD {
         return false;
     }
-    if !is_shelf(&files.rows) {
+    if !is_shelf(&files.changes.rows) {
         return false;
     }
     if !are_blobs(&files.blobs) {
@@ -291,6 +267,6 @@ pub(crate) fn settle(alloc: Global, files: Effects) -> Result<Option<State>, All
         return Ok(None);
     }
     let parts = laid_parts(alloc, files)?;
-    let verdicts = parts_verdicts(alloc, &parts)?;
+    let verdicts = trusted_verdicts(alloc, &parts.trusted)?;
     Ok(Some(State::of(parts, verdicts)))
 }

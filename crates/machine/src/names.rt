@@ -2,11 +2,11 @@
 ghost use Rattle.std.specs.Prelude.{◌≡◌, ℕ, List, ◌++◌, false, map, bytes_eq, option_map, MatchOption};
 ghost use Rattle.delegations.specs.Views.{row_views};
 ghost use Rattle.keys_roles.specs.Plain.{look_up};
-ghost use Rattle.machine.specs.State.{IsState, dotted, metadata_of, root_files};
+ghost use Rattle.machine.specs.State.{IsTrusted, dotted, metadata_of, root_files};
 ghost use Rattle.machine.specs.steps.NamedFiles.{earlier_files, shelf_files, timestamp_files, snapshot_files};
-ghost use Rattle.machine.specs.Views.{parts_view};
+ghost use Rattle.machine.specs.Views.{trusted_view};
 
-use crate::parts::Parts;
+use crate::parts::Trusted;
 use crate::state::State;
 use delegations::Row;
 
@@ -15,18 +15,18 @@ use delegations::Row;
 pub fn metadata_file<'a>(state: &'a State, name: &str) -> Option<&'a [u8]>
     ensures { option_map (λ b. b.now) result ≡ metadata_of state.now.state.trusted name.now }
 {
-    let parts = state.parts();
+    let trusted = state.trusted();
     let name = name.as_bytes();
-    if let Some(bytes) = timestamp_named(parts, name) {
+    if let Some(bytes) = timestamp_named(trusted, name) {
         return Some(bytes);
     }
-    if let Some(bytes) = root_named(parts, name) {
+    if let Some(bytes) = root_named(trusted, name) {
         return Some(bytes);
     }
-    if let Some(bytes) = snapshot_named(parts, name) {
+    if let Some(bytes) = snapshot_named(trusted, name) {
         return Some(bytes);
     }
-    row_named(&parts.shelf, name)
+    row_named(&trusted.shelf, name)
 }
 
 // What follows these bytes in a name that begins with them.
@@ -68,20 +68,20 @@ pub(crate) fn is_dotted(name: &[u8], number: u64, middle: &[u8]) -> bool
 }
 
 // The timestamp's bytes, under its name.
-fn timestamp_named<'a>(parts: &'a Parts, name: &[u8]) -> Option<&'a [u8]>
-    ensures { option_map (λ b. b.now) result ≡ look_up (timestamp_files (parts_view parts.now).trusted.timestamp) name.now }
+fn timestamp_named<'a>(trusted: &'a Trusted, name: &[u8]) -> Option<&'a [u8]>
+    ensures { option_map (λ b. b.now) result ≡ look_up (timestamp_files (trusted_view trusted.now).timestamp) name.now }
 {
-    match &parts.timestamp {
+    match &trusted.timestamp {
         Some(file) if b"timestamp.json".as_slice() == name => Some(file.source.bytes()),
         _ => None,
     }
 }
 
 // The snapshot's bytes, under its name.
-fn snapshot_named<'a>(parts: &'a Parts, name: &[u8]) -> Option<&'a [u8]>
-    ensures { option_map (λ b. b.now) result ≡ look_up (snapshot_files (parts_view parts.now).trusted.snapshot) name.now }
+fn snapshot_named<'a>(trusted: &'a Trusted, name: &[u8]) -> Option<&'a [u8]>
+    ensures { option_map (λ b. b.now) result ≡ look_up (snapshot_files (trusted_view trusted.now).snapshot) name.now }
 {
-    match &parts.snapshot {
+    match &trusted.snapshot {
         Some(file) if is_dotted(name, u64::from(file.body.version), b"snapshot".as_slice()) => Some(
             file.source.bytes(),
         ),
@@ -90,15 +90,15 @@ fn snapshot_named<'a>(parts: &'a Parts, name: &[u8]) -> Option<&'a [u8]>
 }
 
 // The bytes of the root with this name.
-fn root_named<'a>(parts: &'a Parts, name: &[u8]) -> Option<&'a [u8]>
-    requires { IsState (parts_view parts.now) }
-    ensures { option_map (λ b. b.now) result ≡ look_up (root_files (parts_view parts.now).trusted 0 (parts_view parts.now).trusted.roots) name.now }
+fn root_named<'a>(trusted: &'a Trusted, name: &[u8]) -> Option<&'a [u8]>
+    requires { IsTrusted (trusted_view trusted.now) }
+    ensures { option_map (λ b. b.now) result ≡ look_up (root_files (trusted_view trusted.now) 0 (trusted_view trusted.now).roots) name.now }
 {
-    let Some(last) = &parts.root else {
+    let Some(last) = &trusted.root else {
         return None;
     };
     let version = u64::from(last.body.version);
-    if let Some(bytes) = earlier_named(&parts.earlier, version, name) {
+    if let Some(bytes) = earlier_named(&trusted.earlier, version, name) {
         return Some(bytes);
     }
     if is_dotted(name, version, b"root".as_slice()) {

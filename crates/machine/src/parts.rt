@@ -4,13 +4,19 @@ use delegations::Row;
 use metadata::{File, Root, Snapshot, Timestamp};
 
 /// The bytes of the roots before the last, the last, the current timestamp and snapshot, the shelf in the order of roles and
-/// versions, the blobs in the order of their digests.
+/// versions.
 #[derive(Drop)]
-pub(crate) struct Parts {
+pub(crate) struct Trusted {
     pub earlier: Vec<Vec<u8>>,
     pub root: Option<File<Root>>,
     pub timestamp: Option<File<Timestamp>>,
     pub snapshot: Option<File<Snapshot>>,
     pub shelf: Vec<Row>,
+}
+
+/// What is trusted, and the blobs in the order of their digests.
+#[derive(Drop)]
+pub(crate) struct Parts {
+    pub trusted: Trusted,
     pub blobs: Vec<Blob>,
 }

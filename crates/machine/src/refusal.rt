@@ -1,7 +1,4 @@
 //! Why a call changes nothing.
-ghost use Rattle.std.specs.Prelude.{◌≡◌};
-ghost use Rattle.machine.specs.steps.Judging.{IsRefusedShape};
-
 use denials::Denial;
 use metadata::ShapeFault;
 use std::alloc::{AllocError, AllocFailed};
@@ -53,16 +50,20 @@ impl<T: Drop> From<AllocFailed<T>> for Refusal {
     }
 }
 
-/// A file of another shape, by the first check that fails.
-pub(crate) fn refused_shape(fault: ShapeFault) -> Refusal
-    ensures { IsRefusedShape fault result }
-{
-    match fault {
-        ShapeFault::TooLong => Refusal::Denied(Denial::TooLong),
-        ShapeFault::NotCanonical => Refusal::Denied(Denial::NotCanonical),
-        ShapeFault::WrongShape => Refusal::Denied(Denial::WrongShape),
-        ShapeFault::WrongType => Refusal::Denied(Denial::WrongType),
-        ShapeFault::BadKeyId => Refusal::Denied(Denial::BadKeyId),
-        ShapeFault::OutOfMemory => Refusal::OutOfMemory,
+/// A file of another shape is denied by the first check that fails.
+impl From<ShapeFault> for Refusal {
+    ghost use Rattle.machine.specs.steps.Judging.{IsRefusedShape};
+
+    ghost from_gives = { IsRefusedShape };
+
+    fn from(fault: ShapeFault) -> Self {
+        match fault {
+            ShapeFault::TooLong => Refusal::Denied(Denial::TooLong),
+            ShapeFault::NotCanonical => Refusal::Denied(Denial::NotCanonical),
+            ShapeFault::WrongShape => Refusal::Denied(Denial::WrongShape),
+            ShapeFault::WrongType => Refusal::Denied(Denial::WrongType),
+            ShapeFault::BadKeyId => Refusal::Denied(Denial::BadKeyId),
+            ShapeFault::OutOfMemory => Refusal::OutOfMemory,
+        }
     }
 }

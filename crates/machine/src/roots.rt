@@ -43,7 +43,7 @@ pub(crate) fn offer_root(
     bytes: &[u8],
 ) -> Result<bool, Refusal>
     ensures ends { Ends (commands.offer_root (draft_view draft.old) bytes.now) (draft_view draft.old) (draft_view draft.new) result }
-    ensures rest { (draft.new.base.now ≡ draft.old.base.now) × (draft.new.effects.blobs ≡ draft.old.effects.blobs) }
+    ensures base { draft.new.base.now ≡ draft.old.base.now }
 {
     let Some(old) = draft.root() else {
         return Err(Refusal::Denied(Denial::NoRoot));

@@ -87,7 +87,7 @@ pub(crate) fn offer_snapshot(
     now: Moment,
 ) -> Result<bool, Refusal>
     ensures ends { Ends (commands.offer_snapshot (draft_view draft.old) bytes.now now) (draft_view draft.old) (draft_view draft.new) result }
-    ensures rest { (draft.new.base.now ≡ draft.old.base.now) × (draft.new.effects.blobs ≡ draft.old.effects.blobs) }
+    ensures base { draft.new.base.now ≡ draft.old.base.now }
 {
     let Some(root) = draft.root() else {
         return Err(Refusal::Denied(Denial::NoRoot));

@@ -3,12 +3,12 @@ ghost use Rattle.std.specs.Prelude.{◌≡◌, ◌≤◌, ◌<◌, IfOk, OnOk};
 ghost use Rattle.machine.specs.State.{IsState, nothing};
 ghost use Rattle.machine.specs.Effects.{applied};
 ghost use Rattle.machine.specs.Knowing.{IsKnown};
-ghost use Rattle.machine.specs.Views.{parts_view, effects_view};
+ghost use Rattle.machine.specs.Views.{parts_view, effects_view, trusted_view};
 ghost use Rattle.machine.specs.Room.{places, room_of};
 
 use crate::effects::Effects;
 use crate::laws::nothing_is_valid;
-use crate::parts::Parts;
+use crate::parts::{Parts, Trusted};
 use crate::taking::take_all;
 use delegations::Verdicts;
 use std::alloc::{AllocError, Global};
@@ -96,6 +96,13 @@ impl State {
         &self.verdicts
     }
 
+    pub(crate) fn trusted(&self) -> &Trusted
+        ensures view { trusted_view result.now ≡ self.now.state.trusted }
+        ensures valid { IsState self.now.state }
+    {
+        &self.parts.trusted
+    }
+
     pub(crate) fn parts(&self) -> &Parts
         ensures view { parts_view result.now ≡ self.now.state }
         ensures valid { IsState self.now.state }
@@ -108,11 +115,13 @@ pub(crate) fn no_parts(alloc: Global) -> Parts
     ensures { parts_view result ≡ nothing }
 {
     Parts {
-        earlier: Vec::new(alloc),
-        root: None,
-        timestamp: None,
-        snapshot: None,
-        shelf: Vec::new(alloc),
+        trusted: Trusted {
+            earlier: Vec::new(alloc),
+            root: None,
+            timestamp: None,
+            snapshot: None,
+            shelf: Vec::new(alloc),
+        },
         blobs: Vec::new(alloc),
     }
 }
@@ -122,12 +131,12 @@ pub(crate) fn reserve(parts: &mut Parts, effects: &Effects) -> Result<(), AllocE
     ensures kept { parts_view parts.new ≡ parts_view parts.old }
     ensures room { IfOk result (λ _. places (effects_view effects.now) ≤ room_of parts.new) }
 {
-    let roots = effects.roots.len();
-    let rows = effects.rows.len();
+    let roots = effects.changes.roots.len();
+    let rows = effects.changes.rows.len();
     let blobs = effects.blobs.len();
     let most = roots.max(rows).max(blobs);
-    parts.earlier.reserve(most)?;
-    parts.shelf.reserve(most)?;
+    parts.trusted.earlier.reserve(most)?;
+    parts.trusted.shelf.reserve(most)?;
     parts.blobs.reserve(most)?;
     Ok(())
 }

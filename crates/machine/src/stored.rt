@@ -1,5 +1,5 @@
 //! The rows of a repository's tables, and the state of which they are all.
-ghost use Rattle.std.specs.Prelude.{◌≡◌, ◌↔◌, map, option_map, string_bytes, IfOk, IfSome, IfNone, IsTrue};
+ghost use Rattle.std.specs.Prelude.{◌≡◌, map, option_map, string_bytes, Ok, IfOk, IfSome, IfNone, IsErrAnd};
 ghost use Rattle.std.specs.List.{AllZip};
 ghost use Rattle.metadata.specs.Documents as plain;
 ghost use Rattle.metadata.specs.File as files;
@@ -13,7 +13,7 @@ ghost use Rattle.machine.specs.Effects as changes;
 ghost use Rattle.machine.specs.Views.{blob_views, effects_view};
 ghost use Rattle.contents.specs.Contents.{contents_view};
 
-use crate::effects::{Blob, Effects};
+use crate::effects::{Blob, Changes, Effects};
 use crate::loading::settle;
 use crate::state::State;
 use contents::Contents;
@@ -66,21 +66,28 @@ fn read_files(alloc: Global, contents: Contents) -> Result<Option<Effects>, Allo
     };
     let blobs = all_blobs(alloc, blobs)?;
     Ok(Some(Effects {
-        roots,
-        emptied: false,
-        timestamp,
-        snapshot,
-        rows,
+        changes: Changes {
+            roots,
+            emptied: false,
+            timestamp,
+            snapshot,
+            rows,
+        },
         blobs,
         verdicts: Verdicts::new(alloc),
     }))
 }
 
-// Whether the fault is want of memory.
-fn is_want(fault: ShapeFault) -> bool
-    ensures { IsTrue result ↔ (fault ≡ ShapeFault.OutOfMemory) }
+// The file that was read, and nothing where its shape is another.
+fn if_shaped<T: Drop>(read: Result<File<T>, ShapeFault>) -> Result<Option<File<T>>, AllocError>
+    ensures some { IfOk result (λ o. IfSome o (λ f. read ≡ Ok f)) }
+    ensures none { IfOk result (λ o. IfNone o (IsErrAnd read (λ fault. ¬ (fault ≡ ShapeFault.OutOfMemory)))) }
 {
-    matches!(fault, ShapeFault::OutOfMemory)
+    match read {
+        Ok(file) => Ok(Some(file)),
+        Err(ShapeFault::OutOfMemory) => Err(AllocError),
+        Err(_) => Ok(None),
+    }
 }
 
 // The root of a row, if it is one of this version.
@@ -90,20 +97,13 @@ fn stored_root(alloc: Global, version: u32, bytes: &[u8]) -> Result<Option<File<
 {
     one_document();
     one_shape();
-    match read_root_file(alloc, bytes) {
-        Ok(file) => {
-            if file.body.version != version {
-                return Ok(None);
-            }
-            Ok(Some(file))
-        }
-        Err(fault) => {
-            if is_want(fault) {
-                return Err(AllocError);
-            }
-            Ok(None)
-        }
+    let Some(file) = if_shaped(read_root_file(alloc, bytes))? else {
+        return Ok(None);
+    };
+    if file.body.version != version {
+        return Ok(None);
     }
+    Ok(Some(file))
 }
 
 // The timestamp of a row, if it is one of this version.
@@ -117,20 +117,13 @@ fn stored_timestamp(
 {
     one_document();
     one_shape();
-    match read_timestamp_file(alloc, bytes) {
-        Ok(file) => {
-            if file.body.version != version {
-                return Ok(None);
-            }
-            Ok(Some(file))
-        }
-        Err(fault) => {
-            if is_want(fault) {
-                return Err(AllocError);
-            }
-            Ok(None)
-        }
+    let Some(file) = if_shaped(read_timestamp_file(alloc, bytes))? else {
+        return Ok(None);
+    };
+    if file.body.version != version {
+        return Ok(None);
     }
+    Ok(Some(file))
 }
 
 // The snapshot of a row, if it is one of this version.
@@ -144,20 +137,13 @@ fn stored_snapshot(
 {
     one_document();
     one_shape();
-    match read_snapshot_file(alloc, bytes) {
-        Ok(file) => {
-            if file.body.version != version {
-                return Ok(None);
-            }
-            Ok(Some(file))
-        }
-        Err(fault) => {
-            if is_want(fault) {
-                return Err(AllocError);
-            }
-            Ok(None)
-        }
+    let Some(file) = if_shaped(read_snapshot_file(alloc, bytes))? else {
+        return Ok(None);
+    };
+    if file.body.version != version {
+        return Ok(None);
     }
+    Ok(Some(file))
 }
 
 // The timestamp of the row that is there, if it is one of its version.
@@ -226,19 +212,14 @@ fn stored_row(
     let Some(role) = RoleName::read(alloc, role)? else {
         return Ok(None);
     };
-    match read_targets_file(alloc, bytes) {
-        Ok(file) => Ok(Some(Row {
-            role,
-            version,
-            file,
-        })),
-        Err(fault) => {
-            if is_want(fault) {
-                return Err(AllocError);
-            }
-            Ok(None)
-        }
-    }
+    let Some(file) = if_shaped(read_targets_file(alloc, bytes))? else {
+        return Ok(None);
+    };
+    Ok(Some(Row {
+        role,
+        version,
+        file,
+    }))
 }
 
 // The targets documents of all rows, if each is one.

@@ -5,13 +5,13 @@ ghost use Rattle.metadata.specs.FileViews.{targets_file};
 ghost use Rattle.delegations.specs.Delegation.{before};
 ghost use Rattle.delegations.specs.Rows.{with_row, with_rows, place_before};
 ghost use Rattle.delegations.specs.Views.{row_views};
-ghost use Rattle.machine.specs.Effects.{applied, last_or, renewed, with_blobs};
-ghost use Rattle.machine.specs.Views.{parts_view, effects_view, blob_views, last_bytes};
+ghost use Rattle.machine.specs.Effects.{applied, brought, last_or, renewed, with_blobs};
+ghost use Rattle.machine.specs.Views.{parts_view, effects_view, blob_views, changes_view, last_bytes, trusted_view};
 ghost use Rattle.machine.specs.Room.{places, room_of};
 ghost use Rattle.machine.specs.steps.Loading.{laid};
 
-use crate::effects::{Blob, Effects};
-use crate::parts::Parts;
+use crate::effects::{Blob, Changes, Effects};
+use crate::parts::{Parts, Trusted};
 use delegations::{Row, Verdicts};
 use metadata::{File, Root};
 use path_patterns::{Digest, RoleName};
@@ -101,7 +101,7 @@ pub(crate) fn is_before(a: &[u8], b: &[u8]) -> bool
 }
 
 // Whether a place is before that of a row.
-pub(crate) fn is_place_before(role: &str, version: u32, row: &Row) -> bool
+fn is_place_before(role: &str, version: u32, row: &Row) -> bool
     ensures { result ≡ place_before (role.now, version) (row.now.role, row.now.version) }
 {
     let held = row.role.as_str();
@@ -192,25 +192,25 @@ fn take_blobs(blobs: &mut Vec<Blob>, more: Vec<Blob>)
 pub(crate) fn laid_parts(alloc: Global, files: Effects) -> Result<Parts, AllocError>
     ensures { IfOk result (λ p. parts_view p ≡ laid (effects_view files)) }
 {
-    let Effects {
+    let Changes {
         roots,
         emptied: _,
         timestamp,
         snapshot,
         rows,
-        blobs,
-        verdicts: _,
-    } = files;
+    } = files.changes;
     let mut earlier = Vec::with_capacity(alloc, roots.len())?;
     let mut root = None;
     take_roots(&mut earlier, &mut root, roots);
     Ok(Parts {
-        earlier,
-        root,
-        timestamp,
-        snapshot,
-        shelf: rows,
-        blobs,
+        trusted: Trusted {
+            earlier,
+            root,
+            timestamp,
+            snapshot,
+            shelf: rows,
+        },
+        blobs: files.blobs,
     })
 }
 
@@ -221,19 +221,31 @@ pub(crate) fn take_all(parts: &mut Parts, effects: Effects) -> Verdicts
     ensures verdicts { result ≡ effects.verdicts }
 {
     let Effects {
+        changes,
+        blobs,
+        verdicts,
+    } = effects;
+    take_changes(&mut parts.trusted, changes);
+    take_blobs(&mut parts.blobs, blobs);
+    verdicts
+}
+
+// Puts changes into what is trusted.
+fn take_changes(trusted: &mut Trusted, changes: Changes)
+    requires roots { length changes.roots.items ≤ vec_capacity trusted.old.earlier - vec_len trusted.old.earlier }
+    requires rows { length changes.rows.items ≤ vec_capacity trusted.old.shelf - vec_len trusted.old.shelf }
+    ensures { trusted_view trusted.new ≡ brought (trusted_view trusted.old) (changes_view changes) }
+{
+    let Changes {
         roots,
         emptied,
         timestamp,
         snapshot,
         rows,
-        blobs,
-        verdicts,
-    } = effects;
-    take_roots(&mut parts.earlier, &mut parts.root, roots);
-    renew(&mut parts.timestamp, emptied, timestamp);
-    renew(&mut parts.snapshot, emptied, snapshot);
-    empty_if(emptied, &mut parts.shelf);
-    take_rows(&mut parts.shelf, rows);
-    take_blobs(&mut parts.blobs, blobs);
-    verdicts
+    } = changes;
+    take_roots(&mut trusted.earlier, &mut trusted.root, roots);
+    renew(&mut trusted.timestamp, emptied, timestamp);
+    renew(&mut trusted.snapshot, emptied, snapshot);
+    empty_if(emptied, &mut trusted.shelf);
+    take_rows(&mut trusted.shelf, rows);
 }

@@ -93,7 +93,7 @@ fn put_targets(
 ) -> Result<(), AllocError>
     ensures view { IfOk result (λ _. draft_view draft.new
         ≡ record (draft_view draft.old) { shelf = with_row place_before (draft_view draft.old).shelf (role.now, file.body.version) (targets_file file) }) }
-    ensures rest { (draft.new.base.now ≡ draft.old.base.now) × (draft.new.effects.blobs ≡ draft.old.effects.blobs) }
+    ensures base { draft.new.base.now ≡ draft.old.base.now }
 {
     let role = role.clone()?;
     let version = file.body.version;
@@ -113,7 +113,7 @@ pub(crate) fn offer_targets(
     now: Moment,
 ) -> Result<bool, Refusal>
     ensures ends { Ends (commands.offer_targets (draft_view draft.old) role.now bytes.now now) (draft_view draft.old) (draft_view draft.new) result }
-    ensures rest { (draft.new.base.now ≡ draft.old.base.now) × (draft.new.effects.blobs ≡ draft.old.effects.blobs) }
+    ensures base { draft.new.base.now ≡ draft.old.base.now }
 {
     let Some(root) = draft.root() else {
         return Err(Refusal::Denied(Denial::NoRoot));

@@ -2,10 +2,10 @@
 ghost use Rattle.std.specs.Prelude.{◌≡◌, ◌↔◌, option_map, IsSomeAnd, IsTrue};
 ghost use Rattle.metadata.specs.FileViews.{snapshot_file, timestamp_file};
 ghost use Rattle.machine.specs.State.{IsSnapshotDue, NamesSnapshot};
-ghost use Rattle.machine.specs.Views.{parts_view};
+ghost use Rattle.machine.specs.Views.{trusted_view};
 
 use crate::checks::names_snapshot;
-use crate::parts::Parts;
+use crate::parts::Trusted;
 use crate::state::State;
 use metadata::{File, Snapshot, Timestamp};
 
@@ -13,7 +13,7 @@ use metadata::{File, Snapshot, Timestamp};
 pub fn root_version(state: &State) -> Option<u32>
     ensures { result ≡ option_map (λ root. root.body.version) state.now.state.trusted.root }
 {
-    let root = state.parts().root.as_ref()?;
+    let root = state.trusted().root.as_ref()?;
     Some(root.body.version)
 }
 
@@ -22,21 +22,21 @@ pub fn root_version(state: &State) -> Option<u32>
 pub fn snapshot_due(state: &State) -> Option<u32>
     ensures { IsSnapshotDue state.now.state.trusted result }
 {
-    let parts = state.parts();
-    let Some(timestamp) = parts.timestamp.as_ref() else {
+    let trusted = state.trusted();
+    let Some(timestamp) = trusted.timestamp.as_ref() else {
         return None;
     };
-    if names_held(timestamp, parts) {
+    if names_held(timestamp, trusted) {
         return None;
     }
     Some(timestamp.body.snapshot.version)
 }
 
 // Whether the timestamp names the held snapshot.
-fn names_held(timestamp: &File<Timestamp>, parts: &Parts) -> bool
-    ensures { IsTrue result ↔ IsSomeAnd (parts_view parts.now).trusted.snapshot (NamesSnapshot (timestamp_file timestamp.now)) }
+fn names_held(timestamp: &File<Timestamp>, trusted: &Trusted) -> bool
+    ensures { IsTrue result ↔ IsSomeAnd (trusted_view trusted.now).snapshot (NamesSnapshot (timestamp_file timestamp.now)) }
 {
-    match parts.snapshot.as_ref() {
+    match trusted.snapshot.as_ref() {
         Some(snapshot) => names_snapshot(timestamp, snapshot),
         None => false,
     }

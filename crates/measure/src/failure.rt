@@ -15,7 +15,9 @@ const USAGE: &str =
                  each: `read B` and `write B`
   lms N          signs once and verifies N times with each LM-OTS type at height 5, and prints the signings,
                  verifications and hashes per second: `w8 sign S verify V hashes H`; then the hashes of 55 bytes
-                 per second of SHA-256 alone, `sha2 H`, and the hashes of each type in hundredths of that
+                 per second of SHA-256 alone, `sha2 H`, and the hashes of each type in hundredths of that; then the
+                 milliseconds of a public key with W8 at height 10, those of a key pair with its public key and a
+                 signature, and these in hundredths of the former: `pair tree T both B ratio R`
   documents N    reads a snapshot of 128 roles and 256,000 bytes and targets metadata of 1,000 listings, each N times,
                  and prints the bytes of each and how many are read per second: `snapshot B read R` and
                  `targets B read R`
@@ -26,6 +28,8 @@ const USAGE: &str =
                  together, and the share of the checks in the time of a target in hundredths; then how many signatures
                  the request checks, and how many a search that knows nothing of them:
                  `w4 listings L blobs B delegations D get G search S check C lookups U held H without W share P checks N cold M`
+                 and of a search behind that line among 4,096 shelf rows how many are made per second, and how many without the
+                 signature checks: `w4 shelf 4096 search S lookups U`
   patterns N     holds a usual pattern against a usual path, and `*a*a*a*b` and the pattern of 99 such stars against a path
                  of 200 letters a, each N times, and prints how many times per second: `usual match R`, `three match R`
                  and `most match R`";

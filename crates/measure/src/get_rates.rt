@@ -1,7 +1,9 @@
 use crate::failure::Failure;
 use crate::rate::{now, percent, rate};
 use crate::repository::{FILE, PATH, Repository};
-use delegations::{Row, Rows, Shelf, Steps, has_hash, has_length, search, search_counted};
+use delegations::{
+    Row, Rows, Shelf, Steps, are_in_order, has_hash, has_length, search, search_counted,
+};
 use keys_roles::meets;
 use lms::OtsType;
 use machine::{Batched, Offer, Outcome, State, batch, get, get_counted, init, put_blob};
@@ -19,6 +21,9 @@ const MOMENT: u64 = 1_893_456_000;
 
 // The most delegations in a line that a search goes through.
 const MOST_DELEGATIONS: u32 = 31;
+
+// The most rows of a shelf.
+const MOST_ROWS: u32 = 4_096;
 
 // What a state has: targets, blobs, and delegations before the role that lists the targets.
 #[derive(Clone, Copy)]
@@ -79,7 +84,36 @@ pub fn measure(rt: &(impl Clock + Print + AllocGlobal), rounds: u32) -> Result<(
         measure_state(rt, name, Size::new(1, 1, 0), ots, rounds)?;
         measure_state(rt, name, Size::new(1000, 4096, 0), ots, rounds)?;
         measure_state(rt, name, Size::new(1, 1, MOST_DELEGATIONS), ots, rounds)?;
+        measure_shelf(rt, name, ots, rounds)?;
     }
+    Ok(())
+}
+
+// Prints the rates of a search behind the line among as many rows as a shelf has at most.
+fn measure_shelf(
+    rt: &(impl Clock + Print + AllocGlobal),
+    name: &str,
+    ots: OtsType,
+    rounds: u32,
+) -> Result<(), Failure> {
+    let alloc = rt.alloc();
+    let files = Repository::new(alloc, ots, 1, MOST_DELEGATIONS)?;
+    let Some(moment) = Moment::new(MOMENT) else {
+        return Err(Failure::NotServed);
+    };
+    let path = path(alloc)?;
+    let documents = documents_of(alloc, &files, MOST_ROWS)?;
+    let mut searching = Duration::from_secs(0);
+    let mut looking = Duration::from_secs(0);
+    for _ in 0..rounds {
+        searching = searching.saturating_add(time_of_search(rt, &documents, &path, moment)?);
+        looking = looking.saturating_add(time_of_lookups(rt, &documents, &path, moment)?);
+    }
+    println!(rt;
+        "{name} shelf {MOST_ROWS} search {} lookups {}",
+        rate(1, rounds, searching),
+        rate(1, rounds, looking)
+    )?;
     Ok(())
 }
 
@@ -125,9 +159,9 @@ fn checks_of(
     let path = path(alloc)?;
     let mut warm = Steps::new();
     get_counted(alloc, state, &path, moment, &mut warm)?;
-    let documents = documents_of(alloc, files)?;
+    let documents = documents_of(alloc, files, 0)?;
     let mut cold = Steps::new();
-    let shelf = shelf_of(&documents);
+    let shelf = shelf_of(&documents)?;
     match search_counted(&shelf, &path, moment, &mut cold, &mut Steps::new()) {
         Ok(_) => Ok((warm.count(), cold.count())),
         Err(_) => Err(Failure::NotServed),
@@ -238,7 +272,7 @@ fn role_of(alloc: Global, name: &str) -> Result<RoleName, Failure> {
     }
 }
 
-// What a search reads.
+// What a search reads, the rows in order.
 #[derive(Drop)]
 struct Documents {
     root: File<Root>,
@@ -246,15 +280,26 @@ struct Documents {
     rows: Vec<Row>,
 }
 
-fn documents_of(alloc: Global, files: &Repository) -> Result<Documents, Failure> {
+// The documents of the line, among so many rows at least. The further rows are of roles that no document names.
+fn documents_of(alloc: Global, files: &Repository, least: u32) -> Result<Documents, Failure> {
     let mut rows = Vec::new(alloc);
-    for (name, file) in &files.line {
-        let row = Row {
-            role: role_of(alloc, name.as_str())?,
-            version: 1,
-            file: read_targets_file(alloc, file)?,
-        };
-        rows.push(row).map_err(AllocError::from)?;
+    let Some((_, last)) = files.line.last() else {
+        return Err(Failure::NotServed);
+    };
+    for number in 0..least {
+        if number as usize >= files.line.len() {
+            let name = format!(in alloc; "q{number:04}")?;
+            rows.push(row_of(alloc, name.as_str(), last)?)
+                .map_err(AllocError::from)?;
+        }
+    }
+    for (name, file) in files.line.iter().skip(1) {
+        rows.push(row_of(alloc, name.as_str(), file)?)
+            .map_err(AllocError::from)?;
+    }
+    for (name, file) in files.line.iter().take(1) {
+        rows.push(row_of(alloc, name.as_str(), file)?)
+            .map_err(AllocError::from)?;
     }
     Ok(Documents {
         root: read_root_file(alloc, &files.root)?,
@@ -263,9 +308,18 @@ fn documents_of(alloc: Global, files: &Repository) -> Result<Documents, Failure>
     })
 }
 
-fn shelf_of(documents: &Documents) -> Shelf<'_> {
-    let rows = rows_of(documents);
-    Shelf::new(&documents.root.body, &documents.snapshot.body, rows)
+// The first version of a role's document.
+fn row_of(alloc: Global, name: &str, file: &[u8]) -> Result<Row, Failure> {
+    Ok(Row {
+        role: role_of(alloc, name)?,
+        version: 1,
+        file: read_targets_file(alloc, file)?,
+    })
+}
+
+fn shelf_of(documents: &Documents) -> Result<Shelf<'_>, Failure> {
+    let rows = rows_of(documents)?;
+    Ok(Shelf::new(&documents.root.body, &documents.snapshot.body, rows))
 }
 
 // The times of a target request, and of its parts alone. They take turns, so that what else the machine does slows them alike.
@@ -278,7 +332,7 @@ fn times_of(
     rounds: u32,
 ) -> Result<Times, Failure> {
     let path = path(alloc)?;
-    let documents = documents_of(alloc, files)?;
+    let documents = documents_of(alloc, files, 0)?;
     let mut times = Times::none();
     for _ in 0..rounds {
         times = times.and(Times {
@@ -317,8 +371,8 @@ fn time_of_search(
     path: &TargetPath,
     moment: Moment,
 ) -> Result<Duration, Failure> {
+    let shelf = shelf_of(documents)?;
     let start = now(rt)?;
-    let shelf = shelf_of(documents);
     let is_found = search(&shelf, path, moment).is_ok();
     timed(rt, start, is_found)
 }
@@ -347,8 +401,9 @@ fn time_of_lookups(
     path: &TargetPath,
     moment: Moment,
 ) -> Result<Duration, Failure> {
+    let rows = rows_of(documents)?;
     let start = now(rt)?;
-    let is_found = is_listed(documents, path, moment);
+    let is_found = is_listed(documents, rows, path, moment);
     timed(rt, start, is_found)
 }
 
@@ -370,24 +425,24 @@ fn timed(rt: &impl Clock, start: Instant, is_done: bool) -> Result<Duration, Fai
     }
 }
 
-fn rows_of(documents: &Documents) -> Rows<'_> {
-    Rows {
+fn rows_of(documents: &Documents) -> Result<Rows<'_>, Failure> {
+    if !are_in_order(&documents.rows) {
+        return Err(Failure::NotServed);
+    }
+    Ok(Rows {
         held: &documents.rows,
         added: &[],
-    }
+    })
 }
 
 // Whether the path is listed at the end of the line: the search without its signature checks.
-fn is_listed(documents: &Documents, path: &TargetPath, moment: Moment) -> bool {
+fn is_listed(documents: &Documents, rows: Rows<'_>, path: &TargetPath, moment: Moment) -> bool {
     let mut is_found = false;
-    for row in &documents.rows {
-        let Some(entry) = documents.snapshot.body.entry(row.role.as_str()) else {
+    for (role, entry) in &documents.snapshot.body.meta {
+        let Some(file) = rows.row_at(role.as_str(), entry.version) else {
             return false;
         };
-        let Some(file) = rows_of(documents).row_at(row.role.as_str(), entry.version) else {
-            return false;
-        };
-        is_found = file.body.listing(path.as_str()).is_some();
+        is_found |= file.body.listing(path.as_str()).is_some();
         if !has_length(entry, &file.source)
             || !has_hash(entry, &file.source)
             || !live(file.body.expires, moment)

@@ -1,6 +1,8 @@
 use crate::failure::Failure;
 use crate::rate::{now, percent, rate};
-use lms::{OtsType, Params, Seed, SigningHeight, Steps, public_of, sign, verify, verify_counted};
+use lms::{
+    KeyPair, OtsType, Params, Seed, SigningHeight, Steps, public_of, sign, verify, verify_counted,
+};
 use sha2::{Digest, Sha256};
 use std::alloc::Global;
 use std::rt::Clock;
@@ -33,6 +35,34 @@ pub fn measure(rt: &(impl Clock + Print + AllocGlobal), rounds: u32) -> Result<(
         percent(w2, alone),
         percent(w4, alone),
         percent(w8, alone)
+    )?;
+    measure_pair(rt, &message)
+}
+
+// The largest tree that is signed with.
+const LARGEST: Params = Params {
+    ots: OtsType::W8,
+    height: SigningHeight::H10,
+};
+
+// Prints the milliseconds that a public key takes at the largest tree, those of a key pair with its public key and a signature, and the
+// second in hundredths of the first.
+fn measure_pair(rt: &(impl Clock + Print + AllocGlobal), message: &[u8]) -> Result<(), Failure> {
+    let start = now(rt)?;
+    let public = public_of(&SEED, LARGEST);
+    let tree = now(rt)?.duration_since(start).as_millis();
+    let start = now(rt)?;
+    let pair = KeyPair::new(rt.alloc(), &SEED, LARGEST)?;
+    let mut signature = Vec::new(rt.alloc());
+    pair.sign(0, message, &mut signature)?;
+    let same = pair.public() == public;
+    let both = now(rt)?.duration_since(start).as_millis();
+    if !same || !verify(&public, message, &signature) {
+        return Err(Failure::NotVerified);
+    }
+    println!(rt;
+        "pair tree {tree} both {both} ratio {}",
+        percent(both, tree)
     )?;
     Ok(())
 }

@@ -1,22 +1,9 @@
--- What stands in a list of texts, and whether one stands there twice.
-use Rattle.std.proofs.Common.{◌≡◌, ◌≢◌, ℕ, zero, suc, ◌<◌, List, [], ◌∷◌, length, refl, sym, subst, arith, inl, inr}
-use Rattle.std.specs.Prelude.{slice_index_or}
-use Rattle.std.specs.List.{AllByRecursion, Contains}
+-- What stands in a list, and whether a text stands twice in a list of texts.
+use Rattle.std.proofs.Common.{◌≡◌, ◌≢◌, ℕ, List, [], ◌∷◌, length, refl, sym, subst, arith, inl, inr}
+use Rattle.std.specs.List.{AllByRecursion}
 use Rattle.keys_roles.specs.Rules.{AreDistinct}
 use Rattle.keys_roles.specs.steps.Counting.{IsIn}
-
-pub contains_in : {X : Type 0} → (xs : List X) (x : X) → IsIn xs x → Contains xs x
-contains_in [] x h = absurd h
-contains_in (y ∷ ys) x (inl h) = (0, omega arith, h)
-contains_in (y ∷ ys) x (inr h) = let t = contains_in ys x h in (suc t.0, (let below = t.1 in omega arith), t.2)
-
-in_at : {X : Type 0} → (xs : List X) (x : X) (k : ℕ) → k < length xs → slice_index_or xs k x ≡ x → IsIn xs x
-in_at [] x k below h = absurd (omega arith)
-in_at (y ∷ ys) x zero below h = inl h
-in_at (y ∷ ys) x (suc k) below h = inr (in_at ys x k (omega arith) h)
-
-pub in_contains : {X : Type 0} → (xs : List X) (x : X) → Contains xs x → IsIn xs x
-in_contains xs x h = in_at xs x h.0 h.1 h.2
+pub use Rattle.keys_roles.proofs.Elements.{contains_in, in_contains}
 
 absent : (xs : List (List ℕ)) (x : List ℕ) → (IsIn xs x → ⊥) → AllByRecursion (λ y. x ≢ y) xs
 absent [] x h = tt

@@ -56,6 +56,10 @@ pub record IsSignedFile (bytes : List ℕ) (entries : List Signature) (signed : 
   pub file : IsFile bytes value
   pub envelope : IsEnvelope value entries signed type_name
 
+-- the same, with the bytes that the signatures are over
+abbrev pub IsSignedBy : List ℕ → List Signature → List ℕ → Type 0
+IsSignedBy bytes entries signed = (part : Json) × (type_name : List ℕ) × IsSignedFile bytes entries part type_name × (signed ≡ spelling part)
+
 -- the file is this document, whatever the names in its key tables
 pub record IsReadAs (kind : Kind) (bytes : List ℕ) (d : Document) : Type 0 where
   pub part : Json
@@ -67,6 +71,16 @@ pub record IsReadAs (kind : Kind) (bytes : List ℕ) (d : Document) : Type 0 whe
 pub record IsDocument (kind : Kind) (bytes : List ℕ) (d : Document) : Type 0 where
   pub read : IsReadAs kind bytes d
   pub ids : AllByRecursion NamesAreIds (tables d.body)
+
+-- the first check that fails, as far as the envelope
+abbrev pub IsEnvelopeFault : List ℕ → ShapeFault → Type 0
+IsEnvelopeFault bytes TooLong = max_file < length bytes
+IsEnvelopeFault bytes NotCanonical = (length bytes ≤ max_file) × ((v : Json) → IsCanonical v bytes → ⊥)
+IsEnvelopeFault bytes WrongShape = (v : Json) × IsFile bytes v
+    × ((entries : List Signature) (signed : Json) (type_name : List ℕ) → IsEnvelope v entries signed type_name → ⊥)
+IsEnvelopeFault bytes WrongType = ⊥
+IsEnvelopeFault bytes BadKeyId = ⊥
+IsEnvelopeFault bytes OutOfMemory = ⊥
 
 -- the first check that fails
 abbrev pub IsShapeFault : Kind → List ℕ → ShapeFault → Type 0

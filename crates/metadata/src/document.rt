@@ -20,8 +20,8 @@ use canonical_json::{ReadFault, Value, member, read};
 use keys_roles::Signature;
 use std::alloc::Global;
 
-// The bytes of the longest file.
-const MOST: usize = 262_144;
+/// The bytes of the longest file.
+pub const MOST: usize = 262_144;
 
 /// The document of this kind that the bytes are (TUF 1.0, sections 4.2 to 4.6), or the first check that fails, in this
 /// order: at most 262,144 bytes, canonical JSON, an envelope whose signed part has a text `_type`, the kind's `_type`, the
@@ -52,8 +52,8 @@ pub fn read_document<'a>(
     })
 }
 
-// What a file that is not read is refused as.
-fn unread(fault: ReadFault) -> ShapeFault
+/// What a file that is not read is refused as.
+pub fn unread(fault: ReadFault) -> ShapeFault
     ensures memory { fault ≡ ReadFault.OutOfMemory → result ≡ ShapeFault.OutOfMemory }
     ensures other { (fault ≡ ReadFault.OutOfMemory → ⊥) → result ≡ ShapeFault.NotCanonical }
 {

@@ -20,6 +20,7 @@ mod moment;
 mod parts;
 mod root;
 mod scopes;
+mod signed;
 mod snapshot;
 mod source;
 mod targets;
@@ -43,6 +44,7 @@ pub use keys_roles::{Key, KeyId, KeyTable, RoleRule, Signature};
 pub use laws::{covers_tell, denied_shapes, snapshot_names};
 pub use moment::{Moment, live};
 pub use path_patterns::{Digest, Pattern, RoleName, TargetPath};
+pub use signed::{SignedFile, read_signed};
 pub use snapshot::is_listable;
 pub use source::{Source, digest_of};
 

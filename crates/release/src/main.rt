@@ -7,6 +7,7 @@ mod deadlines;
 mod ending;
 mod incoming;
 mod init;
+mod key;
 mod lines;
 mod moments;
 mod outgoing;
@@ -14,7 +15,9 @@ mod publish;
 mod put;
 mod repository;
 mod run;
+mod seeds;
 mod serve;
+mod sign;
 mod standing;
 
 use commands::Fault;

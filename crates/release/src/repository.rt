@@ -36,8 +36,8 @@ fn told<T: Drop, E: Write>(
     }
 }
 
-// What a database file that was not opened comes to. Where the system refused to open it, its own error is told.
-fn unopened<E: Write>(
+/// What a database file that was not opened comes to. Where the system refused to open it, its own error is told.
+pub fn unopened<E: Write>(
     rt: &HostRuntime,
     db: &str,
     error: &Error,

@@ -1,9 +1,11 @@
 //! A command from its words to its exit status.
 use crate::init::init;
+use crate::key::print_key;
 use crate::moments::moment;
 use crate::publish::publish;
 use crate::put::put;
 use crate::serve::Server;
+use crate::sign::{Signing, sign};
 use canon::canon;
 use command_line::{Subcommand, Task, task};
 use commands::{Fault, Notes, print, read};
@@ -49,6 +51,7 @@ fn perform<O: Write, E: Write>(
     match subcommand {
         Subcommand::Canon { file } => print_canon(rt, file.as_str(), at, out, notes),
         Subcommand::Init { db, root } => init(rt, db.as_str(), root.as_str(), at, out, notes),
+        Subcommand::Key { seed, params } => print_key(rt, seed.as_str(), params, at, out, notes),
         Subcommand::Publish { db, documents } => publish(
             rt,
             db.as_str(),
@@ -58,6 +61,20 @@ fn perform<O: Write, E: Write>(
             notes,
         ),
         Subcommand::Put { db, file } => put(rt, db.as_str(), file.as_str(), at, out, notes),
+        Subcommand::Sign {
+            book,
+            seed,
+            params,
+            file,
+        } => {
+            let asked = Signing {
+                book: book.as_str(),
+                seed: seed.as_str(),
+                params,
+                file: file.as_str(),
+            };
+            sign(rt, asked, at, out, notes)
+        }
         Subcommand::Serve { db, port, count } => {
             let server = Server::new(rt, db.as_str(), port, count, at);
             server.run(out, notes)

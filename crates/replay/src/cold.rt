@@ -25,8 +25,8 @@ pub fn cold_search(
 ) -> Result<(u64, u64), LineFault> {
     let documents = documents_of(alloc, state, root_version)?;
     let rows = Rows {
-        held: &documents.rows,
-        added: &[],
+        held: &[],
+        added: &documents.rows,
     };
     let shelf = Shelf::new(&documents.root.body, &documents.snapshot.body, rows);
     let mut checks = Steps::new();

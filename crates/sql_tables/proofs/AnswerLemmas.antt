@@ -1,12 +1,11 @@
 -- What a query of one table answers.
-use Rattle.std.proofs.Common.{◌^◌, ◌-◌, nat_le, slice_get, ◌≡◌, inl, inr, ℕ, pos, negsuc, List, [], ◌∷◌, ◌++◌, map, Bool, true, false, if◌then◌else◌, None, unwrap_or, flat_map, refl, sym, ap, subst, subst₂, ◌∙◌}
+use Rattle.std.proofs.Common.{◌^◌, ◌-◌, nat_le, slice_get, ◌≡◌, inl, inr, ℕ, List, [], ◌∷◌, ◌++◌, map, Bool, true, false, if◌then◌else◌, None, unwrap_or, flat_map, refl, sym, ap, subst, subst₂, ◌∙◌}
 use Rattle.std.specs.List.{list_all}
 use Rattle.std.proofs.lemmas.List.Sorted.{Contains-permutation, IsPermutation-map, IsPermutation-sym}
-use Rattle.sqlite.specs.declared.types.Value.TheVariants.{Int}
 use Rattle.sqlite_value.specs.declared.keys.Key.{Key}
 use Rattle.sqlite.specs.Order.{Row}
-use Rattle.sqlite_sql.specs.Term.{Term, Env, eval_all, holds, lit}
-use Rattle.sqlite_sql.specs.Query.{Query, inner, end, IsAnswer, Output, output}
+use Rattle.sqlite_sql.specs.Term.{Term, Env, eval_all, holds}
+use Rattle.sqlite_sql.specs.Query.{IsAnswer, Output, output}
 use Rattle.sqlite_sql.specs.Program.{overlay}
 use Rattle.sqlite_trees.specs.Tree.{Trees}
 use Rattle.sqlite_rules.specs.Lists.{Has}
@@ -14,26 +13,11 @@ use Rattle.sqlite_trees.proofs.ListLemmas.{map-map}
 use Rattle.std.specs.List.Sorted.{IsPermutation}
 use Rattle.sqlite_rules.proofs.ListLemmas.{has_left, has_right, has_either, has_contained, contains_had}
 use Rattle.sql_tables.proofs.RowLemmas.{has_map, map_has}
-
-abbrev pub plain_query : ℕ → List Term → List Term → List (Term × Key) → Query
-plain_query tree filter project order = record {
-  from = inner tree end;
-  filter = filter;
-  group = None;
-  project = project;
-  distinct = false;
-  collations = [];
-  order = order;
-  limit = lit (Int (negsuc 0));
-  offset = lit (Int (pos 0));
-}
+pub use Rattle.sql_tables.specs.Asking.{plain_query, cells_of}
 
 -- the row passes every term of WHERE
 abbrev pub passes : List Term → Row → Row → Bool
 passes filter params row = list_all (holds (params ∷ row ∷ [])) filter
-
-abbrev pub cells_of : List Term → Row → Row → Row
-cells_of project params row = eval_all project (params ∷ row ∷ [])
 
 no_tables : (db : Trees) (t : ℕ) → overlay db [] t ≡ db t
 no_tables db t = elim (nat_le (2 ^ 31) t) as (λ b. unwrap_or (if b then slice_get [] (t - 2 ^ 31) else None) (db t) ≡ db t) [ true ↦ refl | false ↦ refl ]

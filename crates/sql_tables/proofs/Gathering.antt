@@ -1,5 +1,5 @@
 -- Items that are gathered from rows, for every table.
-use Rattle.std.proofs.Common.{◌≡◌, ◌≢◌, ◌⊎◌, inl, inr, ℕ, List, [], ◌∷◌, ◌++◌, map, refl, sym, ap, subst, ◌∙◌, Result, Ok, Err}
+use Rattle.std.proofs.Common.{◌≡◌, ◌≢◌, ◌⊎◌, inl, inr, List, [], ◌∷◌, ◌++◌, map, refl, sym, ap, subst, ◌∙◌, Result, Ok, Err, Bool, true, false, append-nil}
 use Rattle.std.specs.List.{AllByRecursion}
 use Rattle.std.specs.List.Sorted.{IsStrictlySortedBy}
 use Rattle.std.specs.declared.cmp.Ordering.{Ordering}
@@ -13,12 +13,12 @@ use Rattle.sqlite.specs.Order.{Row}
 use Rattle.sqlite_value.specs.declared.keys.Key.{Key}
 use Rattle.sqlite_rules.specs.Lists.{Has}
 use Rattle.sqlite_rules.proofs.ListLemmas.{has_left, has_right, has_either}
-use Rattle.sql_tables.specs.declared.places.Place.{Place}
-use Rattle.sql_tables.specs.declared.places.Place.TheVariants.{Behind, Same, Neither}
+use Rattle.sql_tables.specs.declared.items.Place.TheVariants.{Behind, Same, Neither}
 use Rattle.sql_tables.specs.Rows.{AreRows, AreKeyed}
-use Rattle.sql_tables.specs.Loading.{AreLoaded, AreRead, AreGathered, AreOrdered, AreSpoiled, IsPlace, IsPlacedBy}
+use Rattle.sql_tables.specs.Loading.{AreLoaded, AreRead, AreGathered, AreOrdered, AreSpoiled, IsPlace, HasGathered}
 use Rattle.sql_tables.proofs.RowLemmas.{has_map, map_has}
 use Rattle.sql_tables.proofs.NumberLemmas.{IsNumbered}
+use Rattle.sql_tables.proofs.ItemLemmas.{read_none, spoiled_more, spoiled_row}
 
 -- the fault that a `?` hands on
 pub handed_on : {A E : Type 0} {x y : E} (r : Result A E) → IsErrAnd r (λ e. e ≡ x) → r ≡ Err y → x ≡ y
@@ -64,26 +64,34 @@ module _ {K : Type 0} (cmp : K → K → Ordering) (order : IsTotalOrder cmp) (e
       go Equal p is one two = refl
       go Greater p is one two = absurd (two is)
 
-module _ {K : Type 0} (cmp : K → K → Ordering) (order : IsTotalOrder cmp) (exact : (a b : K) → cmp a b ≡ Equal → a ≡ b) where
-  pub is_place : (items init : List (K × List ℕ)) (y x : K × List ℕ) (o : Ordering) (p : Place) → items ≡ init ++ y ∷ [] → o ≡ cmp y.0 x.0 → IsPlacedBy o y.1 x.1 p → IsPlace cmp items x p
-  is_place items init y x Less p split is placed =
-      subst (IsPlace cmp items x) (sym placed) (λ i z other. let e : y ≡ z = last_same init i y z (sym split ∙ other) in ap (λ (w : K × List ℕ). cmp w.0 x.0) (sym e) ∙ sym is)
-  is_place items init y x Equal p split is (inl same) =
-      let key = exact y.0 x.0 (sym is) in
-      let both : y ≡ x = λ i. (key i, same.0 i) in
-      subst (IsPlace cmp items x) (sym same.1) (init, split ∙ ap (λ w. init ++ w ∷ []) both)
-  is_place items init y x Equal p split is (inr other) =
-      subst (IsPlace cmp items x) (sym other.1) (init, y, split, λ less. absurd (let e = sym less ∙ sym is in cc), λ e. other.0 (ap (λ (w : K × List ℕ). w.1) (sym e)))
-  is_place items init y x Greater p split is placed =
-      subst (IsPlace cmp items x) (sym placed)
-      (init, y, split, λ less. absurd (let e = sym less ∙ sym is in cc), λ e. absurd (let f : cmp y.0 x.0 ≡ Equal = ap (λ (w : K × List ℕ). cmp y.0 w.0) e ∙ tied_itself order y.0 in let g = is ∙ f in cc))
+module _ {K V : Type 0} (cmp : K → K → Ordering) (order : IsTotalOrder cmp) (exact : (a b : K) → cmp a b ≡ Equal → a ≡ b) (items init : List (K × V)) (y x : K × V) (split : items ≡ init ++ y ∷ []) where
+  pub is_behind : cmp y.0 x.0 ≡ Less → IsPlace cmp items x Behind
+  is_behind less i z other = let e : y ≡ z = last_same init i y z (sym split ∙ other) in ap (λ (w : K × V). cmp w.0 x.0) (sym e) ∙ less
+
+  pub is_same : cmp y.0 x.0 ≡ Equal → y.1 ≡ x.1 → IsPlace cmp items x Same
+  is_same equal same =
+      let key = exact y.0 x.0 equal in
+      let both : y ≡ x = λ i. (key i, same i) in
+      (init, split ∙ ap (λ w. init ++ w ∷ []) both)
+
+  pub is_other : cmp y.0 x.0 ≡ Equal → y.1 ≢ x.1 → IsPlace cmp items x Neither
+  is_other equal other = (init, y, split, λ less. absurd (let e = sym less ∙ equal in cc), λ e. other (ap (λ (w : K × V). w.1) (sym e)))
+
+  pub is_before : cmp y.0 x.0 ≡ Greater → IsPlace cmp items x Neither
+  is_before greater = (
+    init,
+    y,
+    split,
+    λ less. absurd (let e = sym less ∙ greater in cc),
+    λ e. absurd (let f : cmp y.0 x.0 ≡ Equal = ap (λ (w : K × V). cmp y.0 w.0) e ∙ tied_itself order y.0 in let g = sym greater ∙ f in cc),
+  )
 
 module _ {K V : Type 0} (cmp : K → K → Ordering) (order : IsTotalOrder cmp) (exact : (a b : K) → cmp a b ≡ Equal → a ≡ b) where
   module _ (Reads : Row → K × V → Type 0) (Fits : K × V → Type 0) where
-    pub gathers_none : AreGathered cmp Reads Fits [] []
+    gathers_none : AreGathered cmp Reads Fits [] []
     unfolding IsStrictlySortedBy
     gathers_none = record {
-      read = record { from = λ x none. absurd none; each = λ r none. absurd none; fit = λ x none. absurd none };
+      read = read_none Reads Fits;
       rising = tt;
       last = λ init y e. absurd (no_end init y e);
     }
@@ -92,7 +100,7 @@ module _ {K V : Type 0} (cmp : K → K → Ordering) (order : IsTotalOrder cmp) 
         no_end [] y e = let f = e in cc
         no_end (z ∷ init) y e = let f = e in cc
 
-    pub gathers_more : (rows : List Row) (items : List (K × V)) (r : Row) (x : K × V) → AreGathered cmp Reads Fits rows items → Reads r x → Fits x → IsPlace cmp items x Behind
+    gathers_more : (rows : List Row) (items : List (K × V)) (r : Row) (x : K × V) → AreGathered cmp Reads Fits rows items → Reads r x → Fits x → IsPlace cmp items x Behind
         → AreGathered cmp Reads Fits (rows ++ r ∷ []) (items ++ x ∷ [])
     gathers_more rows items r x all reads fits behind = record {
       read = record {
@@ -131,7 +139,7 @@ module _ {K V : Type 0} (cmp : K → K → Ordering) (order : IsTotalOrder cmp) 
               subst (AllByRecursion (λ a. cmp a x.0 ≡ Less)) (sym cut) (below_next cmp order (map (λ z. z.0) it.0) it.1.0 x.0 (subst (IsStrictlySortedBy cmp) cut up) (place it.0 it.1 it.2))
         ]
 
-    pub gathers_same : (rows : List Row) (items : List (K × V)) (r : Row) (x : K × V) → AreGathered cmp Reads Fits rows items → Reads r x → IsPlace cmp items x Same
+    gathers_same : (rows : List Row) (items : List (K × V)) (r : Row) (x : K × V) → AreGathered cmp Reads Fits rows items → Reads r x → IsPlace cmp items x Same
         → AreGathered cmp Reads Fits (rows ++ r ∷ []) items
     gathers_same rows items r x all reads same = record {
       read = record {
@@ -147,10 +155,7 @@ module _ {K V : Type 0} (cmp : K → K → Ordering) (order : IsTotalOrder cmp) 
       last = λ init y e. (rows, r, refl, subst (Reads r) (last_same same.0 init x y (sym same.1 ∙ e)) reads);
     }
 
-    pub spoiled_row : (rows : List Row) (r : Row) → Has rows r → ((x : K × V) → Fits x → Reads r x → ⊥) → AreSpoiled Reads Fits rows
-    spoiled_row rows r has bad = inl (r, has, bad)
-
-    pub spoiled_pair : (rows done rest : List Row) (items : List (K × V)) (r : Row) (x : K × V) → rows ≡ (done ++ r ∷ []) ++ rest → AreOrdered cmp Reads Fits rows → AreGathered cmp Reads Fits done items → Reads r x → Fits x
+    spoiled_pair : (rows done rest : List Row) (items : List (K × V)) (r : Row) (x : K × V) → rows ≡ (done ++ r ∷ []) ++ rest → AreOrdered cmp Reads Fits rows → AreGathered cmp Reads Fits done items → Reads r x → Fits x
         → IsPlace cmp items x Neither → AreSpoiled Reads Fits rows
     spoiled_pair rows done rest items r x split ordered all reads fits neither =
         let init = neither.0 in
@@ -175,6 +180,38 @@ module _ {K V : Type 0} (cmp : K → K → Ordering) (order : IsTotalOrder cmp) 
           key,
           neither.4,
         )
+
+    -- one more row
+
+    ordered_less : (rows : List Row) (r : Row) → AreOrdered cmp Reads Fits (rows ++ r ∷ []) → AreOrdered cmp Reads Fits rows
+    ordered_less rows r all before a b rest x y e = all before a b (rest ++ r ∷ []) x y (ap (λ d. d ++ r ∷ []) e ∙ append_assoc before (a ∷ b ∷ rest) (r ∷ []))
+
+    module _ (rows : List Row) (items : List (K × V)) where
+      abbrev Has_now : Bool → Type 0
+      Has_now = HasGathered cmp Reads Fits rows items
+
+      pub has_none : HasGathered cmp Reads Fits [] [] false
+      has_none = record { whole = λ _. gathers_none; spoiled = λ e. absurd (let f = e in cc) }
+
+      module _ (r : Row) where
+        abbrev Has_next : Bool → Type 0
+        Has_next = HasGathered cmp Reads Fits (rows ++ r ∷ []) items
+
+        pub has_spoiled : (b : Bool) → b ≡ true → Has_now b → Has_next b
+        has_spoiled b set was = record { whole = λ off. absurd (let e = sym set ∙ off in cc); spoiled = λ e ordered. spoiled_more Reads Fits rows r (was.spoiled set (ordered_less rows r ordered)) }
+
+        pub has_ill : ((x : K × V) → Fits x → Reads r x → ⊥) → Has_next true
+        has_ill bad = record { whole = λ off. absurd (let e = off in cc); spoiled = λ e ordered. spoiled_row Reads Fits rows r bad }
+
+        module _ (x : K × V) (reads : Reads r x) (fits : Fits x) (b : Bool) (clear : b ≡ false) (was : Has_now b) where
+          pub has_behind : IsPlace cmp items x Behind → HasGathered cmp Reads Fits (rows ++ r ∷ []) (items ++ x ∷ []) b
+          has_behind behind = record { whole = λ _. gathers_more rows items r x (was.whole clear) reads fits behind; spoiled = λ set. absurd (let e = sym set ∙ clear in cc) }
+
+          pub has_same : IsPlace cmp items x Same → Has_next b
+          has_same same = record { whole = λ _. gathers_same rows items r x (was.whole clear) reads same; spoiled = λ set. absurd (let e = sym set ∙ clear in cc) }
+
+          pub has_neither : IsPlace cmp items x Neither → Has_next true
+          has_neither neither = record { whole = λ never. absurd (let e = never in cc); spoiled = λ _ ordered. spoiled_pair (rows ++ r ∷ []) rows [] items r x (sym (append-nil (rows ++ r ∷ []))) ordered (was.whole clear) reads fits neither }
 
 -- ---- the items are what the table holds
 

@@ -37,24 +37,18 @@ module _ {K V : Type 0} (Reads : Row → K × V → Type 0) (Fits : K × V → T
     fit = λ z h. elim (old z h) [ inl was ↦ all.fit z was | inr is ↦ subst Fits (sym is) fits ];
   }
 
-  pub spoiled_slot : (rows done rest : List Row) (items : List (K × V)) (r : Row) (k : K) (v y : V) → rows ≡ (done ++ r ∷ []) ++ rest → AreRead Reads Fits done items → Has items (k, y)
-      → Reads r (k, v) → Fits (k, v) → v ≢ y → AreSpoiled Reads Fits rows
-  spoiled_slot rows done rest items r k v y split all has reads fits other =
+  -- what is spoiled stays so
+  pub spoiled_more : (rows : List Row) (r : Row) → AreSpoiled Reads Fits rows → AreSpoiled Reads Fits (rows ++ r ∷ [])
+  spoiled_more rows r (inl bad) = inl (bad.0, has_left rows _ bad.0 bad.1, bad.2)
+  spoiled_more rows r (inr bad) = inr (bad.0, bad.1, bad.2, bad.3, has_left rows _ bad.0 bad.4, has_left rows _ bad.1 bad.5, bad.6, bad.7, bad.8, bad.9, bad.10, bad.11)
+
+  pub spoiled_row : (rows : List Row) (r : Row) → ((x : K × V) → Fits x → Reads r x → ⊥) → AreSpoiled Reads Fits (rows ++ r ∷ [])
+  spoiled_row rows r bad = inl (r, has_right rows _ r (inl refl), bad)
+
+  pub spoiled_slot : (rows : List Row) (items : List (K × V)) (r : Row) (k : K) (v y : V) → AreRead Reads Fits rows items → Has items (k, y) → Reads r (k, v) → Fits (k, v) → v ≢ y → AreSpoiled Reads Fits (rows ++ r ∷ [])
+  spoiled_slot rows items r k v y all has reads fits other =
       let s = all.from (k, y) has in
-      inr (
-        r,
-        s.0,
-        (k, v),
-        (k, y),
-        subst (λ rs. Has rs r) (sym split) (has_left _ rest r (has_right done _ r (inl refl))),
-        subst (λ rs. Has rs s.0) (sym split) (has_left _ rest s.0 (has_left done _ s.0 s.1)),
-        reads,
-        s.2,
-        fits,
-        all.fit (k, y) has,
-        refl,
-        λ e. other (ap (λ (w : K × V). w.1) e),
-      )
+      inr (r, s.0, (k, v), (k, y), has_right rows _ r (inl refl), has_left rows _ s.0 s.1, reads, s.2, fits, all.fit (k, y) has, refl, λ e. other (ap (λ (w : K × V). w.1) e))
 
 pub int_one : (m n : ℕ) (v : Value) → v ≡ Int (pos m) → v ≡ Int (pos n) → m ≡ n
 int_one m n v a b = let e : Int (pos m) ≡ Int (pos n) = sym a ∙ b in let f : pos m ≡ pos n = cc in cc

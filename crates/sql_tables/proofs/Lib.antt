@@ -7,6 +7,7 @@ pub mod ItemLemmas
 pub mod Insert
 pub mod Queries
 pub mod Statements
+pub mod Steps
 pub mod MakingLemmas
 pub mod Calls
 pub mod Shapes

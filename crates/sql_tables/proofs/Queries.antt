@@ -4,7 +4,7 @@ use Rattle.std.specs.Ordering.{is_lt}
 use Rattle.std.specs.List.Sorted.{IsPermutation}
 use Rattle.std.proofs.lemmas.List.{get_or-map, length-map, length-append}
 use Rattle.sqlite_resolve.specs.Lowering.{Checked, and_then}
-use Rattle.sqlite_resolve.specs.Compile.{compiled, planned, meaning, command, returning, first, timed, with_command}
+use Rattle.sqlite_resolve.specs.Compile.{compiled, planned, meaning, command, first, timed, with_command}
 use Rattle.sqlite_syntax.specs.declared.statement.Parsed.{Parsed}
 use Rattle.sqlite_resolve.specs.declared.error.CompileError.TheVariants.{NoSuchTable}
 use Rattle.sqlite_resolve.specs.declared.compiled.Compiled.{Compiled}
@@ -24,13 +24,10 @@ use Rattle.sqlite.proofs.Callers.{IsPlain, command_of, reads_as}
 use Rattle.sqlite.proofs.StateLemmas.{survives_weaker}
 use Rattle.sqlite_rules.specs.Lists.{Has}
 use Rattle.sql_tables.specs.Loading.{AreLoaded}
+pub use Rattle.sql_tables.specs.Asking.{IsQuiet, Reads}
 use Rattle.sql_tables.proofs.AnswerLemmas.{plain_query, answer_from, answer_has, answer_whole, cells_of, outputs_from}
 
 -- ---- no query commits
-
-abbrev pub IsQuiet : Checked Parsed → Type 0
-IsQuiet (Ok p) = (schema : Schema) (base : ℕ) → returning schema base p.statement ≡ Ok None
-IsQuiet (Err e) = Unit {0}
 
 quiet_under : (schema : Schema) (sql : List ℕ) (c : Compiled) → IsQuiet (first sql) → compiled schema sql ≡ Ok c → c.returning ≡ None
 unfolding compiled planned meaning
@@ -122,18 +119,6 @@ module _ (schema : Schema) (sql : List ℕ) (tree : ℕ) (terms : List Term) (or
       (subst (ShowsRows old new sql h.0 (with_time [] h.0.formats h.1.now) rows) none h.2).3
 
 -- ---- a query by the facts of its text
-
--- what is known of the text of a query of one table: what it asks for, and that it commits nothing
-pub record Reads (schema : Schema) (sql : List ℕ) (tree : ℕ) (shown : Row → Row) (keys : List Key) : Type 0 where
-  pub terms : List Term
-  pub order : List (Term × Key)
-  pub names : List (List ℕ)
-  pub is : command_of (understood schema sql) ≡ Select (record { lets = []; body = plain_query tree [] terms order }) names
-  pub plain : IsPlain (understood schema sql)
-  pub unlisted : reads_listing schema sql ≡ false
-  pub quiet : IsQuiet (first sql)
-  pub cells : (r : Row) → cells_of terms [] r ≡ shown r
-  pub keyed : (r s : Row) → key_cmp 0 (map (λ k. k.1) order) (cells_of (map (λ k. k.0) order) [] r) (cells_of (map (λ k. k.0) order) [] s) ≡ key_cmp 0 keys (shown r) (shown s)
 
 module _ {schema : Schema} {sql : List ℕ} {tree : ℕ} {shown : Row → Row} {keys : List Key} (reads : Reads schema sql tree shown keys) where
   pub read_rows : (old new : State) (rows : List Row) → old.now.schema ≡ schema → Shown sql [] old new rows → AreLoaded shown keys (old.now.trees tree) rows

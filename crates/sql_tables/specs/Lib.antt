@@ -5,3 +5,4 @@ pub mod Described
 pub mod Inside
 pub mod Writing
 pub mod Loading
+pub mod Asking

@@ -2,7 +2,7 @@
 use Rattle.std.specs.Prelude.{◌≡◌, ◌≢◌, ◌⊎◌, ◌&&◌, ℕ, ℤ, Bool, true, false, List, [], ◌∷◌, ◌++◌, map}
 use Rattle.std.specs.Ordering.{is_lt, int_cmp}
 use Rattle.std.specs.declared.cmp.Ordering.{Ordering}
-use Rattle.std.specs.declared.cmp.Ordering.TheVariants.{Less, Equal, Greater}
+use Rattle.std.specs.declared.cmp.Ordering.TheVariants.{Less}
 use Rattle.std.specs.List.Sorted.{IsPermutation, IsStrictlySortedBy}
 use Rattle.sqlite_rules.specs.Lists.{Has}
 use Rattle.sqlite_value.specs.declared.keys.Collation.TheVariants.{Binary}
@@ -10,8 +10,8 @@ use Rattle.sqlite_value.specs.declared.keys.Key.{Key}
 use Rattle.sqlite_sql.specs.Query.{key_cmp}
 use Rattle.sqlite.specs.declared.types.Value.TheVariants.{Int}
 use Rattle.sqlite.specs.Order.{Row, column}
-use Rattle.sql_tables.specs.declared.places.Place.{Place}
-use Rattle.sql_tables.specs.declared.places.Place.TheVariants.{Behind, Same, Neither}
+use Rattle.sql_tables.specs.declared.items.Place.{Place}
+use Rattle.sql_tables.specs.declared.items.Place.TheVariants.{Behind, Same, Neither}
 
 -- What was read is what the table holds, and stands in the order of these keys.
 pub record AreLoaded (shown : Row → Row) (keys : List Key) (stored rows : List Row) : Type 0 where
@@ -66,18 +66,13 @@ AreSpoiled {K} {V} Reads Fits rows =
     ((r : Row) × Has rows r × ((x : K × V) → Fits x → Reads r x → ⊥))
     ⊎ ((r : Row) × (s : Row) × (x : K × V) × (y : K × V) × Has rows r × Has rows s × Reads r x × Reads s y × Fits x × Fits y × (x.0 ≡ y.0) × (x ≢ y))
 
--- the place of an item whose key is the last one's, by the two values
-abbrev pub IsPlaceOfEqual : List ℕ → List ℕ → Place → Type 0
-IsPlaceOfEqual last value place = ((last ≡ value) × (place ≡ Same)) ⊎ ((last ≢ value) × (place ≡ Neither))
-
--- by how the last key stands to the item's, and only where they are the same by the two values
-abbrev pub IsPlacedBy : Ordering → List ℕ → List ℕ → Place → Type 0
-IsPlacedBy Less last value place = place ≡ Behind
-IsPlacedBy Equal last value place = IsPlaceOfEqual last value place
-IsPlacedBy Greater last value place = place ≡ Neither
-
 -- where an item stands to those that were read before it
 abbrev pub IsPlace : {K V : Type 0} → (K → K → Ordering) → List (K × V) → K × V → Place → Type 0
 IsPlace {K} {V} cmp items x Behind = (init : List (K × V)) (y : K × V) → items ≡ init ++ y ∷ [] → cmp y.0 x.0 ≡ Less
 IsPlace {K} {V} cmp items x Same = (init : List (K × V)) × (items ≡ init ++ x ∷ [])
 IsPlace {K} {V} cmp items x Neither = (init : List (K × V)) × (y : K × V) × (items ≡ init ++ y ∷ []) × (cmp y.0 x.0 ≢ Less) × (x ≢ y)
+
+-- What was gathered of rows: their items, unless they are spoiled. That keys rise is known of rows that come in their order.
+pub record HasGathered {K V : Type 0} (cmp : K → K → Ordering) (Reads : Row → K × V → Type 0) (Fits : K × V → Type 0) (rows : List Row) (items : List (K × V)) (is_spoiled : Bool) : Type 0 where
+  pub whole : is_spoiled ≡ false → AreGathered cmp Reads Fits rows items
+  pub spoiled : is_spoiled ≡ true → AreOrdered cmp Reads Fits rows → AreSpoiled Reads Fits rows

@@ -2,13 +2,17 @@
 #![tactic(auto)]
 
 mod described;
+mod items;
 mod looking;
 mod making;
-mod places;
+mod numbering;
 mod shape;
+mod stepping;
 
 pub use described::Described;
+pub use items::{Item, gather};
 pub use looking::has_rows;
 pub use making::make_rest;
-pub use places::{Place, place_by};
+pub use numbering::take_rows;
 pub use shape::beginning_of;
+pub use stepping::{TakeRows, each_row};

@@ -1,5 +1,5 @@
 -- What a store is to its callers: its connection, and a state whose rows the tables hold.
-use Rattle.std.specs.Prelude.{◌≡◌, ℕ, ◌-◌, Bool, List, [], ◌∷◌, ◌++◌, cond, length, Option, Some, None, option_map, unwrap_or, refl}
+use Rattle.std.specs.Prelude.{◌≡◌, ℕ, ◌-◌, Bool, List, [], ◌∷◌, ◌++◌, cond, length, Option, Some, None, option_map, unwrap_or, refl, IsTrue}
 use Rattle.std.specs.Coded.{Coded, code_by, coded×}
 use Rattle.sqlite.specs.Held.{Held as Connection, held_code}
 use Rattle.metadata.specs.File.{Bytes, File}
@@ -7,13 +7,15 @@ use Rattle.metadata.specs.Documents.{Root}
 use Rattle.machine.specs.State.{State, IsState}
 use Rattle.machine.specs.Room.{WithRoom}
 use Rattle.machine.specs.Contents.{contents_of, numbered, shelf_rows}
-use Rattle.contents.specs.Contents.{Contents}
+use Rattle.contents.specs.Contents.{Contents, no_rows}
 use Rattle.delegations.specs.Rows.{Place}
 use Rattle.machine.specs.Effects.{Effects, last_or}
 use Rattle.sqlite.specs.Effect.{Database, IsDatabase}
 use Rattle.sqlite_trees.specs.Tree.{Trees}
 use Rattle.tables.specs.Schema.{IsBeginning}
-use Rattle.tables.specs.Tables.{Stands, emptied}
+use Rattle.tables.specs.Tables.{HoldsTables, Stands, emptied}
+use Rattle.tables.specs.Opening.{StandsEmpty}
+use Rattle.sqlite.specs.State as database
 
 -- what a caller sees of a store: its connection, and its state
 pub record Shown (S : Type 0) : Type 0 where
@@ -37,3 +39,7 @@ TreesStand trees t = (db : Database) × (db.trees ≡ trees) × IsDatabase db ×
 abbrev pub HoldsNoState : Trees → Type 0
 HoldsNoState trees =
     (db : Database) × (db.trees ≡ trees) × IsDatabase db × IsBeginning db.schema × ((S : State) → IsState S → Stands db (rows_of S) → ⊥)
+
+-- What an opening writes: where the tables stood without a row, they hold those of the empty state.
+abbrev pub Begins : database.State → Trees → Type 0
+Begins s trees = IsTrue s.is_open → StandsEmpty s × HoldsTables trees no_rows

@@ -23,15 +23,15 @@ use tables::{Change, StoreFault, write_all};
 
 /// The changes of the rows, in the order in which they are made.
 pub(crate) fn changes_of(alloc: Global, effects: &Effects) -> Result<Vec<Change<'_>>, AllocError>
-    requires { length effects.now.roots.items ≤ most_held }
+    requires { length effects.now.changes.roots.items ≤ most_held }
     ensures { IfOk result (λ changes. (t : Contents) → after_all changes.items t ≡ changed (effects_view effects.now) t) }
 {
     let mut changes = Vec::new(alloc);
-    put_roots(&mut changes, &effects.roots)?;
-    empty_if(&mut changes, effects.emptied)?;
-    put_timestamp(&mut changes, &effects.timestamp)?;
-    put_snapshot(&mut changes, &effects.snapshot)?;
-    put_rows(&mut changes, &effects.rows)?;
+    put_roots(&mut changes, &effects.changes.roots)?;
+    empty_if(&mut changes, effects.changes.emptied)?;
+    put_timestamp(&mut changes, &effects.changes.timestamp)?;
+    put_snapshot(&mut changes, &effects.changes.snapshot)?;
+    put_rows(&mut changes, &effects.changes.rows)?;
     put_blobs(&mut changes, &effects.blobs)?;
     Ok(changes)
 }

@@ -1,12 +1,12 @@
 //! Opening a store: the rows that stand in the tables become a state.
-ghost use Rattle.std.specs.Prelude.{◌≡◌, ◌<◌, ℕ, false, Err, IfErr, IfOk, OnOk, IsSomeAnd, IsTrue};
+ghost use Rattle.std.specs.Prelude.{◌≡◌, ◌<◌, ℕ, false, Err, MatchResult, IfErr, IfOk, OnOk, IsSomeAnd, IsTrue};
 ghost use Rattle.sqlite.specs.Held.{state};
 ghost use Rattle.sqlite.specs.State.{HasCleanDisk, IsLive, Survives};
 ghost use Rattle.tables.specs.Opening.{IsSettled, StandsEmpty};
 ghost use Rattle.tables.specs.Schema.{IsBeginning, beginning};
 ghost use Rattle.tables.specs.Tables.{HoldsTables, IsStore, Stands};
 ghost use Rattle.contents.specs.Contents.{no_rows};
-ghost use Rattle.store.specs.StateRows.{HoldsNoState, TreesStand, rows_of};
+ghost use Rattle.store.specs.StateRows.{Begins, HoldsNoState, TreesStand, rows_of};
 ghost use Rattle.machine.specs.State as trust;
 ghost use Rattle.machine.specs.State.{IsState};
 
@@ -45,12 +45,16 @@ impl<S: Alter + Drop> Store<S> {
         }
     }
 
-    /// The same as `open`. Where the rows are those of no state, the connection is given back, so that it can be said of every kind
-    /// of disk; `open` says it of those that cannot give a wrong answer, such as one in memory.
+    /// The same as `open`, and where no transaction was under way the connection is given back on each fault. Where the rows are
+    /// those of no state it is given back too, so that it can be said of every kind of disk; `open` says it of those that cannot
+    /// give a wrong answer, such as one in memory. Whether it opens or not, a crash leaves what it left before, or the empty state
+    /// where the tables stood empty.
     pub fn open_over(alloc: Global, conn: Connection<S>) -> Result<Store<S>, Unopened<S>>
         ensures opened { IfOk result (λ s. HasCleanDisk (state S.Store s.conn) → TreesStand (state S.Store conn).committed.trees (rows_of s.state)) }
         ensures rows { IfOk result (λ s. HasCleanDisk (state S.Store s.conn) → IsStore (state S.Store s.conn) (rows_of s.state)) }
         ensures damaged { IfErr result (λ u. u.fault ≡ StoreFault.Damaged → IsSomeAnd u.conn (λ c. HasCleanDisk (state S.Store c) → HoldsNoState (state S.Store conn).committed.trees)) }
+        ensures crash { conn.in_transaction ≡ false → MatchResult result (λ s. Survives (state S.Store conn) (state S.Store s.conn) (λ trees. Begins (state S.Store conn) trees))
+            (λ u. IsSomeAnd u.conn (λ c. Survives (state S.Store conn) (state S.Store c) (λ trees. Begins (state S.Store conn) trees))) }
     {
         let mut conn = match renew(alloc, conn) {
             Ok(conn) => conn,

@@ -11,12 +11,11 @@ use Rattle.sqlite.specs.Order.{Row, column, value_cmp}
 use Rattle.sqlite_trees.specs.Tree.{Trees}
 use Rattle.sqlite_rules.specs.Lists.{Has}
 use Rattle.sqlite_rules.proofs.ListLemmas.{all_has, all_from}
-use Rattle.tables.specs.declared.loading.Answers.{Answers}
 use Rattle.tables.specs.Rows.{root_cells, current_cells, shelf_cells, blob_cells, version_cells}
 use Rattle.sql_tables.specs.Rows.{AreRows, AreKeyed}
 use Rattle.contents.specs.Contents.{Contents, no_rows}
 use Rattle.tables.specs.Tables.{HoldsTables, AreBare, StandsFor, IsFit, IsDigest, AreRising, root_row, slot_row, current_rows, shelf_row, blob_row, version_row, row_cmp}
-use Rattle.tables.specs.steps.Loading.{AllComeOnce, AreAnswers, AreItems, AreSorted, AreDamaged, root, current, shelf, blob, IsRootRow, FitsRoot, IsSlotRow, FitsSlot, IsShelfRow, FitsShelf, IsBlobRow, FitsBlob, IsOne, current_items, IsUnbegun}
+use Rattle.tables.specs.steps.Loading.{AllComeOnce, Answers, AreAnswers, AreItems, AreSorted, AreDamaged, root, current, shelf, blob, version, IsRootRow, FitsRoot, IsSlotRow, FitsSlot, IsShelfRow, FitsShelf, IsBlobRow, FitsBlob, IsOne, current_items, IsUnbegun}
 use Rattle.sql_tables.specs.Loading.{AreLoaded, AreOrdered, with_rowid, rises}
 use Rattle.std.proofs.lemmas.Cmp.{nat_cmp_total, nat_list_cmp_total}
 use Rattle.tables.proofs.Slots.{has_timestamp, has_snapshot}
@@ -116,7 +115,7 @@ version_rows stored rows l ones some ids = record {
         (s.0, s.1, one_cells s.0 (subst IsOne s.2 (ones r (inl refl))) ∙ sym is)
     go (r ∷ rs) some from ones c (inr none) = absurd none
 
-pub holds_items : (trees : Trees) (a : Answers) (t : Contents) → AllComeOnce a → AreAnswers trees a → AreItems a t → ((r : Row) → Has a.versions.items r → IsOne r) → a.versions.items ≢ [] → HoldsTables trees t
+pub holds_items : (trees : Trees) (a : Answers) (t : Contents) → AllComeOnce a → AreAnswers trees a → AreItems a t → ((r : Row) → Has a.version r → IsOne r) → a.version ≢ [] → HoldsTables trees t
 holds_items trees a t n is items ones some = record {
   root = read_all IsRootRow FitsRoot root_row root_cells root_cells _ _ _ is.root root_are t.roots items.root.read (numbered_by root_cells 0 (λ r. refl) _ _ is.root.once n.root);
   current = subst (AreRows current_cells (trees 1)) (items_rows t.timestamp t.snapshot)
@@ -126,7 +125,7 @@ holds_items trees a t n is items ones some = record {
   version = version_rows _ _ is.version ones some (numbered_by version_cells 0 (λ r. refl) _ _ is.version.once n.version);
 }
 
-pub bare_items : (trees : Trees) (a : Answers) (t : Contents) → AreAnswers trees a → AreItems a t → a.versions.items ≡ [] → t ≡ no_rows → AreBare trees
+pub bare_items : (trees : Trees) (a : Answers) (t : Contents) → AreAnswers trees a → AreItems a t → a.version ≡ [] → t ≡ no_rows → AreBare trees
 bare_items trees a t is items none bare =
     let root = none_stored _ _ _ _ is.root items.root.read (ap (λ (u : Contents). u.roots) bare) in
     let current = none_stored _ _ _ _ is.current items.current (ap (λ (u : Contents). current_items u.timestamp u.snapshot) bare) in
@@ -165,6 +164,16 @@ current_fits (Some v) (Some w) fa fb x (inl is) = subst FitsSlot (sym is) (inl r
 current_fits (Some v) (Some w) fa fb x (inr (inl is)) = subst FitsSlot (sym is) (inr refl, fb w refl)
 current_fits (Some v) (Some w) fa fb x (inr (inr none)) = absurd none
 
+damaged_version : (trees : Trees) (a : Answers) → AreAnswers trees a → (r : Row) → Has a.version r → (IsOne r → ⊥) → (t : Contents) → StandsFor trees t → ⊥
+damaged_version trees a is r h bad t (inl holds) =
+    let s = is.version.from r h in
+    bad (subst IsOne (sym s.2) (only (holds.version.sound s.0 s.1)))
+  where
+    only : {c : Row} → Has (version_row ∷ []) c → IsOne c
+    only (inl e) = subst IsOne (sym e) refl
+    only (inr none) = absurd none
+damaged_version trees a is r h bad t (inr bare) = let s = is.version.from r h in subst (λ xs. Has xs s.0) bare.0.1.1.1.1.0 s.1
+
 pub damaged_items : (trees : Trees) (a : Answers) → AreAnswers trees a → AreDamaged a → (t : Contents) → IsFit t → StandsFor trees t → ⊥
 damaged_items trees a is (root bad) t fit (inl holds) = no_items IsRootRow FitsRoot root_row root_cells root_cells _ _ _ is.root root_reads root_one bad t.roots (λ x h. all_has FitsRoot t.roots x fit.roots h) fit.one_root holds.root
 damaged_items trees a is (root bad) t fit (inr bare) = not_bare _ IsRootRow FitsRoot _ _ is.root bad bare.0.0
@@ -176,23 +185,14 @@ damaged_items trees a is (shelf bad) t fit (inl holds) = no_items IsShelfRow Fit
 damaged_items trees a is (shelf bad) t fit (inr bare) = not_bare _ IsShelfRow FitsShelf _ _ is.shelf bad bare.0.1.1.0
 damaged_items trees a is (blob bad) t fit (inl holds) = no_items IsBlobRow FitsBlob blob_row (with_rowid blob_cells) blob_cells _ _ _ is.blob blob_reads blob_one bad t.blobs (λ x h. all_has FitsBlob t.blobs x fit.blobs h) fit.one_blob holds.blob
 damaged_items trees a is (blob bad) t fit (inr bare) = not_bare _ IsBlobRow FitsBlob _ _ is.blob bad bare.0.1.1.1.0
-
-pub damaged_version : (trees : Trees) (a : Answers) → AreAnswers trees a → (r : Row) → Has a.versions.items r → (IsOne r → ⊥) → (t : Contents) → StandsFor trees t → ⊥
-damaged_version trees a is r h bad t (inl holds) =
-    let s = is.version.from r h in
-    bad (subst IsOne (sym s.2) (only (holds.version.sound s.0 s.1)))
-  where
-    only : {c : Row} → Has (version_row ∷ []) c → IsOne c
-    only (inl e) = subst IsOne (sym e) refl
-    only (inr none) = absurd none
-damaged_version trees a is r h bad t (inr bare) = let s = is.version.from r h in subst (λ xs. Has xs s.0) bare.0.1.1.1.1.0 s.1
+damaged_items trees a is (version r h bad) t fit stands = damaged_version trees a is r h bad t stands
 
 no_slots : (a b : Option (ℕ × List ℕ)) → current_items a b ≡ [] → (a ≡ None) × (b ≡ None)
 no_slots None None e = (refl, refl)
 no_slots (Some v) b e = absurd (let f = e in cc)
 no_slots None (Some w) e = absurd (let f = e in cc)
 
-pub unbegun : (trees : Trees) (a : Answers) (t : Contents) → AreAnswers trees a → AreItems a t → a.versions.items ≡ [] → IsUnbegun trees t
+pub unbegun : (trees : Trees) (a : Answers) (t : Contents) → AreAnswers trees a → AreItems a t → a.version ≡ [] → IsUnbegun trees t
 unbegun trees a t is items none = record { bare = bare_items trees a t is items none; other = other }
   where
     other : t ≢ no_rows → (u : Contents) → StandsFor trees u → ⊥

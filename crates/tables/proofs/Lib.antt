@@ -3,7 +3,6 @@ pub mod Statements
 pub mod Changes
 pub mod MakingLemmas
 pub mod Beginnings
-pub mod Views
 pub mod Orders
 pub mod Slots
 pub mod Selects

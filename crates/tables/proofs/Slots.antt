@@ -1,10 +1,10 @@
 -- Items that are read from rows in any order, and the two slots of `current`.
-use Rattle.std.proofs.Common.{◌≡◌, ◌⊎◌, inl, inr, ℕ, List, [], ◌∷◌, ◌++◌, Option, Some, None, refl, sym, subst, codes}
+use Rattle.std.proofs.Common.{◌≡◌, ◌⊎◌, inl, inr, ℕ, List, [], ◌∷◌, ◌++◌, Option, Some, None, refl, sym, subst, codes, Bool, true, false, not}
 use Rattle.sqlite.specs.Order.{Row}
 use Rattle.sqlite_rules.specs.Lists.{Has}
 use Rattle.sqlite_rules.proofs.ListLemmas.{has_left, has_right, has_either}
-use Rattle.tables.specs.steps.Loading.{IsSlotRow, FitsSlot, slot_items, current_items}
-use Rattle.sql_tables.specs.Loading.{AreRead}
+use Rattle.tables.specs.steps.Loading.{IsSlotRow, FitsSlot, slot_items, current_items, HaveSlots, AreVersions, IsOne}
+use Rattle.sql_tables.specs.Loading.{AreRead, AreSpoiled}
 use Rattle.sql_tables.proofs.ItemLemmas.{read_more}
 
 abbrev Slots : Type 0
@@ -50,3 +50,37 @@ has_timestamp a b y is = subst (λ (n : Slots). Has (current_items n b) (timesta
 
 pub has_snapshot : (a b : Slots) (y : ℕ × List ℕ) → b ≡ Some y → Has (current_items a b) (snapshot_slot, y)
 has_snapshot a b y is = subst (λ (n : Slots). Has (current_items a n) (snapshot_slot, y)) (sym is) (has_right (slot_items timestamp_slot a) _ _ (inl refl))
+
+-- ---- one more row
+
+set_not : (b : Bool) → not b ≡ false → b ≡ true
+set_not true e = refl
+set_not false e = absurd (let f = e in cc)
+
+clear_not : (b : Bool) → not b ≡ true → b ≡ false
+clear_not true e = absurd (let f = e in cc)
+clear_not false e = refl
+
+pub slots_more : (rows : List Row) (a b : Slots) (filled : Bool) → (filled ≡ true → AreSlots rows a b) → (filled ≡ false → AreSpoiled IsSlotRow FitsSlot rows) → HaveSlots rows a b (not filled)
+slots_more rows a b filled whole bad = record { whole = λ e. whole (set_not filled e); spoiled = λ e. bad (clear_not filled e) }
+
+-- the rows of `schema`
+
+some_rows : (rows : List Row) (r : Row) → rows ++ r ∷ [] ≡ [] → ⊥
+some_rows rows r e = subst (λ rs. Has rs r) e (has_right rows _ r (inl refl))
+
+pub versions_more : (rows : List Row) (r : Row) (begun other : Bool) → AreVersions rows begun other → IsOne r → AreVersions (rows ++ r ∷ []) true other
+versions_more rows r begun other v one = record {
+  ones = λ e s h. elim (has_either rows (r ∷ []) s h) [ inl was ↦ v.ones e s was | inr (inl is) ↦ subst IsOne (sym is) one | inr (inr none) ↦ absurd none ];
+  other = λ e. let it = v.other e in (it.0, has_left rows _ it.0 it.1, it.2);
+  some = λ _ e. some_rows rows r e;
+  none = λ e. absurd (let f = e in cc);
+}
+
+pub versions_other : (rows : List Row) (r : Row) → (IsOne r → ⊥) → AreVersions (rows ++ r ∷ []) true true
+versions_other rows r bad = record {
+  ones = λ e. absurd (let f = e in cc);
+  other = λ _. (r, has_right rows _ r (inl refl), bad);
+  some = λ _ e. some_rows rows r e;
+  none = λ e. absurd (let f = e in cc);
+}

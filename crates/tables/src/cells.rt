@@ -1,15 +1,13 @@
-// The cells of a row by their types, and where an item stands among those that were read.
-ghost use Rattle.std.specs.Prelude.{◌≡◌, ◌≢◌, ℕ, pos, IfOk, IfErr, IsTrue, IfSome, MatchOption};
+// The cells of a row by their types.
+ghost use Rattle.std.specs.Prelude.{◌≡◌, ◌≢◌, ℕ, pos, IsTrue, IfSome, MatchOption};
 ghost use Rattle.std.specs.Ordering.{nat_cmp};
 ghost use Rattle.std.specs.Cmp.Lexicographic.{slice_cmp};
 ghost use Rattle.sqlite.specs.Order.{column};
 ghost use Rattle.sqlite.specs.declared.types.Value.TheVariants.{Int, Text, Blob};
 ghost use Rattle.tables.specs.Tables.{IsVersion};
 
-use crate::faults::StoreFault;
 use sqlite::Row;
 use sqlite_value::value::ValueRef;
-use std::alloc::Global;
 use std::cmp::Ordering;
 
 // The text of a cell, if it is one.
@@ -41,14 +39,6 @@ pub(crate) fn version_at(row: &Row, at: usize) -> Option<u32>
         Ok(ValueRef::Int(number)) if 0 <= number && number <= 4_294_967_295 => Some(number as u32),
         _ => None,
     }
-}
-
-// A copy of the bytes.
-pub(crate) fn copied(alloc: Global, bytes: &[u8]) -> Result<Vec<u8>, StoreFault>
-    ensures value { IfOk result (λ v. v.items ≡ bytes.now) }
-    ensures fault { IfErr result (λ f. f ≡ StoreFault.OutOfMemory) }
-{
-    Ok(Vec::from_slice(alloc, bytes)?)
 }
 
 // How two lists of bytes stand to each other, byte by byte.

@@ -1,45 +1,35 @@
 // The rows of `current` as its two slots, and the row of `schema`.
-ghost use Rattle.std.specs.Prelude.{◌≡◌, ◌≢◌, [], List, ℕ, Err, IfOk, IfErr, IsTrue, Some, None, false, ◌⊎◌};
-ghost use Rattle.sqlite.specs.Order.{Row};
-ghost use Rattle.sqlite_rules.specs.Lists.{Has};
+ghost use Rattle.std.specs.Prelude.{◌≡◌, ◌≢◌, ◌++◌, [], ◌∷◌, List, not, ℕ, IfOk, IsTrue, MatchOption, None, Some, false, ◌⊎◌};
 ghost use Rattle.contents.specs.Contents.{slot_view, value_view};
-ghost use Rattle.tables.specs.steps.Loading.{FitsSlot, IsOne, IsSlotRow, current_items, slot_name};
-ghost use Rattle.sql_tables.specs.Loading.{AreRead, AreSpoiled};
+ghost use Rattle.sqlite.specs.Order.{Row};
+ghost use Rattle.sql_tables.specs.Loading.{AreRead};
+ghost use Rattle.tables.specs.steps.Loading.{AreVersions, FitsSlot, HaveSlots, IsOne, IsSlotRow, current_items, slot_name};
 
-use crate::cells::{blob_at, copied, is_same, text_at, version_at};
-use crate::faults::StoreFault;
+use crate::cells::{blob_at, is_same, text_at, version_at};
+use sql_tables::TakeRows;
 use sqlite::Row;
-use std::alloc::Global;
+use std::alloc::{AllocError, Global};
 
-// The rows of `current`.
-#[derive(Drop)]
-pub(crate) struct Current {
-    pub timestamp: Option<(u32, Vec<u8>)>,
-    pub snapshot: Option<(u32, Vec<u8>)>,
-}
-
-// The slot of a row of `current`, whether `timestamp` or `snapshot`, with its version and bytes; `Damaged` exactly where
-// it is that of none.
-fn slot_of(alloc: Global, row: &Row) -> Result<(bool, (u32, Vec<u8>)), StoreFault>
-    ensures read { IfOk result (λ r. IsSlotRow row.now (slot_name r.0, (r.1.0, r.1.1.items)) × FitsSlot (slot_name r.0, (r.1.0, r.1.1.items))) }
-    ensures damaged { result ≡ Err StoreFault.Damaged → (r : List ℕ × (ℕ × List ℕ)) → FitsSlot r → IsSlotRow row.now r → ⊥ }
-    ensures told { ((r : List ℕ × (ℕ × List ℕ)) → FitsSlot r → IsSlotRow row.now r → ⊥) → result ≡ Err StoreFault.Damaged }
-    ensures fault { result ≢ Err StoreFault.Database }
+// The slot of a row of `current`, whether `timestamp` or `snapshot`, with its version and bytes; `None` exactly where it is that
+// of none.
+fn slot_of(alloc: Global, row: &Row) -> Result<Option<(bool, (u32, Vec<u8>))>, AllocError>
+    ensures { IfOk result (λ found. MatchOption found ((r : List ℕ × (ℕ × List ℕ)) → FitsSlot r → IsSlotRow row.now r → ⊥)
+        (λ r. IsSlotRow row.now (slot_name r.0, (r.1.0, r.1.1.items)) × FitsSlot (slot_name r.0, (r.1.0, r.1.1.items)))) }
 {
     let Some(slot) = text_at(row, 0) else {
-        return Err(StoreFault::Damaged);
+        return Ok(None);
     };
     let Some(version) = version_at(row, 1) else {
-        return Err(StoreFault::Damaged);
+        return Ok(None);
     };
     let Some(bytes) = blob_at(row, 2) else {
-        return Err(StoreFault::Damaged);
+        return Ok(None);
     };
     let is_timestamp = is_same(slot, b"timestamp");
     if !is_timestamp && !is_same(slot, b"snapshot") {
-        return Err(StoreFault::Damaged);
+        return Ok(None);
     }
-    Ok((is_timestamp, (version, copied(alloc, bytes)?)))
+    Ok(Some((is_timestamp, (version, Vec::from_slice(alloc, bytes)?))))
 }
 
 fn is_held(held: &(u32, Vec<u8>), item: &(u32, Vec<u8>)) -> bool
@@ -65,29 +55,64 @@ fn fill(slot: &mut Option<(u32, Vec<u8>)>, item: (u32, Vec<u8>)) -> bool
     }
 }
 
-// The rows of `current`, each slot at most once. Rows of the same cells are one.
-pub(crate) fn current_of(alloc: Global, rows: &[Row]) -> Result<Current, StoreFault>
-    ensures read { IfOk result (λ v. AreRead IsSlotRow FitsSlot rows.now (current_items (slot_view v.timestamp) (slot_view v.snapshot))) }
-    ensures damaged { result ≡ Err StoreFault.Damaged → AreSpoiled IsSlotRow FitsSlot rows.now }
-    ensures fault { result ≢ Err StoreFault.Database }
+// Puts the item into its slot of the two, unless that slot holds another.
+fn fill_one(
+    timestamp: &mut Option<(u32, Vec<u8>)>,
+    snapshot: &mut Option<(u32, Vec<u8>)>,
+    is_timestamp: bool,
+    item: (u32, Vec<u8>),
+) -> bool
+    ensures { (rows : List Row) (r : Row) → AreRead IsSlotRow FitsSlot rows (current_items (slot_view timestamp.old) (slot_view snapshot.old)) → IsSlotRow r (slot_name is_timestamp, value_view item) → FitsSlot (slot_name is_timestamp, value_view item)
+        → HaveSlots (rows ++ r ∷ []) (slot_view timestamp.new) (slot_view snapshot.new) (not result) }
 {
-    let mut timestamp = None;
-    let mut snapshot = None;
-    'rows: for row in rows {
-        let (is_timestamp, item) = slot_of(alloc, row)?;
-        let filled = if is_timestamp {
-            fill(&mut timestamp, item)
-        } else {
-            fill(&mut snapshot, item)
-        };
-        if !filled {
-            return Err(StoreFault::Damaged);
+    if is_timestamp {
+        fill(timestamp, item)
+    } else {
+        fill(snapshot, item)
+    }
+}
+
+// The rows of `current`, each slot at most once. Rows of the same cells are one.
+#[derive(Drop)]
+pub(crate) struct Current {
+    alloc: Global,
+    pub timestamp: Option<(u32, Vec<u8>)>,
+    pub snapshot: Option<(u32, Vec<u8>)>,
+    pub is_spoiled: bool,
+}
+
+impl Current {
+    // Of no rows yet.
+    pub(crate) fn new(alloc: Global) -> Current
+        ensures { HaveSlots [] (slot_view result.timestamp) (slot_view result.snapshot) result.is_spoiled }
+    {
+        Current {
+            alloc,
+            timestamp: None,
+            snapshot: None,
+            is_spoiled: false,
         }
     }
-    Ok(Current {
-        timestamp,
-        snapshot,
-    })
+}
+
+impl TakeRows for Current {
+    ghost Took = { λ rows c. HaveSlots rows (slot_view c.timestamp) (slot_view c.snapshot) c.is_spoiled };
+
+    ghost ROWID = { 3 };
+
+    const ROWID: usize = 3;
+
+    fn take_row(&mut self, row: &Row) -> Result<(), AllocError> {
+        if self.is_spoiled {
+            return Ok(());
+        }
+        let Some((is_timestamp, item)) = slot_of(self.alloc, row)? else {
+            self.is_spoiled = true;
+            return Ok(());
+        };
+        self.is_spoiled = !fill_one(&mut self.timestamp, &mut self.snapshot, is_timestamp, item);
+        Ok(())
+    }
 }
 
 fn is_one(row: &Row) -> bool
@@ -97,18 +122,37 @@ fn is_one(row: &Row) -> bool
     matches!(version_at(row, 0), Some(1))
 }
 
-// Whether `schema` holds version 1, and `Damaged` where it holds another. There may be none.
-pub(crate) fn is_begun(rows: &[Row]) -> Result<bool, StoreFault>
-    ensures one { IfOk result (λ b. (r : Row) → Has rows.now r → IsOne r) }
-    ensures some { IfOk result (λ b. IsTrue b → rows.now ≢ []) }
-    ensures none { IfOk result (λ b. b ≡ false → rows.now ≡ []) }
-    ensures damaged { result ≡ Err StoreFault.Damaged → (r : Row) × Has rows.now r × (IsOne r → ⊥) }
-    ensures fault { IfErr result (λ f. f ≡ StoreFault.Damaged) }
-{
-    'rows: for row in rows {
-        if !is_one(row) {
-            return Err(StoreFault::Damaged);
+// The rows of `schema`: whether there is one, and whether one is not 1.
+#[derive(Drop)]
+pub(crate) struct Versions {
+    pub is_begun: bool,
+    pub is_other: bool,
+}
+
+impl Versions {
+    // Of no rows yet.
+    pub(crate) fn new() -> Versions
+        ensures { AreVersions [] result.is_begun result.is_other }
+    {
+        Versions {
+            is_begun: false,
+            is_other: false,
         }
     }
-    Ok(!rows.is_empty())
+}
+
+impl TakeRows for Versions {
+    ghost Took = { λ rows v. AreVersions rows v.is_begun v.is_other };
+
+    ghost ROWID = { 0 };
+
+    const ROWID: usize = 0;
+
+    fn take_row(&mut self, row: &Row) -> Result<(), AllocError> {
+        if !is_one(row) {
+            self.is_other = true;
+        }
+        self.is_begun = true;
+        Ok(())
+    }
 }

@@ -10,7 +10,6 @@ mod faults;
 mod laws;
 mod loading;
 mod making;
-mod numbering;
 mod opening;
 mod reading;
 mod shape;

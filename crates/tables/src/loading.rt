@@ -1,102 +1,163 @@
 // Asking for the rows of all tables.
-ghost use Rattle.std.specs.Prelude.{◌≡◌, ◌≢◌, [], ◌∷◌, false, true, Err, IfOk, OnOk, IsTrue};
+ghost use Rattle.std.specs.Prelude.{◌≡◌, ◌≢◌, [], ◌∷◌, List, false, true, Err, IfErr, IfOk, OnOk, IsTrue};
+ghost use Rattle.std.specs.Ordering.{nat_cmp};
+ghost use Rattle.std.specs.Cmp.Lexicographic.{slice_cmp};
+ghost use Rattle.sqlite.specs.Order.{Row};
 ghost use Rattle.sqlite.specs.State.{HasCleanDisk, IsUnchanged, Survives};
 ghost use Rattle.sqlite.specs.Held.{state};
+ghost use Rattle.contents.specs.Contents.{contents_view, slot_view};
 ghost use Rattle.tables.specs.Schema.{the_schema};
 ghost use Rattle.tables.specs.Rows.{root_cells, current_cells, shelf_cells, blob_cells, version_cells};
-ghost use Rattle.contents.specs.Contents.{contents_view};
-ghost use Rattle.tables.specs.steps.Loading.{AreAnswers, AreItems, AreSorted, AreDamaged};
-ghost use Rattle.sql_tables.specs.Loading.{AreLoaded, rises, with_rowid};
+ghost use Rattle.tables.specs.Tables.{row_cmp};
+ghost use Rattle.tables.specs.steps.Loading.{AllComeOnce, Answers, AreAnswers, AreDamaged, AreItems, AreSorted, AreTaken, AreVersions, FitsBlob, FitsRoot, FitsShelf, HaveSlots, IsBlobRow, IsGathered, IsOne, IsRootRow, IsShelfRow, document_shows, file_shows, root_shows};
+ghost use Rattle.sql_tables.specs.Loading.{AreLoaded, ComeOnce, rises, with_rowid};
+ghost use Rattle.sqlite_rules.specs.Lists.{Has};
 
-use crate::current::current_of;
+use crate::current::{Current, Versions};
 use crate::faults::StoreFault;
-use crate::reading::{blobs_of, documents_of, roots_of};
+use crate::reading::{Documents, Files, Roots};
 use contents::Contents;
-use sqlite::{Alter, Connection, Row};
+use sql_tables::{gather, take_rows};
+use sqlite::{Alter, Connection};
 use std::alloc::Global;
 
-// The rows of `root`, by version, which is the rowid.
-fn root_rows<S: Alter>(conn: &mut Connection<S>) -> Result<Vec<Row>, StoreFault>
-    ensures rows { HasCleanDisk (state S.Store conn.new) → (state S.Store conn.old).now.schema ≡ the_schema → IfOk result (λ rows. AreLoaded root_cells (rises ∷ []) ((state S.Store conn.old).now.trees 0) rows.items) }
+// The roots, by version, which is the rowid.
+fn root_rows<S: Alter>(
+    alloc: Global,
+    conn: &mut Connection<S>,
+) -> Result<(Option<Vec<(u32, Vec<u8>)>>, bool), StoreFault>
+    ensures rows { IfOk result (λ p. (rows : List Row) × (IsTrue p.1 → ComeOnce 0 rows) × IsGathered nat_cmp IsRootRow FitsRoot root_shows rows p.0
+        × (HasCleanDisk (state S.Store conn.new) → (state S.Store conn.old).now.schema ≡ the_schema → AreLoaded root_cells (rises ∷ []) ((state S.Store conn.old).now.trees 0) rows)) }
     ensures unchanged { HasCleanDisk (state S.Store conn.new) → (state S.Store conn.old).now.schema ≡ the_schema → OnOk result (IsUnchanged (state S.Store conn.old) (state S.Store conn.new)) }
     ensures fault { result ≢ Err StoreFault.Damaged }
     ensures mode { conn.old.in_transaction ≡ false → conn.new.in_transaction ≡ false }
     ensures survives { Survives (state S.Store conn.old) (state S.Store conn.new) (λ _. ⊥) }
 {
-    Ok(conn.query_all("SELECT version, bytes FROM root ORDER BY version", &[])?)
-}
-
-// The rows of `current`, with their rowids.
-fn current_rows<S: Alter>(conn: &mut Connection<S>) -> Result<Vec<Row>, StoreFault>
-    ensures rows { HasCleanDisk (state S.Store conn.new) → (state S.Store conn.old).now.schema ≡ the_schema → IfOk result (λ rows. AreLoaded (with_rowid current_cells) [] ((state S.Store conn.old).now.trees 1) rows.items) }
-    ensures unchanged { HasCleanDisk (state S.Store conn.new) → (state S.Store conn.old).now.schema ≡ the_schema → OnOk result (IsUnchanged (state S.Store conn.old) (state S.Store conn.new)) }
-    ensures fault { result ≢ Err StoreFault.Damaged }
-    ensures mode { conn.old.in_transaction ≡ false → conn.new.in_transaction ≡ false }
-    ensures survives { Survives (state S.Store conn.old) (state S.Store conn.new) (λ _. ⊥) }
-{
-    Ok(conn.query_all("SELECT slot, version, bytes, rowid FROM current", &[])?)
-}
-
-// The rows of `shelf`, by role and version, with their rowids.
-fn shelf_rows<S: Alter>(conn: &mut Connection<S>) -> Result<Vec<Row>, StoreFault>
-    ensures rows { HasCleanDisk (state S.Store conn.new) → (state S.Store conn.old).now.schema ≡ the_schema → IfOk result (λ rows. AreLoaded (with_rowid shelf_cells) (rises ∷ rises ∷ []) ((state S.Store conn.old).now.trees 3) rows.items) }
-    ensures unchanged { HasCleanDisk (state S.Store conn.new) → (state S.Store conn.old).now.schema ≡ the_schema → OnOk result (IsUnchanged (state S.Store conn.old) (state S.Store conn.new)) }
-    ensures fault { result ≢ Err StoreFault.Damaged }
-    ensures mode { conn.old.in_transaction ≡ false → conn.new.in_transaction ≡ false }
-    ensures survives { Survives (state S.Store conn.old) (state S.Store conn.new) (λ _. ⊥) }
-{
-    Ok(conn.query_all(
-        "SELECT role, version, bytes, rowid FROM shelf ORDER BY role, version",
-        &[],
+    Ok(gather::<S, Roots>(
+        alloc,
+        conn,
+        "SELECT version, bytes FROM root ORDER BY version",
     )?)
 }
 
-// The rows of `blob`, by digest, with their rowids.
-fn blob_rows<S: Alter>(conn: &mut Connection<S>) -> Result<Vec<Row>, StoreFault>
-    ensures rows { HasCleanDisk (state S.Store conn.new) → (state S.Store conn.old).now.schema ≡ the_schema → IfOk result (λ rows. AreLoaded (with_rowid blob_cells) (rises ∷ []) ((state S.Store conn.old).now.trees 5) rows.items) }
+// The slots of `current`.
+fn current_rows<S: Alter>(
+    alloc: Global,
+    conn: &mut Connection<S>,
+) -> Result<(Current, bool), StoreFault>
+    ensures rows { IfOk result (λ p. (rows : List Row) × (IsTrue p.1 → ComeOnce 3 rows) × HaveSlots rows (slot_view p.0.timestamp) (slot_view p.0.snapshot) p.0.is_spoiled
+        × (HasCleanDisk (state S.Store conn.new) → (state S.Store conn.old).now.schema ≡ the_schema → AreLoaded (with_rowid current_cells) [] ((state S.Store conn.old).now.trees 1) rows)) }
     ensures unchanged { HasCleanDisk (state S.Store conn.new) → (state S.Store conn.old).now.schema ≡ the_schema → OnOk result (IsUnchanged (state S.Store conn.old) (state S.Store conn.new)) }
     ensures fault { result ≢ Err StoreFault.Damaged }
     ensures mode { conn.old.in_transaction ≡ false → conn.new.in_transaction ≡ false }
     ensures survives { Survives (state S.Store conn.old) (state S.Store conn.new) (λ _. ⊥) }
 {
-    Ok(conn.query_all("SELECT digest, bytes, rowid FROM blob ORDER BY digest", &[])?)
+    Ok(take_rows(
+        alloc,
+        conn,
+        "SELECT slot, version, bytes, rowid FROM current",
+        Current::new(alloc),
+    )?)
+}
+
+// The targets documents, by role and version.
+fn shelf_rows<S: Alter>(
+    alloc: Global,
+    conn: &mut Connection<S>,
+) -> Result<(Option<Vec<(String, u32, Vec<u8>)>>, bool), StoreFault>
+    ensures rows { IfOk result (λ p. (rows : List Row) × (IsTrue p.1 → ComeOnce 3 rows) × IsGathered row_cmp IsShelfRow FitsShelf document_shows rows p.0
+        × (HasCleanDisk (state S.Store conn.new) → (state S.Store conn.old).now.schema ≡ the_schema → AreLoaded (with_rowid shelf_cells) (rises ∷ rises ∷ []) ((state S.Store conn.old).now.trees 3) rows)) }
+    ensures unchanged { HasCleanDisk (state S.Store conn.new) → (state S.Store conn.old).now.schema ≡ the_schema → OnOk result (IsUnchanged (state S.Store conn.old) (state S.Store conn.new)) }
+    ensures fault { result ≢ Err StoreFault.Damaged }
+    ensures mode { conn.old.in_transaction ≡ false → conn.new.in_transaction ≡ false }
+    ensures survives { Survives (state S.Store conn.old) (state S.Store conn.new) (λ _. ⊥) }
+{
+    Ok(gather::<S, Documents>(
+        alloc,
+        conn,
+        "SELECT role, version, bytes, rowid FROM shelf ORDER BY role, version",
+    )?)
+}
+
+// The target files, by digest. No more than one of them stands twice in what is held here, or so many as have 256 KiB
+// together.
+fn blob_rows<S: Alter>(
+    alloc: Global,
+    conn: &mut Connection<S>,
+) -> Result<(Option<Vec<([u8; 32], Vec<u8>)>>, bool), StoreFault>
+    ensures rows { IfOk result (λ p. (rows : List Row) × (IsTrue p.1 → ComeOnce 2 rows) × IsGathered (slice_cmp nat_cmp) IsBlobRow FitsBlob file_shows rows p.0
+        × (HasCleanDisk (state S.Store conn.new) → (state S.Store conn.old).now.schema ≡ the_schema → AreLoaded (with_rowid blob_cells) (rises ∷ []) ((state S.Store conn.old).now.trees 5) rows)) }
+    ensures unchanged { HasCleanDisk (state S.Store conn.new) → (state S.Store conn.old).now.schema ≡ the_schema → OnOk result (IsUnchanged (state S.Store conn.old) (state S.Store conn.new)) }
+    ensures fault { result ≢ Err StoreFault.Damaged }
+    ensures mode { conn.old.in_transaction ≡ false → conn.new.in_transaction ≡ false }
+    ensures survives { Survives (state S.Store conn.old) (state S.Store conn.new) (λ _. ⊥) }
+{
+    Ok(gather::<S, Files>(
+        alloc,
+        conn,
+        "SELECT digest, bytes, rowid FROM blob ORDER BY digest",
+    )?)
 }
 
 // The rows of `schema`, whose version is the rowid.
-fn version_rows<S: Alter>(conn: &mut Connection<S>) -> Result<Vec<Row>, StoreFault>
-    ensures rows { HasCleanDisk (state S.Store conn.new) → (state S.Store conn.old).now.schema ≡ the_schema → IfOk result (λ rows. AreLoaded version_cells [] ((state S.Store conn.old).now.trees 7) rows.items) }
+fn version_rows<S: Alter>(
+    alloc: Global,
+    conn: &mut Connection<S>,
+) -> Result<(Versions, bool), StoreFault>
+    ensures rows { IfOk result (λ p. (rows : List Row) × (IsTrue p.1 → ComeOnce 0 rows) × AreVersions rows p.0.is_begun p.0.is_other
+        × (HasCleanDisk (state S.Store conn.new) → (state S.Store conn.old).now.schema ≡ the_schema → AreLoaded version_cells [] ((state S.Store conn.old).now.trees 7) rows)) }
     ensures unchanged { HasCleanDisk (state S.Store conn.new) → (state S.Store conn.old).now.schema ≡ the_schema → OnOk result (IsUnchanged (state S.Store conn.old) (state S.Store conn.new)) }
     ensures fault { result ≢ Err StoreFault.Damaged }
     ensures mode { conn.old.in_transaction ≡ false → conn.new.in_transaction ≡ false }
     ensures survives { Survives (state S.Store conn.old) (state S.Store conn.new) (λ _. ⊥) }
 {
-    Ok(conn.query_all("SELECT version FROM schema", &[])?)
+    Ok(take_rows(alloc, conn, "SELECT version FROM schema", Versions::new())?)
 }
 
-// The rows of all tables.
+// What was read of all tables.
 #[derive(Drop)]
-pub(crate) struct Answers {
-    pub roots: Vec<Row>,
-    pub current: Vec<Row>,
-    pub shelf: Vec<Row>,
-    pub blobs: Vec<Row>,
-    pub versions: Vec<Row>,
+pub(crate) struct Taken {
+    pub roots: Option<Vec<(u32, Vec<u8>)>>,
+    pub current: Current,
+    pub shelf: Option<Vec<(String, u32, Vec<u8>)>>,
+    pub blobs: Option<Vec<([u8; 32], Vec<u8>)>>,
+    pub versions: Versions,
 }
 
-// Asks for the rows of all tables.
-pub(crate) fn ask<S: Alter>(conn: &mut Connection<S>) -> Result<Answers, StoreFault>
-    ensures rows { HasCleanDisk (state S.Store conn.new) → (state S.Store conn.old).now.schema ≡ the_schema → IfOk result (λ a. AreAnswers (state S.Store conn.old).now.trees a) }
+// A fault unless the rowids of each table are integers and come once.
+fn check_rowids(
+    root: bool,
+    current: bool,
+    shelf: bool,
+    blob: bool,
+    version: bool,
+) -> Result<(), StoreFault>
+    ensures once { OnOk result (IsTrue root × IsTrue current × IsTrue shelf × IsTrue blob × IsTrue version) }
+    ensures fault { result ≢ Err StoreFault.Damaged }
+{
+    if root && current && shelf && blob && version {
+        Ok(())
+    } else {
+        Err(StoreFault::Database)
+    }
+}
+
+// Reads the rows of all tables.
+pub(crate) fn ask<S: Alter>(alloc: Global, conn: &mut Connection<S>) -> Result<Taken, StoreFault>
+    ensures rows { IfOk result (λ t. (a : Answers) × AllComeOnce a × AreTaken a t
+        × (HasCleanDisk (state S.Store conn.new) → (state S.Store conn.old).now.schema ≡ the_schema → AreAnswers (state S.Store conn.old).now.trees a)) }
     ensures unchanged { HasCleanDisk (state S.Store conn.new) → (state S.Store conn.old).now.schema ≡ the_schema → OnOk result (IsUnchanged (state S.Store conn.old) (state S.Store conn.new)) }
     ensures fault { result ≢ Err StoreFault.Damaged }
     ensures mode { conn.old.in_transaction ≡ false → conn.new.in_transaction ≡ false }
     ensures survives { Survives (state S.Store conn.old) (state S.Store conn.new) (λ _. ⊥) }
 {
-    let roots = root_rows(conn)?;
-    let current = current_rows(conn)?;
-    let shelf = shelf_rows(conn)?;
-    let blobs = blob_rows(conn)?;
-    let versions = version_rows(conn)?;
-    Ok(Answers {
+    let (roots, root_once) = root_rows(alloc, conn)?;
+    let (current, current_once) = current_rows(alloc, conn)?;
+    let (shelf, shelf_once) = shelf_rows(alloc, conn)?;
+    let (blobs, blob_once) = blob_rows(alloc, conn)?;
+    let (versions, version_once) = version_rows(alloc, conn)?;
+    check_rowids(root_once, current_once, shelf_once, blob_once, version_once)?;
+    Ok(Taken {
         roots,
         current,
         shelf,
@@ -105,21 +166,43 @@ pub(crate) fn ask<S: Alter>(conn: &mut Connection<S>) -> Result<Answers, StoreFa
     })
 }
 
-// The items of the rows, but for those of `schema`.
-pub(crate) fn contents_of(alloc: Global, answers: Answers) -> Result<Contents, StoreFault>
-    ensures read { IfOk result (λ t. AreItems answers (contents_view t)) }
-    ensures damaged { result ≡ Err StoreFault.Damaged → AreSorted answers → AreDamaged answers }
-    ensures fault { result ≢ Err StoreFault.Database }
+// The items of the rows, and whether `schema` has its row.
+pub(crate) fn contents_of(taken: Taken) -> Result<(Contents, bool), StoreFault>
+    ensures read { (a : Answers) → AreTaken a taken → IfOk result (λ p. AreItems a (contents_view p.0)) }
+    ensures ones { (a : Answers) → AreTaken a taken → OnOk result ((r : Row) → Has a.version r → IsOne r) }
+    ensures some { (a : Answers) → AreTaken a taken → IfOk result (λ p. p.1 ≡ true → a.version ≢ []) }
+    ensures none { (a : Answers) → AreTaken a taken → IfOk result (λ p. p.1 ≡ false → a.version ≡ []) }
+    ensures damaged { (a : Answers) → AreTaken a taken → result ≡ Err StoreFault.Damaged → AreSorted a → AreDamaged a }
+    ensures fault { IfErr result (λ f. f ≡ StoreFault.Damaged) }
 {
-    let roots = roots_of(alloc, answers.roots.as_slice())?;
-    let current = current_of(alloc, answers.current.as_slice())?;
-    let shelf = documents_of(alloc, answers.shelf.as_slice())?;
-    let blobs = blobs_of(alloc, answers.blobs)?;
-    Ok(Contents {
+    let Taken {
+        roots,
+        current,
+        shelf,
+        blobs,
+        versions,
+    } = taken;
+    if versions.is_other {
+        return Err(StoreFault::Damaged);
+    }
+    if current.is_spoiled {
+        return Err(StoreFault::Damaged);
+    }
+    let Some(roots) = roots else {
+        return Err(StoreFault::Damaged);
+    };
+    let Some(shelf) = shelf else {
+        return Err(StoreFault::Damaged);
+    };
+    let Some(blobs) = blobs else {
+        return Err(StoreFault::Damaged);
+    };
+    let contents = Contents {
         roots,
         timestamp: current.timestamp,
         snapshot: current.snapshot,
         shelf,
         blobs,
-    })
+    };
+    Ok((contents, versions.is_begun))
 }

@@ -1,5 +1,5 @@
 // The making of the tables, and a connection between two transactions.
-ghost use Rattle.std.specs.Prelude.{◌≡◌, ◌≢◌, ◌<◌, ◌≤◌, ◌+◌, Err, false, [], IsTrue, IfOk, OnOk};
+ghost use Rattle.std.specs.Prelude.{◌≡◌, ◌≢◌, ◌<◌, ◌≤◌, ◌+◌, Ok, Err, false, [], IsTrue, IfOk, OnOk};
 ghost use Rattle.sqlite.specs.State.{HasCleanDisk, KeepsCommit, Survives};
 ghost use Rattle.sqlite.specs.Held.{state};
 ghost use Rattle.sqlite_trees.specs.Tree.{Trees};
@@ -61,6 +61,7 @@ pub fn renew<S: Alter + Drop>(
     ensures settled { IfOk result (λ c. HasCleanDisk (state S.Store c) → IsSettled (state S.Store c)) }
     ensures same { IfOk result (λ c. HasCleanDisk (state S.Store c) → IsTrue (state S.Store c).is_open → (state S.Store c).now.trees ≡ (state S.Store conn).committed.trees) }
     ensures autocommit { IfOk result (λ c. c.in_transaction ≡ false) }
+    ensures untouched { conn.in_transaction ≡ false → result ≡ Ok conn }
     ensures fault { result ≢ Err StoreFault.Damaged }
 {
     if conn.is_autocommit() {

@@ -11,11 +11,9 @@ ghost use Rattle.tables.specs.Opening.{IsSettled, StandsEmpty};
 ghost use Rattle.tables.specs.steps.Loading.{IsUnbegun};
 
 use crate::completing::complete;
-use crate::current::is_begun;
 use crate::faults::StoreFault;
 use crate::loading::{ask, contents_of};
 use crate::making::begin;
-use crate::numbering::check_rowids;
 use crate::shape::beginning_of;
 use contents::Contents;
 use sqlite::{Alter, Connection};
@@ -36,10 +34,8 @@ fn gather<S: Alter>(alloc: Global, conn: &mut Connection<S>) -> Result<(Contents
     ensures mode { conn.old.in_transaction ≡ false → conn.new.in_transaction ≡ false }
     ensures survives { Survives (state S.Store conn.old) (state S.Store conn.new) (λ _. ⊥) }
 {
-    let answers = ask(conn)?;
-    check_rowids(alloc, &answers)?;
-    let is_begun = is_begun(answers.versions.as_slice())?;
-    Ok((contents_of(alloc, answers)?, is_begun))
+    let taken = ask(alloc, conn)?;
+    Ok(contents_of(taken)?)
 }
 
 // Puts the row of `schema` where nothing was read.

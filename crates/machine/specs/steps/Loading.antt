@@ -1,5 +1,5 @@
 -- What the files of all rows have to be, to be those of a state.
-use Rattle.std.specs.Prelude.{◌≡◌, ℕ, ◌-◌, ◌≤◌, max, min, Bool, true, ◌&&◌, List, [], ◌∷◌, map, length, Option, None, codes, All, IfSome, vec_len, vec_capacity}
+use Rattle.std.specs.Prelude.{◌≡◌, ℕ, ◌-◌, ◌≤◌, max, min, List, [], ◌∷◌, map, length, Option, None, codes, All, IfSome, vec_len, vec_capacity}
 use Rattle.metadata.specs.Documents.{Root, Timestamp, Snapshot}
 use Rattle.metadata.specs.File.{Bytes, File, IsFileOf, root_form, timestamp_form, snapshot_form, targets_form}
 use Rattle.delegations.specs.Delegation.{before}
@@ -9,15 +9,6 @@ use Rattle.limits.specs.Limits.{most_held}
 use Rattle.machine.specs.Effects as changes
 use Rattle.machine.specs.Views.{parts_view}
 use Rattle.machine.specs.declared.parts.Parts.{Parts}
-
--- the keys rise, each from one row to the next
-abbrev pub comes_first : {K A : Type 0} → (K → K → Bool) → K → List (K × A) → Bool
-comes_first below key [] = true
-comes_first below key (row ∷ rows) = below key row.0
-
-abbrev pub rises : {K A : Type 0} → (K → K → Bool) → List (K × A) → Bool
-rises below [] = true
-rises below (row ∷ rows) = comes_first below row.0 rows && rises below rows
 
 -- what a state says of its blobs alone
 pub record AreBlobs (blobs : List (Bytes × Bytes)) : Type 0 where

@@ -1,11 +1,16 @@
 -- What is read of a table.
-use Rattle.std.specs.Prelude.{◌≡◌, ◌≢◌, ◌⊎◌, ℕ, pos, Bool, List, [], ◌∷◌, ◌++◌, Option, Some, None, IsUtf8, codes, if◌then◌else◌}
+use Rattle.std.specs.Prelude.{◌≡◌, ◌≢◌, ◌⊎◌, ℕ, pos, Bool, true, false, map, MatchOption, string_bytes, List, [], ◌∷◌, ◌++◌, Option, Some, None, IsUtf8, codes, if◌then◌else◌}
 use Rattle.std.specs.Ordering.{nat_cmp}
+use Rattle.std.proofs.Common.{Vec, Global}
+use Rattle.std.specs.declared.string.String.{String}
 use Rattle.hex.specs.Hex.{encode_lower}
 use Rattle.sqlite.specs.declared.types.Value.TheVariants.{Int, Text, Blob}
 use Rattle.sqlite.specs.Order.{Row, column}
 use Rattle.sqlite_trees.specs.Tree.{Trees}
-use Rattle.tables.specs.declared.loading.Answers.{Answers}
+use Rattle.std.specs.declared.cmp.Ordering.{Ordering}
+use Rattle.sqlite_rules.specs.Lists.{Has}
+use Rattle.contents.specs.Contents.{slot_view}
+use Rattle.tables.specs.declared.loading.Taken.{Taken}
 use Rattle.tables.specs.Rows.{root_cells, current_cells, shelf_cells, blob_cells, version_cells}
 use Rattle.std.specs.Cmp.Lexicographic.{slice_cmp}
 use Rattle.contents.specs.Contents.{Contents, no_rows}
@@ -53,41 +58,83 @@ current_items timestamp snapshot = slot_items (codes "timestamp") timestamp ++ s
 abbrev pub IsOne : Row → Type 0
 IsOne x = column x 0 ≡ Int (pos 1)
 
+-- what was made of the rows of `current`: two slots, unless they are spoiled
+pub record HaveSlots (rows : List Row) (timestamp snapshot : Option (ℕ × List ℕ)) (is_spoiled : Bool) : Type 0 where
+  pub whole : is_spoiled ≡ false → AreRead IsSlotRow FitsSlot rows (current_items timestamp snapshot)
+  pub spoiled : is_spoiled ≡ true → AreSpoiled IsSlotRow FitsSlot rows
+
+-- what was told of the rows of `schema`
+pub record AreVersions (rows : List Row) (is_begun is_other : Bool) : Type 0 where
+  pub ones : is_other ≡ false → (r : Row) → Has rows r → IsOne r
+  pub other : is_other ≡ true → (r : Row) × Has rows r × (IsOne r → ⊥)
+  pub some : is_begun ≡ true → rows ≢ []
+  pub none : is_begun ≡ false → rows ≡ []
+
 -- ---- all five tables
 
 -- what the five queries answer
+pub record Answers : Type 0 where
+  pub root : List Row
+  pub current : List Row
+  pub shelf : List Row
+  pub blob : List Row
+  pub version : List Row
+
 pub record AreAnswers (trees : Trees) (a : Answers) : Type 0 where
-  pub root : AreLoaded root_cells (rises ∷ []) (trees 0) a.roots.items
-  pub current : AreLoaded (with_rowid current_cells) [] (trees 1) a.current.items
-  pub shelf : AreLoaded (with_rowid shelf_cells) (rises ∷ rises ∷ []) (trees 3) a.shelf.items
-  pub blob : AreLoaded (with_rowid blob_cells) (rises ∷ []) (trees 5) a.blobs.items
-  pub version : AreLoaded version_cells [] (trees 7) a.versions.items
+  pub root : AreLoaded root_cells (rises ∷ []) (trees 0) a.root
+  pub current : AreLoaded (with_rowid current_cells) [] (trees 1) a.current
+  pub shelf : AreLoaded (with_rowid shelf_cells) (rises ∷ rises ∷ []) (trees 3) a.shelf
+  pub blob : AreLoaded (with_rowid blob_cells) (rises ∷ []) (trees 5) a.blob
+  pub version : AreLoaded version_cells [] (trees 7) a.version
 
 -- the rowids of each answer come once
 pub record AllComeOnce (a : Answers) : Type 0 where
-  pub root : ComeOnce 0 a.roots.items
-  pub current : ComeOnce 3 a.current.items
-  pub shelf : ComeOnce 3 a.shelf.items
-  pub blob : ComeOnce 2 a.blobs.items
-  pub version : ComeOnce 0 a.versions.items
+  pub root : ComeOnce 0 a.root
+  pub current : ComeOnce 3 a.current
+  pub shelf : ComeOnce 3 a.shelf
+  pub blob : ComeOnce 2 a.blob
+  pub version : ComeOnce 0 a.version
+
+-- the items of the code
+abbrev pub root_shows : ℕ × Vec ℕ Global → ℕ × List ℕ
+root_shows r = (r.0, r.1.items)
+
+abbrev pub document_shows : String Global × ℕ × Vec ℕ Global → (List ℕ × ℕ) × List ℕ
+document_shows r = ((string_bytes r.0, r.1), r.2.items)
+
+abbrev pub file_shows : List ℕ × Vec ℕ Global → List ℕ × List ℕ
+file_shows r = (r.0, r.1.items)
+
+-- the items of the rows, and none only where they are spoiled; that keys rise is known of rows that come in their order
+abbrev pub IsGathered : {K V T : Type 0} → (K → K → Ordering) → (Row → K × V → Type 0) → (K × V → Type 0) → (T → K × V) → List Row → Option (Vec T Global) → Type 0
+IsGathered cmp Reads Fits shows rows o = MatchOption o (AreOrdered cmp Reads Fits rows → AreSpoiled Reads Fits rows) (λ v. AreGathered cmp Reads Fits rows (map shows v.items))
+
+-- what was made of the answers
+pub record AreTaken (a : Answers) (t : Taken) : Type 0 where
+  pub root : IsGathered nat_cmp IsRootRow FitsRoot root_shows a.root t.roots
+  pub current : HaveSlots a.current (slot_view t.current.timestamp) (slot_view t.current.snapshot) t.current.is_spoiled
+  pub shelf : IsGathered row_cmp IsShelfRow FitsShelf document_shows a.shelf t.shelf
+  pub blob : IsGathered (slice_cmp nat_cmp) IsBlobRow FitsBlob file_shows a.blob t.blobs
+  pub version : AreVersions a.version t.versions.is_begun t.versions.is_other
 
 -- the items of the answers
 pub record AreItems (a : Answers) (t : Contents) : Type 0 where
-  pub root : AreGathered nat_cmp IsRootRow FitsRoot a.roots.items t.roots
-  pub current : AreRead IsSlotRow FitsSlot a.current.items (current_items t.timestamp t.snapshot)
-  pub shelf : AreGathered row_cmp IsShelfRow FitsShelf a.shelf.items t.shelf
-  pub blob : AreGathered (slice_cmp nat_cmp) IsBlobRow FitsBlob a.blobs.items t.blobs
+  pub root : AreGathered nat_cmp IsRootRow FitsRoot a.root t.roots
+  pub current : AreRead IsSlotRow FitsSlot a.current (current_items t.timestamp t.snapshot)
+  pub shelf : AreGathered row_cmp IsShelfRow FitsShelf a.shelf t.shelf
+  pub blob : AreGathered (slice_cmp nat_cmp) IsBlobRow FitsBlob a.blob t.blobs
 
 pub record AreSorted (a : Answers) : Type 0 where
-  pub root : AreOrdered nat_cmp IsRootRow FitsRoot a.roots.items
-  pub shelf : AreOrdered row_cmp IsShelfRow FitsShelf a.shelf.items
-  pub blob : AreOrdered (slice_cmp nat_cmp) IsBlobRow FitsBlob a.blobs.items
+  pub root : AreOrdered nat_cmp IsRootRow FitsRoot a.root
+  pub shelf : AreOrdered row_cmp IsShelfRow FitsShelf a.shelf
+  pub blob : AreOrdered (slice_cmp nat_cmp) IsBlobRow FitsBlob a.blob
 
 pub data AreDamaged (a : Answers) : Type 0 where
-  root : AreSpoiled IsRootRow FitsRoot a.roots.items → AreDamaged a
-  current : AreSpoiled IsSlotRow FitsSlot a.current.items → AreDamaged a
-  shelf : AreSpoiled IsShelfRow FitsShelf a.shelf.items → AreDamaged a
-  blob : AreSpoiled IsBlobRow FitsBlob a.blobs.items → AreDamaged a
+  root : AreSpoiled IsRootRow FitsRoot a.root → AreDamaged a
+  current : AreSpoiled IsSlotRow FitsSlot a.current → AreDamaged a
+  shelf : AreSpoiled IsShelfRow FitsShelf a.shelf → AreDamaged a
+  blob : AreSpoiled IsBlobRow FitsBlob a.blob → AreDamaged a
+  version : (r : Row) → Has a.version r → (IsOne r → ⊥) → AreDamaged a
 
 -- What was read where `schema` has no row: either nothing is there, or the trees stand for nothing.
 pub record IsUnbegun (trees : Trees) (t : Contents) : Type 0 where

@@ -7,13 +7,13 @@ pub node_hash-left-requires : goal.node_hash-left-requires
 node_hash-left-requires t c =
     let less : c.args.levels - 1 < t = omega (arith, c.decreases) in
     let in_ = left_within c.args.leaves c.args.node c.args.levels c.if-levels-eq0.false c.requires.first c.requires.last in
-    (less, (in_.first, in_.last))
+    (less, (in_.first, (in_.last, c.requires.known)))
 
 pub node_hash-right-requires : goal.node_hash-right-requires
 node_hash-right-requires t c =
     let less : c.args.levels - 1 < t = omega (arith, c.decreases) in
     let in_ = right_within c.args.leaves c.args.node c.args.levels c.if-levels-eq0.false c.requires.first c.requires.last in
-    (less, (in_.first, in_.last))
+    (less, (in_.first, (in_.last, c.requires.known)))
 
 pub returns : goal.returns
 returns t c =

@@ -20,7 +20,11 @@ node_hash-hash-requires c =
     let leaf : c.args.q < c.leaves-leaves.result = omega (arith, c.leaves-leaves.ensures, c.requires.leaf) in
     let level : c.loop-i.i < height c.args.lms = omega (arith, c.height-levels.ensures) in
     let within = sibling_within (height c.args.lms) c.loop-i.i c.args.q c.leaves-leaves.result c.leaves-leaves.ensures small leaf level in
-    record { first = within.first; last = within.last }
+    record {
+      first = within.first;
+      last = within.last;
+      known = rw c.leaves-leaves.ensures c.requires.known;
+    }
 
 pub loop-i-init : goal.loop-i-init
 loop-i-init c =

@@ -11,7 +11,6 @@ invariant-loop-index l = record {
       → commands.batch_from (record { trusted = draft_view l.draft; accepted = l.accepted; same = l.same }) l.index (documents_view (drop l.index l.documents)) l.now r
       → commands.batch (draft_view l.fn.draft) (documents_view l.documents) l.now r;
   base : l.draft.base.now ≡ l.fn.draft.base.now;
-  blobs : l.draft.effects.blobs ≡ l.fn.draft.effects.blobs;
   count : l.index ≤ length l.documents;
   few_accepted : l.accepted ≤ l.index;
   few_same : l.same ≤ l.index;

@@ -9,7 +9,7 @@ use Rattle.machine.specs.Commands.{coherent, incoherent}
 use Rattle.machine.specs.Effects as spec
 use Rattle.machine.specs.Effects.{applied, brought}
 use Rattle.machine.specs.State.{State, Trusted, IsState}
-use Rattle.machine.specs.Views.{effects_view, documents_view, parts_view, draft_view, blob_views}
+use Rattle.machine.specs.Views.{changes_view, effects_view, documents_view, draft_view, trusted_view}
 use Rattle.machine.proofs.BatchOneByOne.{so_far, batch_refused}
 use Rattle.machine.proofs.OrderSteps.{yes, no as not_so}
 use Rattle.machine.proofs.ChangesMake.{trusted_alone}
@@ -18,34 +18,33 @@ use Rattle.machine.proofs.batches.judge_batch.Goals as goal
 pub returns-in_err-progress : goal.returns-in_err-progress
 returns-in_err-progress c =
     let S : State = c.args.state.now.state in
-    let begun : draft_view c.new-draft.result ≡ S.trusted = c.new-draft.ensures.view ∙ ap (λ (P : State). P.trusted) c.parts.ensures.view in
+    let begun : draft_view c.new-draft.result ≡ S.trusted = c.new-draft.ensures.view ∙ c.trusted.ensures.view in
     let p = err_from_is_err_and c.from_residual.result c.from_residual.ensures.1 in
     rw (p.1, p.2) (batch_refused S _ (subst (λ (T : Trusted). IsDeniedAt (commands.batch T (documents_view c.args.documents.now) c.args.now) c.in_err-progress.field-0.0) begun c.in_err-progress.ensures.err))
 
 pub returns-then-not-is_coherent : goal.returns-then-not-is_coherent
 returns-then-not-is_coherent c =
     let S : State = c.args.state.now.state in
-    let begun : draft_view c.new-draft.result ≡ S.trusted = c.new-draft.ensures.view ∙ ap (λ (P : State). P.trusted) c.parts.ensures.view in
+    let begun : draft_view c.new-draft.result ≡ S.trusted = c.new-draft.ensures.view ∙ c.trusted.ensures.view in
     denied (subst (λ (T : Trusted). commands.batch T (documents_view c.args.documents.now) c.args.now (Err (Plain no.incoherent, length c.args.documents.now))) begun
     (c.in_ok-progress.ensures.ok _ (incoherent (not_so c.if-not-is_coherent.ensures))))
 
 pub returns : goal.returns
 returns c =
     let S : State = c.args.state.now.state in
-    let E : spec.Effects = effects_view c.into_effects.result in
-    let begun : draft_view c.new-draft.result ≡ S.trusted = c.new-draft.ensures.view ∙ ap (λ (P : State). P.trusted) c.parts.ensures.view in
-    let base : parts_view c.in_ok-progress.progress.draft.base.now ≡ S =
-    ap (λ p. parts_view p) (c.in_ok-progress.ensures.rest.0 ∙ c.new-draft.ensures.base.0) ∙ c.parts.ensures.view in
-    let bare : E.blobs ≡ [] =
-    ap (λ e. blob_views e.blobs.items) c.into_effects.ensures
-    ∙ (ap (λ bs. blob_views bs.items) c.in_ok-progress.ensures.rest.1 ∙ ap (λ (F : spec.Effects). F.blobs) c.new-draft.ensures.base.1) in
+    let E : spec.Effects = effects_view c.of.result in
+    let begun : draft_view c.new-draft.result ≡ S.trusted = c.new-draft.ensures.view ∙ c.trusted.ensures.view in
+    let base : trusted_view c.in_ok-progress.progress.draft.base.now ≡ S.trusted =
+    ap (λ t. trusted_view t) (c.in_ok-progress.ensures.base ∙ c.new-draft.ensures.base) ∙ c.trusted.ensures.view in
+    let same : E ≡ changes_view c.in_ok-progress.progress.draft.changes = c.of.ensures ∙ ap (λ d. changes_view d) c.into_changes.ensures in
+    let bare : E.blobs ≡ [] = ap (λ (F : spec.Effects). F.blobs) same in
     let left : draft_view c.in_ok-progress.progress.draft ≡ brought S.trusted E =
-    ap (λ (P : State). brought P.trusted (effects_view c.in_ok-progress.progress.draft.effects)) base ∙ ap (λ e. brought S.trusted (effects_view e)) (sym c.into_effects.ensures) in
+    ap (λ (T : Trusted). brought T (changes_view c.in_ok-progress.progress.draft.changes)) base ∙ ap (λ (F : spec.Effects). brought S.trusted F) (sym same) in
     let made : commands.batch S.trusted (documents_view c.args.documents.now) c.args.now (Ok (so_far (brought S.trusted E) c.in_ok-progress.progress.accepted c.in_ok-progress.progress.same)) =
     subst (λ (T : Trusted). commands.batch S.trusted (documents_view c.args.documents.now) c.args.now (Ok (so_far T c.in_ok-progress.progress.accepted c.in_ok-progress.progress.same))) left
     (subst (λ (T : Trusted). commands.batch T (documents_view c.args.documents.now) c.args.now (Ok (so_far (draft_view c.in_ok-progress.progress.draft) c.in_ok-progress.progress.accepted c.in_ok-progress.progress.same))) begun
     (c.in_ok-progress.ensures.ok _ (coherent (yes c.if-not-is_coherent.ensures)))) in
-    let valid : IsState S = c.parts.ensures.valid in
+    let valid : IsState S = c.trusted.ensures.valid in
     done made (trusted_alone S E bare)
     (subst (λ (U : State). IsState U) (sym (trusted_alone S E bare))
     (c.stays_valid.ensures.trusted S (brought S.trusted E) valid

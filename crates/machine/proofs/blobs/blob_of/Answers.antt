@@ -1,7 +1,8 @@
 use Rattle.std.proofs.Common.{◌≡◌, ◌∙◌, Some, None, cond, sym, ap, refl, true, false}
 use Rattle.std.specs.Prelude.{bytes_eq, option_and_then}
 use Rattle.delegations.specs.Delegation.{before}
-use Rattle.machine.proofs.ByHalves.{found, sorts_bytes}
+use Rattle.delegations.proofs.ByHalves.{found}
+use Rattle.delegations.proofs.KeyOrder.{sorts_bytes}
 use Rattle.machine.proofs.blobs.blob_of.Goals as goal
 
 pub returns-in_default : goal.returns-in_default

@@ -1,7 +1,8 @@
 use Rattle.std.proofs.Common.{rules}
 use Rattle.std.proofs.lemmas.List.Sorted.{IsPartitionPoint-from_clause}
 use Rattle.delegations.specs.Delegation.{before}
-use Rattle.machine.proofs.ByHalves.{parted, sorts_bytes}
+use Rattle.delegations.proofs.ByHalves.{parted}
+use Rattle.delegations.proofs.KeyOrder.{sorts_bytes}
 use Rattle.machine.proofs.blobs.count_before.Goals as goal
 
 pub returns : goal.returns

@@ -1,3 +1,4 @@
+use Rattle.std.proofs.lemmas.Result.{err_from_is_err_and}
 use Rattle.metadata.specs.File.{timestamp_form}
 use Rattle.metadata.specs.FileViews.{timestamp_file}
 use Rattle.metadata.specs.Shaped.{reads}
@@ -5,8 +6,10 @@ use Rattle.machine.specs.Answers.{gives}
 use Rattle.machine.proofs.OrderSteps.{of_another_shape}
 use Rattle.machine.proofs.files.new_timestamp.Goals as goal
 
-pub returns-in-Ok-clause-shape : goal.returns-in-Ok-clause-shape
-returns-in-Ok-clause-shape c = gives (reads c.in-Ok.ensures.file.0 c.in-Ok.ensures.file.1)
+pub returns-in_err-read_timestamp_file-clause-shape : goal.returns-in_err-read_timestamp_file-clause-shape
+returns-in_err-read_timestamp_file-clause-shape c =
+    let p = err_from_is_err_and c.from_residual.result c.from_residual.ensures.1 in
+    rw (p.1) (of_another_shape timestamp_form timestamp_file _ c.in_err-read_timestamp_file.field-0.0 _ c.in_err-read_timestamp_file.ensures.fault p.2)
 
-pub returns-in-Err-clause-shape : goal.returns-in-Err-clause-shape
-returns-in-Err-clause-shape c = of_another_shape timestamp_form timestamp_file _ c.in-Err.fault _ c.in-Err.ensures.fault c.refused_shape.ensures
+pub returns-clause-shape : goal.returns-clause-shape
+returns-clause-shape c = gives (reads c.in_ok-read_timestamp_file.ensures.file.0 c.in_ok-read_timestamp_file.ensures.file.1)

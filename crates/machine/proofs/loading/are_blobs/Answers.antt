@@ -3,10 +3,10 @@ use Rattle.std.proofs.lemmas.Bool.{true≢false, both_ways}
 use Rattle.std.proofs.lemmas.List.{length-map}
 use Rattle.std.specs.Prelude.{bytes_eq}
 use Rattle.delegations.specs.Delegation.{before}
-use Rattle.machine.specs.steps.Loading.{rises}
+use Rattle.delegations.specs.steps.Rising.{rises}
 use Rattle.machine.specs.Views.{blob_views}
-use Rattle.machine.proofs.RowsInOrder.{orders_bytes}
-use Rattle.machine.proofs.RisingRows.{rises_tells}
+use Rattle.delegations.proofs.KeyOrder.{orders_bytes}
+use Rattle.delegations.proofs.RisingKeys.{rises_tells}
 use Rattle.machine.proofs.loading.are_blobs.Goals as goal
 
 pub returns-then-not-blobs_rise : goal.returns-then-not-blobs_rise

@@ -1,6 +1,6 @@
 use Rattle.std.proofs.Common.{◌≡◌, length}
 use Rattle.delegations.specs.Delegation.{before}
-use Rattle.machine.specs.steps.Loading.{rises}
+use Rattle.delegations.specs.steps.Rising.{rises}
 use Rattle.machine.specs.Views.{blob_views}
 use Rattle.machine.proofs.loading.blobs_rise.Given as goal
 

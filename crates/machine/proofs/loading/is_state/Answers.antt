@@ -16,7 +16,7 @@ returns c =
     let E = effects_view c.args.files.now in
     let shelf = rw c.deref.ensures.value at (c.is_shelf.ensures.0 c.if-not-is_shelf.false) in
     let blobs = rw c.deref-2.ensures.value at (c.are_blobs.ensures.0 c.if-not-are_blobs.false) in (
-      (λ t. is_laid E (simp length-map (omega (arith, c.args.files.now.roots.ok.0))) shelf blobs
+      (λ t. is_laid E (simp length-map (omega (arith, c.args.files.now.changes.roots.ok.0))) shelf blobs
           (c.are_under_root.ensures.some t) (c.are_under_root.ensures.none t)),
       (λ s. c.are_under_root.ensures.otherwise s.trusted.held (laid_bare E s)),
     )

@@ -1,23 +1,23 @@
 use Rattle.std.proofs.Common.{sym, ◌∙◌}
-use Rattle.machine.specs.Views.{parts_view}
+use Rattle.machine.specs.Views.{trusted_view}
 use Rattle.machine.proofs.MetadataNames.{at_root, at_snapshot, past_snapshot, same_name}
 use Rattle.machine.proofs.names.metadata_file.Goals as goal
 
 pub returns-in-Some-root_named : goal.returns-in-Some-root_named
 returns-in-Some-root_named c =
-    sym (at_root (parts_view c.parts-parts.result.now).trusted c.as_bytes-name.result.now c.in-Some-root_named.bytes.now
+    sym (at_root (trusted_view c.trusted-trusted.result.now) c.as_bytes-name.result.now c.in-Some-root_named.bytes.now
     (sym c.in_default.ensures) (sym c.in-Some-root_named.ensures))
-    ∙ same_name (parts_view c.parts-parts.result.now) c.args.state.now.state c.as_bytes-name.result.now c.args.name.now c.parts-parts.ensures.view c.as_bytes-name.ensures.value
+    ∙ same_name (trusted_view c.trusted-trusted.result.now) c.args.state.now.state.trusted c.as_bytes-name.result.now c.args.name.now c.trusted-trusted.ensures.view c.as_bytes-name.ensures.value
 
 pub returns-in-Some-snapshot_named : goal.returns-in-Some-snapshot_named
 returns-in-Some-snapshot_named c =
-    sym (at_snapshot (parts_view c.parts-parts.result.now).trusted c.as_bytes-name.result.now c.in-Some-snapshot_named.bytes.now
+    sym (at_snapshot (trusted_view c.trusted-trusted.result.now) c.as_bytes-name.result.now c.in-Some-snapshot_named.bytes.now
     (sym c.in_default.ensures) (sym c.in_default-root_named.ensures) (sym c.in-Some-snapshot_named.ensures))
-    ∙ same_name (parts_view c.parts-parts.result.now) c.args.state.now.state c.as_bytes-name.result.now c.args.name.now c.parts-parts.ensures.view c.as_bytes-name.ensures.value
+    ∙ same_name (trusted_view c.trusted-trusted.result.now) c.args.state.now.state.trusted c.as_bytes-name.result.now c.args.name.now c.trusted-trusted.ensures.view c.as_bytes-name.ensures.value
 
 pub returns : goal.returns
 returns c =
     (rw c.deref.ensures.value at c.row_named.ensures)
-    ∙ (sym (past_snapshot (parts_view c.parts-parts.result.now).trusted c.as_bytes-name.result.now
+    ∙ (sym (past_snapshot (trusted_view c.trusted-trusted.result.now) c.as_bytes-name.result.now
     (sym c.in_default.ensures) (sym c.in_default-root_named.ensures) (sym c.in_default-snapshot_named.ensures))
-    ∙ same_name (parts_view c.parts-parts.result.now) c.args.state.now.state c.as_bytes-name.result.now c.args.name.now c.parts-parts.ensures.view c.as_bytes-name.ensures.value)
+    ∙ same_name (trusted_view c.trusted-trusted.result.now) c.args.state.now.state.trusted c.as_bytes-name.result.now c.args.name.now c.trusted-trusted.ensures.view c.as_bytes-name.ensures.value)

@@ -10,8 +10,8 @@ returns-in-Some-earlier_named c =
     let last = c.in-Some.last in
     let name = c.args.name.now in
     let e = rw (c.from-version.ensures, c.deref.ensures.value) at c.in-Some-earlier_named.ensures in
-    sym (roots_kept c.args.parts.now last name c.in-Some.is
-    ∙ found_first (earlier_files last.body.version (map (λ b. b.items) c.args.parts.now.earlier.items)) _ name c.in-Some-earlier_named.bytes.now (sym e))
+    sym (roots_kept c.args.trusted.now last name c.in-Some.is
+    ∙ found_first (earlier_files last.body.version (map (λ b. b.items) c.args.trusted.now.earlier.items)) _ name c.in-Some-earlier_named.bytes.now (sym e))
 
 pub returns-then-is_dotted : goal.returns-then-is_dotted
 returns-then-is_dotted c =
@@ -20,8 +20,8 @@ returns-then-is_dotted c =
     let e = rw (c.from-version.ensures, c.deref.ensures.value) at c.in_default-earlier_named.ensures in
     let t : bytes_eq (dotted last.body.version (codes "root")) name ≡ true =
     rw (c.from-version.ensures, c.as_slice.ensures) at (sym c.is_dotted.ensures ∙ c.if-is_dotted.true) in
-    sym (roots_kept c.args.parts.now last name c.in-Some.is
-    ∙ (found_later (earlier_files last.body.version (map (λ b. b.items) c.args.parts.now.earlier.items)) _ name (sym e)
+    sym (roots_kept c.args.trusted.now last name c.in-Some.is
+    ∙ (found_later (earlier_files last.body.version (map (λ b. b.items) c.args.trusted.now.earlier.items)) _ name (sym e)
     ∙ (one_found (dotted last.body.version (codes "root")) last.source.bytes name t ∙ ap Some (sym c.bytes.ensures))))
 
 pub returns-else-is_dotted : goal.returns-else-is_dotted
@@ -31,6 +31,6 @@ returns-else-is_dotted c =
     let e = rw (c.from-version.ensures, c.deref.ensures.value) at c.in_default-earlier_named.ensures in
     let t : bytes_eq (dotted last.body.version (codes "root")) name ≡ false =
     rw (c.from-version.ensures, c.as_slice.ensures) at (sym c.is_dotted.ensures ∙ c.if-is_dotted.false) in
-    sym (roots_kept c.args.parts.now last name c.in-Some.is
-    ∙ (found_later (earlier_files last.body.version (map (λ b. b.items) c.args.parts.now.earlier.items)) _ name (sym e)
+    sym (roots_kept c.args.trusted.now last name c.in-Some.is
+    ∙ (found_later (earlier_files last.body.version (map (λ b. b.items) c.args.trusted.now.earlier.items)) _ name (sym e)
     ∙ one_missed (dotted last.body.version (codes "root")) last.source.bytes name t))

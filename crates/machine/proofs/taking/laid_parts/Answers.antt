@@ -6,7 +6,7 @@ use Rattle.machine.proofs.taking.laid_parts.Goals as goal
 
 pub returns : goal.returns
 returns c =
-    let roots = c.args.files.roots.items in
+    let roots = c.args.files.changes.roots.items in
     same_state _ _ _ _ _ _ _ _ _ _ _ _
     (c.take_roots.ensures.bytes
     ∙ (ap (λ l. (map (λ b. b.items) l ++ last_bytes None) ++ map (λ r. r.source.bytes) roots) c.in_ok-earlier.ensures.items

@@ -1,23 +1,9 @@
-use Rattle.std.proofs.Common.{ap, ◌∙◌, ◌++◌, List, map, option_map}
+use Rattle.std.proofs.Common.{◌≡◌, ap, ◌∙◌, List}
 use Rattle.metadata.specs.File.{Bytes}
-use Rattle.metadata.specs.FileViews.{root_file, timestamp_file, snapshot_file, targets_file}
-use Rattle.delegations.specs.Rows.{Rows, with_rows}
-use Rattle.delegations.specs.Views.{row_views}
-use Rattle.machine.specs.Views.{last_bytes}
-use Rattle.machine.proofs.PutInRoom.{map_twice, map_emptied, last_seen, renewed_seen, same_state}
+use Rattle.machine.specs.Effects.{brought, with_blobs}
+use Rattle.machine.specs.State.{State, Trusted}
+use Rattle.machine.specs.Views.{blob_views, effects_view, trusted_view}
 use Rattle.machine.proofs.taking.take_all.Goals as goal
 
 pub returns-clause-parts : goal.returns-clause-parts
-returns-clause-parts c =
-    let was = c.args.parts.now in
-    let e = c.args.effects in
-    same_state _ _ _ _ _ _ _ _ _ _ _ _
-    (c.take_roots.ensures.bytes
-    ∙ ap (λ (l : List Bytes). (map (λ b. b.items) was.earlier.items ++ last_bytes was.root) ++ l) (map_twice (λ r. r.bytes) root_file e.roots.items))
-    (ap (option_map root_file) c.take_roots.ensures.last ∙ last_seen root_file was.root e.roots.items)
-    (ap (option_map timestamp_file) c.renew.ensures ∙ renewed_seen timestamp_file e.emptied was.timestamp e.timestamp)
-    (ap (option_map snapshot_file) c.renew-2.ensures ∙ renewed_seen snapshot_file e.emptied was.snapshot e.snapshot)
-    (c.take_rows.ensures
-    ∙ ap (λ (l : Rows). with_rows l (row_views e.rows.items))
-    (rw (c.empty_if.ensures.items) (map_emptied (λ r. ((r.role, r.version), targets_file r.file)) e.emptied was.shelf.items)))
-    c.take_blobs.ensures
+returns-clause-parts c = λ i. record { trusted = c.take_changes.ensures i; blobs = c.take_blobs.ensures i }

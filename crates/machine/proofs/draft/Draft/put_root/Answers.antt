@@ -5,9 +5,9 @@ use Rattle.machine.proofs.draft.Draft.put_root.Goals as goal
 pub returns-then-not-keeps-clause-view : goal.returns-then-not-keeps-clause-view
 returns-then-not-keeps-clause-view c =
     rw (c.in_ok-push.ensures.items, c.if-not-keeps.true, c.clear.ensures.items)
-    (one_more_root root_file _ _ _ _ _ c.args.self.now.effects.roots.items c.args.file)
+    (one_more_root root_file _ _ _ _ _ c.args.self.now.changes.roots.items c.args.file)
 
 pub returns-else-not-keeps-clause-view : goal.returns-else-not-keeps-clause-view
 returns-else-not-keeps-clause-view c =
     rw (c.in_ok-push.ensures.items, c.if-not-keeps.false)
-    (one_more_root root_file _ _ _ _ _ c.args.self.now.effects.roots.items c.args.file)
+    (one_more_root root_file _ _ _ _ _ c.args.self.now.changes.roots.items c.args.file)

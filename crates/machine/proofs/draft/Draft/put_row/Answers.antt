@@ -5,4 +5,4 @@ use Rattle.machine.proofs.draft.Draft.put_row.Goals as goal
 pub returns-clause-view : goal.returns-clause-view
 returns-clause-view c =
     rw (c.in_ok-push.ensures.items)
-    (one_more_row (λ r. ((r.role, r.version), targets_file r.file)) _ _ _ _ _ c.args.self.now.effects.rows.items c.args.row)
+    (one_more_row (λ r. ((r.role, r.version), targets_file r.file)) _ _ _ _ _ c.args.self.now.changes.rows.items c.args.row)

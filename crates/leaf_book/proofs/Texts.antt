@@ -1,0 +1,113 @@
+-- What the texts mean.
+use Rattle.std.proofs.Common.{◌≡◌, List, ℕ, [], ◌∷◌, codes, refl}
+use Rattle.sqlite_tied.specs.Compute.{everything}
+use Rattle.sqlite.specs.Term.{Term, lit, col}
+use Rattle.sqlite.specs.Source.TheVariants.{Values}
+use Rattle.sqlite.specs.Command.TheVariants.{Insert}
+use Rattle.sqlite.specs.declared.types.Value.TheVariants.{Null}
+use Rattle.sqlite.specs.Order.{Row, column}
+use Rattle.sqlite.specs.Listing.{understood}
+use Rattle.sqlite.proofs.Callers.{IsPlain, command_of}
+use Rattle.sql_tables.specs.Making.{Makes}
+use Rattle.sql_tables.proofs.Queries.{Reads}
+use Rattle.leaf_book.specs.Schema.{leaf_table, no_schema, signer_schema, signer_table, the_schema}
+use Rattle.leaf_book.specs.steps.Loading.{three_cells}
+
+-- ---- CREATE TABLE
+
+abbrev pub make_signer : List ℕ
+make_signer = codes "CREATE TABLE signer (key TEXT NOT NULL PRIMARY KEY, ots INTEGER NOT NULL, height INTEGER NOT NULL)"
+
+pub makes_signer : Makes no_schema make_signer signer_schema
+unfolding understood everything
+makes_signer = (refl, refl, refl, signer_table 0, refl, refl, refl)
+
+abbrev pub make_leaf : List ℕ
+make_leaf = codes "CREATE TABLE leaf (key TEXT NOT NULL, leaf INTEGER NOT NULL, message BLOB NOT NULL, UNIQUE (key, leaf), UNIQUE (key, message))"
+
+pub makes_leaf : Makes signer_schema make_leaf the_schema
+unfolding understood everything
+makes_leaf = (refl, refl, refl, leaf_table 0, refl, refl, refl)
+
+-- ---- INSERT
+
+abbrev pub three_values : List Term
+three_values = lit Null ∷ col 0 0 ∷ col 0 1 ∷ col 0 2 ∷ []
+
+abbrev pub insert_signer : List ℕ
+insert_signer = codes "INSERT INTO signer (key, ots, height) VALUES (?1, ?2, ?3)"
+
+pub insert_signer_is : command_of (understood the_schema insert_signer) ≡ Insert 0 (Values three_values 4)
+unfolding understood everything
+insert_signer_is = refl
+
+pub insert_signer_plain : IsPlain (understood the_schema insert_signer)
+unfolding understood everything
+insert_signer_plain = (refl, refl)
+
+abbrev pub insert_leaf : List ℕ
+insert_leaf = codes "INSERT INTO leaf (key, leaf, message) VALUES (?1, ?2, ?3)"
+
+pub insert_leaf_is : command_of (understood the_schema insert_leaf) ≡ Insert 1 (Values three_values 4)
+unfolding understood everything
+insert_leaf_is = refl
+
+pub insert_leaf_plain : IsPlain (understood the_schema insert_leaf)
+unfolding understood everything
+insert_leaf_plain = (refl, refl)
+
+-- ---- SELECT
+
+abbrev pub select_signer : List ℕ
+select_signer = codes "SELECT key, ots, height FROM signer"
+
+pub reads_signer : Reads the_schema select_signer 0 three_cells []
+unfolding understood everything
+reads_signer = record {
+  terms = col 1 1 ∷ col 1 2 ∷ col 1 3 ∷ [];
+  order = [];
+  names = codes "key" ∷ codes "ots" ∷ codes "height" ∷ [];
+  is = refl;
+  plain = (refl, refl);
+  unlisted = refl;
+  quiet = λ _ _. refl;
+  cells = λ r. refl;
+  keyed = λ r s. refl;
+}
+
+abbrev pub select_leaf : List ℕ
+select_leaf = codes "SELECT key, leaf, message FROM leaf"
+
+pub reads_leaf : Reads the_schema select_leaf 2 three_cells []
+unfolding understood everything
+reads_leaf = record {
+  terms = col 1 1 ∷ col 1 2 ∷ col 1 3 ∷ [];
+  order = [];
+  names = codes "key" ∷ codes "leaf" ∷ codes "message" ∷ [];
+  is = refl;
+  plain = (refl, refl);
+  unlisted = refl;
+  quiet = λ _ _. refl;
+  cells = λ r. refl;
+  keyed = λ r s. refl;
+}
+
+abbrev pub select_key : List ℕ
+select_key = codes "SELECT key FROM signer"
+
+abbrev pub one_cell : Row → Row
+one_cell r = column r 1 ∷ []
+
+pub reads_key : Reads the_schema select_key 0 one_cell []
+unfolding understood everything
+reads_key = record {
+  terms = col 1 1 ∷ [];
+  order = [];
+  names = codes "key" ∷ [];
+  is = refl;
+  plain = (refl, refl);
+  unlisted = refl;
+  quiet = λ _ _. refl;
+  cells = λ r. refl;
+  keyed = λ r s. refl;
+}

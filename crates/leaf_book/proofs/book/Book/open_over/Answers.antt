@@ -1,0 +1,31 @@
+use Rattle.std.proofs.Common.{Err, sym, subst, ap, arith}
+use Rattle.sqlite.specs.Effect.{IsDatabase}
+use Rattle.sqlite.specs.Held.{state}
+use Rattle.sqlite.specs.State.{HasCleanDisk}
+use Rattle.leaf_book.specs.Book.{Book}
+use Rattle.leaf_book.specs.Rows.{IsRecorded, Stands}
+use Rattle.leaf_book.proofs.book.Book.open_over.Goals as goal
+
+pub returns-in-Ok-prepare-clause-opened : goal.returns-in-Ok-prepare-clause-opened
+returns-in-Ok-prepare-clause-opened g c clean =
+    let db = (state g.S.Store c.in-Ok.conn).now in
+    let late : HasCleanDisk (state g.S.Store c.prepare.new.conn) = subst (λ k. HasCleanDisk (state g.S.Store k)) c.over.ensures.conn clean in
+    let early : HasCleanDisk (state g.S.Store c.in-Ok.conn) = omega (arith, late, c.prepare.ensures.crash.clean) in
+    let found = c.in-Ok-prepare.ensures.found late (c.in-Ok.ensures.settled early) in
+    let sound : IsDatabase db = (c.prepare.ensures.live found.0).0 in
+    (db, c.in-Ok.ensures.same early found.0, sound, subst (λ (b : Book). Stands db b) (sym c.over.ensures.book) found.1)
+
+pub returns-in-Ok-prepare-clause-rows : goal.returns-in-Ok-prepare-clause-rows
+returns-in-Ok-prepare-clause-rows g c clean =
+    let late : HasCleanDisk (state g.S.Store c.prepare.new.conn) = subst (λ k. HasCleanDisk (state g.S.Store k)) c.over.ensures.conn clean in
+    let early : HasCleanDisk (state g.S.Store c.in-Ok.conn) = omega (arith, late, c.prepare.ensures.crash.clean) in
+    let found = c.in-Ok-prepare.ensures.found late (c.in-Ok.ensures.settled early) in
+    subst (λ k. IsRecorded (state g.S.Store k) c.over.result.book) (sym c.over.ensures.conn) (subst (IsRecorded (state g.S.Store c.prepare.new.conn)) (sym c.over.ensures.book) found.2)
+
+pub returns-in-Err-prepare-clause-damaged : goal.returns-in-Err-prepare-clause-damaged
+returns-in-Err-prepare-clause-damaged g c is clean =
+    let db = (state g.S.Store c.in-Ok.conn).now in
+    let early : HasCleanDisk (state g.S.Store c.in-Ok.conn) = omega (arith, clean, c.prepare.ensures.crash.clean) in
+    let told = c.in-Err-prepare.ensures.damaged clean (ap Err is) in
+    let sound : IsDatabase db = (c.prepare.ensures.live told.0).0 in
+    (db, c.in-Ok.ensures.same early told.0, sound, told.1, told.2)

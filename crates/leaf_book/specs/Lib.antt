@@ -1,0 +1,8 @@
+pub mod Book
+pub mod Schema
+pub mod Faults
+pub mod Rows
+pub mod Calls
+pub mod Runs
+pub mod Views
+pub mod steps

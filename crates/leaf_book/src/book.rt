@@ -1,0 +1,298 @@
+//! The book: its keys and the leaf history, whose rows the tables hold.
+ghost use Rattle.std.specs.Prelude.{◌≡◌, ◌⊎◌, IfErr, IsTrue, MatchOption, OnErr, OnOk};
+ghost use Rattle.lms.specs.declared.Params.{Params};
+ghost use Rattle.sqlite.specs.Held.{state};
+ghost use Rattle.sqlite.specs.State.{HasCleanDisk, Survives};
+ghost use Rattle.sqlite_trees.specs.Tree.{Trees};
+ghost use Rattle.lms.specs.Keys.{leaf_count};
+ghost use Rattle.keys_roles.specs.Keys.{id_of};
+ghost use Rattle.keys_roles.specs.Views.{id_text, key_view};
+ghost use Rattle.leaf_book.specs.Book as plain;
+ghost use Rattle.leaf_book.specs.Book.{IsBook, IsLeastUnused, IsRegistered, LacksMessage, key_of, with_leaf, with_signer};
+ghost use Rattle.leaf_book.specs.Calls.{Registers, Reserves};
+ghost use Rattle.leaf_book.specs.Faults.{IsOutside};
+ghost use Rattle.leaf_book.specs.Rows.{HoldsBook, IsRecorded};
+ghost use Rattle.leaf_book.specs.Views.{book_view, id_answer};
+ghost use Rattle.leaf_book.specs.steps.Planning.{IsPlan};
+
+use crate::cells::copied;
+use crate::entries::{Kept, Signer};
+use crate::faults::BookFault;
+use crate::leaf::Leaf;
+use crate::parameters::same_params;
+use crate::planning::{Plan, params_of, plan_for};
+use crate::writing::{check_open, put_leaf, put_signer};
+use keys_roles::{Key, KeyId, key_id};
+use lms::{KeyPair, Params, Seed, public_of};
+use sqlite::{Alter, Connection};
+use std::alloc::Global;
+use std::marker::Model;
+
+/// A book of leaves, and the connection to the tables that hold its rows. A clause sees the connection and what the book holds.
+/// While the connection is open, and unless a wrong answer of the disk was taken as true, the rows are those of the book.
+#[derive(Drop)]
+pub struct Book<S: Alter> {
+    conn: Connection<S>,
+    signers: Vec<Signer>,
+    leaves: Vec<Kept>,
+    alloc: Global,
+}
+
+impl<S: Alter> Model for Book<S> {
+    ghost use Rattle.std.specs.Prelude.{IsTrue};
+    ghost use Rattle.sqlite.specs.Held.{state};
+    ghost use Rattle.sqlite.specs.State.{HasCleanDisk};
+    ghost use Rattle.leaf_book.specs.Book.{IsBook};
+    ghost use Rattle.leaf_book.specs.Rows.{IsRecorded};
+    ghost use Rattle.leaf_book.specs.Views.{Shown, book_view, shown_code};
+
+    ghost Value = { Shown S };
+
+    ghost coded = { shown_code S.code };
+
+    ghost view = { λ b. record { conn = b.conn; book = book_view b.signers.items b.leaves.items } };
+
+    ghost invariant = { λ b. IsBook (book_view b.signers.items b.leaves.items) × (HasCleanDisk (state S.Store b.conn) → IsTrue (state S.Store b.conn).is_open → IsRecorded (state S.Store b.conn) (book_view b.signers.items b.leaves.items)) };
+}
+
+impl<S: Alter> Book<S> {
+    // A book over a connection whose tables hold its rows.
+    pub(crate) fn over(
+        alloc: Global,
+        conn: Connection<S>,
+        signers: Vec<Signer>,
+        leaves: Vec<Kept>,
+    ) -> Book<S>
+        requires right { IsBook (book_view signers.items leaves.items) }
+        requires rows { HasCleanDisk (state S.Store conn) → IsTrue (state S.Store conn).is_open → IsRecorded (state S.Store conn) (book_view signers.items leaves.items) }
+        ensures conn { result.conn ≡ conn }
+        ensures book { result.book ≡ book_view signers.items leaves.items }
+    {
+        Book {
+            conn,
+            signers,
+            leaves,
+            alloc,
+        }
+    }
+
+    /// Registers the key of a seed under parameters, and answers its id. Where it is registered with the same parameters nothing
+    /// changes. It writes by one statement at most, outside a transaction, as its last call of the database, and takes no memory
+    /// after it.
+    ///
+    /// - `Damaged`: the key is registered with other parameters.
+    /// - `Database`: a call of the database answered a fault.
+    /// - `OutOfMemory`: memory was refused.
+    pub fn register(&mut self, seed: &Seed, params: Params) -> Result<KeyId, BookFault>
+        ensures registers { Registers self.old.book seed.now params (id_answer result) self.new.book }
+        ensures rows { HasCleanDisk (state S.Store self.new.conn) → IsTrue (state S.Store self.new.conn).is_open → IsRecorded (state S.Store self.new.conn) self.new.book }
+        ensures right { IsBook self.new.book }
+        ensures clean { HasCleanDisk (state S.Store self.new.conn) → HasCleanDisk (state S.Store self.old.conn) }
+        ensures live { HasCleanDisk (state S.Store self.new.conn) → OnOk result (IsTrue (state S.Store self.old.conn).is_open × IsTrue (state S.Store self.new.conn).is_open) }
+        ensures crash { HasCleanDisk (state S.Store self.new.conn) → IsTrue (state S.Store self.old.conn).is_open → (trees : Trees) → (state S.Store self.new.conn).may_leave trees
+            → HoldsBook trees self.old.book ⊎ ((r : _) × (c : plain.Book) × Registers self.old.book seed.now params r c × HoldsBook trees c) }
+        ensures durable { HasCleanDisk (state S.Store self.new.conn) → IsTrue (state S.Store self.new.conn).is_open → (trees : Trees) → (state S.Store self.new.conn).may_leave trees → HoldsBook trees self.new.book }
+    {
+        let key = key_by(self.alloc(), &Key::Lms(public_of(seed, params)));
+        let result = self.enter(key, seed, params);
+        self.rests();
+        result
+    }
+
+    /// The same of a key pair whose tree is hashed already.
+    pub fn register_pair(&mut self, pair: &KeyPair) -> Result<KeyId, BookFault>
+        ensures registers { Registers self.old.book pair.now.seed pair.now.params (id_answer result) self.new.book }
+        ensures rows { HasCleanDisk (state S.Store self.new.conn) → IsTrue (state S.Store self.new.conn).is_open → IsRecorded (state S.Store self.new.conn) self.new.book }
+        ensures right { IsBook self.new.book }
+        ensures clean { HasCleanDisk (state S.Store self.new.conn) → HasCleanDisk (state S.Store self.old.conn) }
+        ensures live { HasCleanDisk (state S.Store self.new.conn) → OnOk result (IsTrue (state S.Store self.old.conn).is_open × IsTrue (state S.Store self.new.conn).is_open) }
+        ensures crash { HasCleanDisk (state S.Store self.new.conn) → IsTrue (state S.Store self.old.conn).is_open → (trees : Trees) → (state S.Store self.new.conn).may_leave trees
+            → HoldsBook trees self.old.book ⊎ ((r : _) × (c : plain.Book) × Registers self.old.book pair.now.seed pair.now.params r c × HoldsBook trees c) }
+        ensures durable { HasCleanDisk (state S.Store self.new.conn) → IsTrue (state S.Store self.new.conn).is_open → (trees : Trees) → (state S.Store self.new.conn).may_leave trees → HoldsBook trees self.new.book }
+    {
+        let key = key_by(self.alloc(), &Key::Lms(pair.public()));
+        let result = self.enter(key, pair.seed(), pair.params());
+        self.rests();
+        result
+    }
+
+    /// Reserves a leaf of the key for the message: the one that is kept for it already, else the least that is not used, which is
+    /// then kept for the message, committed before the call answers. It writes by one statement at most, outside a transaction, as
+    /// its last call of the database, and takes no memory after it.
+    ///
+    /// - `LeavesSpent`: all leaves of the key are used, and the message has none.
+    /// - `UnknownKey`: the key is not registered.
+    /// - `Database`: a call of the database answered a fault.
+    /// - `OutOfMemory`: memory was refused.
+    pub fn reserve(&mut self, key: &KeyId, message: &[u8]) -> Result<Leaf, BookFault>
+        ensures reserves { Reserves self.old.book (id_text key.now) message.now result self.new.book }
+        ensures rows { HasCleanDisk (state S.Store self.new.conn) → IsTrue (state S.Store self.new.conn).is_open → IsRecorded (state S.Store self.new.conn) self.new.book }
+        ensures right { IsBook self.new.book }
+        ensures clean { HasCleanDisk (state S.Store self.new.conn) → HasCleanDisk (state S.Store self.old.conn) }
+        ensures live { HasCleanDisk (state S.Store self.new.conn) → OnOk result (IsTrue (state S.Store self.old.conn).is_open × IsTrue (state S.Store self.new.conn).is_open) }
+        ensures crash { HasCleanDisk (state S.Store self.new.conn) → IsTrue (state S.Store self.old.conn).is_open → (trees : Trees) → (state S.Store self.new.conn).may_leave trees
+            → HoldsBook trees self.old.book ⊎ ((r : _) × (c : plain.Book) × Reserves self.old.book (id_text key.now) message.now r c × HoldsBook trees c) }
+        ensures durable { HasCleanDisk (state S.Store self.new.conn) → IsTrue (state S.Store self.new.conn).is_open → (trees : Trees) → (state S.Store self.new.conn).may_leave trees → HoldsBook trees self.new.book }
+    {
+        let result = self.take(key, message);
+        self.rests();
+        result
+    }
+
+    /// The connection of a book that is done.
+    pub fn into_connection(self) -> Connection<S>
+        ensures { result ≡ self.conn }
+    {
+        self.conn
+    }
+
+    // A law, which does nothing: the rows are those of the book, and a crash leaves just these.
+    fn rests(&self)
+        ensures right { IsBook self.now.book }
+        ensures rows { HasCleanDisk (state S.Store self.now.conn) → IsTrue (state S.Store self.now.conn).is_open → IsRecorded (state S.Store self.now.conn) self.now.book }
+        ensures left { HasCleanDisk (state S.Store self.now.conn) → IsTrue (state S.Store self.now.conn).is_open
+            → (trees : Trees) → (state S.Store self.now.conn).may_leave trees → HoldsBook trees self.now.book }
+    {
+        let _ = &self.signers;
+    }
+
+    // Asks the database for one column, so that nothing is answered from memory where the connection is shut.
+    fn touch(&mut self) -> Result<(), BookFault>
+        ensures same { self.new.book ≡ self.old.book }
+        ensures open { HasCleanDisk (state S.Store self.new.conn) → OnOk result (IsTrue (state S.Store self.old.conn).is_open × IsTrue (state S.Store self.new.conn).is_open) }
+        ensures survives { Survives (state S.Store self.old.conn) (state S.Store self.new.conn) (λ _. ⊥) }
+        ensures fault { IfErr result IsOutside }
+    {
+        check_open(&mut self.conn)
+    }
+
+    // Makes the signer: all memory first, then the row and its commit, then the entry with no memory.
+    fn keep_signer(&mut self, key: &KeyId, params: Params) -> Result<(), BookFault>
+        requires right { IsBook (with_signer (id_text key.now) params self.old.book) }
+        requires open { HasCleanDisk (state S.Store self.old.conn) → IsTrue (state S.Store self.old.conn).is_open }
+        ensures done { OnOk result (self.new.book ≡ with_signer (id_text key.now) params self.old.book) }
+        ensures kept { OnErr result (self.new.book ≡ self.old.book) }
+        ensures live { HasCleanDisk (state S.Store self.new.conn) → IsTrue (state S.Store self.old.conn).is_open → OnOk result (IsTrue (state S.Store self.new.conn).is_open) }
+        ensures crash { HasCleanDisk (state S.Store self.new.conn) → IsTrue (state S.Store self.old.conn).is_open → (trees : Trees) → (state S.Store self.new.conn).may_leave trees
+            → HoldsBook trees self.old.book ⊎ HoldsBook trees (with_signer (id_text key.now) params self.old.book) }
+        ensures clean { HasCleanDisk (state S.Store self.new.conn) → HasCleanDisk (state S.Store self.old.conn) }
+        ensures fault { IfErr result IsOutside }
+    {
+        let signer = Signer { key: *key, params };
+        self.signers.reserve(1)?;
+        put_signer(&mut self.conn, key, params)?;
+        self.signers.push_reserved(signer);
+        Ok(())
+    }
+
+    // Keeps a new leaf: all memory first, then the row and its commit, then the entry with no memory.
+    fn keep_leaf(&mut self, key: &KeyId, leaf: u32, message: &[u8]) -> Result<(), BookFault>
+        requires right { IsBook (with_leaf (id_text key.now) leaf message.now self.old.book) }
+        requires open { HasCleanDisk (state S.Store self.old.conn) → IsTrue (state S.Store self.old.conn).is_open }
+        ensures done { OnOk result (self.new.book ≡ with_leaf (id_text key.now) leaf message.now self.old.book) }
+        ensures kept { OnErr result (self.new.book ≡ self.old.book) }
+        ensures live { HasCleanDisk (state S.Store self.new.conn) → IsTrue (state S.Store self.old.conn).is_open → OnOk result (IsTrue (state S.Store self.new.conn).is_open) }
+        ensures crash { HasCleanDisk (state S.Store self.new.conn) → IsTrue (state S.Store self.old.conn).is_open → (trees : Trees) → (state S.Store self.new.conn).may_leave trees
+            → HoldsBook trees self.old.book ⊎ HoldsBook trees (with_leaf (id_text key.now) leaf message.now self.old.book) }
+        ensures clean { HasCleanDisk (state S.Store self.new.conn) → HasCleanDisk (state S.Store self.old.conn) }
+        ensures fault { IfErr result IsOutside }
+    {
+        let kept = Kept {
+            key: *key,
+            leaf,
+            message: copied(self.alloc, message)?,
+        };
+        self.leaves.reserve(1)?;
+        put_leaf(&mut self.conn, key, leaf, message)?;
+        self.leaves.push_reserved(kept);
+        Ok(())
+    }
+
+    // What is to be done for the message.
+    fn plan(&self, key: &KeyId, message: &[u8]) -> Plan
+        ensures { IsPlan self.now.book (id_text key.now) message.now result }
+    {
+        plan_for(
+            self.signers.as_slice(),
+            self.leaves.as_slice(),
+            key,
+            message,
+        )
+    }
+
+    // The parameters of a key that is registered.
+    fn known(&self, key: &KeyId) -> Option<Params>
+        ensures { MatchOption result ((params : Params) → IsRegistered self.now.book (id_text key.now) params → ⊥) (λ params. IsRegistered self.now.book (id_text key.now) params) }
+    {
+        params_of(self.signers.as_slice(), key)
+    }
+
+    fn alloc(&self) -> Global {
+        self.alloc
+    }
+
+    // Registers the key of a seed, which has this id.
+    fn enter(&mut self, key: KeyId, seed: &Seed, params: Params) -> Result<KeyId, BookFault>
+        requires { id_text key ≡ key_of seed.now params }
+        ensures registers { Registers self.old.book seed.now params (id_answer result) self.new.book }
+        ensures clean { HasCleanDisk (state S.Store self.new.conn) → HasCleanDisk (state S.Store self.old.conn) }
+        ensures live { HasCleanDisk (state S.Store self.new.conn) → OnOk result (IsTrue (state S.Store self.old.conn).is_open × IsTrue (state S.Store self.new.conn).is_open) }
+        ensures crash { HasCleanDisk (state S.Store self.new.conn) → IsTrue (state S.Store self.old.conn).is_open → (trees : Trees) → (state S.Store self.new.conn).may_leave trees
+            → HoldsBook trees self.old.book ⊎ ((r : _) × (c : plain.Book) × Registers self.old.book seed.now params r c × HoldsBook trees c) }
+    {
+        self.rests();
+        match self.touch() {
+            Ok(()) => {}
+            Err(fault) => return Err(fault),
+        }
+        match self.known(&key) {
+            None => {}
+            Some(held) if same_params(held, params) => return Ok(key),
+            Some(_) => return Err(BookFault::Damaged),
+        }
+        match self.keep_signer(&key, params) {
+            Ok(()) => Ok(key),
+            Err(fault) => Err(fault),
+        }
+    }
+
+    // Reserves a leaf.
+    fn take(&mut self, key: &KeyId, message: &[u8]) -> Result<Leaf, BookFault>
+        ensures reserves { Reserves self.old.book (id_text key.now) message.now result self.new.book }
+        ensures clean { HasCleanDisk (state S.Store self.new.conn) → HasCleanDisk (state S.Store self.old.conn) }
+        ensures live { HasCleanDisk (state S.Store self.new.conn) → OnOk result (IsTrue (state S.Store self.old.conn).is_open × IsTrue (state S.Store self.new.conn).is_open) }
+        ensures crash { HasCleanDisk (state S.Store self.new.conn) → IsTrue (state S.Store self.old.conn).is_open → (trees : Trees) → (state S.Store self.new.conn).may_leave trees
+            → HoldsBook trees self.old.book ⊎ ((r : _) × (c : plain.Book) × Reserves self.old.book (id_text key.now) message.now r c × HoldsBook trees c) }
+    {
+        self.rests();
+        match self.touch() {
+            Ok(()) => {}
+            Err(fault) => return Err(fault),
+        }
+        // All memory first, that of the answer too.
+        let copy = match copied(self.alloc(), message) {
+            Ok(copy) => copy,
+            Err(_) => return Err(BookFault::OutOfMemory),
+        };
+        let (leaf, params) = match self.plan(key, message) {
+            Plan::Held(leaf, params) => return Ok(Leaf::of(*key, leaf, params, copy)),
+            Plan::New(leaf, params) => (leaf, params),
+            Plan::Spent => return Err(BookFault::LeavesSpent),
+            Plan::Unknown => return Err(BookFault::UnknownKey),
+        };
+        match self.keep_leaf(key, leaf, message) {
+            Ok(()) => Ok(Leaf::of(*key, leaf, params, copy)),
+            Err(fault) => Err(fault),
+        }
+    }
+}
+
+// The id of a key.
+fn key_by(alloc: Global, key: &Key) -> KeyId
+    ensures { id_text result ≡ id_of (key_view key.now) }
+{
+    match key_id(alloc, key) {
+        Ok(key) => key,
+        Err(_) => KeyId([0; 32]),
+    }
+}

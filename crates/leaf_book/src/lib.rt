@@ -1,0 +1,25 @@
+//! The book that never spends a leaf of an LMS key twice (RFC 8554, section 9), in two tables of a database.
+#![tactic(auto)]
+
+mod book;
+mod cells;
+mod entries;
+mod faults;
+mod laws;
+mod leaf;
+mod loading;
+mod making;
+mod opening;
+mod parameters;
+mod planning;
+mod reading;
+mod shape;
+mod writing;
+
+pub use book::Book;
+pub use faults::{BookFault, NoMemory};
+pub use keys_roles::KeyId;
+pub use laws::{never_twice, one_book};
+pub use leaf::{Leaf, sign, sign_with};
+pub use lms::{KeyPair, OtsType, Params, Seed, SigningHeight};
+pub use opening::Unopened;

@@ -1,0 +1,123 @@
+//! Opening a book: the rows that stand in the tables, or new tables.
+ghost use Rattle.std.specs.Prelude.{◌≡◌, ◌⊎◌, false, Err, IfErr, IfOk, OnOk, IsSomeAnd, IsTrue};
+ghost use Rattle.sqlite.specs.Held.{state};
+ghost use Rattle.sqlite.specs.State.{HasCleanDisk, IsLive, Survives};
+ghost use Rattle.leaf_book.specs.Book as plain;
+ghost use Rattle.leaf_book.specs.Book.{IsBook, no_book};
+ghost use Rattle.leaf_book.specs.Rows.{HoldsBook, HoldsNoBook, IsRecorded, IsSettled, Stands, TreesStand};
+ghost use Rattle.leaf_book.specs.Schema.{no_schema, the_schema};
+ghost use Rattle.leaf_book.specs.Views.{book_view};
+
+use crate::book::Book;
+use crate::entries::{Kept, Signer};
+use crate::faults::BookFault;
+use crate::loading::{ask, read};
+use crate::making::{make_book, renew};
+use crate::shape::{is_blank, is_book};
+use sqlite::{Alter, Connection};
+use std::alloc::Global;
+
+/// Why no book was opened, and the connection, where there still is one.
+#[derive(Drop)]
+pub struct Unopened<S: Alter> {
+    pub fault: BookFault,
+    pub conn: Option<Connection<S>>,
+}
+
+impl<S: Alter + Drop> Book<S> {
+    /// Opens a book over a connection: what it holds is read from its tables, and where there is no table, both are made, in one
+    /// transaction. What was not committed over the connection is undone; where there was such a thing, its clock and step limit
+    /// are lost.
+    ///
+    /// - `Damaged`: the tables are those of a book, and their rows are those of none: a key that is not 64 hex digits of lower case,
+    ///   a type code outside 1 to 4, a height other than 5 or 10, a leaf of an unknown key or one that its tree does not have, or a
+    ///   value of another type than its column's.
+    /// - `Database`: a call of the database answered a fault, or it has other tables than the two of a book.
+    /// - `OutOfMemory`: memory was refused.
+    pub fn open(alloc: Global, conn: Connection<S>) -> Result<Book<S>, BookFault>
+        ensures opened { IfOk result (λ b. HasCleanDisk (state S.Store b.conn) → TreesStand (state S.Store conn).committed.trees b.book) }
+        ensures rows { IfOk result (λ b. HasCleanDisk (state S.Store b.conn) → IsRecorded (state S.Store b.conn) b.book) }
+        ensures right { IfOk result (λ b. IsBook b.book) }
+        ensures damaged { ((c : _) → HasCleanDisk (state S.Store c)) → result ≡ Err BookFault.Damaged → HoldsNoBook (state S.Store conn).committed.trees }
+        ensures fault { IfErr result (λ f. (f ≡ BookFault.Damaged) ⊎ ((f ≡ BookFault.Database) ⊎ (f ≡ BookFault.OutOfMemory))) }
+    {
+        match Book::open_over(alloc, conn) {
+            Ok(book) => Ok(book),
+            Err(unopened) => Err(unopened.fault),
+        }
+    }
+
+    /// The same as `open`. Where the rows are those of no book, the connection is given back, so that it can be said of every kind
+    /// of disk; `open` says it of those that cannot give a wrong answer, such as one in memory.
+    pub fn open_over(alloc: Global, conn: Connection<S>) -> Result<Book<S>, Unopened<S>>
+        ensures opened { IfOk result (λ b. HasCleanDisk (state S.Store b.conn) → TreesStand (state S.Store conn).committed.trees b.book) }
+        ensures rows { IfOk result (λ b. HasCleanDisk (state S.Store b.conn) → IsRecorded (state S.Store b.conn) b.book) }
+        ensures right { IfOk result (λ b. IsBook b.book) }
+        ensures damaged { IfErr result (λ u. u.fault ≡ BookFault.Damaged → IsSomeAnd u.conn (λ c. HasCleanDisk (state S.Store c) → HoldsNoBook (state S.Store conn).committed.trees)) }
+        ensures fault { IfErr result (λ u. (u.fault ≡ BookFault.Damaged) ⊎ ((u.fault ≡ BookFault.Database) ⊎ (u.fault ≡ BookFault.OutOfMemory))) }
+    {
+        let mut conn = match renew(alloc, conn) {
+            Ok(conn) => conn,
+            Err(fault) => {
+                return Err(Unopened { fault, conn: None });
+            }
+        };
+        match prepare(alloc, &mut conn) {
+            Ok((signers, leaves)) => Ok(Book::over(alloc, conn, signers, leaves)),
+            Err(fault) => Err(Unopened {
+                fault,
+                conn: Some(conn),
+            }),
+        }
+    }
+}
+
+// What the two tables hold.
+fn load<S: Alter>(
+    alloc: Global,
+    conn: &mut Connection<S>,
+) -> Result<(Vec<Signer>, Vec<Kept>), BookFault>
+    ensures mode { conn.old.in_transaction ≡ false → conn.new.in_transaction ≡ false }
+    ensures right { IfOk result (λ p. IsBook (book_view p.0.items p.1.items)) }
+    ensures loaded { HasCleanDisk (state S.Store conn.new) → conn.old.in_transaction ≡ false → IsSettled (state S.Store conn.old) → (state S.Store conn.old).now.schema ≡ the_schema
+        → IfOk result (λ p. IsTrue (state S.Store conn.old).is_open × HoldsBook (state S.Store conn.old).now.trees (book_view p.0.items p.1.items) × IsRecorded (state S.Store conn.new) (book_view p.0.items p.1.items)) }
+    ensures damaged { HasCleanDisk (state S.Store conn.new) → (state S.Store conn.old).now.schema ≡ the_schema → result ≡ Err BookFault.Damaged
+        → IsTrue (state S.Store conn.old).is_open × ((b : plain.Book) → IsBook b → HoldsBook (state S.Store conn.old).now.trees b → ⊥) }
+    ensures fault { IfErr result (λ f. (f ≡ BookFault.Damaged) ⊎ ((f ≡ BookFault.Database) ⊎ (f ≡ BookFault.OutOfMemory))) }
+    ensures survives { Survives (state S.Store conn.old) (state S.Store conn.new) (λ _. ⊥) }
+{
+    let answers = match ask(conn) {
+        Ok(answers) => answers,
+        Err(fault) => return Err(fault),
+    };
+    read(alloc, &answers)
+}
+
+// What the database holds. Where it has no table, both are made.
+fn prepare<S: Alter>(
+    alloc: Global,
+    conn: &mut Connection<S>,
+) -> Result<(Vec<Signer>, Vec<Kept>), BookFault>
+    requires { conn.old.in_transaction ≡ false }
+    ensures autocommit { conn.new.in_transaction ≡ false }
+    ensures live { IsLive (state S.Store conn.old) }
+    ensures right { IfOk result (λ p. IsBook (book_view p.0.items p.1.items)) }
+    ensures found { HasCleanDisk (state S.Store conn.new) → IsSettled (state S.Store conn.old)
+        → IfOk result (λ p. IsTrue (state S.Store conn.old).is_open × Stands (state S.Store conn.old).now (book_view p.0.items p.1.items) × IsRecorded (state S.Store conn.new) (book_view p.0.items p.1.items)) }
+    ensures damaged { HasCleanDisk (state S.Store conn.new) → result ≡ Err BookFault.Damaged
+        → IsTrue (state S.Store conn.old).is_open × ((state S.Store conn.old).now.schema ≡ the_schema) × ((b : plain.Book) → IsBook b → HoldsBook (state S.Store conn.old).now.trees b → ⊥) }
+    ensures fault { IfErr result (λ f. (f ≡ BookFault.Damaged) ⊎ ((f ≡ BookFault.Database) ⊎ (f ≡ BookFault.OutOfMemory))) }
+    ensures crash { Survives (state S.Store conn.old) (state S.Store conn.new) (λ trees. IsTrue (state S.Store conn.old).is_open → ((state S.Store conn.old).now.schema ≡ no_schema) × HoldsBook trees no_book) }
+{
+    let schema = conn.schema();
+    if is_book(schema) {
+        return load(alloc, conn);
+    }
+    if !is_blank(schema) {
+        return Err(BookFault::Database);
+    }
+    match make_book(conn) {
+        Ok(()) => Ok((Vec::new(alloc), Vec::new(alloc))),
+        Err(fault) => Err(fault),
+    }
+}

@@ -1,0 +1,44 @@
+//! Seed files.
+use commands::{Fault, Notes, file_fault};
+use signing::{Seed, read_seed};
+use std::fs::File;
+use std::io::{self, Read, Write};
+use std::os::unix::fs::PermissionsExt;
+
+// The bytes of a seed file, and one more, by which a longer one can be told.
+const MOST: u64 = 98;
+
+// The bits of a file's mode by which its group and all others may read it.
+const READ_BY_OTHERS: u32 = 0o044;
+
+/// The seed that the file holds. A file of another form is a fault of a file. One that others than its owner may read is warned of.
+pub fn seed_at<E: Write>(
+    rt: &HostRuntime,
+    path: &str,
+    notes: &mut Notes<'_, E>,
+) -> Result<Seed, Fault> {
+    let (bytes, mode) = match opened(rt, path) {
+        Ok(read) => read,
+        Err(error) => {
+            notes.tell(&path, &error);
+            return Err(file_fault(&error));
+        }
+    };
+    let Some(seed) = read_seed(&bytes) else {
+        notes.tell(&path, &"no 96 hex digits of lower case and a line feed");
+        return Err(Fault::File);
+    };
+    if mode & READ_BY_OTHERS != 0 {
+        notes.warn(&path, &"others than its owner may read this seed");
+    }
+    Ok(seed)
+}
+
+// What a seed file begins with, and its mode.
+fn opened(rt: &HostRuntime, path: &str) -> io::Result<(Vec<u8>, u32)> {
+    let file = File::open(rt, path)?;
+    let mode = file.metadata()?.permissions().mode();
+    let mut bytes = Vec::new(rt.alloc());
+    file.take(MOST).read_to_end(&mut bytes)?;
+    Ok((bytes, mode))
+}

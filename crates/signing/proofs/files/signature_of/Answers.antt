@@ -1,0 +1,16 @@
+use Rattle.std.proofs.Common.{ap, sym, ◌∙◌}
+use Rattle.keys_roles.specs.Views.{id_text}
+use Rattle.leaf_book.specs.Book.{key_of}
+use Rattle.signing.proofs.Reserving.{same_params}
+use Rattle.signing.proofs.files.signature_of.Goals as goal
+
+pub sign_with-requires-clause-params : goal.sign_with-requires-clause-params
+sign_with-requires-clause-params g c =
+    same_params _ _ _ c.args.pair.now.seed c.args.pair.now.params (id_text c.in_ok-id.id) c.args.message.now c.in_ok-leaf.leaf c.in_ok-id.ensures.right
+    c.in_ok-id.ensures.registers c.in_ok-leaf.ensures.reserves
+
+pub sign_with-requires-clause-seed : goal.sign_with-requires-clause-seed
+sign_with-requires-clause-seed g c =
+    let same = same_params _ _ _ c.args.pair.now.seed c.args.pair.now.params (id_text c.in_ok-id.id) c.args.message.now c.in_ok-leaf.leaf c.in_ok-id.ensures.right
+    c.in_ok-id.ensures.registers c.in_ok-leaf.ensures.reserves in
+    ap (key_of c.args.pair.now.seed) (sym same) ∙ sym c.in_ok-id.ensures.registers.0 ∙ sym c.in_ok-leaf.ensures.reserves.0

@@ -1,0 +1,121 @@
+"""The commands `key` and `sign`: seeds of all widths, files by hand and at random, over one book each time."""
+import os
+import sqlite3
+
+import canonical_json
+import leaf_book
+from command_line import fault
+from test_keys import KEYS, Key
+
+LARGE = Key(b"a key that signs 1,024 files", 1, 10)
+
+
+def write_seed(session, key, name="seed"):
+    path = session.folder / f"{name} of {key.id}"
+    path.write_text((key.identifier + key.seed).hex() + "\n")
+    os.chmod(path, 0o600)
+    return path
+
+
+def words_of(session, key):
+    return ["--seed", str(write_seed(session, key)), "--ots", str(key.width), "--height", str(key.height)]
+
+
+def entry(keyid, digits="00"):
+    return {"keyid": keyid, "sig": digits}
+
+
+def file_of(entries, signed):
+    return canonical_json.write({"signatures": entries, "signed": signed})
+
+
+def others(count):
+    return [entry(f"{number:064x}", "ab" * number) for number in range(count)]
+
+
+def by_hand(key):
+    """Files of every kind: good ones, ill ones, and at each limit."""
+    for signed in ({"_type": "x"}, {"_type": "", "a": [1, {"b": None}]}, {"_type": "root", "version": 1}, {"_type": 1}, {"a": 1}, [], "x", None):
+        yield file_of([], signed)
+    for count in (1, 2, 14, 15, 16, 17):
+        yield file_of(others(count), {"_type": "x", "count": count})
+    for place in (0, 1, 15):
+        entries = others(15)
+        entries.insert(place, entry(key.id, "cd"))
+        yield file_of(entries, {"_type": "older", "place": place})
+    yield file_of([entry(key.id)], {"_type": "alone"})
+    yield file_of([entry(key.id), entry(key.id)], {"_type": "twice"})
+    yield file_of([entry(key.id.upper())], {"_type": "upper"})
+    yield file_of([entry(key.id, "0")], {"_type": "odd"})
+    yield file_of([entry(key.id, "00" * 9324)], {"_type": "long"})
+    yield file_of([entry(key.id, "00" * 9325)], {"_type": "longer"})
+    yield b'{"signatures":[],"signed":{"b":1,"_type":"x"}}'
+    yield b'{"signatures":[], "signed":{"_type":"x"}}'
+    yield b'{"signatures":[],"signed":{"_type":"x"},"z":1}'
+    yield b'{"signed":{"_type":"x"}}'
+    yield b""
+    empty = len(file_of([], {"_type": ""}))
+    whole = len(leaf_book.with_entry([], key, key.sign_with(0, b""), b'{"_type":""}'))
+    for length in (262144 - whole, 262145 - whole, 262144 - empty, 262145 - empty):
+        yield file_of([], {"_type": "t" * length})
+
+
+def kept(book):
+    connection = sqlite3.connect(book)
+    try:
+        return {(key, leaf, bytes(message)) for key, leaf, message in connection.execute("SELECT key, leaf, message FROM leaf")}
+    finally:
+        connection.close()
+
+
+def compare_keys(session, _random):
+    for key in (*KEYS, LARGE):
+        session.check("key", leaf_book.key_line(key), session.run("key", *words_of(session, key)), key.id.encode())
+
+
+def compare_by_hand(session, _random):
+    for number, key in enumerate(KEYS[:8]):
+        book, path = leaf_book.Book(), session.folder / f"book {number}"
+        file = session.folder / "file"
+        for text in by_hand(key):
+            file.write_bytes(text)
+            words = ["sign", "--book", str(path), *words_of(session, key), str(file)]
+            wanted = leaf_book.sign(book, key, text)
+            session.check("sign", wanted, session.run(*words), text)
+            if wanted[0] == 0:
+                file.write_bytes(wanted[1])
+                session.check("sign again", wanted, session.run(*words), text)
+        session.check("sign: rows of the book", book.rows(), kept(path))
+
+
+def compare_histories(session, random, count):
+    """Several keys over one book, until some have no leaf left; a file that is signed by one is signed by others."""
+    book, path = leaf_book.Book(), session.folder / "book of several"
+    file, files = session.folder / "file", [file_of([], {"_type": "first"})]
+    for number in range(count):
+        key = random.choice([*KEYS[:5], LARGE])
+        text = random.choice(files) if random.random() < 0.4 else file_of([], {"_type": "x", "n": number})
+        file.write_bytes(text)
+        wanted = leaf_book.sign(book, key, text)
+        session.check("sign: random", wanted, session.run("sign", "--book", str(path), *words_of(session, key), str(file)), text)
+        if wanted[0] == 0:
+            files.append(wanted[1])
+    session.check("sign: rows of the book", book.rows(), kept(path))
+
+
+def compare_faults(session, _random):
+    """Several faults at once: the seed, the file, the book, the document."""
+    key = KEYS[0]
+    seed, none = str(write_seed(session, key)), str(session.folder / "none")
+    good, ill = session.folder / "good", session.folder / "ill"
+    good.write_bytes(file_of([], {"_type": "x"}))
+    ill.write_bytes(b"x")
+    other = session.folder / "other tables"
+    connection = sqlite3.connect(other)
+    connection.execute("CREATE TABLE signer(key TEXT)")
+    connection.close()
+    lines = [(none, str(other), none, "file"), (seed, str(other), none, "file"), (seed, str(other), str(ill), "database")]
+    lines += [(str(ill), str(other), str(good), "file"), (seed, str(session.folder), str(good), "database")]
+    for given, book, file, word in lines:
+        words = ["sign", "--book", book, "--seed", given, "--ots", str(key.width), "--height", str(key.height), file]
+        session.check("sign: order of faults", fault(word), session.run(*words))
