@@ -1,18 +1,15 @@
 use crate::failure::Failure;
 use crate::rate::{now, percent, rate};
-use crate::repository::{FILE, PATH, Repository};
-use delegations::{
-    Row, Rows, Shelf, Steps, are_in_order, has_hash, has_length, search, search_counted,
-};
+use crate::repository::{FILE, Repository};
+use crate::shelves::{Documents, documents_of, is_listed, rows_of, shelf_of};
+use crate::states::{path, state_of};
+use delegations::{Steps, search, search_counted};
 use keys_roles::meets;
 use lms::OtsType;
-use machine::{Batched, Offer, Outcome, State, batch, get, get_counted, init, put_blob};
-use metadata::{
-    File, Moment, Root, Snapshot, digest_of, live, read_root_file, read_snapshot_file,
-    read_targets_file,
-};
-use path_patterns::{RoleName, TargetPath};
-use std::alloc::{AllocError, Global};
+use machine::{Outcome, State, get, get_counted, put_blob};
+use metadata::{Moment, digest_of};
+use path_patterns::TargetPath;
+use std::alloc::Global;
 use std::rt::Clock;
 use std::time::{Duration, Instant};
 
@@ -168,160 +165,6 @@ fn checks_of(
     }
 }
 
-fn path(alloc: Global) -> Result<TargetPath, Failure> {
-    match TargetPath::read(alloc, PATH)? {
-        Some(path) => Ok(path),
-        None => Err(Failure::NotServed),
-    }
-}
-
-// The state that trusts the files and holds so many blobs, among them the file of each target.
-fn state_of(
-    alloc: Global,
-    files: &Repository,
-    blobs: u32,
-    moment: Moment,
-) -> Result<State, Failure> {
-    let mut state = State::new(alloc);
-    begin(alloc, &mut state, files)?;
-    renew(alloc, &mut state, files, moment)?;
-    hold(alloc, &mut state, FILE)?;
-    for blob in 1..blobs {
-        hold(alloc, &mut state, &blob.to_be_bytes())?;
-    }
-    Ok(state)
-}
-
-// Trusts the root.
-fn begin(alloc: Global, state: &mut State, files: &Repository) -> Result<(), Failure> {
-    match init(alloc, state, &files.root) {
-        Ok(Outcome::Changed(effects)) => {
-            if state.room(&effects).is_err() {
-                return Err(Failure::Memory);
-            }
-            state.take(effects);
-            Ok(())
-        }
-        Ok(Outcome::Same) => Ok(()),
-        Err(refusal) => Err(Failure::from(refusal)),
-    }
-}
-
-// Trusts timestamp, snapshot and the documents of the line.
-fn renew(
-    alloc: Global,
-    state: &mut State,
-    files: &Repository,
-    moment: Moment,
-) -> Result<(), Failure> {
-    let documents = offers(alloc, files)?;
-    match batch(alloc, state, &documents, moment) {
-        Ok(done) => {
-            let Batched {
-                effects,
-                accepted: _,
-                same: _,
-            } = done;
-            if state.room(&effects).is_err() {
-                return Err(Failure::Memory);
-            }
-            state.take(effects);
-            Ok(())
-        }
-        Err(refusal) => Err(Failure::from(refusal)),
-    }
-}
-
-fn offers(alloc: Global, files: &Repository) -> Result<Vec<(Offer, &[u8])>, Failure> {
-    let mut offers = Vec::new(alloc);
-    offers
-        .push((Offer::Timestamp, files.timestamp.as_slice()))
-        .map_err(AllocError::from)?;
-    offers
-        .push((Offer::Snapshot, files.snapshot.as_slice()))
-        .map_err(AllocError::from)?;
-    for (name, file) in &files.line {
-        let role = role_of(alloc, name.as_str())?;
-        offers
-            .push((Offer::Targets(role), file.as_slice()))
-            .map_err(AllocError::from)?;
-    }
-    Ok(offers)
-}
-
-// Holds one more blob.
-fn hold(alloc: Global, state: &mut State, bytes: &[u8]) -> Result<(), Failure> {
-    let digest = digest_of(bytes);
-    match put_blob(alloc, state, &digest, bytes) {
-        Ok(Outcome::Changed(effects)) => {
-            if state.room(&effects).is_err() {
-                return Err(Failure::Memory);
-            }
-            state.take(effects);
-            Ok(())
-        }
-        Ok(Outcome::Same) => Ok(()),
-        Err(refusal) => Err(Failure::from(refusal)),
-    }
-}
-
-fn role_of(alloc: Global, name: &str) -> Result<RoleName, Failure> {
-    match RoleName::read(alloc, name)? {
-        Some(role) => Ok(role),
-        None => Err(Failure::NotServed),
-    }
-}
-
-// What a search reads, the rows in order.
-#[derive(Drop)]
-struct Documents {
-    root: File<Root>,
-    snapshot: File<Snapshot>,
-    rows: Vec<Row>,
-}
-
-// The documents of the line, among so many rows at least. The further rows are of roles that no document names.
-fn documents_of(alloc: Global, files: &Repository, least: u32) -> Result<Documents, Failure> {
-    let mut rows = Vec::new(alloc);
-    let Some((_, last)) = files.line.last() else {
-        return Err(Failure::NotServed);
-    };
-    for number in 0..least {
-        if number as usize >= files.line.len() {
-            let name = format!(in alloc; "q{number:04}")?;
-            rows.push(row_of(alloc, name.as_str(), last)?)
-                .map_err(AllocError::from)?;
-        }
-    }
-    for (name, file) in files.line.iter().skip(1) {
-        rows.push(row_of(alloc, name.as_str(), file)?)
-            .map_err(AllocError::from)?;
-    }
-    for (name, file) in files.line.iter().take(1) {
-        rows.push(row_of(alloc, name.as_str(), file)?)
-            .map_err(AllocError::from)?;
-    }
-    Ok(Documents {
-        root: read_root_file(alloc, &files.root)?,
-        snapshot: read_snapshot_file(alloc, &files.snapshot)?,
-        rows,
-    })
-}
-
-// The first version of a role's document.
-fn row_of(alloc: Global, name: &str, file: &[u8]) -> Result<Row, Failure> {
-    Ok(Row {
-        role: role_of(alloc, name)?,
-        version: 1,
-        file: read_targets_file(alloc, file)?,
-    })
-}
-
-fn shelf_of(documents: &Documents) -> Result<Shelf<'_>, Failure> {
-    let rows = rows_of(documents)?;
-    Ok(Shelf::new(&documents.root.body, &documents.snapshot.body, rows))
-}
-
 // The times of a target request, and of its parts alone. They take turns, so that what else the machine does slows them alike.
 fn times_of(
     rt: &impl Clock,
@@ -423,32 +266,4 @@ fn timed(rt: &impl Clock, start: Instant, is_done: bool) -> Result<Duration, Fai
     } else {
         Err(Failure::NotServed)
     }
-}
-
-fn rows_of(documents: &Documents) -> Result<Rows<'_>, Failure> {
-    if !are_in_order(&documents.rows) {
-        return Err(Failure::NotServed);
-    }
-    Ok(Rows {
-        held: &documents.rows,
-        added: &[],
-    })
-}
-
-// Whether the path is listed at the end of the line: the search without its signature checks.
-fn is_listed(documents: &Documents, rows: Rows<'_>, path: &TargetPath, moment: Moment) -> bool {
-    let mut is_found = false;
-    for (role, entry) in &documents.snapshot.body.meta {
-        let Some(file) = rows.row_at(role.as_str(), entry.version) else {
-            return false;
-        };
-        is_found |= file.body.listing(path.as_str()).is_some();
-        if !has_length(entry, &file.source)
-            || !has_hash(entry, &file.source)
-            || !live(file.body.expires, moment)
-        {
-            return false;
-        }
-    }
-    is_found
 }

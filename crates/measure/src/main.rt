@@ -9,6 +9,8 @@ mod lms_rates;
 mod pattern_rates;
 mod rate;
 mod repository;
+mod shelves;
+mod states;
 mod task;
 
 use failure::Failure;

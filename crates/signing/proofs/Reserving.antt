@@ -1,9 +1,9 @@
 -- The leaf that is reserved for a key that was just registered.
-use Rattle.std.proofs.Common.{◌≡◌, ◌++◌, ◌∷◌, [], ℕ, List, Result, Ok, inl, inr, refl, sym, ap, subst, ◌∙◌}
+use Rattle.std.proofs.Common.{◌≡◌, ◌++◌, ◌∷◌, [], ℕ, List, Ok, inl, inr, refl, sym, ap, subst}
 use Rattle.sqlite_rules.specs.Lists.{Has}
 use Rattle.lms.specs.declared.Params.{Params}
 use Rattle.lms.specs.declared.Seed.{Seed}
-use Rattle.leaf_book.specs.Book.{Book, IsBook, IsRegistered, Signer, key_of, with_signer}
+use Rattle.leaf_book.specs.Book.{Book, IsBook, IsRegistered, Signer}
 use Rattle.leaf_book.specs.Calls.{Registers, Reserved, Reserves}
 
 last_has : (xs : List Signer) (x : Signer) → Has (xs ++ x ∷ []) x

@@ -1,9 +1,10 @@
 //! Files that get a signature.
 use crate::entries::{others, with_entry};
 use crate::faults::SignFileFault;
+use crate::messages::sign_message;
 use denials::Denial;
-use keys_roles::{Key, KeyId, key_id};
-use leaf_book::{Book, sign_with};
+use keys_roles::{Key, key_id};
+use leaf_book::Book;
 use lms::{KeyPair, Params, Seed};
 use metadata::{SignedFile, read_signed};
 use sqlite::Alter;
@@ -32,7 +33,7 @@ pub fn sign_file<S: Alter>(
     let signed = read_signed(alloc, file)?;
     let pair = KeyPair::new(alloc, seed, params)?;
     judge_result(alloc, &signed, &pair)?;
-    let (id, signature) = signature_of(alloc, book, &pair, signed.signed)?;
+    let (id, signature) = sign_message(alloc, book, &pair, signed.signed)?;
     Ok(with_entry(alloc, &signed, &id, &signature)?)
 }
 
@@ -60,17 +61,4 @@ fn vec_of_zeros(alloc: Global, count: usize) -> Result<Vec<u8>, SignFileFault> {
         zeros.push(0)?;
     }
     Ok(zeros)
-}
-
-// The key's id and the signature of the message by the leaf that the book keeps for it.
-fn signature_of<S: Alter>(
-    alloc: Global,
-    book: &mut Book<S>,
-    pair: &KeyPair,
-    message: &[u8],
-) -> Result<(KeyId, Vec<u8>), SignFileFault> {
-    let id = book.register_pair(pair)?;
-    let leaf = book.reserve(&id, message)?;
-    let signature = sign_with(alloc, leaf, pair)?;
-    Ok((id, signature))
 }
