@@ -1,7 +1,6 @@
 -- What is known of an input by what it asks.
 use Rattle.std.proofs.Common.{ℕ, List, subst}
 use Rattle.http_messages.specs.Request.{Request, fault, batch, put_blob, metadata, target, Wanted, refused, wanted, IsWanted, HasWanted, of_head, OfRest, Asks, by_head, by_none}
-use Rattle.http_messages.specs.declared.faults.Fault.{Fault}
 
 -- it is a command
 abbrev pub IsSomething : Request → Type 0

@@ -1,10 +1,10 @@
 -- Serving one more connection.
-use Rattle.std.proofs.Common.{◌≡◌, ℕ, ◌+◌, ◌<◌, List, [], ◌∷◌, ◌++◌, length, take, drop, map, get_or, Option, Result, Ok, Err, Bool, true, false, refl, sym, ap, ◌∙◌, arith, subst}
+use Rattle.std.proofs.Common.{◌≡◌, ℕ, ◌+◌, ◌<◌, List, [], ◌∷◌, ◌++◌, length, take, drop, map, get_or, Option, Result, Ok, Err, true, false, refl, sym, ap, ◌∙◌, arith, subst}
 use Rattle.std.specs.Result.{is_ok}
 use Rattle.std.proofs.Math.ListN.{set}
 use Rattle.std.proofs.lemmas.List.{take_more, take_more_set, drop-set-lt, get_or-drop, map-append, drop-drop}
 use Rattle.http_serve.specs.declared.serve.ServeFault.{ServeFault}
-use Rattle.http_serve.specs.Standing.{Standing}
+use Rattle.store.specs.Standing.{Standing}
 use Rattle.http_serve.specs.Serving.{Line, Ended, Serves, one_if_ok}
 
 -- one more connection, at the end

@@ -1,6 +1,5 @@
 -- One response to an input.
-use Rattle.std.proofs.Common.{◌≡◌, ◌⊎◌, inl, inr, ℕ, List, [], ◌∷◌, ◌++◌, map, Option, Some, None, Result, Ok, Err, refl, sym, ap, subst, ◌∙◌, append_assoc, append-nil}
-use Rattle.denials.specs.Orders as orders
+use Rattle.std.proofs.Common.{◌≡◌, ◌⊎◌, inl, inr, ℕ, List, [], ◌∷◌, ◌++◌, map, Option, None, Result, Ok, Err, refl, sym, ap, subst, ◌∙◌}
 use Rattle.path_patterns.specs.Names.{Asks as AsksPath}
 use Rattle.machine.specs.State.{State}
 use Rattle.machine.specs.Runs.{Command, Batch, PutBlob, Metadata, Target, Reply, Begun, Offered, BatchDone, Stored, FileBytes, Absent, Refused, Steps, Outcome, Runs, done as ended, next}
@@ -9,7 +8,6 @@ use Rattle.http_messages.specs.Framing.{Document}
 use Rattle.http_messages.specs.Text.{response}
 use Rattle.http_messages.specs.Bodies.{accepted_text, stored_text}
 use Rattle.http_messages.specs.Faults.{fault_response}
-use Rattle.http_messages.specs.declared.faults.Fault.{Fault}
 use Rattle.http_messages.specs.declared.faults.Fault.TheVariants.{Name, Memory, Database}
 use Rattle.http_messages.specs.declared.reply.Kind.{Kind}
 use Rattle.http_messages.specs.declared.reply.Kind.TheVariants.{Json}
@@ -18,7 +16,7 @@ use Rattle.http_serve.specs.Response.{IsCommand, offers, puts, names, asks, kind
 use Rattle.machine.specs.Commands.{offer_of}
 use Rattle.http_serve.specs.Serving as serving
 use Rattle.http_serve.specs.Serving.{Answered, Made, Ended, Line, Serves}
-use Rattle.http_serve.specs.Standing.{Standing}
+use Rattle.store.specs.Standing.{Moves, Standing}
 use Rattle.http_serve.specs.declared.serve.ServeFault.{ServeFault}
 use Rattle.http_serve.specs.declared.serve.ServeFault.TheVariants.{Read, Write}
 
@@ -93,64 +91,72 @@ module _ (one_path : OnePath) (one_step : OneStep) where
 
 -- ---- answers are responses
 
-abbrev Refuses : Standing → List ℕ → Standing → Type 0
-Refuses A text B = ((text ≡ fault_response Memory) ⊎ (text ≡ fault_response Database)) × (B.state ≡ A.state)
+moved : {A B : Standing} {P Q : State → State → Type 0} → ((S T : State) → P S T → Q S T) → Moves A B P → Moves A B Q
+moved each moves S at = let (T, there, p) = moves S at in (T, there, each S T p)
+
+unmoved : (A : Standing) (P : State → State → Type 0) → ((S : State) → P S S) → Moves A A P
+unmoved A P each S at = (S, at, each S)
+
+abbrev IsAnswer : Standing → List ℕ → ℕ → List ℕ → Standing → Type 0
+IsAnswer A input now text B =
+    Moves A B (λ S T. Responds S input now text T) ⊎ (((text ≡ fault_response Memory) ⊎ (text ≡ fault_response Database)) × Moves A B (λ S T. T ≡ S))
 
 of-made : (A B : Standing) (input : List ℕ) (now : ℕ) (text : List ℕ) (request : Request) (c : Command) → Asks input request → IsCommand request c
-    → Made A c now text B → Responds A.state input now text B.state ⊎ Refuses A text B
-of-made A B input now text request c asked is (serving.by_step reply t C steps says holds) =
-    inl (record { request = request; asks = asked; answers = by_step request c reply text B.state is steps says })
+    → Made A c now text B → IsAnswer A input now text B
+of-made A B input now text request c asked is (serving.by_step reply t C moves says holds) =
+    inl (moved (λ S T steps. record { request = request; asks = asked; answers = by_step request c reply text T is steps says }) moves)
 of-made A B input now text request c asked is (serving.no_memory C keeps) = inr (inl refl, keeps.state)
 of-made A B input now text request c asked is (serving.no_database C keeps) = inr (inr refl, keeps.state)
 
-pub only-responses : (A B : Standing) (input : List ℕ) (now : ℕ) (text : List ℕ) → Answered A input now text B → Responds A.state input now text B.state ⊎ Refuses A text B
-only-responses A B input now text (serving.at_fault why asked) = inl (record { request = fault why; asks = asked; answers = at_fault why })
+pub only-responses : (A B : Standing) (input : List ℕ) (now : ℕ) (text : List ℕ) → Answered A input now text B → IsAnswer A input now text B
+only-responses A B input now text (serving.at_fault why asked) =
+    inl (unmoved A (λ S T. Responds S input now text T) (λ S. record { request = fault why; asks = asked; answers = at_fault why }))
 only-responses A B input now text (serving.by_command request c t C asked is made) = of-made A B input now text request c asked is made
 only-responses A B input now text (serving.unread C wants keeps) = inr (inl refl, keeps.state)
 
 -- ---- a run of the machine
 
--- at most one command was made
-abbrev Stepped : State → State → Type 0
-Stepped S T = (T ≡ S) ⊎ ((c : Command) × (now : ℕ) × (reply : Reply) × Steps S c now (T, reply))
+-- commands made lead from the one to the other
+abbrev RunsTo : State → State → Type 0
+RunsTo S T = (made : List (Command × ℕ)) × (replies : List Reply) × Runs S made T replies
 
-made-steps : (A B : Standing) (c : Command) (now : ℕ) (text : List ℕ) → Made A c now text B → Stepped A.state B.state
-made-steps A B c now text (serving.by_step reply t C steps says holds) = inr (c, now, reply, steps)
-made-steps A B c now text (serving.no_memory C keeps) = inl keeps.state
-made-steps A B c now text (serving.no_database C keeps) = inl keeps.state
+runs-then : (S T U : State) (before later : List (Command × ℕ)) (replies more : List Reply)
+    → Runs S before T replies → Runs T later U more → Runs S (before ++ later) U (replies ++ more)
+runs-then S T U before later replies more ended runs = runs
+runs-then S T U before later replies more (next step rest) runs = next step (runs-then _ T U _ later _ more rest runs)
 
-answered-steps : (A B : Standing) (input : List ℕ) (now : ℕ) (text : List ℕ) → Answered A input now text B → Stepped A.state B.state
-answered-steps A B input now text (serving.at_fault why asked) = inl refl
-answered-steps A B input now text (serving.by_command request c t C asked is made) = made-steps A B c now text made
-answered-steps A B input now text (serving.unread C wants keeps) = inl keeps.state
+rested : (S T : State) → T ≡ S → RunsTo S T
+rested S T same = ([], [], subst (λ (U : State). Runs S [] U []) (sym same) ended)
 
-ended-steps : (line : Line) (held : Option (List ℕ)) (A B : Standing) (r : Result (Unit {0}) ServeFault) → Ended line held A r B → Stepped A.state B.state
-ended-steps line held A B (Ok u) (input, is, text, answered, w) = answered-steps A B input line.now text answered
-ended-steps line held A B (Err Read) h = inl (ap (λ (X : Standing). X.state) h.1)
-ended-steps line held A B (Err Write) (sound, (input, is, text, answered, w)) = answered-steps A B input line.now text answered
+made-runs : (A B : Standing) (c : Command) (now : ℕ) (text : List ℕ) → Made A c now text B → Moves A B RunsTo
+made-runs A B c now text (serving.by_step reply t C moves says holds) = moved (λ S T steps. ((c, now) ∷ [], reply ∷ [], next steps ended)) moves
+made-runs A B c now text (serving.no_memory C keeps) = moved rested keeps.state
+made-runs A B c now text (serving.no_database C keeps) = moved rested keeps.state
 
-runs-then : (S T U : State) (c : Command) (now : ℕ) (reply : Reply) (before : List (Command × ℕ)) (replies : List Reply)
-    → Runs S before T replies → Steps T c now (U, reply) → Runs S (before ++ (c, now) ∷ []) U (replies ++ reply ∷ [])
-runs-then S T U c now reply before replies ended step = next step ended
-runs-then S T U c now reply before replies (next first rest) step = next first (runs-then _ T U c now reply _ _ rest step)
+answered-runs : (A B : Standing) (input : List ℕ) (now : ℕ) (text : List ℕ) → Answered A input now text B → Moves A B RunsTo
+answered-runs A B input now text (serving.at_fault why asked) = unmoved A RunsTo (λ S. rested S S refl)
+answered-runs A B input now text (serving.by_command request c t C asked is made) = made-runs A B c now text made
+answered-runs A B input now text (serving.unread C wants keeps) = moved rested keeps.state
 
-abbrev RunsOn : State → List (Command × ℕ) → List Reply → State → Type 0
-RunsOn first before replies U = (made : List (Command × ℕ)) × (later : List Reply) × Runs first (before ++ made) U (replies ++ later)
+still : (A B : Standing) → B ≡ A → Moves A B RunsTo
+still A B same = subst (λ (C : Standing). Moves A C RunsTo) (sym same) (unmoved A RunsTo (λ S. rested S S refl))
 
-runs-stepped : (first S T : State) (before : List (Command × ℕ)) (replies : List Reply) → Runs first before S replies → Stepped S T → RunsOn first before replies T
-runs-stepped first S T before replies runs (inl same) =
-    ([], [], rw (append-nil before, append-nil replies, same) runs)
-runs-stepped first S T before replies runs (inr (c, now, reply, step)) = ((c, now) ∷ [], reply ∷ [], runs-then first S T c now reply before replies runs step)
+ended-runs : (line : Line) (held : Option (List ℕ)) (A B : Standing) (r : Result (Unit {0}) ServeFault) → Ended line held A r B → Moves A B RunsTo
+ended-runs line held A B (Ok u) (input, is, text, answered, w) = answered-runs A B input line.now text answered
+ended-runs line held A B (Err Read) h = still A B h.1
+ended-runs line held A B (Err Write) (sound, (input, is, text, answered, w)) = answered-runs A B input line.now text answered
+
+served-runs : (lines : List Line) (helds : List (Option (List ℕ))) (A B : Standing) (count : ℕ) → Serves lines helds A B count → Moves A B RunsTo
+served-runs [] [] A B count h S at = still A B h.0 S at
+served-runs [] (x ∷ helds) A B count h S at = absurd h
+served-runs (line ∷ lines) [] A B count h S at = absurd h
+served-runs (line ∷ lines) (held ∷ helds) A B count (result, mid, others, was, rest, total) S at =
+    let (M, there, (made, replies, first)) = ended-runs line held A mid result was S at in
+    let (T, to, (later, more, second)) = served-runs lines helds mid B others rest M there in
+    (T, to, (made ++ later, replies ++ more, runs-then S M T made later replies more first second))
 
 pub runs-on : (lines : List Line) (helds : List (Option (List ℕ))) (A B : Standing) (count : ℕ) → Serves lines helds A B count
-    → (first : State) (before : List (Command × ℕ)) (replies : List Reply) → Runs first before A.state replies → RunsOn first before replies B.state
-runs-on [] [] A B count h first before replies runs = runs-stepped first A.state B.state before replies runs (inl (ap (λ (X : Standing). X.state) h.0))
-runs-on [] (x ∷ helds) A B count h first before replies runs = absurd h
-runs-on (line ∷ lines) [] A B count h first before replies runs = absurd h
-runs-on (line ∷ lines) (held ∷ helds) A B count (result, mid, others, was, rest, total) first before replies runs =
-    let (made, later, so_far) = runs-stepped first A.state mid.state before replies runs (ended-steps line held A mid result was) in
-    let (more, rest_later, whole) = runs-on lines helds mid B others rest first (before ++ made) (replies ++ later) so_far in (
-      made ++ more,
-      later ++ rest_later,
-      rw (sym (append_assoc before made more), sym (append_assoc replies later rest_later)) whole,
-    )
+    → Moves A B (λ S T. (first : State) (before : List (Command × ℕ)) (replies : List Reply) → Runs first before S replies
+    → (made : List (Command × ℕ)) × (later : List Reply) × Runs first (before ++ made) T (replies ++ later))
+runs-on lines helds A B count h =
+    moved (λ S T runs first before replies was. (runs.0, runs.1, runs-then first S T before runs.0 replies runs.1 was runs.2)) (served-runs lines helds A B count h)

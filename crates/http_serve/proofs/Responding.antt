@@ -1,31 +1,23 @@
 -- The answer to a request.
-use Rattle.std.proofs.Common.{◌≡◌, ◌+◌, ◌<◌, ℕ, List, [], ◌∷◌, ◌++◌, get_or, length, map, take, Bor, Option, Result, Ok, Err, Bool, true, refl, sym, ap, subst, ◌∙◌}
-use Rattle.std.specs.List.{AllByRecursion}
-use Rattle.std.proofs.lemmas.List.{map-append, take_more}
-use Rattle.std.specs.Io.KnownBytes.{Appends}
-use Rattle.sqlite.specs.State as database
-use Rattle.machine.specs.State.{State}
+use Rattle.std.proofs.Common.{◌≡◌, ℕ, List, [], ◌∷◌, map, Bor, Option, Result, Ok, Err, Bool, true, refl, sym, ap, subst}
 use Rattle.machine.specs.Runs.{Command, Batch}
 use Rattle.http_messages.specs.Framing.{Document}
 use Rattle.http_messages.specs.Head.{IsInput}
-use Rattle.http_messages.specs.Request.{Request, fault, batch, Asks, HasWanted}
+use Rattle.http_messages.specs.Request.{Request, fault, batch}
 use Rattle.http_messages.specs.Faults.{fault_response}
 use Rattle.http_messages.specs.Sound.{OnNoMemory, ReadsSoundly, StaysSound}
 use Rattle.http_messages.specs.declared.line.ReceiveFault.{ReceiveFault}
 use Rattle.http_messages.specs.declared.line.ReceiveFault.TheVariants.{Read, OutOfMemory}
 use Rattle.http_messages.specs.declared.request.Received.{Received}
-use Rattle.machine.specs.Views.{documents_view, offer_view}
-use Rattle.machine.specs.declared.outcome.Offer.{Offer}
 use Rattle.http_messages.specs.declared.faults.Fault.{Fault}
 use Rattle.http_messages.specs.declared.faults.Fault.TheVariants.{Memory}
 use Rattle.http_messages.specs.declared.line.Cut.{Cut}
 use Rattle.http_serve.specs.Response.{IsCommand, offers}
 use Rattle.machine.specs.Commands.{offer_of}
-use Rattle.http_serve.specs.Standing.{Standing, Keeps}
+use Rattle.store.specs.Standing.{Standing, Keeps}
 use Rattle.http_serve.specs.Serving.{Answered, at_fault, by_command, unread, Ended, Line, Wrote}
 use Rattle.http_serve.specs.steps.Views.{HasEnded, offers_of, Performed, Responded}
 use Rattle.http_serve.specs.declared.serve.ServeFault.{ServeFault}
-use Rattle.http_serve.specs.declared.serve.ServeFault.TheVariants.{Write}
 use Rattle.http_serve.proofs.Asked.{IsSomething, has-wanted}
 
 -- a fault is written

@@ -1,16 +1,11 @@
 -- Where a store stands after a command.
-use Rattle.std.proofs.Common.{◌≡◌, ◌⊎◌, inl, inr, ℕ, List, Option, None, Some, Result, Ok, Err, refl, sym, ap, subst, ◌∙◌}
-use Rattle.std.specs.Prelude.{IsTrue, OnOk, OnErr}
+use Rattle.std.proofs.Common.{◌≡◌, inl, inr, ℕ, List, Option, None, Some, Result, Ok, Err, refl, sym, ap, subst}
+use Rattle.std.specs.Prelude.{OnOk, OnErr}
 use Rattle.std.specs.Io.KnownBytes.{Appends}
-use Rattle.sqlite.specs.State as database
-use Rattle.sqlite.specs.State.{HasCleanDisk}
-use Rattle.tables.specs.Tables.{IsStore}
 use Rattle.machine.specs.State.{State}
-use Rattle.machine.specs.Commands.{grants, batch, put_blob}
-use Rattle.machine.specs.Runs.{Command, Batch, PutBlob, Metadata, Target, Init, OfferOne, Reply, Begun, Offered, Refused, Steps, leads, Leads, settled, batch_outcome, Outcome, metadata_reply}
+use Rattle.machine.specs.Runs.{Command, Batch, PutBlob, Metadata, Target, Init, OfferOne, Reply, Steps, leads, Leads, settled, batch_outcome, Outcome, metadata_reply}
 use Rattle.denials.specs.Orders as orders
-use Rattle.store.specs.StateRows.{rows_of}
-use Rattle.store.specs.Applies.{Applies}
+use Rattle.store.specs.Applies.{Makes}
 use Rattle.tables.specs.declared.faults.StoreFault.{StoreFault}
 use Rattle.tables.specs.declared.faults.StoreFault.TheVariants.{OutOfMemory, Database, Damaged}
 use Rattle.store.specs.Views.{reply_view}
@@ -18,40 +13,20 @@ use Rattle.store.specs.declared.command.Reply.{Reply as Answer}
 use Rattle.http_messages.specs.Faults.{fault_response}
 use Rattle.http_messages.specs.Taken.{TookSome}
 use Rattle.http_messages.specs.declared.faults.Fault.{Fault as Said}
-use Rattle.http_messages.specs.declared.faults.Fault.TheVariants.{Memory}
 use Rattle.http_messages.specs.declared.line.Cut.{Cut}
-use Rattle.http_serve.specs.Standing.{seen, Standing, HoldsRows, Keeps, Holds}
+use Rattle.store.specs.Standing.{Keeps, Standing, StandsAt}
 use Rattle.http_serve.specs.Response.{kind_of}
 use Rattle.http_serve.specs.Serving.{Made, by_step, no_memory, no_database, Wrote}
 use Rattle.http_serve.specs.steps.Views.{IsDenial, IsServed, IsSaid, IsUnmade, Told, Performed}
-
-abbrev Rows : State → database.State → Type 0
-Rows S db = HasCleanDisk db → IsTrue db.is_open → IsStore db (rows_of S)
-
-holding : (S : State) (db : database.State) → IsStore db (rows_of S) → HoldsRows (seen S db)
-holding S db is = record { schema = is.schema; settled = is.settled; holds = is.holds }
 
 -- a text was written by two clauses of a call
 pub wrote : (old new : Option (List ℕ)) (text : List ℕ) (r : Result (Unit {0}) Cut) → OnOk r (Appends old new text) → OnErr r (TookSome old new text) → Wrote old new text r
 wrote old new text (Ok u) ok err = ok
 wrote old new text (Err e) ok err = err
 
--- a call that answered
-pub held : (S T : State) (old new : database.State) (c : Command) (now : ℕ) (reply : Answer) → Applies S T old new c now (Ok reply)
-    → (HasCleanDisk new → IsTrue old.is_open) → Rows T new → Holds (seen S old) (seen T new)
-held S T old new c now reply applies there rows = record {
-  clean = applies.clean;
-  is_open = λ clean. (there clean, applies.live clean (there clean));
-  rows = λ clean. holding T new (rows clean (applies.live clean (there clean)));
-}
-
--- a call that met a fault
-pub kept : (S T : State) (old new : database.State) (c : Command) (now : ℕ) (fault : StoreFault) → Applies S T old new c now (Err fault) → Rows T new → Keeps (seen S old) (seen T new)
-kept S T old new c now fault applies rows = record { state = applies.kept; clean = applies.clean; rows = λ clean there. holding T new (rows clean there) }
-
 -- no call at all
-pub rests : (S : State) (db : database.State) → Rows S db → Keeps (seen S db) (seen S db)
-rests S db rows = record { state = refl; clean = λ clean. clean; rows = λ clean there. holding S db (rows clean there) }
+pub rests : (A : Standing) → Keeps A A
+rests A = record { state = λ S at. (S, at, refl); clean = λ clean. clean }
 
 -- ---- what steps leave and reply
 
@@ -100,29 +75,33 @@ keeps S T (PutBlob digest b) now reply served denial h = let (j, m, e) = invert 
 keeps S T (Metadata name) now reply served denial h = ap (λ (o : Outcome). o.0) h
 keeps S T (Target path asked) now reply served denial h = let (j, m, e) = invert h in settled-keeps S _ _ j T reply (λ a d. d) denial e
 
+-- the reply to a command can be said
+pub replied : (A B : Standing) (c : Command) (now : ℕ) (reply : Answer) (S : State) → StandsAt A S → IsServed c → Makes A B c now (Ok reply) → IsSaid (reply_view reply)
+replied A B c now reply S at served makes = let (T, to, steps) = makes.0 S at in said S T c now (reply_view reply) served steps
+
 -- ---- a command and its answer
 
 -- a reply was written
-pub told : (S T : State) (old new : database.State) (c : Command) (now : ℕ) (reply : Answer) (from to : Option (List ℕ)) (r : Result (Unit {0}) Cut)
-    → IsServed c → Applies S T old new c now (Ok reply) → (HasCleanDisk new → IsTrue old.is_open) → Rows T new
-    → Told (kind_of c) (reply_view reply) from to r → Performed (seen S old) c now (seen T new) from to r
-told S T old new c now reply from to r served applies there rows (text, inl says, wrote) =
-    (text, by_step (reply_view reply) text (seen T new) applies.step says (held S T old new c now reply applies there rows), wrote)
-told S T old new c now reply from to r served applies there rows (text, inr (denial, e), wrote) = (
+pub told : (A B : Standing) (c : Command) (now : ℕ) (reply : Answer) (from to : Option (List ℕ)) (r : Result (Unit {0}) Cut)
+    → IsServed c → Makes A B c now (Ok reply) → Told (kind_of c) (reply_view reply) from to r → Performed A c now B from to r
+told A B c now reply from to r served (moves, holds) (text, inl says, wrote) = (text, by_step (reply_view reply) text B moves says holds, wrote)
+told A B c now reply from to r served (moves, holds) (text, inr (denial, e), wrote) = (
   text,
-  subst (λ t. Made (seen S old) c now t (seen T new)) (sym e) (no_memory (seen T new) (record {
-    state = keeps S T c now (reply_view reply) served denial applies.step;
-    clean = applies.clean;
-    rows = λ clean there. holding T new (rows clean there);
+  subst (λ t. Made A c now t B) (sym e) (no_memory B (record {
+    state = λ S at. let (T, there, steps) = moves S at in (T, there, keeps S T c now (reply_view reply) served denial steps);
+    clean = holds.clean;
   })),
   wrote,
 )
 
 -- that the command was not made was written
-pub untold : (S T : State) (old new : database.State) (c : Command) (now : ℕ) (fault : StoreFault) (word : Said) (from to : Option (List ℕ)) (r : Result (Unit {0}) Cut)
-    → IsUnmade fault word → Applies S T old new c now (Err fault) → Rows T new → Wrote from to (fault_response word) r → Performed (seen S old) c now (seen T new) from to r
-untold S T old new c now OutOfMemory word from to r is applies rows wrote =
-    (fault_response word, subst (λ w. Made (seen S old) c now (fault_response w) (seen T new)) (sym is) (no_memory (seen T new) (kept S T old new c now OutOfMemory applies rows)), wrote)
-untold S T old new c now Database word from to r is applies rows wrote =
-    (fault_response word, subst (λ w. Made (seen S old) c now (fault_response w) (seen T new)) (sym is) (no_database (seen T new) (kept S T old new c now Database applies rows)), wrote)
-untold S T old new c now Damaged word from to r is applies rows wrote = absurd is
+pub untold : (A B : Standing) (c : Command) (now : ℕ) (fault : StoreFault) (word : Said) (from to : Option (List ℕ)) (r : Result (Unit {0}) Cut)
+    → IsUnmade fault word → Makes A B c now (Err fault) → Wrote from to (fault_response word) r → Performed A c now B from to r
+untold A B c now OutOfMemory word from to r is kept wrote =
+    (fault_response word, subst (λ w. Made A c now (fault_response w) B) (sym is) (no_memory B kept), wrote)
+untold A B c now Database word from to r is kept wrote =
+    (fault_response word, subst (λ w. Made A c now (fault_response w) B) (sym is) (no_database B kept), wrote)
+untold A B c now Damaged word from to r is kept wrote = absurd kept
+
+pub undamaged : (A B : Standing) (c : Command) (now : ℕ) (fault : StoreFault) → Makes A B c now (Err fault) → fault ≡ Damaged → ⊥
+undamaged A B c now fault makes is = subst (λ (f : StoreFault). Makes A B c now (Err f)) is makes

@@ -1,5 +1,5 @@
 -- The bytes that say a reply.
-use Rattle.std.proofs.Common.{◌≡◌, ◌⊎◌, inl, inr, ℕ, List, Option, None, Result, refl, sym, ap, subst, ◌∙◌}
+use Rattle.std.proofs.Common.{◌≡◌, inl, inr, ℕ, List, Option, None, Result, sym, ap, subst, ◌∙◌}
 use Rattle.denials.specs.Orders as orders
 use Rattle.machine.specs.Runs.{Reply, BatchDone, Stored, FileBytes, Refused}
 use Rattle.http_messages.specs.Bodies.{denial_text}
@@ -9,7 +9,7 @@ use Rattle.http_messages.specs.declared.reply.Kind.{Kind}
 use Rattle.http_messages.specs.declared.reply.Kind.TheVariants.{Json}
 use Rattle.http_messages.specs.declared.reply.Status.{Status}
 use Rattle.http_messages.specs.declared.reply.Status.TheVariants.{Ok as Fine}
-use Rattle.http_serve.specs.Response.{Says, denial_status, done, stored, file, absent, denied, denial_response}
+use Rattle.http_serve.specs.Response.{Says, denial_status, done, stored, file, absent, denied}
 use Rattle.http_serve.specs.steps.Views.{IsDenial, Told}
 
 any-kind : (k m : Kind) (reply : Reply) (text : List ℕ) → IsDenial reply → Says k reply text → Says m reply text

@@ -1,4 +1,3 @@
 pub mod Response
 pub mod Serving
-pub mod Standing
 pub mod steps

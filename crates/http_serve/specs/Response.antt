@@ -1,5 +1,5 @@
 -- The response of a release repository: from a state, a request and a moment to the bytes that are written and the state that is left.
-use Rattle.std.specs.Prelude.{◌≡◌, ℕ, List, Option, Some, None, map, cond}
+use Rattle.std.specs.Prelude.{ℕ, List, Option, None, map, cond}
 use Rattle.denials.specs.Orders as orders
 use Rattle.path_patterns.specs.Names.{Asks as AsksPath}
 use Rattle.machine.specs.State.{State}

@@ -8,7 +8,7 @@ ghost use Rattle.http_messages.specs.Framing.{Document};
 ghost use Rattle.http_messages.specs.Received.{request_of};
 ghost use Rattle.http_messages.specs.Request.{batch, target};
 ghost use Rattle.http_messages.specs.Sound.{StaysSound};
-ghost use Rattle.http_serve.specs.Standing.{seen};
+ghost use Rattle.store.specs.Standing.{seen};
 ghost use Rattle.http_serve.specs.steps.Views.{IsUnmade, IsServed, Performed, Responded};
 
 use crate::offers::offers_of;
@@ -18,7 +18,7 @@ use metadata::Moment;
 use path_patterns::{RoleName, read_asked};
 use sqlite::Alter;
 use std::alloc::Global;
-use store::{Command, Store, StoreFault};
+use store::{Command, Store, StoreFault, stands};
 
 // Answers what a request asks.
 pub fn respond<W: Transmit, S: Alter>(
@@ -29,8 +29,8 @@ pub fn respond<W: Transmit, S: Alter>(
     now: Moment,
 ) -> Result<(), Cut>
     ensures sound { StaysSound (W.sound writer.old) result (W.sound writer.new) }
-    ensures responded { Responded (seen store.old.state (state S.Store store.old.conn)) (request_of asked.entry) now
-        (seen store.new.state (state S.Store store.new.conn)) (W.contents writer.old) (W.contents writer.new) result }
+    ensures responded { Responded (seen store.old.kept (state S.Store store.old.conn)) (request_of asked.entry) now
+        (seen store.new.kept (state S.Store store.new.conn)) (W.contents writer.old) (W.contents writer.new) result }
 {
     match asked {
         Asked::Fault(fault) => write_fault(writer, fault),
@@ -52,15 +52,12 @@ fn respond_batch<W: Transmit, S: Alter>(
     now: Moment,
 ) -> Result<(), Cut>
     ensures sound { StaysSound (W.sound writer.old) result (W.sound writer.new) }
-    ensures responded { Responded (seen store.old.state (state S.Store store.old.conn)) (batch (map {B = Document} (λ d. (d.0, d.1.now)) documents.entry.items)) now
-        (seen store.new.state (state S.Store store.new.conn)) (W.contents writer.old) (W.contents writer.new) result }
+    ensures responded { Responded (seen store.old.kept (state S.Store store.old.conn)) (batch (map {B = Document} (λ d. (d.0, d.1.now)) documents.entry.items)) now
+        (seen store.new.kept (state S.Store store.new.conn)) (W.contents writer.old) (W.contents writer.new) result }
 {
     match offers_of(alloc, documents) {
         Ok(offers) => perform(alloc, writer, store, Command::Batch(&offers), now),
-        Err(_) => {
-            store.holds_rows();
-            write_fault(writer, Fault::Memory)
-        }
+        Err(_) => write_fault(writer, Fault::Memory),
     }
 }
 
@@ -73,18 +70,15 @@ fn respond_target<W: Transmit, S: Alter>(
     now: Moment,
 ) -> Result<(), Cut>
     ensures sound { StaysSound (W.sound writer.old) result (W.sound writer.new) }
-    ensures responded { Responded (seen store.old.state (state S.Store store.old.conn)) (target text.now) now
-        (seen store.new.state (state S.Store store.new.conn)) (W.contents writer.old) (W.contents writer.new) result }
+    ensures responded { Responded (seen store.old.kept (state S.Store store.old.conn)) (target text.now) now
+        (seen store.new.kept (state S.Store store.new.conn)) (W.contents writer.old) (W.contents writer.new) result }
 {
     match read_asked(alloc, text) {
         Ok((path, asked)) => {
             let command = Command::Target(path.as_str(), asked);
             perform(alloc, writer, store, command, now)
         }
-        Err(_) => {
-            store.holds_rows();
-            write_fault(writer, Fault::Memory)
-        }
+        Err(_) => write_fault(writer, Fault::Memory),
     }
 }
 
@@ -98,12 +92,12 @@ fn perform<W: Transmit, S: Alter>(
 ) -> Result<(), Cut>
     requires { IsServed (command_view command) }
     ensures sound { StaysSound (W.sound writer.old) result (W.sound writer.new) }
-    ensures performed { Performed (seen store.old.state (state S.Store store.old.conn)) (command_view command.entry) now
-        (seen store.new.state (state S.Store store.new.conn)) (W.contents writer.old) (W.contents writer.new) result }
+    ensures performed { Performed (seen store.old.kept (state S.Store store.old.conn)) (command_view command.entry) now
+        (seen store.new.kept (state S.Store store.new.conn)) (W.contents writer.old) (W.contents writer.new) result }
 {
+    stands(store);
     let kind = kind_of(&command);
     let result = store.apply(command, now);
-    store.holds_rows();
     match result {
         Ok(reply) => write_reply(alloc, writer, kind, &reply),
         Err(fault) => write_fault(writer, unmade(fault)),

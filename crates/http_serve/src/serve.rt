@@ -3,7 +3,7 @@
 ghost use Rattle.std.specs.Prelude.{◌≡◌, map};
 ghost use Rattle.sqlite.specs.Held.{state};
 ghost use Rattle.http_serve.specs.Serving.{Ended, Serves};
-ghost use Rattle.http_serve.specs.Standing.{seen};
+ghost use Rattle.store.specs.Standing.{seen};
 ghost use Rattle.http_serve.specs.steps.Views.{HasEnded};
 
 use crate::respond::respond;
@@ -42,10 +42,9 @@ pub fn serve_one<R: Receive, W: Transmit, S: Alter>(
     now: Moment,
 ) -> Result<(), ServeFault>
     ensures { Ended (record { given = R.remaining reader.old; held = W.contents writer.old; now = now; reads = R.sound reader.old; writes = W.sound writer.old })
-        (W.contents writer.new) (seen store.old.state (state S.Store store.old.conn)) result
-        (seen store.new.state (state S.Store store.new.conn)) }
+        (W.contents writer.new) (seen store.old.kept (state S.Store store.old.conn)) result
+        (seen store.new.kept (state S.Store store.new.conn)) }
 {
-    store.holds_rows();
     let received = match read_request(alloc, routes, reader) {
         Ok(received) => received,
         Err(ReceiveFault::Read) => return Err(ServeFault::Read),
@@ -77,8 +76,8 @@ pub fn serve_list<R: Receive, W: Transmit, S: Alter>(
     store: &mut Store<S>,
 ) -> usize
     ensures { Serves (map (λ c. record { given = R.remaining c.0; held = W.contents c.1; now = c.2; reads = R.sound c.0; writes = W.sound c.1 }) connections.old)
-        (map (λ c. W.contents c.1) connections.new) (seen store.old.state (state S.Store store.old.conn))
-        (seen store.new.state (state S.Store store.new.conn)) result }
+        (map (λ c. W.contents c.1) connections.new) (seen store.old.kept (state S.Store store.old.conn))
+        (seen store.new.kept (state S.Store store.new.conn)) result }
 {
     let mut count = 0;
     for (reader, writer, now) in connections.iter_mut() {

@@ -23,7 +23,7 @@ use Rattle.machine.specs.declared.refusal.Refusal.TheVariants as refusals
 use Rattle.machine.specs.declared.refusal.BatchRefusal.{BatchRefusal}
 use Rattle.machine.specs.declared.refusal.BatchRefusal.TheVariants as batches
 use Rattle.tables.specs.Tables.{HoldsTables}
-use Rattle.store.specs.Applies.{Applies}
+use Rattle.store.specs.steps.Doing.{Does}
 use Rattle.store.specs.steps.Replies.{IsBatchRefusal, IsCopied, copied, wanting, IsRefusal}
 use Rattle.store.specs.StateRows.{rows_of}
 use Rattle.store.specs.Views.{reply_view}
@@ -45,7 +45,7 @@ Left S old = HasCleanDisk old → IsTrue old.is_open → (trees : Trees) → old
 
 -- nothing was written
 pub still : (S : State) (old : database.State) (c : Command) (now : ℕ) (r : Result Answer StoreFault) → Left S old
-    → IfOk r (λ reply. Steps S c now (S, reply_view reply)) → (r ≡ Err Damaged → ⊥) → Applies S S old old c now r
+    → IfOk r (λ reply. Steps S c now (S, reply_view reply)) → (r ≡ Err Damaged → ⊥) → Does S S old old c now r
 still S old c now r left step sound = record {
   step = step;
   kept = on_err (S ≡ S) r refl;
@@ -61,7 +61,7 @@ Crash S U old new = HasCleanDisk new → IsTrue old.is_open → (trees : Trees) 
 -- the step was made, and written
 pub made : (S T : State) (old new : database.State) (c : Command) (now : ℕ) (e : Effects) (reply : Answer) → T ≡ applied S (effects_view e)
     → Steps S c now (applied S (effects_view e), reply_view reply) → (HasCleanDisk new → HasCleanDisk old) → (HasCleanDisk new → IsTrue old.is_open → IsTrue new.is_open)
-    → Crash S (applied S (effects_view e)) old new → Applies S T old new c now (Ok reply)
+    → Crash S (applied S (effects_view e)) old new → Does S T old new c now (Ok reply)
 made S T old new c now e reply is step tidy live crash = record {
   step = subst (λ (U : State). Steps S c now (U, reply_view reply)) (sym is) step;
   kept = tt;
@@ -74,7 +74,7 @@ made S T old new c now e reply is step tidy live crash = record {
 -- a fault came in between
 pub unmade : (S T : State) (old new : database.State) (c : Command) (now : ℕ) (e : Effects) (reply : Reply) (fault : StoreFault) → T ≡ S
     → Steps S c now (applied S (effects_view e), reply) → (fault ≡ Damaged → ⊥) → (HasCleanDisk new → HasCleanDisk old)
-    → Crash S (applied S (effects_view e)) old new → Applies S T old new c now (Err fault)
+    → Crash S (applied S (effects_view e)) old new → Does S T old new c now (Err fault)
 unmade S T old new c now e reply fault is step sound tidy crash = record {
   step = tt;
   kept = is;
@@ -86,7 +86,7 @@ unmade S T old new c now e reply fault is step sound tidy crash = record {
 
 -- the database was asked in vain
 pub failed : (S T : State) (old new : database.State) (c : Command) (now : ℕ) (fault : StoreFault) → T ≡ S → Left S old → Survives old new (λ _. ⊥)
-    → (◌≡◌ {A = Result (Unit {0}) StoreFault} (Err fault) (Err Damaged) → ⊥) → Applies S T old new c now (Err fault)
+    → (◌≡◌ {A = Result (Unit {0}) StoreFault} (Err fault) (Err Damaged) → ⊥) → Does S T old new c now (Err fault)
 failed S T old new c now fault is left survives sound = record {
   step = tt;
   kept = is;
@@ -98,8 +98,8 @@ failed S T old new c now fault is left survives sound = record {
 
 -- the database answered, and then the command was made
 pub relayed : (S R T : State) (old mid new : database.State) (c : Command) (now : ℕ) (r : Result Answer StoreFault) → R ≡ S → Survives old mid (λ _. ⊥)
-    → (HasCleanDisk mid → IsTrue old.is_open × IsTrue mid.is_open) → Applies R T mid new c now r → Applies S T old new c now r
-relayed S R T old mid new c now r is survives there made = subst (λ (U : State). Applies U T old new c now r) is (record {
+    → (HasCleanDisk mid → IsTrue old.is_open × IsTrue mid.is_open) → Does R T mid new c now r → Does S T old new c now r
+relayed S R T old mid new c now r is survives there made = subst (λ (U : State). Does U T old new c now r) is (record {
   step = made.step;
   kept = made.kept;
   sound = made.sound;
@@ -108,7 +108,7 @@ relayed S R T old mid new c now r is survives there made = subst (λ (U : State)
   crash = λ clean was trees may. made.crash clean (there (made.clean clean)).1 trees may;
 })
 
-pub was_there : (S T : State) (mid new : database.State) (c : Command) (now : ℕ) (r : Result Answer StoreFault) (P Q : Type 0) → Applies S T mid new c now r
+pub was_there : (S T : State) (mid new : database.State) (c : Command) (now : ℕ) (r : Result Answer StoreFault) (P Q : Type 0) → Does S T mid new c now r
     → (HasCleanDisk mid → P × Q) → HasCleanDisk new → OnOk r P
 was_there S T mid new c now r P Q made there clean = on_ok P r (there (made.clean clean)).0
 

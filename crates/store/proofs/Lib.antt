@@ -3,4 +3,4 @@ pub mod SameRows
 pub mod Holding
 pub mod Applying
 pub mod Fitting
-pub mod Replied
+pub mod Standings

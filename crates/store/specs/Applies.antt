@@ -1,23 +1,17 @@
 -- What a call to a store does.
-use Rattle.std.specs.Prelude.{◌≡◌, ◌⊎◌, ℕ, None, Some, Result, Ok, Err, IfOk, IsTrue, OnErr, OnOk}
+use Rattle.std.specs.Prelude.{◌⊎◌, ℕ, Result, Ok, Err, IsTrue}
 use Rattle.sqlite.specs.State as database
 use Rattle.sqlite.specs.State.{HasCleanDisk}
 use Rattle.sqlite_trees.specs.Tree.{Trees}
 use Rattle.machine.specs.State.{State}
 use Rattle.machine.specs.Runs.{Command, Reply, Steps}
 use Rattle.tables.specs.Tables.{HoldsTables}
-use Rattle.store.specs.StateRows.{rows_of}
+use Rattle.store.specs.Standing.{Holds, Keeps, Moves, Standing, StandsAt, seen}
+use Rattle.store.specs.StateRows.{Kept, rows_of}
 use Rattle.store.specs.Views.{reply_view}
 use Rattle.tables.specs.declared.faults.StoreFault.{StoreFault}
-use Rattle.tables.specs.declared.faults.StoreFault.TheVariants.{Damaged, OutOfMemory}
+use Rattle.tables.specs.declared.faults.StoreFault.TheVariants.{Damaged, Database, OutOfMemory}
 use Rattle.store.specs.declared.command.Reply.{Reply as Answer}
-use Rattle.store.specs.declared.command.Reply.TheVariants as answers
-use Rattle.metadata.specs.File.{Bytes}
-use Rattle.std.proofs.Common.{Vec, Global}
-use Rattle.machine.specs.declared.refusal.BatchRefusal.{BatchRefusal}
-use Rattle.machine.specs.declared.refusal.BatchRefusal.TheVariants as batches
-use Rattle.machine.specs.declared.refusal.Refusal.{Refusal}
-use Rattle.machine.specs.declared.refusal.Refusal.TheVariants as refusals
 
 -- the tables hold the rows of the state that the command leaves
 abbrev pub HoldsStep : State → Command → ℕ → Trees → Type 0
@@ -27,12 +21,19 @@ HoldsStep S command now trees = (U : State) × (reply : Reply) × Steps S comman
 abbrev pub HoldsReply : State → Command → ℕ → Reply → Trees → Type 0
 HoldsReply S command now reply trees = (U : State) × Steps S command now (U, reply) × HoldsTables trees (rows_of U)
 
--- The command is the machine's step, or a fault that leaves the state as it was. A crash leaves the rows from before the
--- command or those from after it.
-pub record Applies (S T : State) (old new : database.State) (command : Command) (now : ℕ) (r : Result Answer StoreFault) : Type 0 where
-  pub step : IfOk r (λ reply. Steps S command now (T, reply_view reply))
-  pub kept : OnErr r (T ≡ S)
-  pub sound : r ≡ Err Damaged → ⊥
-  pub clean : HasCleanDisk new → HasCleanDisk old
-  pub live : HasCleanDisk new → IsTrue old.is_open → OnOk r (IsTrue new.is_open)
-  pub crash : HasCleanDisk new → IsTrue old.is_open → (trees : Trees) → new.may_leave trees → HoldsTables trees (rows_of S) ⊎ HoldsStep S command now trees
+-- What a command makes of the state: the machine's step, whose reply is answered; and no change where memory was refused or a call of the
+-- database answered a fault. No command finds damaged rows.
+abbrev pub Makes : Standing → Standing → Command → ℕ → Result Answer StoreFault → Type 0
+Makes A B command now (Ok reply) = Moves A B (λ S T. Steps S command now (T, reply_view reply)) × Holds A B
+Makes A B command now (Err OutOfMemory) = Keeps A B
+Makes A B command now (Err Database) = Keeps A B
+Makes A B command now (Err Damaged) = ⊥
+
+-- A command is made. A crash inside the call leaves the rows from before it or those from after it, and a crash after the call those of
+-- the state at which the store then stands.
+pub record Applies (kept left : Kept) (old new : database.State) (command : Command) (now : ℕ) (r : Result Answer StoreFault) : Type 0 where
+  pub makes : Makes (seen kept old) (seen left new) command now r
+  pub crash : HasCleanDisk new → IsTrue old.is_open → (S : State) → StandsAt (seen kept old) S
+      → (trees : Trees) → new.may_leave trees → HoldsTables trees (rows_of S) ⊎ HoldsStep S command now trees
+  pub durable : HasCleanDisk new → IsTrue new.is_open → (T : State) → StandsAt (seen left new) T
+      → (trees : Trees) → new.may_leave trees → HoldsTables trees (rows_of T)

@@ -1,5 +1,6 @@
 pub mod Applies
 pub mod Next
+pub mod Standing
 pub mod StateRows
 pub mod Views
 pub mod steps

@@ -1,31 +1,31 @@
--- What a store is to its callers: its connection, and a state whose rows the tables hold.
-use Rattle.std.specs.Prelude.{◌≡◌, ℕ, ◌-◌, Bool, List, [], ◌∷◌, ◌++◌, cond, length, Option, Some, None, option_map, unwrap_or, refl, IsTrue}
+-- What a store is to its callers, and the rows of a state.
+use Rattle.std.specs.Prelude.{◌≡◌, [], refl, IsTrue}
 use Rattle.std.specs.Coded.{Coded, code_by, coded×}
 use Rattle.sqlite.specs.Held.{Held as Connection, held_code}
-use Rattle.metadata.specs.File.{Bytes, File}
-use Rattle.metadata.specs.Documents.{Root}
 use Rattle.machine.specs.State.{State, IsState}
 use Rattle.machine.specs.Room.{WithRoom}
-use Rattle.machine.specs.Contents.{contents_of, numbered, shelf_rows}
+use Rattle.machine.specs.Contents.{contents_of}
 use Rattle.contents.specs.Contents.{Contents, no_rows}
-use Rattle.delegations.specs.Rows.{Place}
-use Rattle.machine.specs.Effects.{Effects, last_or}
 use Rattle.sqlite.specs.Effect.{Database, IsDatabase}
 use Rattle.sqlite_trees.specs.Tree.{Trees}
 use Rattle.tables.specs.Schema.{IsBeginning}
-use Rattle.tables.specs.Tables.{HoldsTables, Stands, emptied}
+use Rattle.tables.specs.Tables.{HoldsTables, Stands}
 use Rattle.tables.specs.Opening.{StandsEmpty}
 use Rattle.sqlite.specs.State as database
 
--- what a caller sees of a store: its connection, and its state
+-- what a store keeps in memory
+abbrev pub Kept : Type 0
+Kept = State
+
+-- what a caller sees of a store: its connection, and what it keeps
 pub record Shown (S : Type 0) : Type 0 where
   pub conn : Connection S
-  pub state : State
+  pub kept : Kept
 
 abbrev pub shown_code : {S : Type 0} → Coded S → Coded WithRoom → Coded (Shown S)
 shown_code {S} store kept =
-    code_by (Connection S × WithRoom) (coded× (held_code store) kept) (λ s. (s.conn, record { state = s.state; room = 0; verdicts = [] }))
-    (λ p. record { conn = p.0; state = p.1.state }) (λ _. refl)
+    code_by (Connection S × WithRoom) (coded× (held_code store) kept) (λ s. (s.conn, record { state = s.kept; room = 0; verdicts = [] }))
+    (λ p. record { conn = p.0; kept = p.1.state }) (λ _. refl)
 
 -- the rows of a state
 abbrev pub rows_of : State → Contents

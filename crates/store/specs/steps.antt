@@ -1,3 +1,4 @@
 -- Definitions that contracts of private functions cite.
 pub mod Changed
+pub mod Doing
 pub mod Replies

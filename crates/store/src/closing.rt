@@ -6,8 +6,10 @@ ghost use Rattle.sqlite_trees.specs.Tree.{Trees};
 ghost use Rattle.sqlite_wal.specs.Files.{outcomes};
 ghost use Rattle.sqlite_wal.specs.Reads.{AreClean};
 ghost use Rattle.sqlite_wal.specs.Recovery.{Image};
+ghost use Rattle.machine.specs.State.{State};
 ghost use Rattle.tables.specs.Tables.{HoldsTables};
 ghost use Rattle.store.specs.Applies.{HoldsReply, HoldsStep};
+ghost use Rattle.store.specs.Standing.{StandsAt, seen};
 ghost use Rattle.store.specs.StateRows.{rows_of};
 ghost use Rattle.store.specs.Next.{IsFound};
 ghost use Rattle.store.specs.Views.{command_view, reply_view};
@@ -40,11 +42,13 @@ pub fn apply_and_close<D: Disk + Drop>(
     now: Moment,
 ) -> (Result<Reply, StoreFault>, Files<D>)
     ensures before_or_after { AreClean D.Disk result.1.log result.1.db → IsTrue (file_state store.conn).is_open
+        → (U : State) → StandsAt (seen store.kept (file_state store.conn)) U
         → (left : Image) → outcomes D.Disk result.1.log result.1.db left → (found : Trees) → IsFound left found
-        → ∥ HoldsTables found (rows_of store.state) ⊎ HoldsStep store.state (command_view command.entry) now found ∥₁ }
+        → ∥ HoldsTables found (rows_of U) ⊎ HoldsStep U (command_view command.entry) now found ∥₁ }
     ensures after { AreClean D.Disk result.1.log result.1.db
+        → (U : State) → StandsAt (seen store.kept (file_state store.conn)) U
         → (left : Image) → outcomes D.Disk result.1.log result.1.db left → (found : Trees) → IsFound left found
-        → IfOk result.0 (λ reply. ∥ HoldsReply store.state (command_view command.entry) now (reply_view reply) found ∥₁) }
+        → IfOk result.0 (λ reply. ∥ HoldsReply U (command_view command.entry) now (reply_view reply) found ∥₁) }
 {
     let result = store.apply(command, now);
     let conn = store.into_connection();

@@ -4,11 +4,13 @@
 mod changes;
 mod closing;
 mod command;
+mod laws;
 mod opening;
 mod store;
 
 pub use closing::apply_and_close;
 pub use command::{Command, Reply};
+pub use laws::{holds_rows, stands};
 pub use machine::{Denial, Digest, Moment, Offer, RoleName, State, TargetPath, get, metadata_file};
 pub use opening::Unopened;
 pub use store::Store;

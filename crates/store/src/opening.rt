@@ -6,7 +6,8 @@ ghost use Rattle.tables.specs.Opening.{IsSettled, StandsEmpty};
 ghost use Rattle.tables.specs.Schema.{IsBeginning, beginning};
 ghost use Rattle.tables.specs.Tables.{HoldsTables, IsStore, Stands};
 ghost use Rattle.contents.specs.Contents.{no_rows};
-ghost use Rattle.store.specs.StateRows.{Begins, HoldsNoState, TreesStand, rows_of};
+ghost use Rattle.store.specs.Standing.{Opens, seen};
+ghost use Rattle.store.specs.StateRows.{Begins, HoldsNoState, rows_of};
 ghost use Rattle.machine.specs.State as trust;
 ghost use Rattle.machine.specs.State.{IsState};
 
@@ -35,9 +36,9 @@ impl<S: Alter + Drop> Store<S> {
     ///   own laws they are.
     /// - `OutOfMemory`: memory was refused.
     pub fn open(alloc: Global, conn: Connection<S>) -> Result<Store<S>, StoreFault>
-        ensures opened { IfOk result (λ s. HasCleanDisk (state S.Store s.conn) → TreesStand (state S.Store conn).committed.trees (rows_of s.state)) }
-        ensures rows { IfOk result (λ s. HasCleanDisk (state S.Store s.conn) → IsStore (state S.Store s.conn) (rows_of s.state)) }
+        ensures opened { IfOk result (λ s. Opens (state S.Store conn) (seen s.kept (state S.Store s.conn))) }
         ensures damaged { ((c : _) → HasCleanDisk (state S.Store c)) → result ≡ Err StoreFault.Damaged → HoldsNoState (state S.Store conn).committed.trees }
+        ensures crash { conn.in_transaction ≡ false → IfOk result (λ s. Survives (state S.Store conn) (state S.Store s.conn) (λ trees. Begins (state S.Store conn) trees)) }
     {
         match Store::open_over(alloc, conn) {
             Ok(store) => Ok(store),
@@ -50,8 +51,7 @@ impl<S: Alter + Drop> Store<S> {
     /// give a wrong answer, such as one in memory. Whether it opens or not, a crash leaves what it left before, or the empty state
     /// where the tables stood empty.
     pub fn open_over(alloc: Global, conn: Connection<S>) -> Result<Store<S>, Unopened<S>>
-        ensures opened { IfOk result (λ s. HasCleanDisk (state S.Store s.conn) → TreesStand (state S.Store conn).committed.trees (rows_of s.state)) }
-        ensures rows { IfOk result (λ s. HasCleanDisk (state S.Store s.conn) → IsStore (state S.Store s.conn) (rows_of s.state)) }
+        ensures opened { IfOk result (λ s. Opens (state S.Store conn) (seen s.kept (state S.Store s.conn))) }
         ensures damaged { IfErr result (λ u. u.fault ≡ StoreFault.Damaged → IsSomeAnd u.conn (λ c. HasCleanDisk (state S.Store c) → HoldsNoState (state S.Store conn).committed.trees)) }
         ensures crash { conn.in_transaction ≡ false → MatchResult result (λ s. Survives (state S.Store conn) (state S.Store s.conn) (λ trees. Begins (state S.Store conn) trees))
             (λ u. IsSomeAnd u.conn (λ c. Survives (state S.Store conn) (state S.Store c) (λ trees. Begins (state S.Store conn) trees))) }

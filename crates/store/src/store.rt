@@ -4,12 +4,15 @@ ghost use Rattle.sqlite.specs.Held.{state};
 ghost use Rattle.sqlite.specs.State.{HasCleanDisk, Survives};
 ghost use Rattle.sqlite_trees.specs.Tree.{Trees};
 ghost use Rattle.tables.specs.Tables.{HoldsTables, IsStore};
+ghost use Rattle.machine.specs.State as trust;
 ghost use Rattle.machine.specs.State.{IsSnapshotDue, IsState};
 ghost use Rattle.machine.specs.Effects.{applied};
 ghost use Rattle.machine.specs.Knowing.{IsKnown};
 ghost use Rattle.machine.specs.Views.{documents_view, effects_view, offer_view};
 ghost use Rattle.machine.specs.Runs as steps;
 ghost use Rattle.store.specs.Applies.{Applies};
+ghost use Rattle.store.specs.Standing.{IsStateOf};
+ghost use Rattle.store.specs.steps.Doing.{Does};
 ghost use Rattle.store.specs.steps.Replies.{IsBatchRefusal, IsCopied, IsRefusal};
 ghost use Rattle.store.specs.StateRows.{rows_of};
 ghost use Rattle.store.specs.Views.{command_view};
@@ -27,8 +30,9 @@ use std::alloc::Global;
 use std::marker::Model;
 use tables::{StoreFault, check_open};
 
-/// A state of the trust machine, and the connection to the tables that hold its rows. A clause sees the connection and the
-/// state. While the connection is open, and unless a wrong answer of the disk was taken as true, the rows are those of the state.
+/// A state of the trust machine, and the connection to the tables that hold its rows. A clause sees the connection, and the states
+/// that the store stands for. While the connection is open, and unless a wrong answer of the disk was taken as true, the rows are
+/// those of such a state.
 #[derive(Drop)]
 pub struct Store<S: Alter> {
     conn: Connection<S>,
@@ -48,7 +52,7 @@ impl<S: Alter> Model for Store<S> {
 
     ghost coded = { shown_code S.code machine.the_row.coded };
 
-    ghost view = { λ s. record { conn = s.conn; state = s.held.state } };
+    ghost view = { λ s. record { conn = s.conn; kept = s.held.state } };
 
     ghost invariant = { λ s. (s.conn.in_transaction ≡ false) × (HasCleanDisk (state S.Store s.conn) → IsTrue (state S.Store s.conn).is_open → IsStore (state S.Store s.conn) (rows_of s.held.state)) };
 }
@@ -60,11 +64,7 @@ impl<S: Alter> Store<S> {
     /// - `Database`: a call of the database answered a fault.
     /// - `OutOfMemory`: memory was refused. Nothing takes memory once the rows are committed.
     pub fn apply(&mut self, command: Command<'_>, now: Moment) -> Result<Reply, StoreFault>
-        ensures applies { Applies self.old.state self.new.state (state S.Store self.old.conn) (state S.Store self.new.conn) (command_view command.entry) now result }
-        ensures open { HasCleanDisk (state S.Store self.new.conn) → OnOk result (IsTrue (state S.Store self.old.conn).is_open) }
-        ensures rows { HasCleanDisk (state S.Store self.new.conn) → IsTrue (state S.Store self.new.conn).is_open → IsStore (state S.Store self.new.conn) (rows_of self.new.state) }
-        ensures durable { HasCleanDisk (state S.Store self.new.conn) → IsTrue (state S.Store self.new.conn).is_open
-            → (trees : Trees) → (state S.Store self.new.conn).may_leave trees → HoldsTables trees (rows_of self.new.state) }
+        ensures { Applies self.old.kept self.new.kept (state S.Store self.old.conn) (state S.Store self.new.conn) (command_view command.entry) now result }
     {
         self.rests();
         match self.touch() {
@@ -81,32 +81,24 @@ impl<S: Alter> Store<S> {
 
     /// The version of the trusted root, and `None` where no root is trusted. It takes no memory.
     pub fn root_version(&self) -> Option<u32>
-        ensures { result ≡ option_map (λ root. root.body.version) self.now.state.trusted.root }
+        ensures { (U : trust.State) → IsStateOf self.now.kept U → result ≡ option_map (λ root. root.body.version) U.trusted.root }
     {
-        root_version(self.state())
+        root_version(self.kept())
     }
 
     /// The version of the snapshot that the held timestamp names, and `None` where no timestamp is held or it names the held
     /// snapshot. It takes no memory.
     pub fn snapshot_due(&self) -> Option<u32>
-        ensures { IsSnapshotDue self.now.state.trusted result }
+        ensures { (U : trust.State) → IsStateOf self.now.kept U → IsSnapshotDue U.trusted result }
     {
-        snapshot_due(self.state())
+        snapshot_due(self.kept())
     }
 
     /// The state, with what is known of the signatures on its shelf.
     pub fn state(&self) -> &State
-        ensures { result.now.state ≡ self.now.state }
+        ensures { IsStateOf self.now.kept result.now.state }
     {
-        &self.held
-    }
-
-    /// A law, which does nothing: while the connection is open, and unless a wrong answer of the disk was taken as true, the tables
-    /// hold the rows of the state.
-    pub fn holds_rows(&self)
-        ensures { HasCleanDisk (state S.Store self.now.conn) → IsTrue (state S.Store self.now.conn).is_open → IsStore (state S.Store self.now.conn) (rows_of self.now.state) }
-    {
-        self.rests();
+        self.kept()
     }
 
     /// The connection of a store that is done.
@@ -116,9 +108,16 @@ impl<S: Alter> Store<S> {
         self.conn
     }
 
+    // What is kept in memory.
+    pub(crate) fn kept(&self) -> &State
+        ensures { result.now.state ≡ self.now.kept }
+    {
+        &self.held
+    }
+
     // Makes a command, over a connection that is open.
     fn make(&mut self, command: Command<'_>, now: Moment) -> Result<Reply, StoreFault>
-        ensures { Applies self.old.state self.new.state (state S.Store self.old.conn) (state S.Store self.new.conn) (command_view command.entry) now result }
+        ensures { Does self.old.kept self.new.kept (state S.Store self.old.conn) (state S.Store self.new.conn) (command_view command.entry) now result }
     {
         match command {
             Command::Init(bytes) => self.begin(bytes, now),
@@ -131,10 +130,10 @@ impl<S: Alter> Store<S> {
     }
 
     fn begin(&mut self, bytes: &[u8], now: Moment) -> Result<Reply, StoreFault>
-        ensures { Applies self.old.state self.new.state (state S.Store self.old.conn) (state S.Store self.new.conn) (steps.Init bytes.now) now result }
+        ensures { Does self.old.kept self.new.kept (state S.Store self.old.conn) (state S.Store self.new.conn) (steps.Init bytes.now) now result }
     {
         self.rests();
-        let effects = match init(self.alloc(), self.state(), bytes) {
+        let effects = match init(self.alloc(), self.kept(), bytes) {
             Ok(Outcome::Changed(effects)) => effects,
             Ok(Outcome::Same) => return Ok(Reply::Begun),
             Err(refusal) => return refused(refusal),
@@ -151,10 +150,10 @@ impl<S: Alter> Store<S> {
         bytes: &[u8],
         now: Moment,
     ) -> Result<Reply, StoreFault>
-        ensures { Applies self.old.state self.new.state (state S.Store self.old.conn) (state S.Store self.new.conn) (steps.OfferOne (offer_view offered.now) bytes.now) now result }
+        ensures { Does self.old.kept self.new.kept (state S.Store self.old.conn) (state S.Store self.new.conn) (steps.OfferOne (offer_view offered.now) bytes.now) now result }
     {
         self.rests();
-        let effects = match offer(self.alloc(), self.state(), offered, bytes, now) {
+        let effects = match offer(self.alloc(), self.kept(), offered, bytes, now) {
             Ok(Outcome::Changed(effects)) => effects,
             Ok(Outcome::Same) => return Ok(Reply::Offered { same: true }),
             Err(refusal) => return refused(refusal),
@@ -166,14 +165,14 @@ impl<S: Alter> Store<S> {
     }
 
     fn take_batch(&mut self, documents: &[(Offer, &[u8])], now: Moment) -> Result<Reply, StoreFault>
-        ensures { Applies self.old.state self.new.state (state S.Store self.old.conn) (state S.Store self.new.conn) (steps.Batch (documents_view documents.now)) now result }
+        ensures { Does self.old.kept self.new.kept (state S.Store self.old.conn) (state S.Store self.new.conn) (steps.Batch (documents_view documents.now)) now result }
     {
         self.rests();
         let Batched {
             effects,
             accepted,
             same,
-        } = match batch(self.alloc(), self.state(), documents, now) {
+        } = match batch(self.alloc(), self.kept(), documents, now) {
             Ok(batched) => batched,
             Err(refusal) => return refused_batch(refusal),
         };
@@ -184,10 +183,10 @@ impl<S: Alter> Store<S> {
     }
 
     fn put(&mut self, digest: Digest, bytes: &[u8], now: Moment) -> Result<Reply, StoreFault>
-        ensures { Applies self.old.state self.new.state (state S.Store self.old.conn) (state S.Store self.new.conn) (steps.PutBlob digest.0 bytes.now) now result }
+        ensures { Does self.old.kept self.new.kept (state S.Store self.old.conn) (state S.Store self.new.conn) (steps.PutBlob digest.0 bytes.now) now result }
     {
         self.rests();
-        let effects = match put_blob(self.alloc(), self.state(), &digest, bytes) {
+        let effects = match put_blob(self.alloc(), self.kept(), &digest, bytes) {
             Ok(Outcome::Changed(effects)) => effects,
             Ok(Outcome::Same) => return Ok(Reply::Stored(false)),
             Err(refusal) => return refused(refusal),
@@ -199,10 +198,10 @@ impl<S: Alter> Store<S> {
     }
 
     fn metadata(&mut self, name: &str, now: Moment) -> Result<Reply, StoreFault>
-        ensures { Applies self.old.state self.new.state (state S.Store self.old.conn) (state S.Store self.new.conn) (steps.Metadata name.now) now result }
+        ensures { Does self.old.kept self.new.kept (state S.Store self.old.conn) (state S.Store self.new.conn) (steps.Metadata name.now) now result }
     {
         self.rests();
-        match metadata_file(self.state(), name) {
+        match metadata_file(self.kept(), name) {
             Some(bytes) => copied(self.alloc(), bytes),
             None => Ok(Reply::Absent),
         }
@@ -214,10 +213,10 @@ impl<S: Alter> Store<S> {
         asked: Option<Digest>,
         now: Moment,
     ) -> Result<Reply, StoreFault>
-        ensures { Applies self.old.state self.new.state (state S.Store self.old.conn) (state S.Store self.new.conn) (steps.Target path.now (option_map (λ d. d.0) asked)) now result }
+        ensures { Does self.old.kept self.new.kept (state S.Store self.old.conn) (state S.Store self.new.conn) (steps.Target path.now (option_map (λ d. d.0) asked)) now result }
     {
         self.rests();
-        match target(self.alloc(), self.state(), path, asked, now) {
+        match target(self.alloc(), self.kept(), path, asked, now) {
             Ok(bytes) => copied(self.alloc(), bytes),
             Err(refusal) => refused(refusal),
         }
@@ -228,14 +227,14 @@ impl<S: Alter> Store<S> {
         requires autocommit { conn.in_transaction ≡ false }
         requires rows { HasCleanDisk (state S.Store conn) → IsTrue (state S.Store conn).is_open → IsStore (state S.Store conn) (rows_of held.state) }
         ensures conn { result.conn ≡ conn }
-        ensures state { result.state ≡ held.state }
+        ensures kept { result.kept ≡ held.state }
     {
         Store { conn, held, alloc }
     }
 
     // Asks the database for one row, so that nothing is answered from memory where the connection is shut.
     fn touch(&mut self) -> Result<(), StoreFault>
-        ensures same { self.new.state ≡ self.old.state }
+        ensures same { self.new.kept ≡ self.old.kept }
         ensures open { HasCleanDisk (state S.Store self.new.conn) → OnOk result (IsTrue (state S.Store self.old.conn).is_open × IsTrue (state S.Store self.new.conn).is_open) }
         ensures survives { Survives (state S.Store self.old.conn) (state S.Store self.new.conn) (λ _. ⊥) }
         ensures sound { result ≢ Err StoreFault.Damaged }
@@ -244,10 +243,10 @@ impl<S: Alter> Store<S> {
     }
 
     // A law, which does nothing: the rows are those of the state, and a crash leaves just these.
-    fn rests(&self)
-        ensures rows { HasCleanDisk (state S.Store self.now.conn) → IsTrue (state S.Store self.now.conn).is_open → IsStore (state S.Store self.now.conn) (rows_of self.now.state) }
+    pub(crate) fn rests(&self)
+        ensures rows { HasCleanDisk (state S.Store self.now.conn) → IsTrue (state S.Store self.now.conn).is_open → IsStore (state S.Store self.now.conn) (rows_of self.now.kept) }
         ensures left { HasCleanDisk (state S.Store self.now.conn) → IsTrue (state S.Store self.now.conn).is_open
-            → (trees : Trees) → (state S.Store self.now.conn).may_leave trees → HoldsTables trees (rows_of self.now.state) }
+            → (trees : Trees) → (state S.Store self.now.conn).may_leave trees → HoldsTables trees (rows_of self.now.kept) }
     {
         let _ = &self.held;
     }
@@ -258,13 +257,13 @@ impl<S: Alter> Store<S> {
 
     // Makes these changes: all memory first, then the rows and their commit, then the state with no memory.
     fn keep(&mut self, effects: Effects) -> Result<(), StoreFault>
-        requires valid { IsState (applied self.old.state (effects_view effects)) }
-        requires known { IsKnown (applied self.old.state (effects_view effects)).trusted effects.verdicts }
-        ensures done { OnOk result (self.new.state ≡ applied self.old.state (effects_view effects)) }
-        ensures kept { OnErr result (self.new.state ≡ self.old.state) }
+        requires valid { IsState (applied self.old.kept (effects_view effects)) }
+        requires known { IsKnown (applied self.old.kept (effects_view effects)).trusted effects.verdicts }
+        ensures done { OnOk result (self.new.kept ≡ applied self.old.kept (effects_view effects)) }
+        ensures kept { OnErr result (self.new.kept ≡ self.old.kept) }
         ensures live { HasCleanDisk (state S.Store self.new.conn) → IsTrue (state S.Store self.old.conn).is_open → OnOk result (IsTrue (state S.Store self.new.conn).is_open) }
         ensures crash { HasCleanDisk (state S.Store self.new.conn) → IsTrue (state S.Store self.old.conn).is_open → (trees : Trees) → (state S.Store self.new.conn).may_leave trees
-            → HoldsTables trees (rows_of self.old.state) ⊎ HoldsTables trees (rows_of (applied self.old.state (effects_view effects))) }
+            → HoldsTables trees (rows_of self.old.kept) ⊎ HoldsTables trees (rows_of (applied self.old.kept (effects_view effects))) }
         ensures sound { result ≢ Err StoreFault.Damaged }
         ensures clean { HasCleanDisk (state S.Store self.new.conn) → HasCleanDisk (state S.Store self.old.conn) }
     {

@@ -13,7 +13,7 @@ use Rattle.http_messages.specs.declared.reply.Kind.{Kind}
 use Rattle.http_messages.specs.declared.line.Cut.{Cut}
 use Rattle.http_serve.specs.Response.{Says}
 use Rattle.http_serve.specs.Serving.{Answered, Made, Wrote}
-use Rattle.http_serve.specs.Standing.{Standing}
+use Rattle.store.specs.Standing.{Standing}
 use Rattle.http_serve.specs.declared.serve.ServeFault.{ServeFault}
 use Rattle.http_serve.specs.declared.serve.ServeFault.TheVariants.{Write}
 

@@ -1,17 +1,12 @@
 -- What changes of a state make of its rows.
-use Rattle.std.specs.Prelude.{◌≡◌, ℕ, ◌-◌, Bool, List, [], ◌∷◌, ◌++◌, cond, length, Option, Some, None, option_map, unwrap_or, refl}
-use Rattle.std.specs.Coded.{Coded, code_by, coded×}
-use Rattle.sqlite.specs.Held.{Held as Connection, held_code}
+use Rattle.std.specs.Prelude.{ℕ, ◌-◌, Bool, List, [], ◌∷◌, ◌++◌, cond, length, Option, Some, None, option_map, unwrap_or}
 use Rattle.metadata.specs.File.{Bytes, File}
 use Rattle.metadata.specs.Documents.{Root}
-use Rattle.machine.specs.State.{State, IsState}
-use Rattle.machine.specs.Contents.{contents_of, numbered, shelf_rows}
+use Rattle.machine.specs.Contents.{numbered, shelf_rows}
 use Rattle.contents.specs.Contents.{Contents}
 use Rattle.delegations.specs.Rows.{Place}
 use Rattle.machine.specs.Effects.{Effects, last_or}
-use Rattle.sqlite.specs.Effect.{Database, IsDatabase}
-use Rattle.sqlite_trees.specs.Tree.{Trees}
-use Rattle.tables.specs.Tables.{Stands, emptied}
+use Rattle.tables.specs.Tables.{emptied}
 
 -- the rows of new roots: the last has its own version, and they rise by one
 abbrev pub new_roots : ℕ → List (File Root) → List (ℕ × Bytes)

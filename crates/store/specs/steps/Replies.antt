@@ -1,15 +1,7 @@
 -- What the machine answers, as a reply of the store.
-use Rattle.std.specs.Prelude.{◌≡◌, ◌⊎◌, ℕ, None, Some, Result, Ok, Err, IfOk, IsTrue, OnErr, OnOk}
-use Rattle.sqlite.specs.State as database
-use Rattle.sqlite.specs.State.{HasCleanDisk}
-use Rattle.sqlite_trees.specs.Tree.{Trees}
-use Rattle.machine.specs.State.{State}
-use Rattle.machine.specs.Runs.{Command, Reply, Steps}
-use Rattle.tables.specs.Tables.{HoldsTables}
-use Rattle.store.specs.StateRows.{rows_of}
-use Rattle.store.specs.Views.{reply_view}
+use Rattle.std.specs.Prelude.{◌≡◌, ℕ, None, Some, Result, Ok, Err}
 use Rattle.tables.specs.declared.faults.StoreFault.{StoreFault}
-use Rattle.tables.specs.declared.faults.StoreFault.TheVariants.{Damaged, OutOfMemory}
+use Rattle.tables.specs.declared.faults.StoreFault.TheVariants.{OutOfMemory}
 use Rattle.store.specs.declared.command.Reply.{Reply as Answer}
 use Rattle.store.specs.declared.command.Reply.TheVariants as answers
 use Rattle.metadata.specs.File.{Bytes}

@@ -1,4 +1,4 @@
-use Rattle.std.proofs.Common.{◌≡◌, ℕ, ◌+◌, length, arith, ap, sym, ◌∙◌, subst, refl, length-set}
+use Rattle.std.proofs.Common.{◌≡◌, ◌+◌, arith, ap, sym, ◌∙◌, subst, length-set}
 use Rattle.http_serve.specs.Serving.{Serves, one_if_ok}
 use Rattle.http_serve.proofs.serve.serve_list.Goals as goal
 use Rattle.http_serve.proofs.serve.serve_list.Goals.{then-is_ok, else-is_ok}

@@ -1,7 +1,7 @@
 use Rattle.std.proofs.Common.{◌≡◌, ◌≤◌, length, take, drop, map}
 use Rattle.sqlite.specs.Held.{state}
 use Rattle.http_serve.specs.Serving.{Serves}
-use Rattle.http_serve.specs.Standing.{seen}
+use Rattle.store.specs.Standing.{seen}
 use Rattle.http_serve.proofs.serve.serve_list.Given as goal
 
 -- those before the index are served, and those from it on are as they were
@@ -13,6 +13,6 @@ invariant-loop-reader g l = record {
   served : Serves
       (map (λ c. record { given = g.R.Read.remaining c.0; held = g.W.Write.contents c.1; now = c.2; reads = g.R.Receive.sound c.0; writes = g.W.Transmit.sound c.1 }) (take l.reader-index l.initial.connections))
       (map (λ c. g.W.Write.contents c.1) (take l.reader-index l.connections))
-      (seen l.initial.store.state (state g.S.Store l.initial.store.conn))
-      (seen l.store.state (state g.S.Store l.store.conn)) l.count;
+      (seen l.initial.store.kept (state g.S.Store l.initial.store.conn))
+      (seen l.store.kept (state g.S.Store l.store.conn)) l.count;
 }

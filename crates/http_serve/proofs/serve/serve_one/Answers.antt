@@ -1,4 +1,4 @@
-use Rattle.std.proofs.Common.{◌++◌, Bool, Option, List, ℕ, refl}
+use Rattle.std.proofs.Common.{◌++◌, refl}
 use Rattle.std.proofs.KnownBytes.{Keeps-refl}
 use Rattle.sqlite.specs.Held.{state}
 use Rattle.http_messages.specs.Faults.{fault_response}
@@ -7,7 +7,7 @@ use Rattle.http_messages.specs.Received.{request_of}
 use Rattle.http_messages.specs.declared.faults.Fault.TheVariants.{Memory}
 use Rattle.http_messages.proofs.Asking.{input-is}
 use Rattle.http_serve.specs.Serving.{Line, unread}
-use Rattle.http_serve.specs.Standing.{seen}
+use Rattle.store.specs.Standing.{seen}
 use Rattle.http_serve.proofs.Responding.{ends, of-no-memory, of-read}
 use Rattle.http_serve.proofs.Standings.{rests, wrote}
 use Rattle.http_serve.proofs.serve.serve_one.Goals as goal
@@ -24,10 +24,10 @@ returns-in-Err-OutOfMemory g c =
       reads = g.R.Receive.sound c.args.reader.now;
       writes = g.W.Transmit.sound c.args.writer.now;
     } in
-    let here = seen c.args.store.now.state (state g.S.Store c.args.store.now.conn) in
+    let here = seen c.args.store.now.kept (state g.S.Store c.args.store.now.conn) in
     let (input, is, wants) = of-no-memory c.in-Err-OutOfMemory.field-0 _ c.in-Err-OutOfMemory.field-0-is c.in-Err-OutOfMemory.ensures.memory in
     ends line _ here here input (fault_response Memory) _ c.write_fault.result c.ended.result is
-    (unread here wants.wants (rests c.args.store.now.state (state g.S.Store c.args.store.now.conn) c.holds_rows.ensures))
+    (unread here wants.wants (rests here))
     (wrote _ _ _ _ c.write_fault.ensures.ok c.write_fault.ensures.err) c.write_fault.ensures.sound c.ended.ensures
 
 pub returns-in-Err : goal.returns-in-Err
@@ -39,11 +39,11 @@ returns-in-Err g c =
       reads = g.R.Receive.sound c.args.reader.now;
       writes = g.W.Transmit.sound c.args.writer.now;
     } in
-    let here = seen c.args.store.now.state (state g.S.Store c.args.store.now.conn) in
+    let here = seen c.args.store.now.kept (state g.S.Store c.args.store.now.conn) in
     let (gave, consumes, says, wants) = c.in-Ok.ensures.asked in
     ends line _ here here (gave ++ left (g.R.Read.remaining c.read_request.new.reader)) (fault_response Memory) _ c.write_fault-in-Err.result c.ended-in-Err.result
     (input-is _ _ gave consumes)
-    (unread here (wants c.in-Err.ensures.memory) (rests c.args.store.now.state (state g.S.Store c.args.store.now.conn) c.holds_rows.ensures))
+    (unread here (wants c.in-Err.ensures.memory) (rests here))
     (wrote _ _ _ _ c.write_fault-in-Err.ensures.ok c.write_fault-in-Err.ensures.err) c.write_fault-in-Err.ensures.sound c.ended-in-Err.ensures
 
 pub returns : goal.returns

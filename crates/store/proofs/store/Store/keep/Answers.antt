@@ -25,4 +25,4 @@ returns-in_err-write-clause-crash g c clean was trees may =
           inl (subst (λ (d : Trees). HoldsTables d (rows_of c.self.inside.held.state)) (ap (λ (d : Database). d.trees) is.settled ∙ sym same) is.holds)
       | inr after ↦ inr (subst (λ (S : State). IsStore (state g.S.Store conn) (rows_of S) → HoldsTables trees (rows_of (applied S E))) c.in_ok-room.ensures.kept after is)
     ] in
-    subst (λ (S : State). HoldsTables trees (rows_of S) ⊎ HoldsTables trees (rows_of (applied S E))) (ap (λ s. s.state) c.self.view_is) left
+    subst (λ (S : State). HoldsTables trees (rows_of S) ⊎ HoldsTables trees (rows_of (applied S E))) (ap (λ s. s.kept) c.self.view_is) left

@@ -7,13 +7,13 @@ use Rattle.store.proofs.store.Store.metadata.Goals as goal
 
 pub returns-in-Some : goal.returns-in-Some
 returns-in-Some g c =
-    still c.args.self.now.state (state g.S.Store c.args.self.now.conn) (Metadata c.args.name.now) c.args.now c.copied.result c.rests.ensures.left
-    (file_found c.args.self.now.state c.args.name.now c.args.now c.in-Some.bytes.now c.copied.result
-    (subst (λ (S : State). metadata_of S.trusted c.args.name.now ≡ Some c.in-Some.bytes.now) c.state.ensures (sym c.in-Some.ensures)) c.copied.ensures)
+    still c.args.self.now.kept (state g.S.Store c.args.self.now.conn) (Metadata c.args.name.now) c.args.now c.copied.result c.rests.ensures.left
+    (file_found c.args.self.now.kept c.args.name.now c.args.now c.in-Some.bytes.now c.copied.result
+    (subst (λ (S : State). metadata_of S.trusted c.args.name.now ≡ Some c.in-Some.bytes.now) c.kept.ensures (sym c.in-Some.ensures)) c.copied.ensures)
     (copy_sound c.in-Some.bytes.now c.copied.result c.copied.ensures)
 
 pub returns-in-None : goal.returns-in-None
 returns-in-None g c =
-    still c.args.self.now.state (state g.S.Store c.args.self.now.conn) (Metadata c.args.name.now) c.args.now _ c.rests.ensures.left
-    (file_absent c.args.self.now.state c.args.name.now c.args.now
-    (subst (λ (S : State). metadata_of S.trusted c.args.name.now ≡ None) c.state.ensures (sym c.in-None.ensures))) (λ same. cc)
+    still c.args.self.now.kept (state g.S.Store c.args.self.now.conn) (Metadata c.args.name.now) c.args.now _ c.rests.ensures.left
+    (file_absent c.args.self.now.kept c.args.name.now c.args.now
+    (subst (λ (S : State). metadata_of S.trusted c.args.name.now ≡ None) c.kept.ensures (sym c.in-None.ensures))) (λ same. cc)

@@ -1,21 +1,30 @@
-use Rattle.std.proofs.Common.{◌≡◌, Ok, Err, Result, sym, subst, ap, arith}
+use Rattle.std.proofs.Common.{◌≡◌, Ok, Err, Result, sym, subst, subst₂, ap, arith}
 use Rattle.sqlite.specs.Effect.{IsDatabase}
 use Rattle.sqlite.specs.Held.{state}
 use Rattle.sqlite.specs.State.{HasCleanDisk, Survives}
-use Rattle.machine.specs.State.{State}
-use Rattle.tables.specs.Tables.{Stands}
-use Rattle.store.specs.StateRows.{Begins, rows_of}
+use Rattle.tables.specs.Tables.{IsStore, Stands}
+use Rattle.store.specs.Standing.{Opens, seen}
+use Rattle.store.specs.StateRows.{Begins, TreesStand, rows_of}
+use Rattle.store.proofs.Standings.{stands_at}
 use Rattle.store.proofs.store.Store.open_over.Goals as goal
 
 pub returns-in-Ok-read_state-clause-opened : goal.returns-in-Ok-read_state-clause-opened
-returns-in-Ok-read_state-clause-opened g c clean =
-    let db = (state g.S.Store c.in-Ok.conn).now in
-    let late : HasCleanDisk (state g.S.Store c.read_state.new.conn) = subst (λ k. HasCleanDisk (state g.S.Store k)) c.over.ensures.conn clean in
-    let early : HasCleanDisk (state g.S.Store c.in-Ok.conn) = omega (arith, late, c.read_state.ensures.crash.clean) in
+returns-in-Ok-read_state-clause-opened g c =
+    let conn = c.in-Ok.conn in
+    let db = (state g.S.Store conn).now in
+    let kept = c.in-Ok-read_state.held.state in
+    let new = state g.S.Store c.read_state.new.conn in
+    let early : HasCleanDisk new → HasCleanDisk (state g.S.Store conn) = λ late. omega (arith, late, c.read_state.ensures.crash.clean) in
+    let found : HasCleanDisk new → Stands db (rows_of kept) × IsStore new (rows_of kept) = λ late. c.in-Ok-read_state.ensures.loaded late (c.in-Ok.ensures.settled (early late)) in
+    let stood : HasCleanDisk new → TreesStand (state g.S.Store c.args.conn).committed.trees (rows_of kept) = λ late.
     let is_open = c.in-Ok-read_state.ensures.was_open late in
-    let sound : IsDatabase db = (c.read_state.ensures.live is_open).0 in
-    let stands : Stands db (rows_of c.in-Ok-read_state.held.state) = (c.in-Ok-read_state.ensures.loaded late (c.in-Ok.ensures.settled early)).0 in
-    (db, c.in-Ok.ensures.same early is_open, sound, subst (λ (S : State). Stands db (rows_of S)) (sym c.over.ensures.state) stands)
+    (db, c.in-Ok.ensures.same (early late) is_open, (c.read_state.ensures.live is_open).0, (found late).0) in
+    let opens : Opens (state g.S.Store c.args.conn) (seen kept new) = (
+      kept,
+      stands_at kept new (λ late there. (found late).1),
+      λ late. ((found late).1.is_open, stood late),
+    ) in
+    subst₂ (λ k S. Opens (state g.S.Store c.args.conn) (seen S (state g.S.Store k))) (sym c.over.ensures.conn) (sym c.over.ensures.kept) opens
 
 pub returns-in-Err-read_state-clause-damaged : goal.returns-in-Err-read_state-clause-damaged
 returns-in-Err-read_state-clause-damaged g c is clean =

@@ -1,0 +1,68 @@
+-- Where a store stands: a state that it stands for, and the rows of that state in the tables.
+use Rattle.std.specs.Prelude.{◌≡◌, Bool, IsTrue, refl}
+use Rattle.sqlite.specs.Effect.{Database}
+use Rattle.sqlite.specs.State as connection
+use Rattle.sqlite_trees.specs.View.{doubt}
+use Rattle.machine.specs.State.{State}
+use Rattle.tables.specs.Schema.{the_schema}
+use Rattle.tables.specs.Tables.{HoldsTables}
+use Rattle.store.specs.StateRows.{Kept, TreesStand, rows_of}
+
+-- what a store keeps in memory, and what its connection shows of the database
+pub record Standing : Type 0 where
+  pub kept : Kept
+  -- as the connection sees it, and as the last commit left it
+  pub database : Database
+  pub committed : Database
+  pub is_open : Bool
+  -- no wrong answer of the disk was taken as true
+  pub is_clean : Bool
+
+abbrev pub seen : Kept → connection.State → Standing
+seen kept s = record { kept = kept; database = s.now; committed = s.committed; is_open = s.is_open; is_clean = s.is_clean }
+
+abbrev pub IsClean : Standing → Type 0
+IsClean A = doubt A.is_clean ≡ 0
+
+-- What is kept is that of this state. Callers cannot open this: they have the laws `stands` and `holds_rows`.
+pub IsStateOf : Kept → State → Type 0
+IsStateOf kept S = kept ≡ S
+
+-- between two transactions: the tables are the five, and hold the rows of the state
+pub record HoldsRows (A : Standing) (S : State) : Type 0 where
+  pub schema : A.database.schema ≡ the_schema
+  pub settled : A.database ≡ A.committed
+  pub holds : HoldsTables A.database.trees (rows_of S)
+
+-- a store stands at a state: it keeps it, and while the connection is open the tables hold its rows
+pub record StandsAt (A : Standing) (S : State) : Type 0 where
+  pub state : IsStateOf A.kept S
+  pub rows : IsClean A → IsTrue A.is_open → HoldsRows A S
+
+-- for each state at which a store stood there is one at which it stands then, and this is so related to the first
+abbrev pub Moves : Standing → Standing → (State → State → Type 0) → Type 0
+Moves A B Between = (S : State) → StandsAt A S → (T : State) × StandsAt B T × Between S T
+
+-- the state is kept
+pub record Keeps (A B : Standing) : Type 0 where
+  pub state : Moves A B (λ S T. T ≡ S)
+  pub clean : IsClean B → IsClean A
+
+-- a command was answered: the connection was open and is, so the tables hold the rows of the state
+pub record Holds (A B : Standing) : Type 0 where
+  pub clean : IsClean B → IsClean A
+  pub is_open : IsClean B → IsTrue A.is_open × IsTrue B.is_open
+
+-- What an open gives: the connection is open, and the store stands at a state whose rows the database stood for.
+abbrev pub Opens : connection.State → Standing → Type 0
+Opens old A = (S : State) × StandsAt A S × (IsClean A → IsTrue A.is_open × TreesStand old.committed.trees (rows_of S))
+
+-- ---- for the proofs of this crate alone
+
+pub is_kept : (S : State) → IsStateOf S S
+unfolding IsStateOf
+is_kept S = refl
+
+pub kept_is : {kept S : State} → IsStateOf kept S → kept ≡ S
+unfolding IsStateOf
+kept_is same = same

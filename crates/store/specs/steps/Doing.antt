@@ -1,0 +1,24 @@
+-- What a call does to what a store keeps.
+use Rattle.std.specs.Prelude.{◌≡◌, ◌⊎◌, ℕ, Result, Err, IfOk, IsTrue, OnErr, OnOk}
+use Rattle.sqlite.specs.State as database
+use Rattle.sqlite.specs.State.{HasCleanDisk}
+use Rattle.sqlite_trees.specs.Tree.{Trees}
+use Rattle.machine.specs.State.{State}
+use Rattle.machine.specs.Runs.{Command, Steps}
+use Rattle.tables.specs.Tables.{HoldsTables}
+use Rattle.store.specs.Applies.{HoldsStep}
+use Rattle.store.specs.StateRows.{rows_of}
+use Rattle.store.specs.Views.{reply_view}
+use Rattle.tables.specs.declared.faults.StoreFault.{StoreFault}
+use Rattle.tables.specs.declared.faults.StoreFault.TheVariants.{Damaged}
+use Rattle.store.specs.declared.command.Reply.{Reply as Answer}
+
+-- The command is the machine's step, or a fault that leaves the state as it was. A crash leaves the rows from before the
+-- command or those from after it.
+pub record Does (S T : State) (old new : database.State) (command : Command) (now : ℕ) (r : Result Answer StoreFault) : Type 0 where
+  pub step : IfOk r (λ reply. Steps S command now (T, reply_view reply))
+  pub kept : OnErr r (T ≡ S)
+  pub sound : r ≡ Err Damaged → ⊥
+  pub clean : HasCleanDisk new → HasCleanDisk old
+  pub live : HasCleanDisk new → IsTrue old.is_open → OnOk r (IsTrue new.is_open)
+  pub crash : HasCleanDisk new → IsTrue old.is_open → (trees : Trees) → new.may_leave trees → HoldsTables trees (rows_of S) ⊎ HoldsStep S command now trees
