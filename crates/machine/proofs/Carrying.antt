@@ -15,7 +15,7 @@ use Rattle.machine.specs.Effects as changed
 use Rattle.machine.specs.Effects.{applied, brought}
 use Rattle.machine.specs.Knowing.{IsKnown, ChecksFew, WantsFew}
 use Rattle.machine.specs.Answers.{Answers, AnswersBatch, changes, unanswered, done, undone}
-use Rattle.machine.specs.steps.Carrying.{MakesState, IsSameOutcome, IsSameBatch}
+use Rattle.machine.specs.steps.Carrying.{IsSameOutcome, IsSameBatch}
 use Rattle.machine.specs.Views.{effects_view}
 use Rattle.machine.specs.declared.effects.Effects.{Effects}
 use Rattle.machine.specs.declared.outcome.Outcome.{Outcome}
@@ -26,11 +26,6 @@ use Rattle.machine.specs.declared.refusal.Refusal.{Refusal}
 use Rattle.machine.specs.declared.refusal.Refusal.TheVariants as refusals
 use Rattle.machine.specs.declared.refusal.BatchRefusal.{BatchRefusal}
 use Rattle.machine.specs.declared.refusal.BatchRefusal.TheVariants as batches
-
--- changes that are an answer make a state
-pub makes : {S : State} {m : Order State} (o : Outcome) → Answers S m (Ok o) → MakesState S o
-makes (Changed e) (changes given valid) = valid
-makes outcomes.Same h = tt
 
 -- the same outcome is the same answer
 same_changes : {S : State} {m : Order State} {e f : Effects} → effects_view f ≡ effects_view e → Answers S m (Ok (Changed e)) → Answers S m (Ok (Changed f))
@@ -46,9 +41,6 @@ same_answers outcomes.Same (Ok outcomes.Same) h same = h
 same_answers outcomes.Same (Ok (Changed f)) h same = absurd same
 same_answers outcomes.Same (Err refusals.OutOfMemory) h same = unanswered
 same_answers outcomes.Same (Err (refusals.Denied d)) h same = absurd same
-
-pub batch_makes : {S : State} {m : BatchOrder} (b : Batched) → AnswersBatch S m (Ok b) → IsState (applied S (effects_view b.effects))
-batch_makes b (done given alone valid) = valid
 
 -- what is found out of a draft's shelf is what is known of the draft
 pub known_over : (T : Trusted) (root : File Root) (snap : File Snapshot) (V : Shelf) (t : Table) → T.root ≡ Some root → T.snapshot ≡ Some snap → V ≡ shelf_of root snap T.shelf

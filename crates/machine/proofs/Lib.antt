@@ -5,6 +5,7 @@ pub mod ChangesMake
 pub mod CoherentSteps
 pub mod DefiniteOrders
 pub mod FilesMakeStates
+pub mod HeldStates
 pub mod ItemByItem
 pub mod LinesGive
 pub mod MetadataNames
@@ -17,6 +18,7 @@ pub mod RisingRows
 pub mod RootChains
 pub mod RowsInOrder
 pub mod RowsOfOneState
+pub mod ServedFrom
 pub mod ShapedOnce
 pub mod ShelfPlaces
 pub mod TargetFiles

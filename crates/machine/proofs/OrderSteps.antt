@@ -3,7 +3,7 @@ use Rattle.std.proofs.Common.{◌≡◌, ℕ, Bool, true, false, Option, Some, N
 use Rattle.metadata.specs.File.{Bytes, File, Form}
 use Rattle.denials.specs.Orders as orders
 use Rattle.denials.specs.Orders.{Order, Judged, Stop, Plain, Same, ◌>>=◌, pass, decide, holds, fails, given, stopped, check, need, need_or}
-use Rattle.metadata.specs.Shaped.{reads, faulty, shaped, Shaped}
+use Rattle.metadata.specs.Shaped.{faulty, shaped}
 use Rattle.metadata.specs.Shape.{IsShapeFault}
 use Rattle.metadata.specs.declared.documents.ShapeFault.{ShapeFault}
 use Rattle.metadata.specs.declared.documents.ShapeFault.TheVariants as shapes

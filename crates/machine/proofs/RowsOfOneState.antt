@@ -9,10 +9,10 @@ use Rattle.metadata.specs.File.{Bytes, File, Form, IsFileOf, document_of}
 use Rattle.metadata.specs.Shape.{IsDocument, IsShapeFault}
 use Rattle.metadata.specs.declared.documents.ShapeFault.{ShapeFault}
 use Rattle.metadata.specs.declared.documents.ShapeFault.TheVariants.{OutOfMemory}
-use Rattle.metadata.specs.Documents.{Root, Timestamp, Snapshot, Targets}
+use Rattle.metadata.specs.Documents.{Root, Targets}
 use Rattle.metadata.specs.File.{root_form, timestamp_form, snapshot_form, targets_form}
 use Rattle.delegations.specs.Rows.{Place, Rows}
-use Rattle.machine.specs.State.{Trusted, State, IsRootChain, IsHeldUnder, IsShelfRow, IsState, MeetsTop, first, then, nothing, nothing_trusted, root_version}
+use Rattle.machine.specs.State.{Trusted, State, IsRootChain, IsHeldUnder, IsShelfRow, IsState, MeetsTop, first, then, nothing_trusted, root_version}
 use Rattle.machine.specs.Effects.{Effects, applied, last_or, no_effects}
 use Rattle.machine.specs.steps.Loading.{AreRead, FollowOn, IsChain, RowsAreRead, laid}
 use Rattle.machine.specs.Contents.{contents_of, numbered, root_rows, shelf_rows}

@@ -1,6 +1,6 @@
 -- Which file a target is, line by line.
 use Rattle.std.proofs.Common.{◌≡◌, ℕ, Option, Some, None, Result, Ok, Err, Bor, ap, subst}
-use Rattle.std.specs.Prelude.{IfSome, option_map}
+use Rattle.std.specs.Prelude.{option_map}
 use Rattle.std.specs.Option.{option_copied}
 use Rattle.metadata.specs.Documents.{Root, Snapshot}
 use Rattle.metadata.specs.File.{Bytes, File}

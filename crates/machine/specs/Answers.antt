@@ -1,11 +1,8 @@
 -- What a call's answer says of its order of checks.
-use Rattle.std.specs.Prelude.{◌≡◌, ℕ, Bool, true, false, Result, Ok, Err}
-use Rattle.metadata.specs.File.{fault_number}
+use Rattle.std.specs.Prelude.{◌≡◌, ℕ, Result, Ok, Err}
 use Rattle.denials.specs.Orders as orders
 use Rattle.denials.specs.Orders.{Order, Plain, Same}
-use Rattle.metadata.specs.declared.documents.ShapeFault.{ShapeFault}
-use Rattle.metadata.specs.declared.documents.ShapeFault.TheVariants as shapes
-use Rattle.machine.specs.State.{Trusted, State, IsState}
+use Rattle.machine.specs.State.{State, IsState}
 use Rattle.machine.specs.Commands.{BatchOrder}
 use Rattle.machine.specs.Effects.{applied, brought}
 use Rattle.denials.specs.Views.{denial_view}

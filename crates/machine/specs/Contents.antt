@@ -1,13 +1,9 @@
 -- What the tables of a repository hold.
-use Rattle.std.specs.Prelude.{◌≡◌, ℕ, suc, List, [], ◌∷◌, map, Option, Some, None, option_map}
-use Rattle.std.specs.List.{AllZip}
+use Rattle.std.specs.Prelude.{ℕ, suc, List, [], ◌∷◌, map, option_map}
 use Rattle.contents.specs.Contents.{Contents}
-use Rattle.path_patterns.specs.Grammar.{IsName}
-use Rattle.metadata.specs.Documents.{Root, Timestamp, Snapshot, Targets}
-use Rattle.metadata.specs.File.{Bytes, File, Form, IsFileOf, root_form, timestamp_form, snapshot_form, targets_form}
+use Rattle.metadata.specs.File.{Bytes, File}
 use Rattle.delegations.specs.Rows.{Place, Rows}
 use Rattle.machine.specs.State.{Trusted, State, root_version}
-use Rattle.machine.specs.Effects.{Effects}
 
 abbrev pub root_rows : Trusted → ℕ → List Bytes → List (ℕ × Bytes)
 root_rows T k [] = []

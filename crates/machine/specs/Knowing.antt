@@ -24,15 +24,21 @@ pub record IsKnown (T : Trusted) (table : Table) : Type 0 where
 abbrev pub WantsFew : Trusted → Type 0
 WantsFew T = IfSome T.root (λ root. IfSome T.snapshot (λ snap. AreFew (shelf_of root snap T.shelf)))
 
--- changes carry what is known after them
+-- changes of what is trusted carry what is known after them
+abbrev pub CarriesVerdicts : Trusted → Result Outcome Refusal → Type 0
+CarriesVerdicts T (Ok (outcomes.Changed e)) = IsKnown (brought T (effects_view e)) e.verdicts
+CarriesVerdicts T (Ok outcomes.Same) = Unit {0}
+CarriesVerdicts T (Err refusal) = Unit {0}
+
+abbrev pub BatchCarriesVerdicts : Trusted → Result Batched BatchRefusal → Type 0
+BatchCarriesVerdicts T (Ok b) = IsKnown (brought T (effects_view b.effects)) b.effects.verdicts
+BatchCarriesVerdicts T (Err refusal) = Unit {0}
+
 abbrev pub CarriesKnown : State → Result Outcome Refusal → Type 0
-CarriesKnown S (Ok (outcomes.Changed e)) = IsKnown (brought S.trusted (effects_view e)) e.verdicts
-CarriesKnown S (Ok outcomes.Same) = Unit {0}
-CarriesKnown S (Err refusal) = Unit {0}
+CarriesKnown S r = CarriesVerdicts S.trusted r
 
 abbrev pub BatchCarriesKnown : State → Result Batched BatchRefusal → Type 0
-BatchCarriesKnown S (Ok b) = IsKnown (brought S.trusted (effects_view b.effects)) b.effects.verdicts
-BatchCarriesKnown S (Err refusal) = Unit {0}
+BatchCarriesKnown S r = BatchCarriesVerdicts S.trusted r
 
 -- how many signatures a request for a target checks: where there are a root and a snapshot, at most as many as its search meets of
 -- which nothing is known

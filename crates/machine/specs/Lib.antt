@@ -2,9 +2,11 @@ pub mod Answers
 pub mod Commands
 pub mod Contents
 pub mod Effects
+pub mod Held
 pub mod Room
 pub mod Knowing
 pub mod Runs
+pub mod Serving
 pub mod State
 pub mod Views
 pub mod steps

@@ -1,30 +1,45 @@
 -- What a state is to its callers: what it trusts and holds, how much more can be put there without memory, and what is known of the
 -- signatures on its shelf.
-use Rattle.std.specs.Prelude.{◌≡◌, ℕ, ◌-◌, ◌≤◌, max, min, Bool, true, ◌&&◌, List, [], ◌∷◌, map, length, Option, None, codes, All, IfSome, vec_len, vec_capacity}
-use Rattle.metadata.specs.Documents.{Root, Timestamp, Snapshot}
-use Rattle.metadata.specs.File.{Bytes, File, IsFileOf, root_form, timestamp_form, snapshot_form, targets_form}
-use Rattle.delegations.specs.Delegation.{before}
-use Rattle.delegations.specs.Rows.{Rows, Rises, place_before}
+use Rattle.std.specs.Prelude.{ℕ, ◌-◌, max, min, length, Vec, vec_len, vec_capacity}
+use Rattle.std.specs.declared.alloc.Global.{Global}
 use Rattle.delegations.specs.Verdicts.{Table}
-use Rattle.machine.specs.State.{State, FollowsRoot, MeetsTop, IsBlob, IsShelfRow, dotted, one_file}
-use Rattle.limits.specs.Limits.{most_held}
+use Rattle.machine.specs.State.{State}
 use Rattle.machine.specs.Effects as changes
-use Rattle.machine.specs.Views.{parts_view}
-use Rattle.machine.specs.declared.parts.Parts.{Parts}
+use Rattle.machine.specs.Held.{Held}
+use Rattle.machine.specs.Views.{blob_views, held_view}
+use Rattle.machine.specs.declared.effects.Blob.{Blob}
+use Rattle.machine.specs.declared.parts.BlobLength.{BlobLength}
+use Rattle.machine.specs.declared.parts.Trusted as code
 
 pub record WithRoom : Type 0 where
   pub state : State
   pub room : ℕ
   pub verdicts : Table
 
--- the least number of free places: for roots, for shelf rows, for blobs
-abbrev pub room_of : Parts → ℕ
-room_of p =
-    min (vec_capacity p.trusted.earlier - vec_len p.trusted.earlier)
-    (min (vec_capacity p.trusted.shelf - vec_len p.trusted.shelf) (vec_capacity p.blobs - vec_len p.blobs))
+-- the same of a state whose blobs' bytes are elsewhere
+pub record WithPlaces : Type 0 where
+  pub held : Held
+  pub room : ℕ
+  pub verdicts : Table
 
-abbrev pub with_room : Parts → Table → WithRoom
-with_room p table = record { state = parts_view p; room = room_of p; verdicts = table }
+-- the least number of free places: for roots, for shelf rows, for blobs
+abbrev pub places_in : code.Trusted → Vec BlobLength Global → ℕ
+places_in t blobs =
+    min (vec_capacity t.earlier - vec_len t.earlier) (min (vec_capacity t.shelf - vec_len t.shelf) (vec_capacity blobs - vec_len blobs))
+
+abbrev pub with_places : code.Trusted → Vec BlobLength Global → Table → WithPlaces
+with_places t blobs table = record { held = held_view t blobs.items; room = places_in t blobs; verdicts = table }
+
+-- the state of these blobs
+abbrev pub state_with : WithPlaces → Vec Blob Global → State
+state_with held blobs = record { trusted = held.held.trusted; blobs = blob_views blobs.items }
+
+abbrev pub with_room : WithPlaces → Vec Blob Global → WithRoom
+with_room held blobs = record {
+  state = state_with held blobs;
+  room = min held.room (vec_capacity blobs - vec_len blobs);
+  verdicts = held.verdicts;
+}
 
 -- the most places that changes need: for roots, for shelf rows, for blobs
 abbrev pub places : changes.Effects → ℕ

@@ -1,5 +1,5 @@
 -- What a repository trusts.
-use Rattle.std.specs.Prelude.{◌≡◌, ℕ, suc, ◌+◌, ◌-◌, ◌≤◌, false, List, [], ◌∷◌, ◌++◌, map, length, Option, Some, None, bytes_eq, option_map, unwrap_or, codes, decimal, All, IsTrue, IfSome, IfNone, IsSomeAnd, is_some}
+use Rattle.std.specs.Prelude.{◌≡◌, ℕ, suc, ◌+◌, ◌-◌, ◌≤◌, List, [], ◌∷◌, ◌++◌, map, length, Option, Some, None, bytes_eq, option_map, unwrap_or, codes, decimal, All, IsTrue, IfSome, IfNone, IsSomeAnd, is_some}
 use Rattle.std.specs.List.{AllByRecursion}
 use Rattle.keys_roles.specs.Plain.{RoleRule, look_up}
 use Rattle.metadata.specs.Bodies.{IsListable}

@@ -1,6 +1,6 @@
 -- What the code's states, changes and denials stand for.
 use Rattle.std.specs.Borrow.{Bor}
-use Rattle.std.specs.Prelude.{ℕ, List, [], ◌∷◌, ◌++◌, map, Option, Some, None, option_map, string_bytes}
+use Rattle.std.specs.Prelude.{ℕ, List, [], ◌∷◌, ◌++◌, map, Option, Some, None, option_map}
 use Rattle.metadata.specs.File as spec
 use Rattle.metadata.specs.FileViews.{root_file, timestamp_file, snapshot_file}
 use Rattle.metadata.specs.declared.file.File.{File}
@@ -8,10 +8,12 @@ use Rattle.metadata.specs.declared.documents.Root.{Root}
 use Rattle.delegations.specs.Views.{row_views}
 use Rattle.machine.specs.Commands as commands
 use Rattle.machine.specs.Effects as changes
+use Rattle.machine.specs.Held as holding
 use Rattle.machine.specs.State as plain
 use Rattle.machine.specs.declared.effects.Blob.{Blob}
 use Rattle.machine.specs.declared.effects.Changes.{Changes}
 use Rattle.machine.specs.declared.effects.Effects.{Effects}
+use Rattle.machine.specs.declared.parts.BlobLength.{BlobLength}
 use Rattle.machine.specs.declared.parts.Parts.{Parts}
 use Rattle.machine.specs.declared.parts.Trusted.{Trusted}
 use Rattle.machine.specs.declared.draft.Draft.{Draft}
@@ -32,8 +34,11 @@ changes_view c = record {
   blobs = [];
 }
 
+abbrev pub made_view : Changes → List Blob → changes.Effects
+made_view c blobs = record (changes_view c) { blobs = blob_views blobs }
+
 abbrev pub effects_view : Effects → changes.Effects
-effects_view e = record (changes_view e.changes) { blobs = blob_views e.blobs.items }
+effects_view e = made_view e.changes e.blobs.items
 
 abbrev pub last_bytes : Option (File Root) → List spec.Bytes
 last_bytes None = []
@@ -50,6 +55,12 @@ trusted_view t = record {
 
 abbrev pub parts_view : Parts → plain.State
 parts_view p = record { trusted = trusted_view p.trusted; blobs = blob_views p.blobs.items }
+
+abbrev pub length_views : List BlobLength → List (spec.Bytes × ℕ)
+length_views blobs = map (λ b. (b.digest.0, b.length)) blobs
+
+abbrev pub held_view : Trusted → List BlobLength → holding.Held
+held_view trusted blobs = record { trusted = trusted_view trusted; blobs = length_views blobs }
 
 abbrev pub draft_view : Draft → plain.Trusted
 draft_view d = changes.brought (trusted_view d.base.now) (changes_view d.changes)

@@ -3,4 +3,5 @@ pub mod Carrying
 pub mod Judging
 pub mod Loading
 pub mod NamedFiles
+pub mod Permitting
 pub mod Stored

@@ -2,7 +2,9 @@
 ghost use Rattle.std.specs.Prelude.{◌≡◌, ◌↔◌, cond, ℕ, Result, IsTrue, IfOk, IfErr, length};
 ghost use Rattle.denials.specs.Orders as orders;
 ghost use Rattle.machine.specs.Answers.{AnswersBatch};
-ghost use Rattle.machine.specs.Knowing.{BatchCarriesKnown};
+ghost use Rattle.machine.specs.Held.{OfEachState};
+ghost use Rattle.machine.specs.Knowing.{BatchCarriesKnown, BatchCarriesVerdicts};
+ghost use Rattle.machine.specs.steps.Carrying.{BatchLeavesTrusted};
 ghost use Rattle.machine.specs.steps.Judging.{IsDeniedAt, IsRefusedAt};
 ghost use Rattle.machine.specs.Commands as commands;
 ghost use Rattle.machine.specs.Commands.{Ended};
@@ -13,6 +15,7 @@ use crate::calls::offer_one;
 use crate::compared::are_coherent;
 use crate::draft::Draft;
 use crate::effects::Effects;
+use crate::held::Held;
 use crate::knowing::batch_with_verdicts;
 use crate::laws::stays_valid;
 use crate::outcome::{Batched, Offer};
@@ -34,21 +37,38 @@ pub fn batch(
     ensures answers { AnswersBatch state.now.state (commands.batch state.now.state.trusted (documents_view documents.now) now) result }
     ensures known { BatchCarriesKnown state.now.state result }
 {
-    let batched = judge_batch(alloc, state, documents, now)?;
-    batch_with_verdicts(alloc, state, batched)
+    state.is_valid();
+    state.held().batch(alloc, documents, now)
 }
 
-// Offers documents in order to a state.
+impl Held {
+    /// The same, where the blobs are elsewhere.
+    pub fn batch(
+        &self,
+        alloc: Global,
+        documents: &[(Offer, &[u8])],
+        now: Moment,
+    ) -> Result<Batched, BatchRefusal>
+        ensures answers { OfEachState self.now.held (λ S. AnswersBatch S (commands.batch S.trusted (documents_view documents.now) now) result) }
+        ensures known { BatchCarriesVerdicts self.now.held.trusted result }
+    {
+        let batched = judge_batch(alloc, self, documents, now)?;
+        batch_with_verdicts(alloc, self, batched)
+    }
+}
+
+// Offers documents in order to what is held.
 fn judge_batch(
     alloc: Global,
-    state: &State,
+    held: &Held,
     documents: &[(Offer, &[u8])],
     now: Moment,
 ) -> Result<Batched, BatchRefusal>
-    ensures { AnswersBatch state.now.state (commands.batch state.now.state.trusted (documents_view documents.now) now) result }
+    ensures answers { OfEachState held.now.held (λ S. AnswersBatch S (commands.batch S.trusted (documents_view documents.now) now) result) }
+    ensures trusted { BatchLeavesTrusted held.now.held.trusted result }
 {
     stays_valid();
-    let draft = Draft::new(alloc, state.trusted());
+    let draft = Draft::new(alloc, held.trusted());
     let progress = judge_all(alloc, draft, documents, now)?;
     let Progress {
         draft,

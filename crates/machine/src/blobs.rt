@@ -5,20 +5,23 @@ ghost use Rattle.delegations.specs.Delegation.{before};
 ghost use Rattle.std.specs.List.Sorted.{IsPartitionPoint};
 ghost use Rattle.delegations.specs.Rows.{Rises, with_row};
 ghost use Rattle.machine.specs.Answers.{Answers};
-ghost use Rattle.machine.specs.Knowing.{CarriesKnown};
+ghost use Rattle.machine.specs.Held.{OfEachState, length_at};
+ghost use Rattle.machine.specs.Knowing.{CarriesKnown, CarriesVerdicts};
+ghost use Rattle.machine.specs.steps.Carrying.{LeavesTrusted};
 ghost use Rattle.machine.specs.steps.Judging.{Judges};
 ghost use Rattle.machine.specs.Commands as commands;
 ghost use Rattle.machine.specs.Effects.{no_effects};
 ghost use Rattle.machine.specs.State.{blob_at};
 ghost use Rattle.limits.specs.Limits.{blob_limit, most_held};
-ghost use Rattle.machine.specs.Views.{blob_views, effects_view, parts_view};
+ghost use Rattle.machine.specs.Views.{blob_views, effects_view, length_views};
 
 use crate::checks::are_same;
 use crate::effects::{Blob, Effects};
+use crate::held::Held;
 use crate::knowing::with_verdicts;
 use crate::laws::stays_valid;
 use crate::outcome::Outcome;
-use crate::parts::Parts;
+use crate::parts::BlobLength;
 use crate::refusal::Refusal;
 use crate::state::State;
 use crate::taking::is_before;
@@ -39,21 +42,29 @@ pub fn put_blob(
     ensures answers { Answers state.now.state (commands.put_blob state.now.state digest.now.0 bytes.now) result }
     ensures known { CarriesKnown state.now.state result }
 {
-    let outcome = judge_put(alloc, state, digest, bytes)?;
-    with_verdicts(alloc, state, outcome)
+    state.is_valid();
+    state.held().put_blob(alloc, digest, bytes)
 }
 
-// Stores the file of a target in a state.
-fn judge_put(
-    alloc: Global,
-    state: &State,
-    digest: &Digest,
-    bytes: &[u8],
-) -> Result<Outcome, Refusal>
-    ensures { Answers state.now.state (commands.put_blob state.now.state digest.now.0 bytes.now) result }
+impl Held {
+    /// The same, where the blobs are elsewhere.
+    pub fn put_blob(&self, alloc: Global, digest: &Digest, bytes: &[u8]) -> Result<Outcome, Refusal>
+        ensures answers { OfEachState self.now.held (λ S. Answers S (commands.put_blob S digest.now.0 bytes.now) result) }
+        ensures known { CarriesVerdicts self.now.held.trusted result }
+    {
+        let outcome = judge_put(alloc, self, digest, bytes)?;
+        with_verdicts(alloc, self, outcome)
+    }
+}
+
+// Stores the file of a target beside what is held.
+fn judge_put(alloc: Global, held: &Held, digest: &Digest, bytes: &[u8]) -> Result<Outcome, Refusal>
+    ensures answers { OfEachState held.now.held (λ S. Answers S (commands.put_blob S digest.now.0 bytes.now) result) }
+    ensures trusted { LeavesTrusted held.now.held.trusted result }
 {
     stays_valid();
-    if !judge_blob(state.parts(), digest, bytes)? {
+    held.is_valid();
+    if !judge_blob(held, digest, bytes)? {
         return Ok(Outcome::Same);
     }
     let effects = one_blob(alloc, digest, bytes)?;
@@ -86,13 +97,38 @@ fn count_before(blobs: &[Blob], digest: &Digest) -> usize
     )
 }
 
-// Whether a blob is stored, or held already.
-fn judge_blob(parts: &Parts, digest: &Digest, bytes: &[u8]) -> Result<bool, Refusal>
-    requires { Rises before (parts_view parts.now).blobs }
-    ensures { Judges (commands.put_blob (parts_view parts.now) digest.now.0 bytes.now)
-        (record (parts_view parts.now) { blobs = with_row before (parts_view parts.now).blobs digest.now.0 bytes.now }) result }
+/// The length of the blob with this digest, among lengths in the order of their digests.
+pub(crate) fn length_of(lengths: &[BlobLength], digest: &Digest) -> Option<usize>
+    requires { Rises before (length_views lengths.now) }
+    ensures { result ≡ length_at (length_views lengths.now) digest.now.0 }
 {
-    if parts.trusted.root.is_none() {
+    let Some(blob) = lengths.get(lengths_before(lengths, digest)) else {
+        return None;
+    };
+    if !is_same(&blob.digest, digest) {
+        return None;
+    }
+    Some(blob.length)
+}
+
+// How many of the lengths stand before this digest.
+fn lengths_before(lengths: &[BlobLength], digest: &Digest) -> usize
+    requires { Rises before (length_views lengths.now) }
+    ensures { IsPartitionPoint (λ b. before b.digest.0 digest.now.0 ≡ true) (λ b. before b.digest.0 digest.now.0 ≡ false) lengths.now result }
+{
+    lengths.partition_point(
+        |blob: &BlobLength| -> bool
+            ensures { result ≡ before blob.now.digest.0 digest.entry.now.0 }
+        { is_before(&blob.digest.0, &digest.0) },
+    )
+}
+
+// Whether a blob is stored, or held already.
+fn judge_blob(held: &Held, digest: &Digest, bytes: &[u8]) -> Result<bool, Refusal>
+    ensures { OfEachState held.now.held (λ S. Judges (commands.put_blob S digest.now.0 bytes.now)
+        (record S { blobs = with_row before S.blobs digest.now.0 bytes.now }) result) }
+{
+    if held.trusted().root.is_none() {
         return Err(Refusal::Denied(Denial::NoRoot));
     }
     if !is_short(bytes) {
@@ -101,10 +137,10 @@ fn judge_blob(parts: &Parts, digest: &Digest, bytes: &[u8]) -> Result<bool, Refu
     if !is_digest_of(digest, bytes) {
         return Err(Refusal::Denied(Denial::DigestMismatch));
     }
-    if has_blob(&parts.blobs, digest) {
+    if has_blob(held.lengths(), digest) {
         return Ok(false);
     }
-    if !has_room(&parts.blobs) {
+    if !has_room(held.lengths()) {
         return Err(Refusal::Denied(Denial::Full));
     }
     Ok(true)
@@ -131,18 +167,18 @@ pub(crate) fn is_short(bytes: &[u8]) -> bool
 }
 
 // Whether a blob with this digest is held.
-fn has_blob(blobs: &[Blob], digest: &Digest) -> bool
-    requires { Rises before (blob_views blobs.now) }
-    ensures { IsTrue result ↔ IsSome (blob_at (blob_views blobs.now) digest.now.0) }
+fn has_blob(lengths: &[BlobLength], digest: &Digest) -> bool
+    requires { Rises before (length_views lengths.now) }
+    ensures { IsTrue result ↔ IsSome (length_at (length_views lengths.now) digest.now.0) }
 {
-    blob_of(blobs, digest).is_some()
+    length_of(lengths, digest).is_some()
 }
 
 // Whether one more blob may be held.
-fn has_room(blobs: &[Blob]) -> bool
-    ensures { IsTrue result ↔ length (blob_views blobs.now) < most_held }
+fn has_room(lengths: &[BlobLength]) -> bool
+    ensures { IsTrue result ↔ length (length_views lengths.now) < most_held }
 {
-    blobs.len() < MOST_HELD
+    lengths.len() < MOST_HELD
 }
 
 /// Whether the bytes have this digest.

@@ -2,7 +2,9 @@
 ghost use Rattle.std.specs.Prelude.{◌≡◌, ◌∷◌, [], IfOk};
 ghost use Rattle.metadata.specs.FileViews.{root_file};
 ghost use Rattle.machine.specs.Answers.{Answers};
-ghost use Rattle.machine.specs.Knowing.{CarriesKnown};
+ghost use Rattle.machine.specs.Held.{OfEachState};
+ghost use Rattle.machine.specs.Knowing.{CarriesKnown, CarriesVerdicts};
+ghost use Rattle.machine.specs.steps.Carrying.{LeavesTrusted};
 ghost use Rattle.machine.specs.steps.Judging.{Ends};
 ghost use Rattle.machine.specs.Commands as commands;
 ghost use Rattle.machine.specs.Effects.{no_effects, on_state};
@@ -12,6 +14,7 @@ use crate::checks::is_signed;
 use crate::draft::Draft;
 use crate::effects::{Changes, Effects};
 use crate::files::new_root;
+use crate::held::Held;
 use crate::knowing::with_verdicts;
 use crate::laws::stays_valid;
 use crate::outcome::{Offer, Outcome};
@@ -31,16 +34,17 @@ pub fn init(alloc: Global, state: &State, bytes: &[u8]) -> Result<Outcome, Refus
     ensures answers { Answers state.now.state (commands.init state.now.state bytes.now) result }
     ensures known { CarriesKnown state.now.state result }
 {
-    let outcome = judge_first(alloc, state, bytes)?;
-    with_verdicts(alloc, state, outcome)
+    state.is_valid();
+    state.held().init(alloc, bytes)
 }
 
 // Begins the trust with a first root.
-fn judge_first(alloc: Global, state: &State, bytes: &[u8]) -> Result<Outcome, Refusal>
-    ensures { Answers state.now.state (commands.init state.now.state bytes.now) result }
+fn judge_first(alloc: Global, held: &Held, bytes: &[u8]) -> Result<Outcome, Refusal>
+    ensures answers { OfEachState held.now.held (λ S. Answers S (commands.init S bytes.now) result) }
+    ensures trusted { LeavesTrusted held.now.held.trusted result }
 {
     stays_valid();
-    if state.trusted().root.is_some() {
+    if held.trusted().root.is_some() {
         return Err(Refusal::Denied(Denial::RootExists));
     }
     let new = new_root(alloc, bytes)?;
@@ -71,22 +75,49 @@ pub fn offer(
     ensures answers { Answers state.now.state (on_state state.now.state (commands.offer state.now.state.trusted (offer_view offer.now) bytes.now now)) result }
     ensures known { CarriesKnown state.now.state result }
 {
-    let outcome = judge_offer(alloc, state, offer, bytes, now)?;
-    with_verdicts(alloc, state, outcome)
+    state.is_valid();
+    state.held().offer(alloc, offer, bytes, now)
 }
 
-// Offers one document to a state.
+impl Held {
+    /// `init`, where the blobs are elsewhere.
+    pub fn init(&self, alloc: Global, bytes: &[u8]) -> Result<Outcome, Refusal>
+        ensures answers { OfEachState self.now.held (λ S. Answers S (commands.init S bytes.now) result) }
+        ensures known { CarriesVerdicts self.now.held.trusted result }
+    {
+        let outcome = judge_first(alloc, self, bytes)?;
+        with_verdicts(alloc, self, outcome)
+    }
+
+    /// `offer`, where the blobs are elsewhere.
+    pub fn offer(
+        &self,
+        alloc: Global,
+        offer: &Offer,
+        bytes: &[u8],
+        now: Moment,
+    ) -> Result<Outcome, Refusal>
+        ensures answers { OfEachState self.now.held (λ S. Answers S (on_state S (commands.offer S.trusted (offer_view offer.now) bytes.now now)) result) }
+        ensures known { CarriesVerdicts self.now.held.trusted result }
+    {
+        let outcome = judge_offer(alloc, self, offer, bytes, now)?;
+        with_verdicts(alloc, self, outcome)
+    }
+}
+
+// Offers one document to what is held.
 fn judge_offer(
     alloc: Global,
-    state: &State,
+    held: &Held,
     offer: &Offer,
     bytes: &[u8],
     now: Moment,
 ) -> Result<Outcome, Refusal>
-    ensures { Answers state.now.state (on_state state.now.state (commands.offer state.now.state.trusted (offer_view offer.now) bytes.now now)) result }
+    ensures answers { OfEachState held.now.held (λ S. Answers S (on_state S (commands.offer S.trusted (offer_view offer.now) bytes.now now)) result) }
+    ensures trusted { LeavesTrusted held.now.held.trusted result }
 {
     stays_valid();
-    let mut draft = Draft::new(alloc, state.trusted());
+    let mut draft = Draft::new(alloc, held.trusted());
     if !offer_one(alloc, &mut draft, offer, bytes, now)? {
         return Ok(Outcome::Same);
     }

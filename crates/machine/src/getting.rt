@@ -1,5 +1,5 @@
 //! What a target is (TUF 1.0, section 5.7).
-ghost use Rattle.std.specs.Prelude.{◌≡◌, ◌↔◌, ◌-◌, ◌≤◌, ◌<◌, ◌^◌, None, Err, IfSome, IsTrue, length, option_map};
+ghost use Rattle.std.specs.Prelude.{◌≡◌, ◌↔◌, ◌⊎◌, ◌-◌, ◌≤◌, ◌<◌, ◌^◌, None, Some, Err, IfOk, IfSome, IsSome, IsTrue, length, option_map};
 ghost use Rattle.delegations.specs.Delegation.{before};
 ghost use Rattle.delegations.specs.Rows.{Rises, place_before};
 ghost use Rattle.delegations.specs.Search.{search};
@@ -11,15 +11,21 @@ ghost use Rattle.metadata.specs.Views.{listing_view};
 ghost use Rattle.path_patterns.specs.Grammar.{IsTargetPath};
 ghost use Rattle.machine.specs.Answers.{Gives};
 ghost use Rattle.machine.specs.Commands as commands;
+ghost use Rattle.machine.specs.Held.{OfEachState, StandsFor, held_of, length_at, lengths_of};
 ghost use Rattle.machine.specs.Knowing.{ChecksFew, WantsFew};
-ghost use Rattle.machine.specs.Views.{parts_view, trusted_view};
+ghost use Rattle.machine.specs.Serving.{IfDenied, Refuses, Serves};
+ghost use Rattle.machine.specs.State as trust;
+ghost use Rattle.machine.specs.State.{blob_at};
+ghost use Rattle.machine.specs.steps.Permitting.{IsLoaded, IsRefusedSo, bytes_at};
+ghost use Rattle.machine.specs.Views.{length_views, trusted_view};
 
-use crate::blobs::blob_of;
+use crate::blobs::{blob_of, length_of};
 use crate::checks::are_same;
-use crate::effects::Blob;
+use crate::held::Held;
 use crate::liveness::live_snapshot;
-use crate::parts::{Parts, Trusted};
+use crate::parts::{BlobLength, Trusted};
 use crate::refusal::Refusal;
+use crate::serving::{Blobs, GetFault, Served};
 use crate::state::State;
 use delegations::{Found, Rows, SearchDenial, Shelf, Steps, Verdicts, search_with_counted};
 use denials::Denial;
@@ -57,7 +63,9 @@ pub fn get_counted<'a>(
     ensures few { ChecksFew state.now.state.trusted.root state.now.state.trusted.snapshot state.now.state.trusted.shelf state.now.verdicts path.now now (checks.new - checks.old) }
     ensures free { WantsFew state.now.state.trusted → checks.new ≡ checks.old }
 {
-    granted(alloc, state, path, None, now, checks)
+    state.is_valid();
+    let digest = permitted(alloc, state.held(), path, None, now, checks)?;
+    Ok(lent(state, digest))
 }
 
 /// The file of a target that a text names, at a moment, as `get` finds it; and where a digest is asked for, only the file of a
@@ -72,30 +80,141 @@ pub fn target<'a>(
 ) -> Result<&'a [u8], Refusal>
     ensures { Gives (commands.grants state.now.state path.now (option_map (λ d. d.0) asked) now) (λ b. b.now) result }
 {
+    state.is_valid();
+    let digest = permitted_text(alloc, state.held(), path, asked, now)?;
+    Ok(lent(state, digest))
+}
+
+/// What `get` finds, where the blobs are elsewhere: the file, with its digest. Its rules are judged by digest and length before any
+/// bytes are loaded, so a denial loads nothing.
+pub fn get_from<B: Blobs>(
+    alloc: Global,
+    held: &Held,
+    blobs: &mut B,
+    path: &TargetPath,
+    now: Moment,
+) -> Result<Served, GetFault>
+    ensures answer { B.IsHonest blobs.new → (S : trust.State) → StandsFor held.now.held (B.Holds blobs.old) S → Serves S (commands.grants S path.now None now) result }
+    ensures denial { OfEachState held.now.held (λ S. Refuses (commands.grants S path.now None now) result) }
+    ensures unloaded { IfDenied result (blobs.new ≡ blobs.old) }
+    ensures becomes { (blobs.new ≡ blobs.old) ⊎ B.MayBecome blobs.old blobs.new }
+{
+    get_from_counted(alloc, held, blobs, path, now, &mut Steps::new())
+}
+
+/// The same, with the ticks of `get_counted`.
+pub fn get_from_counted<B: Blobs>(
+    alloc: Global,
+    held: &Held,
+    blobs: &mut B,
+    path: &TargetPath,
+    now: Moment,
+    checks: &mut Steps,
+) -> Result<Served, GetFault>
+    requires { checks.old < 2 ^ 63 }
+    ensures answer { B.IsHonest blobs.new → (S : trust.State) → StandsFor held.now.held (B.Holds blobs.old) S → Serves S (commands.grants S path.now None now) result }
+    ensures denial { OfEachState held.now.held (λ S. Refuses (commands.grants S path.now None now) result) }
+    ensures unloaded { IfDenied result (blobs.new ≡ blobs.old) }
+    ensures becomes { (blobs.new ≡ blobs.old) ⊎ B.MayBecome blobs.old blobs.new }
+    ensures grows { checks.old ≤ checks.new }
+    ensures few { ChecksFew held.now.held.trusted.root held.now.held.trusted.snapshot held.now.held.trusted.shelf held.now.verdicts path.now now (checks.new - checks.old) }
+    ensures free { WantsFew held.now.held.trusted → checks.new ≡ checks.old }
+{
+    match permitted(alloc, held, path, None, now, checks) {
+        Ok(digest) => loaded(alloc, blobs, digest),
+        Err(refusal) => Err(refused(refusal)),
+    }
+}
+
+/// What `target` finds, where the blobs are elsewhere, as `get_from` loads it.
+pub fn target_from<B: Blobs>(
+    alloc: Global,
+    held: &Held,
+    blobs: &mut B,
+    path: &str,
+    asked: Option<Digest>,
+    now: Moment,
+) -> Result<Served, GetFault>
+    ensures answer { B.IsHonest blobs.new → (S : trust.State) → StandsFor held.now.held (B.Holds blobs.old) S
+        → Serves S (commands.grants S path.now (option_map (λ d. d.0) asked) now) result }
+    ensures denial { OfEachState held.now.held (λ S. Refuses (commands.grants S path.now (option_map (λ d. d.0) asked) now) result) }
+    ensures unloaded { IfDenied result (blobs.new ≡ blobs.old) }
+    ensures becomes { (blobs.new ≡ blobs.old) ⊎ B.MayBecome blobs.old blobs.new }
+{
+    match permitted_text(alloc, held, path, asked, now) {
+        Ok(digest) => loaded(alloc, blobs, digest),
+        Err(refusal) => Err(refused(refusal)),
+    }
+}
+
+// The digest of the file of a target that a text names.
+fn permitted_text(
+    alloc: Global,
+    held: &Held,
+    path: &str,
+    asked: Option<Digest>,
+    now: Moment,
+) -> Result<Digest, Refusal>
+    ensures answer { OfEachState held.now.held (λ S. Gives (commands.grants S path.now (option_map (λ d. d.0) asked) now) (λ d. bytes_at S d.0) result) }
+    ensures held { IfOk result (λ d. IsSome (length_at held.now.held.blobs d.0)) }
+{
     let Some(path) = TargetPath::read(alloc, path)? else {
         return Err(Refusal::Denied(Denial::BadPath));
     };
-    granted(alloc, state, &path, asked, now, &mut Steps::new())
+    permitted(alloc, held, &path, asked, now, &mut Steps::new())
 }
 
-// The file of a target, with the digest that is asked for, if one is.
-fn granted<'a>(
+// The file of a digest.
+fn loaded<B: Blobs>(alloc: Global, blobs: &mut B, digest: Digest) -> Result<Served, GetFault>
+    ensures loads { IsLoaded (B.IsHonest blobs.new) (B.Holds blobs.old) digest.0 result }
+    ensures becomes { B.MayBecome blobs.old blobs.new }
+{
+    let mut bytes = Vec::new(alloc);
+    match blobs.load(&digest, &mut bytes) {
+        Ok(()) => Ok(Served { digest, bytes }),
+        Err(fault) => Err(GetFault::Load(fault)),
+    }
+}
+
+// The same refusal, of a request that serves nothing.
+fn refused(refusal: Refusal) -> GetFault
+    ensures { IsRefusedSo refusal result }
+{
+    match refusal {
+        Refusal::Denied(denial) => GetFault::Denied(denial),
+        Refusal::OutOfMemory => GetFault::OutOfMemory,
+    }
+}
+
+// The bytes of a state with a digest.
+fn lent(state: &State, digest: Digest) -> &[u8]
+    requires { IsSome (length_at (held_of state.now.state).blobs digest.0) }
+    ensures { blob_at state.now.state.blobs digest.0 ≡ Some result.now }
+{
+    match blob_of(state.blobs(), &digest) {
+        Some(blob) => &blob.bytes,
+        None => unreachable!(),
+    }
+}
+
+// The digest of the file of a target, which is held with the length that the listing says, and is that which is asked for, if one is.
+fn permitted(
     alloc: Global,
-    state: &'a State,
+    held: &Held,
     path: &TargetPath,
     asked: Option<Digest>,
     now: Moment,
     checks: &mut Steps,
-) -> Result<&'a [u8], Refusal>
+) -> Result<Digest, Refusal>
     requires { checks.old < 2 ^ 63 }
-    ensures answer { Gives (commands.grants state.now.state path.now (option_map (λ d. d.0) asked) now) (λ b. b.now) result }
+    ensures answer { OfEachState held.now.held (λ S. Gives (commands.grants S path.now (option_map (λ d. d.0) asked) now) (λ d. bytes_at S d.0) result) }
+    ensures held { IfOk result (λ d. IsSome (length_at held.now.held.blobs d.0)) }
     ensures grows { checks.old ≤ checks.new }
-    ensures few { ChecksFew state.now.state.trusted.root state.now.state.trusted.snapshot state.now.state.trusted.shelf state.now.verdicts path.now now (checks.new - checks.old) }
-    ensures free { WantsFew state.now.state.trusted → checks.new ≡ checks.old }
+    ensures few { ChecksFew held.now.held.trusted.root held.now.held.trusted.snapshot held.now.held.trusted.shelf held.now.verdicts path.now now (checks.new - checks.old) }
+    ensures free { WantsFew held.now.held.trusted → checks.new ≡ checks.old }
 {
     is_path(path);
-    let parts = state.parts();
-    let trusted = &parts.trusted;
+    let trusted = held.trusted();
     let Some(root) = trusted.root.as_ref() else {
         return Err(Refusal::Denied(Denial::NoRoot));
     };
@@ -106,8 +225,8 @@ fn granted<'a>(
         now,
     )?;
     let shelf = Shelf::new(&root.body, &snapshot.body, held_rows(trusted));
-    let found = find(alloc, &shelf, state.verdicts(), path, now, checks)?;
-    asked_blob(alloc, parts, path, found.listing, asked)
+    let found = find(alloc, &shelf, held.verdicts(), path, now, checks)?;
+    asked_digest(held.lengths(), path, found.listing, asked)
 }
 
 // A law, which does nothing: a target's path is one.
@@ -176,22 +295,23 @@ fn missing_role(alloc: Global, role: &str, version: u32) -> Refusal
     }
 }
 
-// The file of a listing, where this has the digest that is asked for.
-fn asked_blob<'a>(
-    alloc: Global,
-    parts: &'a Parts,
+// The digest of a listing, where this is the one that is asked for.
+fn asked_digest(
+    lengths: &[BlobLength],
     path: &TargetPath,
     listing: &Listing,
     asked: Option<Digest>,
-) -> Result<&'a [u8], Refusal>
-    requires { Rises before (parts_view parts.now).blobs }
-    ensures { Gives (commands.asked_blob_of (parts_view parts.now) path.now (listing_view listing.now) (option_map (λ d. d.0) asked)) (λ b. b.now) result }
+) -> Result<Digest, Refusal>
+    requires { Rises before (length_views lengths.now) }
+    ensures answer { (S : trust.State) → lengths_of S.blobs ≡ length_views lengths.now
+        → Gives (commands.asked_blob_of S path.now (listing_view listing.now) (option_map (λ d. d.0) asked)) (λ d. bytes_at S d.0) result }
+    ensures held { IfOk result (λ d. IsSome (length_at (length_views lengths.now) d.0)) }
 {
-    let blob = listed_blob(alloc, parts, path, listing)?;
+    let digest = listed_digest(lengths, path, listing)?;
     if !is_asked(listing, asked) {
         return Err(Refusal::Denied(Denial::DigestMismatch));
     }
-    Ok(blob)
+    Ok(digest)
 }
 
 // Whether the listing has the digest that is asked for, if one is.
@@ -204,30 +324,31 @@ fn is_asked(listing: &Listing, asked: Option<Digest>) -> bool
     }
 }
 
-// The file of a listing.
-fn listed_blob<'a>(
-    alloc: Global,
-    parts: &'a Parts,
+// The digest of a listing, where the file is held with its length.
+fn listed_digest(
+    lengths: &[BlobLength],
     path: &TargetPath,
     listing: &Listing,
-) -> Result<&'a [u8], Refusal>
-    requires { Rises before (parts_view parts.now).blobs }
-    ensures { Gives (commands.blob_of (parts_view parts.now) path.now (listing_view listing.now)) (λ b. b.now) result }
+) -> Result<Digest, Refusal>
+    requires { Rises before (length_views lengths.now) }
+    ensures answer { (S : trust.State) → lengths_of S.blobs ≡ length_views lengths.now
+        → Gives (commands.blob_of S path.now (listing_view listing.now)) (λ d. bytes_at S d.0) result }
+    ensures held { IfOk result (λ d. IsSome (length_at (length_views lengths.now) d.0)) }
 {
-    let Some(blob) = blob_of(&parts.blobs, &listing.digest) else {
+    let Some(length) = length_of(lengths, &listing.digest) else {
         return Err(missing_blob(path, listing));
     };
-    if !has_listed_length(blob, listing) {
+    if !has_listed_length(length, listing) {
         return Err(Refusal::Denied(Denial::BlobLength));
     }
-    Ok(&blob.bytes)
+    Ok(listing.digest)
 }
 
-// Whether the file has the length that the listing says.
-fn has_listed_length(blob: &Blob, listing: &Listing) -> bool
-    ensures { IsTrue result ↔ length blob.now.bytes.items ≡ listing.now.length }
+// Whether the length is the one that the listing says.
+fn has_listed_length(length: usize, listing: &Listing) -> bool
+    ensures { IsTrue result ↔ length ≡ listing.now.length }
 {
-    blob.bytes.len() == listing.length as usize
+    length == listing.length as usize
 }
 
 // The refusal where the file of a listing is missing.

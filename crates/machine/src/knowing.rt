@@ -2,34 +2,34 @@
 ghost use Rattle.std.specs.Prelude.{◌≡◌, ◌≤◌, IfOk, length};
 ghost use Rattle.delegations.specs.Rows.{AllFiles};
 ghost use Rattle.delegations.specs.Verdicts.{AreTrue};
-ghost use Rattle.machine.specs.Effects.{applied};
-ghost use Rattle.machine.specs.Knowing.{BatchCarriesKnown, CarriesKnown, IsKnown};
-ghost use Rattle.machine.specs.State.{IsState, IsTrusted};
-ghost use Rattle.machine.specs.steps.Carrying.{IsSameBatch, IsSameOutcome, MakesState};
+ghost use Rattle.machine.specs.Effects.{brought};
+ghost use Rattle.machine.specs.Knowing.{BatchCarriesVerdicts, CarriesVerdicts, IsKnown};
+ghost use Rattle.machine.specs.State.{IsTrusted};
+ghost use Rattle.machine.specs.steps.Carrying.{IsSameBatch, IsSameOutcome, MakesTrusted};
 ghost use Rattle.machine.specs.Views.{draft_view, effects_view, trusted_view};
 
 use crate::draft::Draft;
 use crate::effects::Effects;
+use crate::held::Held;
 use crate::outcome::{Batched, Outcome};
 use crate::parts::Trusted;
 use crate::refusal::{BatchRefusal, Refusal};
-use crate::state::State;
 use delegations::{Shelf, Verdicts, all_verdicts};
 use std::alloc::{AllocError, Global};
 
 /// An outcome with what is known after it.
 pub(crate) fn with_verdicts(
     alloc: Global,
-    state: &State,
+    held: &Held,
     outcome: Outcome,
 ) -> Result<Outcome, Refusal>
-    requires { MakesState state.now.state outcome }
+    requires { MakesTrusted held.now.held.trusted outcome }
     ensures same { IsSameOutcome outcome result }
-    ensures known { CarriesKnown state.now.state result }
+    ensures known { CarriesVerdicts held.now.held.trusted result }
 {
     match outcome {
         Outcome::Changed(effects) => {
-            let effects = effects_with_verdicts(alloc, state, effects)?;
+            let effects = effects_with_verdicts(alloc, held, effects)?;
             Ok(Outcome::Changed(effects))
         }
         Outcome::Same => Ok(Outcome::Same),
@@ -39,19 +39,19 @@ pub(crate) fn with_verdicts(
 /// The same of a batch.
 pub(crate) fn batch_with_verdicts(
     alloc: Global,
-    state: &State,
+    held: &Held,
     batched: Batched,
 ) -> Result<Batched, BatchRefusal>
-    requires { IsState (applied state.now.state (effects_view batched.effects)) }
+    requires { IsTrusted (brought held.now.held.trusted (effects_view batched.effects)) }
     ensures same { IsSameBatch batched result }
-    ensures known { BatchCarriesKnown state.now.state result }
+    ensures known { BatchCarriesVerdicts held.now.held.trusted result }
 {
     let Batched {
         effects,
         accepted,
         same,
     } = batched;
-    match effects_with_verdicts(alloc, state, effects) {
+    match effects_with_verdicts(alloc, held, effects) {
         Ok(effects) => Ok(Batched {
             effects,
             accepted,
@@ -61,23 +61,23 @@ pub(crate) fn batch_with_verdicts(
     }
 }
 
-/// The changes with what is known after them. What the state knows of a row that stays is not found out again.
+/// The changes with what is known after them. What is known of a row that stays is not found out again.
 pub(crate) fn effects_with_verdicts(
     alloc: Global,
-    state: &State,
+    held: &Held,
     effects: Effects,
 ) -> Result<Effects, AllocError>
-    requires { IsState (applied state.now.state (effects_view effects)) }
+    requires { IsTrusted (brought held.now.held.trusted (effects_view effects)) }
     ensures same { IfOk result (λ e. effects_view e ≡ effects_view effects) }
-    ensures known { IfOk result (λ e. IsKnown (applied state.now.state (effects_view effects)).trusted e.verdicts) }
+    ensures known { IfOk result (λ e. IsKnown (brought held.now.held.trusted (effects_view effects)) e.verdicts) }
 {
     let Effects {
         changes,
         blobs,
         verdicts: _,
     } = effects;
-    let draft = Draft::over(state.trusted(), changes);
-    let verdicts = draft_verdicts(alloc, &draft, state.verdicts())?;
+    let draft = Draft::over(held.trusted(), changes);
+    let verdicts = draft_verdicts(alloc, &draft, held.verdicts())?;
     Ok(Effects {
         changes: draft.into_changes(),
         blobs,

@@ -6,6 +6,7 @@ ghost use Rattle.machine.specs.State.{Trusted, State, IsTrusted, IsState, nothin
 ghost use Rattle.machine.specs.Commands.{Offer, Batched, init, offer, batch, put_blob, grants};
 ghost use Rattle.machine.specs.Contents.{contents_of, root_rows};
 ghost use Rattle.machine.specs.Effects.{Effects, applied};
+ghost use Rattle.machine.specs.Held.{IsHeld, held_of, held_with};
 ghost use Rattle.machine.specs.Runs.{Command, Reply, Outcome, Steps, Runs, StaysCoherent};
 
 use metadata::{one_document, one_shape, snapshot_names};
@@ -55,4 +56,14 @@ pub fn rows_stay()
 {
     one_document();
     one_shape();
+}
+
+/// A law, which does nothing: without its blobs' bytes, a valid state is valid as what is held, and so is what a command leaves of it;
+/// changes make of what is held what they make of the state.
+pub fn held_follows()
+    ensures valid { (S : State) → IsState S → IsHeld (held_of S) }
+    ensures applied { (S : State) (E : Effects) → held_of (applied S E) ≡ held_with (held_of S) E }
+    ensures steps { (S T : State) (c : Command) (now : ℕ) (reply : Reply) → IsState S → Steps S c now (T, reply) → IsHeld (held_of T) }
+{
+    stays_valid();
 }

@@ -10,6 +10,7 @@ mod draft;
 mod effects;
 mod files;
 mod getting;
+mod held;
 mod knowing;
 mod laws;
 mod liveness;
@@ -19,6 +20,7 @@ mod outcome;
 mod parts;
 mod refusal;
 mod roots;
+mod serving;
 mod snapshots;
 mod state;
 mod stored;
@@ -36,11 +38,16 @@ pub use delegations::{
 };
 pub use denials::Denial;
 pub use effects::{Blob, Changes, Effects};
-pub use getting::{get, get_counted, target};
-pub use laws::{nothing_is_valid, one_judgement, rows_stay, stays_coherent, stays_valid};
+pub use getting::{get, get_counted, get_from, get_from_counted, target, target_from};
+pub use held::Held;
+pub use laws::{
+    held_follows, nothing_is_valid, one_judgement, rows_stay, stays_coherent, stays_valid,
+};
 pub use metadata::{Digest, Timestamp};
 pub use names::metadata_file;
 pub use outcome::{Batched, Offer, Outcome};
+pub use parts::BlobLength;
 pub use refusal::{BatchRefusal, Refusal};
+pub use serving::{Blobs, GetFault, LoadFault, Served};
 pub use state::State;
 pub use updating::{root_version, snapshot_due};

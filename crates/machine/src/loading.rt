@@ -15,7 +15,7 @@ use crate::checks::is_signed;
 use crate::effects::{Blob, Effects};
 use crate::knowing::trusted_verdicts;
 use crate::state::State;
-use crate::taking::{is_before, laid_parts};
+use crate::taking::{blob_lengths, is_before, laid_parts};
 use delegations::{Row, are_in_order};
 use limits::MOST_HELD;
 use metadata::{File, Root, Snapshot, Timestamp, is_listable, one_document, one_shape};
@@ -268,5 +268,6 @@ pub(crate) fn settle(alloc: Global, files: Effects) -> Result<Option<State>, All
     }
     let parts = laid_parts(alloc, files)?;
     let verdicts = trusted_verdicts(alloc, &parts.trusted)?;
-    Ok(Some(State::of(parts, verdicts)))
+    let lengths = blob_lengths(alloc, &parts.blobs)?;
+    Ok(Some(State::of(parts, lengths, verdicts)))
 }

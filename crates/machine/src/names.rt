@@ -6,6 +6,7 @@ ghost use Rattle.machine.specs.State.{IsTrusted, dotted, metadata_of, root_files
 ghost use Rattle.machine.specs.steps.NamedFiles.{earlier_files, shelf_files, timestamp_files, snapshot_files};
 ghost use Rattle.machine.specs.Views.{trusted_view};
 
+use crate::held::Held;
 use crate::parts::Trusted;
 use crate::state::State;
 use delegations::Row;
@@ -15,18 +16,27 @@ use delegations::Row;
 pub fn metadata_file<'a>(state: &'a State, name: &str) -> Option<&'a [u8]>
     ensures { option_map (λ b. b.now) result ≡ metadata_of state.now.state.trusted name.now }
 {
-    let trusted = state.trusted();
-    let name = name.as_bytes();
-    if let Some(bytes) = timestamp_named(trusted, name) {
-        return Some(bytes);
+    state.held().metadata_file(name)
+}
+
+impl Held {
+    /// The same, where the blobs are elsewhere.
+    pub fn metadata_file(&self, name: &str) -> Option<&[u8]>
+        ensures { option_map (λ b. b.now) result ≡ metadata_of self.now.held.trusted name.now }
+    {
+        let trusted = self.trusted();
+        let name = name.as_bytes();
+        if let Some(bytes) = timestamp_named(trusted, name) {
+            return Some(bytes);
+        }
+        if let Some(bytes) = root_named(trusted, name) {
+            return Some(bytes);
+        }
+        if let Some(bytes) = snapshot_named(trusted, name) {
+            return Some(bytes);
+        }
+        row_named(&trusted.shelf, name)
     }
-    if let Some(bytes) = root_named(trusted, name) {
-        return Some(bytes);
-    }
-    if let Some(bytes) = snapshot_named(trusted, name) {
-        return Some(bytes);
-    }
-    row_named(&trusted.shelf, name)
 }
 
 // What follows these bytes in a name that begins with them.

@@ -2,6 +2,7 @@
 use crate::effects::Blob;
 use delegations::Row;
 use metadata::{File, Root, Snapshot, Timestamp};
+use path_patterns::Digest;
 
 /// The bytes of the roots before the last, the last, the current timestamp and snapshot, the shelf in the order of roles and
 /// versions.
@@ -19,4 +20,11 @@ pub(crate) struct Trusted {
 pub(crate) struct Parts {
     pub trusted: Trusted,
     pub blobs: Vec<Blob>,
+}
+
+/// A blob whose bytes are elsewhere: their digest, and how many they are.
+#[derive(Clone, Copy, Debug)]
+pub struct BlobLength {
+    pub digest: Digest,
+    pub length: usize,
 }

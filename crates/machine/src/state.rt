@@ -2,14 +2,16 @@
 ghost use Rattle.std.specs.Prelude.{◌≡◌, ◌≤◌, ◌<◌, IfOk, OnOk};
 ghost use Rattle.machine.specs.State.{IsState, nothing};
 ghost use Rattle.machine.specs.Effects.{applied};
+ghost use Rattle.machine.specs.Held.{held_of, lengths_of};
 ghost use Rattle.machine.specs.Knowing.{IsKnown};
-ghost use Rattle.machine.specs.Views.{parts_view, effects_view, trusted_view};
-ghost use Rattle.machine.specs.Room.{places, room_of};
+ghost use Rattle.machine.specs.Views.{blob_views, effects_view, length_views, parts_view};
+ghost use Rattle.machine.specs.Room.{places};
 
-use crate::effects::Effects;
+use crate::effects::{Blob, Effects};
+use crate::held::{Held, most_places};
 use crate::laws::nothing_is_valid;
-use crate::parts::{Parts, Trusted};
-use crate::taking::take_all;
+use crate::parts::{BlobLength, Parts};
+use crate::taking::take_blobs;
 use delegations::Verdicts;
 use std::alloc::{AllocError, Global};
 use std::marker::Model;
@@ -18,21 +20,23 @@ use std::marker::Model;
 /// known of the signatures on the shelf: the truth, of each that a search may meet where these are at most 2,048.
 #[derive(Drop)]
 pub struct State {
-    parts: Parts,
-    verdicts: Verdicts,
+    held: Held,
+    blobs: Vec<Blob>,
 }
 
 impl Model for State {
+    ghost use Rattle.std.specs.Prelude.{◌≡◌};
+    ghost use Rattle.machine.specs.Held.{lengths_of};
     ghost use Rattle.machine.specs.Knowing.{IsKnown};
     ghost use Rattle.machine.specs.State.{IsState};
-    ghost use Rattle.machine.specs.Views.{parts_view};
-    ghost use Rattle.machine.specs.Room.{WithRoom, with_room};
+    ghost use Rattle.machine.specs.Views.{blob_views};
+    ghost use Rattle.machine.specs.Room.{WithRoom, state_with, with_room};
 
     ghost Value = { WithRoom };
 
-    ghost view = { λ s. with_room s.parts s.verdicts };
+    ghost view = { λ s. with_room s.held s.blobs };
 
-    ghost invariant = { λ s. (IsState (parts_view s.parts)) × (IsKnown (parts_view s.parts).trusted s.verdicts) };
+    ghost invariant = { λ s. (IsState (state_with s.held s.blobs)) × (lengths_of (blob_views s.blobs.items) ≡ s.held.held.blobs) };
 }
 
 impl State {
@@ -42,18 +46,23 @@ impl State {
     {
         nothing_is_valid();
         State {
-            parts: no_parts(alloc),
-            verdicts: Verdicts::new(alloc),
+            held: Held::new(alloc),
+            blobs: Vec::new(alloc),
         }
     }
 
-    /// The state of these parts, of whose signatures this is known.
-    pub(crate) fn of(parts: Parts, verdicts: Verdicts) -> State
+    /// The state of these parts, whose blobs have these lengths, and of whose signatures this is known.
+    pub(crate) fn of(parts: Parts, lengths: Vec<BlobLength>, verdicts: Verdicts) -> State
         requires valid { IsState (parts_view parts) }
+        requires lengths { length_views lengths.items ≡ lengths_of (parts_view parts).blobs }
         requires known { IsKnown (parts_view parts).trusted verdicts }
         ensures { result.state ≡ parts_view parts }
     {
-        State { parts, verdicts }
+        let Parts { trusted, blobs } = parts;
+        State {
+            held: Held::of(trusted, lengths, verdicts),
+            blobs,
+        }
     }
 
     /// Makes room for these changes. If memory is refused, the state is as before.
@@ -61,7 +70,9 @@ impl State {
         ensures kept { self.new.state ≡ self.old.state }
         ensures room { IfOk result (λ _. places (effects_view effects.now) ≤ self.new.room) }
     {
-        reserve(&mut self.parts, effects)
+        self.held.room(effects)?;
+        self.blobs.reserve(most_places(effects))?;
+        Ok(())
     }
 
     /// Makes these changes, for which there is room. It takes no memory.
@@ -72,71 +83,41 @@ impl State {
         ensures state { self.new.state ≡ applied self.old.state (effects_view effects) }
         ensures verdicts { self.new.verdicts ≡ effects.verdicts }
     {
-        self.verdicts = take_all(&mut self.parts, effects);
+        let Effects {
+            changes,
+            blobs,
+            verdicts,
+        } = effects;
+        self.held.take_beside(changes, &blobs, verdicts);
+        take_blobs(&mut self.blobs, blobs);
+    }
+
+    /// What the state holds beside the bytes of its blobs.
+    pub fn held(&self) -> &Held
+        ensures held { result.now.held ≡ held_of self.now.state }
+        ensures verdicts { result.now.verdicts ≡ self.now.verdicts }
+    {
+        &self.held
     }
 
     /// A law, which does nothing: what a state holds is valid.
     pub fn is_valid(&self)
         ensures { IsState self.now.state }
     {
-        self.parts();
+        self.blobs();
     }
 
     /// A law, which does nothing: what is known of the signatures on the shelf is true, and is all that a search may meet.
     pub fn is_known(&self)
         ensures { IsKnown self.now.state.trusted self.now.verdicts }
     {
-        self.verdicts();
+        self.held.verdicts();
     }
 
-    pub(crate) fn verdicts(&self) -> &Verdicts
-        ensures view { result.now ≡ self.now.verdicts }
-        ensures known { IsKnown self.now.state.trusted self.now.verdicts }
-    {
-        &self.verdicts
-    }
-
-    pub(crate) fn trusted(&self) -> &Trusted
-        ensures view { trusted_view result.now ≡ self.now.state.trusted }
+    pub(crate) fn blobs(&self) -> &[Blob]
+        ensures view { blob_views result.now ≡ self.now.state.blobs }
         ensures valid { IsState self.now.state }
     {
-        &self.parts.trusted
+        &self.blobs
     }
-
-    pub(crate) fn parts(&self) -> &Parts
-        ensures view { parts_view result.now ≡ self.now.state }
-        ensures valid { IsState self.now.state }
-    {
-        &self.parts
-    }
-}
-
-pub(crate) fn no_parts(alloc: Global) -> Parts
-    ensures { parts_view result ≡ nothing }
-{
-    Parts {
-        trusted: Trusted {
-            earlier: Vec::new(alloc),
-            root: None,
-            timestamp: None,
-            snapshot: None,
-            shelf: Vec::new(alloc),
-        },
-        blobs: Vec::new(alloc),
-    }
-}
-
-// Makes room for these changes.
-pub(crate) fn reserve(parts: &mut Parts, effects: &Effects) -> Result<(), AllocError>
-    ensures kept { parts_view parts.new ≡ parts_view parts.old }
-    ensures room { IfOk result (λ _. places (effects_view effects.now) ≤ room_of parts.new) }
-{
-    let roots = effects.changes.roots.len();
-    let rows = effects.changes.rows.len();
-    let blobs = effects.blobs.len();
-    let most = roots.max(rows).max(blobs);
-    parts.trusted.earlier.reserve(most)?;
-    parts.trusted.shelf.reserve(most)?;
-    parts.blobs.reserve(most)?;
-    Ok(())
 }

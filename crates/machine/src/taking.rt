@@ -5,14 +5,14 @@ ghost use Rattle.metadata.specs.FileViews.{targets_file};
 ghost use Rattle.delegations.specs.Delegation.{before};
 ghost use Rattle.delegations.specs.Rows.{with_row, with_rows, place_before};
 ghost use Rattle.delegations.specs.Views.{row_views};
-ghost use Rattle.machine.specs.Effects.{applied, brought, last_or, renewed, with_blobs};
-ghost use Rattle.machine.specs.Views.{parts_view, effects_view, blob_views, changes_view, last_bytes, trusted_view};
-ghost use Rattle.machine.specs.Room.{places, room_of};
+ghost use Rattle.machine.specs.Effects.{brought, last_or, renewed, with_blobs};
+ghost use Rattle.machine.specs.Views.{parts_view, effects_view, blob_views, changes_view, last_bytes, length_views, trusted_view};
+ghost use Rattle.machine.specs.Held.{lengths_of, with_lengths};
 ghost use Rattle.machine.specs.steps.Loading.{laid};
 
 use crate::effects::{Blob, Changes, Effects};
-use crate::parts::{Parts, Trusted};
-use delegations::{Row, Verdicts};
+use crate::parts::{BlobLength, Parts, Trusted};
+use delegations::Row;
 use metadata::{File, Root};
 use path_patterns::{Digest, RoleName};
 use std::alloc::{AllocError, Global};
@@ -178,14 +178,80 @@ fn put_blob(blobs: &mut Vec<Blob>, blob: Blob)
     insert_within(blobs, at, blob);
 }
 
-// Puts blobs there, one after the other.
-fn take_blobs(blobs: &mut Vec<Blob>, more: Vec<Blob>)
+/// Puts blobs there, one after the other.
+pub(crate) fn take_blobs(blobs: &mut Vec<Blob>, more: Vec<Blob>)
     requires { length more.items ≤ vec_capacity blobs.old - vec_len blobs.old }
     ensures { blob_views blobs.new.items ≡ with_blobs (blob_views blobs.old.items) (blob_views more.items) }
 {
     for blob in more {
         put_blob(blobs, blob);
     }
+}
+
+// The index of the first length that stands behind a new one.
+fn later_length(lengths: &[BlobLength], digest: &Digest) -> Option<usize>
+    ensures { result ≡ position (λ b. before digest.now.0 b.digest.0) lengths.now }
+{
+    lengths
+        .iter()
+        .position(|blob| is_before(&digest.0, &blob.digest.0))
+}
+
+// How many lengths stand before a new one.
+fn length_place(lengths: &[BlobLength], digest: &Digest) -> usize
+    ensures within { result ≤ length lengths.now }
+    ensures place { result ≡ position_or_len (λ b. before digest.now.0 b.digest.0) lengths.now }
+{
+    match later_length(lengths, digest) {
+        Some(at) => at,
+        None => lengths.len(),
+    }
+}
+
+// Puts digest and length of one more blob there.
+fn put_length(lengths: &mut Vec<BlobLength>, blob: &Blob)
+    requires { 1 ≤ vec_capacity lengths.old - vec_len lengths.old }
+    ensures rows { length_views lengths.new.items ≡ with_row before (length_views lengths.old.items) blob.now.digest.0 (length blob.now.bytes.items) }
+    ensures room { vec_capacity lengths.old - vec_len lengths.old ≤ (vec_capacity lengths.new - vec_len lengths.new) + 1 }
+{
+    let at = length_place(lengths, &blob.digest);
+    insert_within(lengths, at, length_of_blob(blob));
+}
+
+// Digest and length of a blob.
+fn length_of_blob(blob: &Blob) -> BlobLength
+    ensures digest { result.digest ≡ blob.now.digest }
+    ensures length { result.length ≡ length blob.now.bytes.items }
+{
+    BlobLength {
+        digest: blob.digest,
+        length: blob.bytes.len(),
+    }
+}
+
+/// Puts digest and length of blobs there, one after the other.
+pub(crate) fn take_lengths(lengths: &mut Vec<BlobLength>, more: &[Blob])
+    requires { length more.now ≤ vec_capacity lengths.old - vec_len lengths.old }
+    ensures { length_views lengths.new.items ≡ with_lengths (length_views lengths.old.items) (blob_views more.now) }
+{
+    let mut rest = more;
+    'blobs: while let Some((blob, later)) = rest.split_first() {
+        put_length(lengths, blob);
+        rest = later;
+    }
+}
+
+/// Digest and length of each blob.
+pub(crate) fn blob_lengths(alloc: Global, blobs: &[Blob]) -> Result<Vec<BlobLength>, AllocError>
+    ensures { IfOk result (λ lengths. length_views lengths.items ≡ lengths_of (blob_views blobs.now)) }
+{
+    let mut lengths = Vec::with_capacity(alloc, blobs.len())?;
+    let mut rest = blobs;
+    'blobs: while let Some((blob, later)) = rest.split_first() {
+        lengths.push(length_of_blob(blob))?;
+        rest = later;
+    }
+    Ok(lengths)
 }
 
 /// What is kept of files that are all those of a state. Only the bytes of the roots before the last move.
@@ -214,24 +280,8 @@ pub(crate) fn laid_parts(alloc: Global, files: Effects) -> Result<Parts, AllocEr
     })
 }
 
-/// Puts changes into what is kept, for which there is room. The answer is what is known after them.
-pub(crate) fn take_all(parts: &mut Parts, effects: Effects) -> Verdicts
-    requires { places (effects_view effects) ≤ room_of parts.old }
-    ensures parts { parts_view parts.new ≡ applied (parts_view parts.old) (effects_view effects) }
-    ensures verdicts { result ≡ effects.verdicts }
-{
-    let Effects {
-        changes,
-        blobs,
-        verdicts,
-    } = effects;
-    take_changes(&mut parts.trusted, changes);
-    take_blobs(&mut parts.blobs, blobs);
-    verdicts
-}
-
-// Puts changes into what is trusted.
-fn take_changes(trusted: &mut Trusted, changes: Changes)
+/// Puts changes into what is trusted.
+pub(crate) fn take_changes(trusted: &mut Trusted, changes: Changes)
     requires roots { length changes.roots.items ≤ vec_capacity trusted.old.earlier - vec_len trusted.old.earlier }
     requires rows { length changes.rows.items ≤ vec_capacity trusted.old.shelf - vec_len trusted.old.shelf }
     ensures { trusted_view trusted.new ≡ brought (trusted_view trusted.old) (changes_view changes) }

@@ -5,6 +5,7 @@ ghost use Rattle.machine.specs.State.{IsSnapshotDue, NamesSnapshot};
 ghost use Rattle.machine.specs.Views.{trusted_view};
 
 use crate::checks::names_snapshot;
+use crate::held::Held;
 use crate::parts::Trusted;
 use crate::state::State;
 use metadata::{File, Snapshot, Timestamp};
@@ -13,8 +14,7 @@ use metadata::{File, Snapshot, Timestamp};
 pub fn root_version(state: &State) -> Option<u32>
     ensures { result ≡ option_map (λ root. root.body.version) state.now.state.trusted.root }
 {
-    let root = state.trusted().root.as_ref()?;
-    Some(root.body.version)
+    state.held().root_version()
 }
 
 /// The version of the snapshot that the held timestamp names, and `None` where no timestamp is held or it names the held
@@ -22,14 +22,31 @@ pub fn root_version(state: &State) -> Option<u32>
 pub fn snapshot_due(state: &State) -> Option<u32>
     ensures { IsSnapshotDue state.now.state.trusted result }
 {
-    let trusted = state.trusted();
-    let Some(timestamp) = trusted.timestamp.as_ref() else {
-        return None;
-    };
-    if names_held(timestamp, trusted) {
-        return None;
+    state.held().snapshot_due()
+}
+
+impl Held {
+    /// `root_version`, where the blobs are elsewhere.
+    pub fn root_version(&self) -> Option<u32>
+        ensures { result ≡ option_map (λ root. root.body.version) self.now.held.trusted.root }
+    {
+        let root = self.trusted().root.as_ref()?;
+        Some(root.body.version)
     }
-    Some(timestamp.body.snapshot.version)
+
+    /// `snapshot_due`, where the blobs are elsewhere.
+    pub fn snapshot_due(&self) -> Option<u32>
+        ensures { IsSnapshotDue self.now.held.trusted result }
+    {
+        let trusted = self.trusted();
+        let Some(timestamp) = trusted.timestamp.as_ref() else {
+            return None;
+        };
+        if names_held(timestamp, trusted) {
+            return None;
+        }
+        Some(timestamp.body.snapshot.version)
+    }
 }
 
 // Whether the timestamp names the held snapshot.

@@ -1,7 +1,7 @@
 -- Outcomes that are the same but for what they say is known.
 use Rattle.std.specs.Prelude.{◌≡◌, Result, Ok, Err}
-use Rattle.machine.specs.State.{State, IsState}
-use Rattle.machine.specs.Effects.{applied}
+use Rattle.machine.specs.State.{Trusted, IsTrusted}
+use Rattle.machine.specs.Effects.{brought}
 use Rattle.machine.specs.Views.{effects_view}
 use Rattle.machine.specs.declared.outcome.Outcome.{Outcome}
 use Rattle.machine.specs.declared.outcome.Outcome.TheVariants.{Changed}
@@ -12,10 +12,19 @@ use Rattle.machine.specs.declared.refusal.Refusal.TheVariants.{OutOfMemory}
 use Rattle.machine.specs.declared.refusal.BatchRefusal.{BatchRefusal}
 use Rattle.machine.specs.declared.refusal.BatchRefusal.TheVariants as batches
 
--- the changes make a state
-abbrev pub MakesState : State → Outcome → Type 0
-MakesState S (Changed e) = IsState (applied S (effects_view e))
-MakesState S outcomes.Same = Unit {0}
+-- with the changes made, what is trusted is valid
+abbrev pub MakesTrusted : Trusted → Outcome → Type 0
+MakesTrusted T (Changed e) = IsTrusted (brought T (effects_view e))
+MakesTrusted T outcomes.Same = Unit {0}
+
+-- the same of what a call answers
+abbrev pub LeavesTrusted : Trusted → Result Outcome Refusal → Type 0
+LeavesTrusted T (Ok o) = MakesTrusted T o
+LeavesTrusted T (Err refusal) = Unit {0}
+
+abbrev pub BatchLeavesTrusted : Trusted → Result Batched BatchRefusal → Type 0
+BatchLeavesTrusted T (Ok b) = IsTrusted (brought T (effects_view b.effects))
+BatchLeavesTrusted T (Err refusal) = Unit {0}
 
 -- the same outcome, or want of memory
 abbrev pub IsSameOutcome : Outcome → Result Outcome Refusal → Type 0

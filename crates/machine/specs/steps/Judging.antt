@@ -5,16 +5,9 @@ use Rattle.denials.specs.Orders as orders
 use Rattle.denials.specs.Orders.{Order, Plain, Same}
 use Rattle.metadata.specs.declared.documents.ShapeFault.{ShapeFault}
 use Rattle.metadata.specs.declared.documents.ShapeFault.TheVariants as shapes
-use Rattle.machine.specs.State.{Trusted, State, IsState}
+use Rattle.machine.specs.State.{Trusted}
 use Rattle.machine.specs.Commands.{BatchOrder}
-use Rattle.machine.specs.Effects.{applied, brought}
 use Rattle.denials.specs.Views.{denial_view}
-use Rattle.machine.specs.Views.{effects_view}
-use Rattle.machine.specs.declared.effects.Effects.{Effects}
-use Rattle.machine.specs.declared.outcome.Outcome.{Outcome}
-use Rattle.machine.specs.declared.outcome.Outcome.TheVariants.{Changed}
-use Rattle.machine.specs.declared.outcome.Outcome.TheVariants as outcomes
-use Rattle.machine.specs.declared.outcome.Batched.{Batched}
 use Rattle.machine.specs.declared.refusal.BatchRefusal.{BatchRefusal}
 use Rattle.machine.specs.declared.refusal.BatchRefusal.TheVariants as batches
 use Rattle.denials.specs.declared.denial.Denial.{Denial}

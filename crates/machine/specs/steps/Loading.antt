@@ -1,14 +1,12 @@
 -- What the files of all rows have to be, to be those of a state.
-use Rattle.std.specs.Prelude.{◌≡◌, ℕ, ◌-◌, ◌≤◌, max, min, List, [], ◌∷◌, map, length, Option, None, codes, All, IfSome, vec_len, vec_capacity}
-use Rattle.metadata.specs.Documents.{Root, Timestamp, Snapshot}
+use Rattle.std.specs.Prelude.{◌≡◌, ◌≤◌, List, [], ◌∷◌, map, length, None, All, IfSome}
+use Rattle.metadata.specs.Documents.{Root}
 use Rattle.metadata.specs.File.{Bytes, File, IsFileOf, root_form, timestamp_form, snapshot_form, targets_form}
 use Rattle.delegations.specs.Delegation.{before}
 use Rattle.delegations.specs.Rows.{Rows, Rises, place_before}
-use Rattle.machine.specs.State.{State, FollowsRoot, MeetsTop, IsBlob, IsShelfRow, dotted, one_file}
+use Rattle.machine.specs.State.{State, FollowsRoot, MeetsTop, IsBlob, IsShelfRow}
 use Rattle.limits.specs.Limits.{most_held}
 use Rattle.machine.specs.Effects as changes
-use Rattle.machine.specs.Views.{parts_view}
-use Rattle.machine.specs.declared.parts.Parts.{Parts}
 
 -- what a state says of its blobs alone
 pub record AreBlobs (blobs : List (Bytes × Bytes)) : Type 0 where

@@ -1,14 +1,9 @@
 -- The metadata files under their names, table by table.
-use Rattle.std.specs.Prelude.{◌≡◌, ℕ, ◌-◌, ◌≤◌, max, min, Bool, true, ◌&&◌, List, [], ◌∷◌, map, length, Option, None, codes, All, IfSome, vec_len, vec_capacity}
-use Rattle.metadata.specs.Documents.{Root, Timestamp, Snapshot}
-use Rattle.metadata.specs.File.{Bytes, File, IsFileOf, root_form, timestamp_form, snapshot_form, targets_form}
-use Rattle.delegations.specs.Delegation.{before}
-use Rattle.delegations.specs.Rows.{Rows, Rises, place_before}
-use Rattle.machine.specs.State.{State, FollowsRoot, MeetsTop, IsBlob, IsShelfRow, dotted, one_file}
-use Rattle.limits.specs.Limits.{most_held}
-use Rattle.machine.specs.Effects as changes
-use Rattle.machine.specs.Views.{parts_view}
-use Rattle.machine.specs.declared.parts.Parts.{Parts}
+use Rattle.std.specs.Prelude.{ℕ, ◌-◌, List, [], ◌∷◌, map, length, Option, codes}
+use Rattle.metadata.specs.Documents.{Timestamp, Snapshot}
+use Rattle.metadata.specs.File.{Bytes, File}
+use Rattle.delegations.specs.Rows.{Rows}
+use Rattle.machine.specs.State.{dotted, one_file}
 
 -- the files of the roots before the one with this version, of the shelf, of the timestamp, of the snapshot
 abbrev pub earlier_files : ℕ → List Bytes → List (Bytes × Bytes)

@@ -1,11 +1,10 @@
 -- The files that rows spell.
-use Rattle.std.specs.Prelude.{◌≡◌, ℕ, suc, List, [], ◌∷◌, map, Option, Some, None, option_map}
+use Rattle.std.specs.Prelude.{◌≡◌, ℕ, Option, Some, None}
 use Rattle.std.specs.List.{AllZip}
 use Rattle.path_patterns.specs.Grammar.{IsName}
-use Rattle.metadata.specs.Documents.{Root, Timestamp, Snapshot, Targets}
+use Rattle.metadata.specs.Documents.{Targets}
 use Rattle.metadata.specs.File.{Bytes, File, Form, IsFileOf, root_form, timestamp_form, snapshot_form, targets_form}
-use Rattle.delegations.specs.Rows.{Place, Rows}
-use Rattle.machine.specs.State.{Trusted, State, root_version}
+use Rattle.delegations.specs.Rows.{Place}
 use Rattle.machine.specs.Effects.{Effects}
 use Rattle.machine.specs.Contents.{numbered}
 use Rattle.contents.specs.Contents.{Contents}

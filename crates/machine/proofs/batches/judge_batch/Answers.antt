@@ -13,29 +13,30 @@ use Rattle.machine.specs.Views.{changes_view, effects_view, documents_view, draf
 use Rattle.machine.proofs.BatchOneByOne.{so_far, batch_refused}
 use Rattle.machine.proofs.OrderSteps.{yes, no as not_so}
 use Rattle.machine.proofs.ChangesMake.{trusted_alone}
+use Rattle.machine.proofs.HeldStates.{same_trusted_held, bare}
 use Rattle.machine.proofs.batches.judge_batch.Goals as goal
 
-pub returns-in_err-progress : goal.returns-in_err-progress
-returns-in_err-progress c =
-    let S : State = c.args.state.now.state in
-    let begun : draft_view c.new-draft.result ≡ S.trusted = c.new-draft.ensures.view ∙ c.trusted.ensures.view in
+pub returns-in_err-progress-clause-answers : goal.returns-in_err-progress-clause-answers
+returns-in_err-progress-clause-answers c S valid is =
+    let view : trusted_view c.trusted.result.now ≡ S.trusted = same_trusted_held S is c.trusted.ensures.view in
+    let begun : draft_view c.new-draft.result ≡ S.trusted = c.new-draft.ensures.view ∙ view in
     let p = err_from_is_err_and c.from_residual.result c.from_residual.ensures.1 in
     rw (p.1, p.2) (batch_refused S _ (subst (λ (T : Trusted). IsDeniedAt (commands.batch T (documents_view c.args.documents.now) c.args.now) c.in_err-progress.field-0.0) begun c.in_err-progress.ensures.err))
 
-pub returns-then-not-is_coherent : goal.returns-then-not-is_coherent
-returns-then-not-is_coherent c =
-    let S : State = c.args.state.now.state in
-    let begun : draft_view c.new-draft.result ≡ S.trusted = c.new-draft.ensures.view ∙ c.trusted.ensures.view in
+pub returns-then-not-is_coherent-clause-answers : goal.returns-then-not-is_coherent-clause-answers
+returns-then-not-is_coherent-clause-answers c S valid is =
+    let view : trusted_view c.trusted.result.now ≡ S.trusted = same_trusted_held S is c.trusted.ensures.view in
+    let begun : draft_view c.new-draft.result ≡ S.trusted = c.new-draft.ensures.view ∙ view in
     denied (subst (λ (T : Trusted). commands.batch T (documents_view c.args.documents.now) c.args.now (Err (Plain no.incoherent, length c.args.documents.now))) begun
     (c.in_ok-progress.ensures.ok _ (incoherent (not_so c.if-not-is_coherent.ensures))))
 
-pub returns : goal.returns
-returns c =
-    let S : State = c.args.state.now.state in
+pub returns-clause-answers : goal.returns-clause-answers
+returns-clause-answers c S valid is =
+    let view : trusted_view c.trusted.result.now ≡ S.trusted = same_trusted_held S is c.trusted.ensures.view in
     let E : spec.Effects = effects_view c.of.result in
-    let begun : draft_view c.new-draft.result ≡ S.trusted = c.new-draft.ensures.view ∙ c.trusted.ensures.view in
+    let begun : draft_view c.new-draft.result ≡ S.trusted = c.new-draft.ensures.view ∙ view in
     let base : trusted_view c.in_ok-progress.progress.draft.base.now ≡ S.trusted =
-    ap (λ t. trusted_view t) (c.in_ok-progress.ensures.base ∙ c.new-draft.ensures.base) ∙ c.trusted.ensures.view in
+    ap (λ t. trusted_view t) (c.in_ok-progress.ensures.base ∙ c.new-draft.ensures.base) ∙ view in
     let same : E ≡ changes_view c.in_ok-progress.progress.draft.changes = c.of.ensures ∙ ap (λ d. changes_view d) c.into_changes.ensures in
     let bare : E.blobs ≡ [] = ap (λ (F : spec.Effects). F.blobs) same in
     let left : draft_view c.in_ok-progress.progress.draft ≡ brought S.trusted E =
@@ -44,9 +45,26 @@ returns c =
     subst (λ (T : Trusted). commands.batch S.trusted (documents_view c.args.documents.now) c.args.now (Ok (so_far T c.in_ok-progress.progress.accepted c.in_ok-progress.progress.same))) left
     (subst (λ (T : Trusted). commands.batch T (documents_view c.args.documents.now) c.args.now (Ok (so_far (draft_view c.in_ok-progress.progress.draft) c.in_ok-progress.progress.accepted c.in_ok-progress.progress.same))) begun
     (c.in_ok-progress.ensures.ok _ (coherent (yes c.if-not-is_coherent.ensures)))) in
-    let valid : IsState S = c.trusted.ensures.valid in
     done made (trusted_alone S E bare)
     (subst (λ (U : State). IsState U) (sym (trusted_alone S E bare))
     (c.stays_valid.ensures.trusted S (brought S.trusted E) valid
     (c.stays_valid.ensures.batches S.trusted (documents_view c.args.documents.now) c.args.now _ valid.trusted made)
     (λ there. c.stays_valid.ensures.batch_roots S.trusted (documents_view c.args.documents.now) c.args.now _ valid.trusted made there)))
+
+pub returns-clause-trusted : goal.returns-clause-trusted
+returns-clause-trusted c =
+    let S : State = bare c.args.held.now.held.trusted in
+    let view : trusted_view c.trusted.result.now ≡ S.trusted = c.trusted.ensures.view in
+    let E : spec.Effects = effects_view c.of.result in
+    let begun : draft_view c.new-draft.result ≡ S.trusted = c.new-draft.ensures.view ∙ view in
+    let base : trusted_view c.in_ok-progress.progress.draft.base.now ≡ S.trusted =
+    ap (λ t. trusted_view t) (c.in_ok-progress.ensures.base ∙ c.new-draft.ensures.base) ∙ view in
+    let same : E ≡ changes_view c.in_ok-progress.progress.draft.changes = c.of.ensures ∙ ap (λ d. changes_view d) c.into_changes.ensures in
+    let bare : E.blobs ≡ [] = ap (λ (F : spec.Effects). F.blobs) same in
+    let left : draft_view c.in_ok-progress.progress.draft ≡ brought S.trusted E =
+    ap (λ (T : Trusted). brought T (changes_view c.in_ok-progress.progress.draft.changes)) base ∙ ap (λ (F : spec.Effects). brought S.trusted F) (sym same) in
+    let made : commands.batch S.trusted (documents_view c.args.documents.now) c.args.now (Ok (so_far (brought S.trusted E) c.in_ok-progress.progress.accepted c.in_ok-progress.progress.same)) =
+    subst (λ (T : Trusted). commands.batch S.trusted (documents_view c.args.documents.now) c.args.now (Ok (so_far T c.in_ok-progress.progress.accepted c.in_ok-progress.progress.same))) left
+    (subst (λ (T : Trusted). commands.batch T (documents_view c.args.documents.now) c.args.now (Ok (so_far (draft_view c.in_ok-progress.progress.draft) c.in_ok-progress.progress.accepted c.in_ok-progress.progress.same))) begun
+    (c.in_ok-progress.ensures.ok _ (coherent (yes c.if-not-is_coherent.ensures)))) in
+    c.stays_valid.ensures.batches S.trusted (documents_view c.args.documents.now) c.args.now _ c.trusted.ensures.valid.trusted made

@@ -1,31 +1,63 @@
+use Rattle.std.proofs.Common.{◌≡◌, ◌<◌, ℕ, Ok, Err, true, false, subst}
 use Rattle.metadata.specs.FileViews.{root_file}
 use Rattle.denials.specs.Orders.{pass, decide, holds, fails, differs, same, given}
-use Rattle.machine.specs.steps.Judging.{accepts, keeps, rejects}
+use Rattle.delegations.specs.Delegation.{before}
+use Rattle.delegations.specs.Rows.{with_row}
+use Rattle.limits.specs.Limits.{most_held}
+use Rattle.denials.specs.declared.denial.Denial.TheVariants.{NoRoot, BlobLength, DigestMismatch, Full}
+use Rattle.machine.specs.declared.refusal.Refusal.TheVariants.{Denied}
+use Rattle.machine.specs.Commands.{put_blob}
+use Rattle.machine.specs.Held.{lengths_of}
+use Rattle.machine.specs.State.{State}
+use Rattle.machine.specs.Views.{length_views}
+use Rattle.machine.specs.steps.Judging.{Judges, accepts, keeps, rejects}
 use Rattle.machine.proofs.OrderSteps.{yes, no}
 use Rattle.machine.proofs.OneMoreBlob.{there, not_there}
+use Rattle.machine.proofs.HeldStates.{as_many, is_there, lengths_are, same_trusted_held, seen_so}
 use Rattle.machine.proofs.blobs.judge_blob.Goals as goal
 
 pub returns-then-is_none : goal.returns-then-is_none
-returns-then-is_none c = rejects (not_there root_file _ c.args.parts.now.trusted.root c.if-is_none.ensures)
+returns-then-is_none c S valid is =
+    subst (λ (T : State). Judges (put_blob T c.args.digest.now.0 c.args.bytes.now) (record T { blobs = with_row before T.blobs c.args.digest.now.0 c.args.bytes.now }) (Err (Denied NoRoot)))
+    (seen_so S (same_trusted_held S is c.trusted.ensures.view))
+    (rejects (not_there root_file _ c.trusted.result.now.root c.if-is_none.ensures))
 
 pub returns-then-not-is_short : goal.returns-then-not-is_short
-returns-then-not-is_short c = rejects (there root_file _ c.args.parts.now.trusted.root c.if-is_none.ensures (decide (fails (no c.if-not-is_short.ensures))))
+returns-then-not-is_short c S valid is =
+    subst (λ (T : State). Judges (put_blob T c.args.digest.now.0 c.args.bytes.now) (record T { blobs = with_row before T.blobs c.args.digest.now.0 c.args.bytes.now }) (Err (Denied BlobLength)))
+    (seen_so S (same_trusted_held S is c.trusted.ensures.view))
+    (rejects (there root_file _ c.trusted.result.now.root c.if-is_none.ensures (decide (fails (no c.if-not-is_short.ensures)))))
 
 pub returns-then-not-is_digest_of : goal.returns-then-not-is_digest_of
-returns-then-not-is_digest_of c =
-    rejects (there root_file _ c.args.parts.now.trusted.root c.if-is_none.ensures (pass (holds (yes c.if-not-is_short.ensures)) (decide (fails (no c.if-not-is_digest_of.ensures)))))
+returns-then-not-is_digest_of c S valid is =
+    subst (λ (T : State). Judges (put_blob T c.args.digest.now.0 c.args.bytes.now) (record T { blobs = with_row before T.blobs c.args.digest.now.0 c.args.bytes.now }) (Err (Denied DigestMismatch)))
+    (seen_so S (same_trusted_held S is c.trusted.ensures.view))
+    (rejects (there root_file _ c.trusted.result.now.root c.if-is_none.ensures (pass (holds (yes c.if-not-is_short.ensures)) (decide (fails (no c.if-not-is_digest_of.ensures))))))
 
 pub returns-then-has_blob : goal.returns-then-has_blob
-returns-then-has_blob c =
-    keeps (there root_file _ c.args.parts.now.trusted.root c.if-is_none.ensures (pass (holds (yes c.if-not-is_short.ensures)) (pass (holds (yes c.if-not-is_digest_of.ensures))
-    (decide (same (rw (← c.deref.ensures.value) (yes c.if-has_blob.ensures)))))))
+returns-then-has_blob c S valid is =
+    let at : lengths_of S.blobs ≡ length_views c.lengths.result.now = lengths_are S is c.lengths.ensures.view in
+    subst (λ (T : State). Judges (put_blob T c.args.digest.now.0 c.args.bytes.now) (record T { blobs = with_row before T.blobs c.args.digest.now.0 c.args.bytes.now }) (Ok false))
+    (seen_so S (same_trusted_held S is c.trusted.ensures.view))
+    (keeps (there root_file _ c.trusted.result.now.root c.if-is_none.ensures (pass (holds (yes c.if-not-is_short.ensures)) (pass (holds (yes c.if-not-is_digest_of.ensures))
+    (decide (same ((is_there S c.args.digest.now.0 at).0 (yes c.if-has_blob.ensures))))))))
 
 pub returns-then-not-has_room : goal.returns-then-not-has_room
-returns-then-not-has_room c =
-    rejects (there root_file _ c.args.parts.now.trusted.root c.if-is_none.ensures (pass (holds (yes c.if-not-is_short.ensures)) (pass (holds (yes c.if-not-is_digest_of.ensures))
-    (pass (differs (rw (← c.deref.ensures.value) (no c.if-has_blob.ensures))) (decide (fails (rw (← c.deref-2.ensures.value) (no c.if-not-has_room.ensures))))))))
+returns-then-not-has_room c S valid is =
+    let at : lengths_of S.blobs ≡ length_views c.lengths.result.now = lengths_are S is c.lengths.ensures.view in
+    let at_two : lengths_of S.blobs ≡ length_views c.lengths-2.result.now = lengths_are S is c.lengths-2.ensures.view in
+    subst (λ (T : State). Judges (put_blob T c.args.digest.now.0 c.args.bytes.now) (record T { blobs = with_row before T.blobs c.args.digest.now.0 c.args.bytes.now }) (Err (Denied Full)))
+    (seen_so S (same_trusted_held S is c.trusted.ensures.view))
+    (rejects (there root_file _ c.trusted.result.now.root c.if-is_none.ensures (pass (holds (yes c.if-not-is_short.ensures)) (pass (holds (yes c.if-not-is_digest_of.ensures))
+    (pass (differs (λ h. no c.if-has_blob.ensures ((is_there S c.args.digest.now.0 at).1 h)))
+    (decide (fails (subst (λ (n : ℕ). ¬ (n < most_held)) (as_many S at_two) (no c.if-not-has_room.ensures)))))))))
 
 pub returns : goal.returns
-returns c =
-    accepts (there root_file _ c.args.parts.now.trusted.root c.if-is_none.ensures (pass (holds (yes c.if-not-is_short.ensures)) (pass (holds (yes c.if-not-is_digest_of.ensures))
-    (pass (differs (rw (← c.deref.ensures.value) (no c.if-has_blob.ensures))) (pass (holds (rw (← c.deref-2.ensures.value) (yes c.if-not-has_room.ensures))) given)))))
+returns c S valid is =
+    let at : lengths_of S.blobs ≡ length_views c.lengths.result.now = lengths_are S is c.lengths.ensures.view in
+    let at_two : lengths_of S.blobs ≡ length_views c.lengths-2.result.now = lengths_are S is c.lengths-2.ensures.view in
+    subst (λ (T : State). Judges (put_blob T c.args.digest.now.0 c.args.bytes.now) (record T { blobs = with_row before T.blobs c.args.digest.now.0 c.args.bytes.now }) (Ok true))
+    (seen_so S (same_trusted_held S is c.trusted.ensures.view))
+    (accepts (there root_file _ c.trusted.result.now.root c.if-is_none.ensures (pass (holds (yes c.if-not-is_short.ensures)) (pass (holds (yes c.if-not-is_digest_of.ensures))
+    (pass (differs (λ h. no c.if-has_blob.ensures ((is_there S c.args.digest.now.0 at).1 h)))
+    (pass (holds (subst (λ (n : ℕ). n < most_held) (as_many S at_two) (yes c.if-not-has_room.ensures))) given))))))

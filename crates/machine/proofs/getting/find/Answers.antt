@@ -1,4 +1,3 @@
-use Rattle.std.proofs.Common.{Ok, Err}
 use Rattle.machine.specs.Answers.{gives}
 use Rattle.machine.proofs.TargetFiles.{refused_as}
 use Rattle.machine.proofs.getting.find.Goals as goal

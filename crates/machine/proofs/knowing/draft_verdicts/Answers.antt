@@ -1,4 +1,4 @@
-use Rattle.std.proofs.Common.{◌≡◌, ap, sym, ◌∙◌}
+use Rattle.std.proofs.Common.{ap, sym, ◌∙◌}
 use Rattle.metadata.specs.FileViews.{root_file, snapshot_file}
 use Rattle.delegations.specs.Rows.{Rows}
 use Rattle.delegations.specs.Search.{shelf_of}

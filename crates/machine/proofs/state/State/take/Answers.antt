@@ -1,18 +1,30 @@
-use Rattle.std.proofs.Common.{◌≡◌, sym, ◌∙◌, ap, subst}
-use Rattle.delegations.specs.Verdicts.{Table}
-use Rattle.machine.specs.State.{State, IsState}
-use Rattle.machine.specs.Room.{WithRoom}
+use Rattle.std.proofs.Common.{◌≡◌, ◌∙◌, ℕ, List, ap, refl, sym, subst}
+use Rattle.metadata.specs.File.{Bytes}
+use Rattle.machine.specs.Effects as changes
 use Rattle.machine.specs.Effects.{applied}
-use Rattle.machine.specs.Knowing.{IsKnown}
-use Rattle.machine.specs.Views.{effects_view}
+use Rattle.machine.specs.Held.{Held, IsHeld, held_of, held_with, lengths_of, with_lengths}
+use Rattle.machine.specs.Room.{WithRoom, state_with}
+use Rattle.machine.specs.State.{State, IsState}
+use Rattle.machine.specs.Views.{blob_views, effects_view, made_view}
+use Rattle.machine.specs.declared.effects.Blob.{Blob}
+use Rattle.machine.proofs.HeldStates.{both_held, lengths_with, taken}
 use Rattle.machine.proofs.state.State.take.Goals as goal
+
+pub take_beside-requires-clause-valid : goal.take_beside-requires-clause-valid
+take_beside-requires-clause-valid c =
+    let S : State = state_with c.self.inside.held c.self.inside.blobs in
+    let E : changes.Effects = effects_view c.args.effects in
+    let is : held_of S ≡ c.self.inside.held.held = both_held refl c.self.invariant.1 in
+    subst (λ (bs : List Blob). IsHeld (held_with c.self.inside.held.held (made_view c.args.effects.changes bs))) (sym c.deref.ensures.value)
+    (taken S E is (subst (λ (k : WithRoom). IsState (applied k.state E)) (sym c.self.view_is) c.requires.valid))
 
 pub invariant_of-self : goal.invariant_of-self
 invariant_of-self c =
-    let made = c.take_all.ensures.parts ∙ ap (λ (k : WithRoom). applied k.state (effects_view c.args.effects)) c.self.view_is in (
-      subst IsState (sym made) c.requires.valid,
-      subst (λ (S : State). IsKnown S.trusted c.take_all.result) (sym made) (subst (λ (t : Table). IsKnown (applied c.args.self.now.state (effects_view c.args.effects)).trusted t) (sym c.take_all.ensures.verdicts) c.requires.known),
+    let S : State = state_with c.self.inside.held c.self.inside.blobs in
+    let E : changes.Effects = effects_view c.args.effects in
+    let same : state_with c.take_beside.new.self c.take_blobs.new.blobs ≡ applied S E =
+    λ i. record { trusted = ap (λ (H : Held). H.trusted) c.take_beside.ensures.held i; blobs = c.take_blobs.ensures i } in (
+      subst IsState (sym same) (subst (λ (k : WithRoom). IsState (applied k.state E)) (sym c.self.view_is) c.requires.valid),
+      ap lengths_of c.take_blobs.ensures ∙ lengths_with S.blobs E.blobs ∙ ap (λ (l : List (Bytes × ℕ)). with_lengths l E.blobs) c.self.invariant.1
+          ∙ ap (λ (bs : List Blob). with_lengths c.self.inside.held.held.blobs (blob_views bs)) (sym c.deref.ensures.value) ∙ sym (ap (λ (H : Held). H.blobs) c.take_beside.ensures.held),
     )
-
-pub returns-clause-state : goal.returns-clause-state
-returns-clause-state c = c.take_all.ensures.parts ∙ ap (λ (k : WithRoom). applied k.state (effects_view c.args.effects)) c.self.view_is

@@ -1,0 +1,71 @@
+-- What a request for a target serves from bytes that are elsewhere.
+use Rattle.std.proofs.Common.{◌≡◌, List, [], ◌∷◌, Bool, true, false, Option, Some, None, Result, Ok, Err, refl, sym, ap, ◌∙◌, subst}
+use Rattle.std.proofs.lemmas.Bool.{true≢false}
+use Rattle.std.proofs.lemmas.List.Elements.{recursion_from_All}
+use Rattle.std.proofs.lemmas.Slice.Eq.{bytes_eq-Decides}
+use Rattle.std.specs.Prelude.{◌↔◌, bytes_eq, unwrap_or, IsSome}
+use Rattle.std.specs.List.{AllByRecursion}
+use Rattle.metadata.specs.File.{Bytes}
+use Rattle.denials.specs.Orders.{Order}
+use Rattle.delegations.specs.Rows.{value_at}
+use Rattle.machine.specs.Answers.{Gives, denies as denied, forgoes as forgone}
+use Rattle.machine.specs.Held.{Held, StandsFor, held_of, length_at}
+use Rattle.machine.specs.Serving.{Serves, serves, denies, fails, forgoes}
+use Rattle.machine.specs.State.{State, blob_at}
+use Rattle.machine.specs.steps.Permitting.{IsLoaded, IsRefusedSo, bytes_at}
+use Rattle.machine.specs.declared.refusal.Refusal.{Refusal}
+use Rattle.machine.specs.declared.refusal.Refusal.TheVariants as refusals
+use Rattle.machine.specs.declared.serving.Served.{Served}
+use Rattle.machine.specs.declared.serving.LoadFault.TheVariants.{Missing, Database}
+use Rattle.machine.specs.declared.serving.LoadFault.TheVariants as loads
+use Rattle.machine.specs.declared.serving.GetFault.{GetFault}
+use Rattle.machine.specs.declared.serving.GetFault.TheVariants.{Denied, Load, OutOfMemory}
+use Rattle.machine.proofs.HeldStates.{is_there}
+
+-- an answer that gives nothing is seen in no way
+pub other_view : {A B C : Type 0} {m : Order C} {v : A → C} {w : B → C} {r : Refusal} → Gives m v (Err r) → Gives m w (Err r)
+other_view (denied g) = denied g
+other_view forgone = forgone
+
+-- what is there under a digest
+some_there : (o : Option Bytes) → IsSome o → o ≡ Some (unwrap_or o [])
+some_there (Some b) h = refl
+some_there None h = absurd (true≢false (sym h))
+
+pub bytes_there : {H : Held} (S : State) (digest : Bytes) → held_of S ≡ H → IsSome (length_at H.blobs digest) → blob_at S.blobs digest ≡ Some (bytes_at S digest)
+bytes_there S digest is h = some_there (blob_at S.blobs digest) ((is_there S digest (ap (λ (H : Held). H.blobs) is)).0 h)
+
+-- what is so of each blob is so of that under a digest
+found_so : (P : Bytes → Bytes → Type 0) (rows : List (Bytes × Bytes)) (digest b : Bytes) → AllByRecursion (λ row. P row.0 row.1) rows
+    → value_at bytes_eq rows digest ≡ Some b → P digest b
+found_so P [] digest b all e = absurd cc
+found_so P (row ∷ rows) digest b all e = at (bytes_eq row.0 digest) refl (found_so P rows digest b all.1)
+  where
+    at : (t : Bool) → bytes_eq row.0 digest ≡ t → (value_at bytes_eq rows digest ≡ Some b → P digest b) → P digest b
+    at true is later =
+        subst (λ (d : Bytes). P d b) ((bytes_eq-Decides row.0 digest).0 is)
+        (subst (λ (x : Bytes). P row.0 x) (ap (λ (o : Option Bytes). unwrap_or o b) (rw is at e)) all.0)
+    at false is later = later (rw is at e)
+
+pub served_so : {honest : Type 0} {Holds : Bytes → Bytes → Type 0} {H : Held} {m : Order Bytes} (digest : Bytes) (r : Result Served GetFault) (S : State)
+    → IsLoaded honest Holds digest r → IsSome (length_at H.blobs digest) → honest → StandsFor H Holds S → m (Ok (bytes_at S digest)) → Serves S m r
+served_so {honest} {Holds} {H} {m} digest r S loaded there true_so stands given = by_result r loaded
+  where
+    same : (x : Bytes) → (Holds digest x) ↔ (x ≡ bytes_at S digest)
+    same = found_so (λ d b. (x : Bytes) → (Holds d x) ↔ (x ≡ b)) S.blobs digest (bytes_at S digest)
+        (recursion_from_All (λ b. (x : Bytes) → (Holds b.0 x) ↔ (x ≡ b.1)) S.blobs stands.blobs) (bytes_there S digest stands.held there)
+
+    by_result : (r : Result Served GetFault) → IsLoaded honest Holds digest r → Serves S m r
+    by_result (Ok s) l =
+        let are : s.bytes.items ≡ bytes_at S digest = (same s.bytes.items).0 (l.1 true_so) in
+        serves (subst (λ (b : Bytes). m (Ok b)) (sym are) given)
+        (ap (λ (d : Bytes). blob_at S.blobs d) l.0 ∙ bytes_there S digest stands.held there ∙ ap Some (sym are))
+    by_result (Err (Load Missing)) l = absurd (l true_so (bytes_at S digest) ((same (bytes_at S digest)).1 refl))
+    by_result (Err (Load Database)) l = fails (λ e. absurd cc)
+    by_result (Err (Load loads.OutOfMemory)) l = fails (λ e. absurd cc)
+    by_result (Err (Denied d)) l = absurd l
+    by_result (Err OutOfMemory) l = absurd l
+
+pub refused_serves : {A : Type 0} {S : State} {m : Order Bytes} {v : A → Bytes} (r : Refusal) (f : GetFault) → IsRefusedSo r f → Gives m v (Err r) → Serves S m (Err f)
+refused_serves {S = S} {m = m} (refusals.Denied d) f is (denied g) = subst (λ (f : GetFault). Serves S m (Err f)) (sym is) (denies g)
+refused_serves {S = S} {m = m} refusals.OutOfMemory f is h = subst (λ (f : GetFault). Serves S m (Err f)) (sym is) forgoes
