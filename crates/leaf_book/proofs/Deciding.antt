@@ -1,6 +1,5 @@
 -- Tests, and digits that spell the same bytes.
-use Rattle.std.proofs.Common.{◌≡◌, ℕ, zero, suc, ◌<◌, List, [], ◌∷◌, Bool, true, false, MatchBool, sym, ap, ◌∙◌, refl, arith}
-use Rattle.std.specs.List.{AllByRecursion}
+use Rattle.std.proofs.Common.{◌≡◌, ℕ, List, Bool, true, false, MatchBool, sym, ap, ◌∙◌, refl}
 use Rattle.hex.specs.Hex.{encode_lower, decode_of, IsBytes}
 use Rattle.hex.proofs.HexLemmas.{decode_of-encode_lower}
 
@@ -20,8 +19,3 @@ pub digits_one : (a b : List ℕ) → IsBytes a → IsBytes b → encode_lower a
 digits_one a b bytes bytes' same =
     let ok = sym (decode_of-encode_lower a bytes) ∙ ap decode_of same ∙ decode_of-encode_lower b bytes' in
     cc
-
-pub bytes_at : (bytes : List ℕ) → AllByRecursion (λ b. b < 256) bytes → IsBytes bytes
-bytes_at [] all i = omega arith
-bytes_at (b ∷ bs) all zero = all.0
-bytes_at (b ∷ bs) all (suc i) = bytes_at bs all.1 i

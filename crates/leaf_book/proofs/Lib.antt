@@ -7,4 +7,3 @@ pub mod BookLemmas
 pub mod Autocommit
 pub mod Texts
 pub mod Statements
-pub mod Looks

@@ -1,5 +1,5 @@
 -- What one INSERT outside a transaction does to the book, and one look at it.
-use Rattle.std.proofs.Common.{◌≡◌, inl, inr, ℕ, pos, List, [], ◌∷◌, ◌++◌, true, cond, None, Ok, Err, IsTrue, refl, sym, ap, subst, ◌∙◌}
+use Rattle.std.proofs.Common.{◌≡◌, ◌⊎◌, inl, inr, ℕ, pos, List, [], ◌∷◌, ◌++◌, true, cond, None, Ok, Err, IsTrue, refl, sym, ap, subst, ◌∙◌}
 use Rattle.sqlite.specs.declared.types.Value.TheVariants.{Null, Int, Text, Blob}
 use Rattle.sqlite.specs.Order.{Row}
 use Rattle.sqlite_rules.specs.Edit.{edit_of, next_rowid, put_all, are_fresh}
@@ -15,6 +15,7 @@ use Rattle.sqlite.specs.Effect.{Database}
 use Rattle.sqlite.specs.State.{State, Executes, CommitsBy, IsUnchanged, IsRolledBack}
 use Rattle.sqlite.specs.Listing.{understood}
 use Rattle.sqlite.proofs.Callers.{statement_of, runs_as}
+use Rattle.sql_tables.specs.Described.{table_of}
 use Rattle.sql_tables.proofs.Insert.{inserts_by, enforced}
 use Rattle.sql_tables.proofs.Statements.{cast_int, cast_null}
 use Rattle.lms.specs.declared.Params.{Params}
@@ -63,7 +64,7 @@ puts_leaf limit before after key leaf message t tally b has holds does =
     let db = before.trees in
     let e : Kept = record { key = key; leaf = leaf; message = message } in
     let row : Row = Int (next_rowid (db 2)) ∷ leaf_params key leaf message in
-    let edit = edit_of db (leaf_table 2) [] Chosen 0 ((Null ∷ leaf_params key leaf message) ∷ []) in
+    let edit = edit_of db (table_of leaf_table 2) [] Chosen 0 ((Null ∷ leaf_params key leaf message) ∷ []) in
     let news : edit.news ≡ row ∷ [] = rw (cast_null, cast_int (pos leaf)) refl in
     let fresh : are_fresh (db 2) (row ∷ []) ≡ true = subst (λ n. are_fresh (db 2) n ≡ true) news a.0.fresh in
     let rows : after.trees 2 ≡ put_all (db 2) (row ∷ []) = a.0.rows ∙ ap (put_all (db 2)) news in
@@ -82,7 +83,7 @@ puts_signer limit before after key params t tally b has holds does =
     let db = before.trees in
     let s : Signer = record { key = key; params = params } in
     let row : Row = Int (next_rowid (db 0)) ∷ signer_params key params in
-    let edit = edit_of db (signer_table 0) [] Chosen 0 ((Null ∷ signer_params key params) ∷ []) in
+    let edit = edit_of db (table_of signer_table 0) [] Chosen 0 ((Null ∷ signer_params key params) ∷ []) in
     let news : edit.news ≡ row ∷ [] = rw (cast_null, cast_int (pos (ots_code params.ots)), cast_int (pos (height (signing_type params.height)))) refl in
     let fresh : are_fresh (db 0) (row ∷ []) ≡ true = subst (λ n. are_fresh (db 0) n ≡ true) news a.0.fresh in
     let rows : after.trees 0 ≡ put_all (db 0) (row ∷ []) = a.0.rows ∙ ap (put_all (db 0)) news in
@@ -153,8 +154,9 @@ recorded_back old new b stays back is =
       holds = subst (λ (d : Database). HoldsBook d.trees b) (sym now) is.holds;
     }
 
+pub looked : (old new : State) (b : Book) → IsTrue new.is_open → IsUnchanged old new ⊎ IsRolledBack old new → IsRecorded old b → IsRecorded new b
+looked old new b stays (inl same) is = recorded_same old new b same is
+looked old new b stays (inr back) is = recorded_back old new b stays back is
+
 pub recorded_still : (sql : List ℕ) (params : Row) (old new : State) (error : Error) (b : Book) → IsTrue new.is_open → IsRecorded old b → Executes sql params old new (Err error) → IsRecorded new b
-recorded_still sql params old new error b stays is h = elim (left_by_error sql params old new error h) [
-  | inl same ↦ recorded_same old new b same is
-  | inr back ↦ recorded_back old new b stays back is
-]
+recorded_still sql params old new error b stays is h = looked old new b stays (left_by_error sql params old new error h) is

@@ -1,5 +1,5 @@
 -- What the texts mean.
-use Rattle.std.proofs.Common.{◌≡◌, List, ℕ, [], ◌∷◌, codes, refl}
+use Rattle.std.proofs.Common.{◌≡◌, List, ℕ, zero, suc, [], ◌∷◌, codes, refl, arith}
 use Rattle.sqlite_tied.specs.Compute.{everything}
 use Rattle.sqlite.specs.Term.{Term, lit, col}
 use Rattle.sqlite.specs.Source.TheVariants.{Values}
@@ -8,26 +8,18 @@ use Rattle.sqlite.specs.declared.types.Value.TheVariants.{Null}
 use Rattle.sqlite.specs.Order.{Row, column}
 use Rattle.sqlite.specs.Listing.{understood}
 use Rattle.sqlite.proofs.Callers.{IsPlain, command_of}
-use Rattle.sql_tables.specs.Making.{Makes}
+use Rattle.sql_tables.specs.Described.{AllMake, table_of}
 use Rattle.sql_tables.proofs.Queries.{Reads}
-use Rattle.leaf_book.specs.Schema.{leaf_table, no_schema, signer_schema, signer_table, the_schema}
+use Rattle.leaf_book.specs.Schema.{leaf_table, signer_table, the_schema, two}
 use Rattle.leaf_book.specs.steps.Loading.{three_cells}
 
 -- ---- CREATE TABLE
 
-abbrev pub make_signer : List ℕ
-make_signer = codes "CREATE TABLE signer (key TEXT NOT NULL PRIMARY KEY, ots INTEGER NOT NULL, height INTEGER NOT NULL)"
-
-pub makes_signer : Makes no_schema make_signer signer_schema
+pub all_make : AllMake two
 unfolding understood everything
-makes_signer = (refl, refl, refl, signer_table 0, refl, refl, refl)
-
-abbrev pub make_leaf : List ℕ
-make_leaf = codes "CREATE TABLE leaf (key TEXT NOT NULL, leaf INTEGER NOT NULL, message BLOB NOT NULL, UNIQUE (key, leaf), UNIQUE (key, message))"
-
-pub makes_leaf : Makes signer_schema make_leaf the_schema
-unfolding understood everything
-makes_leaf = (refl, refl, refl, leaf_table 0, refl, refl, refl)
+all_make zero few = ((refl, refl, refl, table_of signer_table 0, refl, refl, refl), refl)
+all_make (suc zero) few = ((refl, refl, refl, table_of leaf_table 0, refl, refl, refl), refl)
+all_make (suc (suc n)) few = absurd (omega (arith, few))
 
 -- ---- INSERT
 

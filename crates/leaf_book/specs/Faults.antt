@@ -3,18 +3,12 @@ use Rattle.std.specs.Prelude.{◌≡◌, ◌⊎◌}
 use Rattle.sqlite.specs.declared.error.Error.{Error}
 use Rattle.sqlite.specs.declared.error.Error.TheVariants.{SqliteFailure}
 use Rattle.sqlite.specs.declared.error.ErrorCode.TheVariants as code
-use Rattle.sqlite_trees.specs.declared.error.StoreError.{StoreError}
-use Rattle.sqlite_trees.specs.declared.error.StoreError.TheVariants as store
 use Rattle.leaf_book.specs.declared.faults.BookFault.{BookFault}
 use Rattle.leaf_book.specs.declared.faults.BookFault.TheVariants.{Database, OutOfMemory}
 
 abbrev pub fault_of : Error → BookFault
 fault_of (SqliteFailure code.OutOfMemory) = OutOfMemory
 fault_of _ = Database
-
-abbrev pub fault_of_store : StoreError → BookFault
-fault_of_store store.OutOfMemory = OutOfMemory
-fault_of_store _ = Database
 
 -- a fault of the database or of memory
 abbrev pub IsOutside : BookFault → Type 0

@@ -6,6 +6,7 @@ use Rattle.sqlite.specs.Effect.{Database, IsDatabase}
 use Rattle.sqlite.specs.State.{State}
 use Rattle.sqlite_trees.specs.Tree.{Trees}
 use Rattle.sqlite_rules.specs.Lists.{Has}
+pub use Rattle.sql_tables.specs.Opening.{IsSettled}
 use Rattle.lms.specs.Parameters.{height, ots_code, signing_type}
 use Rattle.leaf_book.specs.Book.{Book, IsBook, Kept, Signer, no_book}
 use Rattle.leaf_book.specs.Schema.{no_schema, the_schema}
@@ -48,6 +49,6 @@ TreesStand trees b = (db : Database) × (db.trees ≡ trees) × IsDatabase db ×
 abbrev pub HoldsNoBook : Trees → Type 0
 HoldsNoBook trees = (db : Database) × (db.trees ≡ trees) × IsDatabase db × (db.schema ≡ the_schema) × ((b : Book) → IsBook b → HoldsBook db.trees b → ⊥)
 
--- where the connection is open, it sees what was committed
-abbrev pub IsSettled : State → Type 0
-IsSettled s = IsTrue s.is_open → s.now ≡ s.committed
+-- What an opening writes: where there was no table, the rows of the empty book.
+abbrev pub Begins : State → Trees → Type 0
+Begins s trees = IsTrue s.is_open → (s.now.schema ≡ no_schema) × HoldsBook trees no_book

@@ -1,26 +1,36 @@
--- The two tables of the book, as SQL defines them.
-use Rattle.std.specs.Prelude.{[], ◌∷◌, codes, None, ℕ}
+-- The two tables of the book as data, and the schema that they are.
+use Rattle.std.specs.Prelude.{[], ◌∷◌, codes, List}
 use Rattle.sqlite.specs.Schema.{Schema}
-use Rattle.sqlite.specs.Table.{Table}
 use Rattle.sqlite.specs.Kind.TheVariants.{Integer, Text, Any}
-use Rattle.sql_tables.specs.Schema.{required, table, unique_index}
+use Rattle.sql_tables.specs.Described.{Description, schema_of}
+use Rattle.sql_tables.specs.declared.described.Key.TheVariants.{FirstUnique, Absent}
 
-abbrev pub signer_table : ℕ → Table
-signer_table = table (codes "signer") (required (codes "key") Text ∷ required (codes "ots") Integer ∷ required (codes "height") Integer ∷ []) None (1 ∷ []) ((1 ∷ []) ∷ [])
+abbrev pub signer_table : Description
+signer_table = record {
+  name = codes "signer";
+  columns = (codes "key", Text) ∷ (codes "ots", Integer) ∷ (codes "height", Integer) ∷ [];
+  key = FirstUnique;
+  uniques = (1 ∷ [], codes "sqlite_autoindex_signer_1") ∷ [];
+  make = codes "CREATE TABLE signer (key TEXT NOT NULL PRIMARY KEY, ots INTEGER NOT NULL, height INTEGER NOT NULL)";
+  look = codes "SELECT key FROM signer";
+}
 
-abbrev pub leaf_table : ℕ → Table
-leaf_table = table (codes "leaf") (required (codes "key") Text ∷ required (codes "leaf") Integer ∷ required (codes "message") Any ∷ []) None [] ((1 ∷ 2 ∷ []) ∷ (1 ∷ 3 ∷ []) ∷ [])
+abbrev pub leaf_table : Description
+leaf_table = record {
+  name = codes "leaf";
+  columns = (codes "key", Text) ∷ (codes "leaf", Integer) ∷ (codes "message", Any) ∷ [];
+  key = Absent;
+  uniques = (1 ∷ 2 ∷ [], codes "sqlite_autoindex_leaf_1") ∷ (1 ∷ 3 ∷ [], codes "sqlite_autoindex_leaf_2") ∷ [];
+  make = codes "CREATE TABLE leaf (key TEXT NOT NULL, leaf INTEGER NOT NULL, message BLOB NOT NULL, UNIQUE (key, leaf), UNIQUE (key, message))";
+  look = codes "SELECT key FROM leaf";
+}
+
+-- in the order in which they are made
+abbrev pub two : List Description
+two = signer_table ∷ leaf_table ∷ []
+
+abbrev pub the_schema : Schema
+the_schema = schema_of two
 
 abbrev pub no_schema : Schema
 no_schema = record { tables = []; indexes = []; views = [] }
-
--- the first table alone
-abbrev pub signer_schema : Schema
-signer_schema = record { tables = signer_table 0 ∷ []; indexes = unique_index (codes "sqlite_autoindex_signer_1") 1 0 (1 ∷ []) ∷ []; views = [] }
-
-abbrev pub the_schema : Schema
-the_schema = record {
-  tables = signer_table 0 ∷ leaf_table 2 ∷ [];
-  indexes = unique_index (codes "sqlite_autoindex_signer_1") 1 0 (1 ∷ []) ∷ unique_index (codes "sqlite_autoindex_leaf_1") 3 2 (1 ∷ 2 ∷ []) ∷ unique_index (codes "sqlite_autoindex_leaf_2") 4 2 (1 ∷ 3 ∷ []) ∷ [];
-  views = [];
-}

@@ -1,6 +1,5 @@
 //! What can go wrong, and which faults of the database stand for which.
 use sqlite::ErrorCode;
-use sqlite_trees::error::StoreError;
 use std::alloc::{AllocError, AllocFailed};
 use thiserror::Error;
 
@@ -59,21 +58,6 @@ impl From<sqlite::Error> for BookFault {
     fn from(error: sqlite::Error) -> BookFault {
         match error {
             sqlite::Error::SqliteFailure(ErrorCode::OutOfMemory) => BookFault::OutOfMemory,
-            _ => BookFault::Database,
-        }
-    }
-}
-
-// The same of the database's store.
-impl From<StoreError> for BookFault {
-    ghost use Rattle.std.specs.Prelude.{◌≡◌};
-    ghost use Rattle.leaf_book.specs.Faults.{IsOutside, fault_of_store};
-
-    ghost from_gives = { λ error f. (f ≡ fault_of_store error) × IsOutside f };
-
-    fn from(error: StoreError) -> BookFault {
-        match error {
-            StoreError::OutOfMemory => BookFault::OutOfMemory,
             _ => BookFault::Database,
         }
     }

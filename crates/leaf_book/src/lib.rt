@@ -3,6 +3,8 @@
 
 mod book;
 mod cells;
+mod closing;
+mod described;
 mod entries;
 mod faults;
 mod laws;
@@ -13,10 +15,10 @@ mod opening;
 mod parameters;
 mod planning;
 mod reading;
-mod shape;
 mod writing;
 
 pub use book::Book;
+pub use closing::reserve_and_close;
 pub use faults::{BookFault, NoMemory};
 pub use keys_roles::KeyId;
 pub use laws::{never_twice, one_book};

@@ -1,31 +1,18 @@
 //! The making of the tables, and a connection between two transactions.
-ghost use Rattle.std.specs.Prelude.{◌≡◌, ◌⊎◌, false, [], IsTrue, IfErr, IfOk, OnOk};
+ghost use Rattle.std.specs.Prelude.{◌≡◌, ◌⊎◌, false, Ok, [], IsTrue, IfErr, IfOk, OnOk};
 ghost use Rattle.sqlite.specs.State.{HasCleanDisk, KeepsCommit, Survives};
 ghost use Rattle.sqlite.specs.Held.{state};
-ghost use Rattle.sqlite_trees.specs.Tree.{Trees};
-ghost use Rattle.sqlite_catalog.specs.Change.{next_tree};
-ghost use Rattle.sql_tables.specs.Making.{IsMade, Makes};
+ghost use Rattle.sql_tables.specs.Making.{IsMade};
 ghost use Rattle.leaf_book.specs.Book.{no_book};
 ghost use Rattle.leaf_book.specs.Faults.{IsOutside};
 ghost use Rattle.leaf_book.specs.Rows.{HoldsBook, IsRecorded, IsSettled};
 ghost use Rattle.leaf_book.specs.Schema.{no_schema, the_schema};
 ghost use Rattle.leaf_book.specs.steps.Making.{nowhere};
 
+use crate::described::two_tables;
 use crate::faults::BookFault;
 use sqlite::{Alter, Connection, Error, Transaction};
-use sqlite_trees::store::Store;
 use std::alloc::Global;
-
-// Makes one table.
-fn make<S: Alter>(tx: &mut Transaction<'_, S>, sql: &str) -> Result<(), Error>
-    ensures same_reference { tx.new.conn.ghost_name ≡ tx.old.conn.ghost_name }
-    ensures wrote { HasCleanDisk (state S.Store tx.new.conn.now) → (before after : _) → Makes before sql.now after → (rows : Trees) → rows (next_tree before) ≡ [] → IsMade rows before (state S.Store tx.old.conn.now) → OnOk result (IsMade rows after (state S.Store tx.new.conn.now)) }
-    ensures kept { HasCleanDisk (state S.Store tx.new.conn.now) → KeepsCommit (state S.Store tx.old.conn.now) (state S.Store tx.new.conn.now) }
-    ensures survives { Survives (state S.Store tx.old.conn.now) (state S.Store tx.new.conn.now) (λ _. ⊥) }
-{
-    tx.execute(sql, &[])?;
-    Ok(())
-}
 
 // Makes both tables.
 fn make_both<S: Alter>(tx: &mut Transaction<'_, S>) -> Result<(), Error>
@@ -34,14 +21,7 @@ fn make_both<S: Alter>(tx: &mut Transaction<'_, S>) -> Result<(), Error>
     ensures kept { HasCleanDisk (state S.Store tx.new.conn.now) → KeepsCommit (state S.Store tx.old.conn.now) (state S.Store tx.new.conn.now) }
     ensures survives { Survives (state S.Store tx.old.conn.now) (state S.Store tx.new.conn.now) (λ _. ⊥) }
 {
-    make(
-        tx,
-        "CREATE TABLE signer (key TEXT NOT NULL PRIMARY KEY, ots INTEGER NOT NULL, height INTEGER NOT NULL)",
-    )?;
-    make(
-        tx,
-        "CREATE TABLE leaf (key TEXT NOT NULL, leaf INTEGER NOT NULL, message BLOB NOT NULL, UNIQUE (key, leaf), UNIQUE (key, message))",
-    )
+    sql_tables::make_rest(tx, &two_tables(), 0)
 }
 
 // Makes both tables in one transaction, where there is none.
@@ -79,15 +59,8 @@ pub(crate) fn renew<S: Alter + Drop>(
     ensures settled { IfOk result (λ c. HasCleanDisk (state S.Store c) → IsSettled (state S.Store c)) }
     ensures same { IfOk result (λ c. HasCleanDisk (state S.Store c) → IsTrue (state S.Store c).is_open → (state S.Store c).now.trees ≡ (state S.Store conn).committed.trees) }
     ensures autocommit { IfOk result (λ c. c.in_transaction ≡ false) }
+    ensures untouched { conn.in_transaction ≡ false → result ≡ Ok conn }
     ensures fault { IfErr result IsOutside }
 {
-    if conn.is_autocommit() {
-        return Ok(conn);
-    }
-    let mut store = conn.into_store();
-    store.commit()?;
-    match Connection::over(alloc, store) {
-        Ok(conn) => Ok(conn),
-        Err((error, _)) => Err(BookFault::from(error)),
-    }
+    Ok(sql_tables::renew(alloc, conn)?)
 }

@@ -1,19 +1,19 @@
 //! Opening a book: the rows that stand in the tables, or new tables.
-ghost use Rattle.std.specs.Prelude.{◌≡◌, ◌⊎◌, false, Err, IfErr, IfOk, OnOk, IsSomeAnd, IsTrue};
+ghost use Rattle.std.specs.Prelude.{◌≡◌, ◌⊎◌, false, Err, IfErr, IfOk, MatchResult, OnOk, IsSomeAnd, IsTrue};
 ghost use Rattle.sqlite.specs.Held.{state};
 ghost use Rattle.sqlite.specs.State.{HasCleanDisk, IsLive, Survives};
 ghost use Rattle.leaf_book.specs.Book as plain;
 ghost use Rattle.leaf_book.specs.Book.{IsBook, no_book};
-ghost use Rattle.leaf_book.specs.Rows.{HoldsBook, HoldsNoBook, IsRecorded, IsSettled, Stands, TreesStand};
+ghost use Rattle.leaf_book.specs.Rows.{Begins, HoldsBook, HoldsNoBook, IsRecorded, IsSettled, Stands, TreesStand};
 ghost use Rattle.leaf_book.specs.Schema.{no_schema, the_schema};
 ghost use Rattle.leaf_book.specs.Views.{book_view};
 
 use crate::book::Book;
+use crate::described::beginning_of;
 use crate::entries::{Kept, Signer};
 use crate::faults::BookFault;
 use crate::loading::{ask, read};
 use crate::making::{make_book, renew};
-use crate::shape::{is_blank, is_book};
 use sqlite::{Alter, Connection};
 use std::alloc::Global;
 
@@ -48,13 +48,17 @@ impl<S: Alter + Drop> Book<S> {
     }
 
     /// The same as `open`. Where the rows are those of no book, the connection is given back, so that it can be said of every kind
-    /// of disk; `open` says it of those that cannot give a wrong answer, such as one in memory.
+    /// of disk; `open` says it of those that cannot give a wrong answer, such as one in memory. Where no transaction was under way
+    /// the connection is given back on each fault, and whether it opens or not, a crash leaves what it left before, or the empty
+    /// book where there was no table.
     pub fn open_over(alloc: Global, conn: Connection<S>) -> Result<Book<S>, Unopened<S>>
         ensures opened { IfOk result (λ b. HasCleanDisk (state S.Store b.conn) → TreesStand (state S.Store conn).committed.trees b.book) }
         ensures rows { IfOk result (λ b. HasCleanDisk (state S.Store b.conn) → IsRecorded (state S.Store b.conn) b.book) }
         ensures right { IfOk result (λ b. IsBook b.book) }
         ensures damaged { IfErr result (λ u. u.fault ≡ BookFault.Damaged → IsSomeAnd u.conn (λ c. HasCleanDisk (state S.Store c) → HoldsNoBook (state S.Store conn).committed.trees)) }
         ensures fault { IfErr result (λ u. (u.fault ≡ BookFault.Damaged) ⊎ ((u.fault ≡ BookFault.Database) ⊎ (u.fault ≡ BookFault.OutOfMemory))) }
+        ensures crash { conn.in_transaction ≡ false → MatchResult result (λ b. Survives (state S.Store conn) (state S.Store b.conn) (λ trees. Begins (state S.Store conn) trees))
+            (λ u. IsSomeAnd u.conn (λ c. Survives (state S.Store conn) (state S.Store c) (λ trees. Begins (state S.Store conn) trees))) }
     {
         let mut conn = match renew(alloc, conn) {
             Ok(conn) => conn,
@@ -109,11 +113,11 @@ fn prepare<S: Alter>(
     ensures fault { IfErr result (λ f. (f ≡ BookFault.Damaged) ⊎ ((f ≡ BookFault.Database) ⊎ (f ≡ BookFault.OutOfMemory))) }
     ensures crash { Survives (state S.Store conn.old) (state S.Store conn.new) (λ trees. IsTrue (state S.Store conn.old).is_open → ((state S.Store conn.old).now.schema ≡ no_schema) × HoldsBook trees no_book) }
 {
-    let schema = conn.schema();
-    if is_book(schema) {
+    let count = beginning_of(conn.schema());
+    if count == Some(2) {
         return load(alloc, conn);
     }
-    if !is_blank(schema) {
+    if count != Some(0) {
         return Err(BookFault::Database);
     }
     match make_book(conn) {

@@ -11,12 +11,13 @@ ghost use Rattle.leaf_book.specs.Rows.{AreRowsOf, IsLeafFrom, IsSignerFrom};
 ghost use Rattle.leaf_book.specs.Views.{kept_view, signer_view};
 ghost use Rattle.leaf_book.specs.steps.Loading.{AreLeaves, AreSigners, IsAddedLeaf, IsAddedSigner, IsPlace};
 
-use crate::cells::{blob_at, copied, id_of, is_same, number_at, same_id, text_at};
+use crate::cells::{copied, id_of, is_same, same_id};
 use crate::entries::{Kept, Signer};
 use crate::faults::BookFault;
 use crate::parameters::{height_of, leaves_of as leaves_of_tree, ots_of, same_params};
 use crate::planning::params_of;
 use lms::Params;
+use sql_tables::{blob_at, number_at, text_at};
 use sqlite::Row;
 use std::alloc::Global;
 

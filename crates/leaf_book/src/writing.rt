@@ -99,17 +99,6 @@ pub(crate) fn put_signer<S: Alter>(
     Ok(())
 }
 
-// Asks for the key ids that are registered.
-fn look<S: Alter>(conn: &mut Connection<S>) -> Result<(), Error>
-    ensures open { HasCleanDisk (state S.Store conn.new) → OnOk result (IsTrue (state S.Store conn.old).is_open × IsTrue (state S.Store conn.new).is_open) }
-    ensures kept { HasCleanDisk (state S.Store conn.new) → IsTrue (state S.Store conn.new).is_open → (b : Book) → IsRecorded (state S.Store conn.old) b → IsRecorded (state S.Store conn.new) b }
-    ensures was_open { HasCleanDisk (state S.Store conn.new) → IsTrue (state S.Store conn.new).is_open → IsTrue (state S.Store conn.old).is_open }
-    ensures survives { Survives (state S.Store conn.old) (state S.Store conn.new) (λ _. ⊥) }
-{
-    conn.query_all("SELECT key FROM signer", &[])?;
-    Ok(())
-}
-
 /// Whether the connection still answers, by one small query. After a fault has shut it, no answer may be given from memory
 /// alone: a crash may still leave what stood before or after the faulty call.
 pub(crate) fn check_open<S: Alter>(conn: &mut Connection<S>) -> Result<(), BookFault>
@@ -119,6 +108,6 @@ pub(crate) fn check_open<S: Alter>(conn: &mut Connection<S>) -> Result<(), BookF
     ensures survives { Survives (state S.Store conn.old) (state S.Store conn.new) (λ _. ⊥) }
     ensures fault { IfErr result IsOutside }
 {
-    look(conn)?;
+    sql_tables::check_open(conn, "SELECT key FROM signer")?;
     Ok(())
 }

@@ -12,18 +12,17 @@ use Rattle.sqlite.specs.State.{State}
 use Rattle.sqlite.specs.Table.{Table}
 use Rattle.sql_tables.specs.Schema.{counted, is_there}
 use Rattle.sql_tables.specs.Making.{IsMade}
-use Rattle.sql_tables.specs.Described.{AreEmpty, Description, LacksRest, beginning, past_key, table_of, tables_from, tree_from}
+use Rattle.sql_tables.specs.Described.{AreEmpty, Description, LacksRest, beginning, past_table, table_of, tables_from, tree_from}
 use Rattle.sql_tables.proofs.MakingLemmas.{all_then}
-use Rattle.sql_tables.proofs.Shapes.{tables_count, tree_is}
+use Rattle.sql_tables.proofs.Shapes.{tables_count}
 
-pub past_above : (key : List ℕ) (tree : ℕ) → tree < past_key key tree
-past_above [] tree = omega arith
-past_above (k ∷ ks) tree = omega arith
+pub past_above : (d : Description) (tree : ℕ) → tree < past_table d tree
+past_above d tree = omega arith
 
 pub tree_above : (tree : ℕ) (ds : List Description) (n : ℕ) → tree ≤ tree_from tree ds n
 tree_above tree [] n = omega arith
 tree_above tree (d ∷ ds) zero = omega arith
-tree_above tree (d ∷ ds) (suc n) = omega (arith, past_above d.key tree, tree_above (past_key d.key tree) ds n)
+tree_above tree (d ∷ ds) (suc n) = omega (arith, past_above d tree, tree_above (past_table d tree) ds n)
 
 apart : (a b : ℕ) → a < b → (a == b) ≡ false
 apart a b lower = elim (eqb_tells a b) [ inl is ↦ absurd (omega (arith, lower, is.1)) | inr other ↦ other.0 ]
@@ -34,9 +33,9 @@ absent tree ds zero n up few = refl
 absent tree [] (suc count) n up few = refl
 absent tree (d ∷ ds) (suc count) zero up few = absurd (omega (arith, up))
 absent tree (d ∷ ds) (suc count) (suc n) up few =
-    let there = tree_from (past_key d.key tree) ds n in
-    let lower : (table_of d tree).tree < there = omega (arith, tree_is d.key d tree, past_above d.key tree, tree_above (past_key d.key tree) ds n) in
-    ap (λ b. b || is_there (tables_from (past_key d.key tree) (take count ds)) there) (apart (table_of d tree).tree there lower) ∙ absent (past_key d.key tree) ds count n (omega (arith, up)) (omega (arith, few))
+    let there = tree_from (past_table d tree) ds n in
+    let lower : (table_of d tree).tree < there = omega (arith, past_above d tree, tree_above (past_table d tree) ds n) in
+    ap (λ b. b || is_there (tables_from (past_table d tree) (take count ds)) there) (apart (table_of d tree).tree there lower) ∙ absent (past_table d tree) ds count n (omega (arith, up)) (omega (arith, few))
 
 -- what is absent is empty, and what is there is as it is
 pub lacks : (ds : List Description) (count : ℕ) (trees : Trees) → LacksRest ds count (counted (beginning ds count) trees)

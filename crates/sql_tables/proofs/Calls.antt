@@ -1,5 +1,5 @@
 -- What a look at a table answers, and what one call after another leaves.
-use Rattle.std.proofs.Common.{◌≡◌, ◌≢◌, IfOk, inl, inr, ℕ, List, [], None, Some, Option, Ok, Err, Result, IsTrue, refl, sym, ap, subst, ◌∙◌, OnOk}
+use Rattle.std.proofs.Common.{◌≡◌, ◌≢◌, ◌⊎◌, IfOk, inl, inr, ℕ, List, [], None, Some, Option, Ok, Err, Result, IsTrue, refl, sym, ap, subst, ◌∙◌, OnOk}
 use Rattle.std.specs.List.{AllByRecursion}
 use Rattle.sqlite_trees.specs.Tree.{Trees}
 use Rattle.sqlite_rules.specs.Lists.{Has}
@@ -11,14 +11,15 @@ use Rattle.sqlite.specs.Command.TheVariants.{Select}
 use Rattle.sqlite.specs.Effect.{Database}
 use Rattle.sqlite.specs.Listing.{understood}
 use Rattle.sqlite.specs.Order.{Row}
-use Rattle.sqlite.specs.State.{State, Shown, ShowsRows, IsUnchanged, KeepsCommit, QueriesRow, FailsToQuery, FailsToShow, IsNotRun}
+use Rattle.sqlite.specs.State.{State, Shown, ShowsRows, IsUnchanged, IsRolledBack, KeepsCommit, FailsToQuery, FailsToShow, IsNotRun}
 use Rattle.sqlite.specs.Schema.{Schema}
 use Rattle.sqlite.specs.Table.{Table}
 use Rattle.sqlite.specs.Term.{Term}
 use Rattle.sqlite.proofs.Callers.{IsPlain, command_of}
 use Rattle.sql_tables.specs.Making.{Asks, AsksBy, IsMade, every_row}
 use Rattle.sql_tables.proofs.AnswerLemmas.{cells_of}
-use Rattle.sql_tables.proofs.Queries.{loads, loads_same}
+use Rattle.sql_tables.proofs.Queries.{Reads, loads, loads_same}
+use Rattle.sqlite_value.specs.declared.keys.Key.{Key}
 use Rattle.sql_tables.proofs.ItemLemmas.{no_member}
 use Rattle.sqlite.specs.declared.error.Error.{Error}
 
@@ -80,30 +81,37 @@ keeps_then a b c one two = record { was_open = λ stays. one.was_open (two.was_o
 pub unchanged_keeps : (old new : State) → IsUnchanged old new → KeepsCommit old new
 unchanged_keeps old new same = record { was_open = λ _. same.0.was_open; committed = λ _. same.0.committed_is }
 
-pub row_means_open : (sql : _) (params : Row) (old new : State) (row : Row) → QueriesRow sql params old new (Ok row) → IsTrue old.is_open × IsTrue new.is_open
-unfolding QueriesRow Shown
-row_means_open sql params old new row (inl begins) = (begins.1.0.was_open, begins.1.0.is_open)
-row_means_open sql params old new row (inr shown) = go shown.1.0.returning shown.1.2
+-- ---- a look at whether the connection is open
+
+pub shown_open : (sql : List ℕ) (params : Row) (old new : State) (rows : List Row) → Shown sql params old new rows → IsTrue old.is_open × IsTrue new.is_open
+unfolding Shown
+shown_open sql params old new rows shown = go shown.0.returning shown.2
   where
-    go : (r : Option Returning) → ShowsRows old new sql shown.1.0 (timed params shown.1.0.formats shown.1.1.now) shown.0 r → IsTrue old.is_open × IsTrue new.is_open
+    go : (r : Option Returning) → ShowsRows old new sql shown.0 (timed params shown.0.formats shown.1.now) rows r → IsTrue old.is_open × IsTrue new.is_open
     go None it = (it.3.0.was_open, it.3.0.is_open)
     go (Some what) it = (it.1.shown.was_open, it.1.shown.is_open)
 
-pub failed_was_open : (sql : _) (params : Row) (old new : State) (e : Error) → IsTrue new.is_open → QueriesRow sql params old new (Err e) → IsTrue old.is_open
-unfolding QueriesRow FailsToQuery IsNotRun Shown
-failed_was_open sql params old new e stays (inl (inl (inl none))) = none.1.0.was_open
-failed_was_open sql params old new e stays (inl (inl (inr fails))) = fails.3.was_open stays
-failed_was_open sql params old new e stays (inl (inr shows)) = go shows.0.returning shows.2
+pub failed_open : (sql : List ℕ) (params : Row) (old new : State) (e : Error) → IsTrue new.is_open → FailsToQuery sql params old new e → IsTrue old.is_open
+unfolding FailsToQuery IsNotRun
+failed_open sql params old new e stays (inl (inl none)) = none.1.0.was_open
+failed_open sql params old new e stays (inl (inr fails)) = fails.3.was_open stays
+failed_open sql params old new e stays (inr shows) = go shows.0.returning shows.2
   where
     go : (r : Option Returning) → FailsToShow old new sql shows.0 (timed params shows.0.formats shows.1.now) e r → IsTrue old.is_open
     go None it = it.3.0.was_open
     go (Some what) (inl misplaced) = misplaced.1.0.was_open
     go (Some what) (inr fails) = fails.3.was_open stays
-failed_was_open sql params old new e stays (inr nothing) = go nothing.1.0.returning nothing.1.2
-  where
-    go : (r : Option Returning) → ShowsRows old new sql nothing.1.0 (timed params nothing.1.0.formats nothing.1.1.now) [] r → IsTrue old.is_open
-    go None it = it.3.0.was_open
-    go (Some what) it = it.1.shown.was_open
+
+-- a query that fails has changed nothing, or rolled back
+pub failed_quietly : {schema : Schema} {sql : List ℕ} {tree : ℕ} {shown : Row → Row} {keys : List Key} → Reads schema sql tree shown keys
+    → (old new : State) (e : Error) → old.now.schema ≡ schema → FailsToQuery sql [] old new e → IsUnchanged old new ⊎ IsRolledBack old new
+unfolding FailsToQuery IsNotRun
+failed_quietly reads old new e has (inl (inl none)) = inl none.1
+failed_quietly reads old new e has (inl (inr fails)) = inr fails.3
+failed_quietly {sql} reads old new e has (inr shows) =
+    let known = sym shows.1.is ∙ ap (λ s. understood s sql) has in
+    let none : shows.0.returning ≡ None = (subst IsPlain (sym known) reads.plain).0 in
+    inl (subst (FailsToShow old new sql shows.0 (timed [] shows.0.formats shows.1.now) e) none shows.2).3
 
 -- Nothing has changed, whether the connection is open or not.
 pub record Same (old new : State) : Type 0 where

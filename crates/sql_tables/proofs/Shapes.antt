@@ -1,17 +1,18 @@
 -- When a schema is the beginning of a list.
-use Rattle.std.proofs.Common.{subst, ◌≡◌, ◌<◌, ◌≤◌, ℕ, zero, suc, List, [], ◌∷◌, map, length, take, refl, sym, ap, ◌∙◌, arith, slice_index_or}
-use Rattle.std.proofs.lemmas.List.{length-take}
+use Rattle.std.proofs.Common.{◌≡◌, ◌<◌, ◌≤◌, ◌+◌, ◌-◌, ◌++◌, ℕ, zero, suc, List, [], ◌∷◌, map, length, take, drop, refl, sym, ap, ◌∙◌, arith, slice_index_or}
+use Rattle.std.proofs.lemmas.List.{length-map, length-take}
 use Rattle.std.proofs.Math.Seq.{take-length}
 use Rattle.sql_tables.specs.declared.described.Described.{Described}
+use Rattle.sql_tables.specs.declared.described.Key.TheVariants.{Rowid}
 use Rattle.std.specs.List.{AllByRecursion}
 use Rattle.sqlite_trees.specs.Tree.{Trees}
-use Rattle.sql_tables.specs.Described.{at_place, described_view, tree_from, Description, keyed_table, tables_from, past_key, schema_of, beginning, IsBeginning}
+use Rattle.sql_tables.specs.Described.{at_place, described_view, tree_from, Description, indexes_at, indexes_from, tables_from, past_all, past_table, schema_of, beginning, IsBeginning}
 use Rattle.sqlite.specs.Table.{Table}
 use Rattle.sqlite.specs.Schema.{Schema}
 
 pub tables_count : (tree : ℕ) (ds : List Description) → length (tables_from tree ds) ≡ length ds
 tables_count tree [] = refl
-tables_count tree (d ∷ ds) = ap suc (tables_count (past_key d.key tree) ds)
+tables_count tree (d ∷ ds) = ap suc (tables_count (past_table d tree) ds)
 
 -- as many tables as were taken
 pub taken_few : {X : Type 0} (n : ℕ) (xs : List X) → length (take n xs) ≤ length xs
@@ -41,6 +42,35 @@ fits_in ds schema b = omega (arith, taken_few b.0 ds, beginning_count ds b.0 sch
 pub whole_beginning : (ds : List Description) (n : ℕ) → n ≡ length ds → beginning ds n ≡ schema_of ds
 whole_beginning ds n all = ap (beginning ds) all ∙ ap schema_of (take-length ds)
 
+-- ---- trees
+
+pub past_up : (tree : ℕ) (ds : List Description) → tree ≤ past_all tree ds
+past_up tree [] = omega arith
+past_up tree (d ∷ ds) = omega (arith, past_up (past_table d tree) ds)
+
+-- the first tables have no more trees than all
+pub past_taken : (tree : ℕ) (n : ℕ) (ds : List Description) → past_all tree (take n ds) ≤ past_all tree ds
+past_taken tree zero ds = past_up tree ds
+past_taken tree (suc n) [] = omega arith
+past_taken tree (suc n) (d ∷ ds) = past_taken (past_table d tree) n ds
+
+-- where the first of the code's list has its trees
+pub first_fits : (tree : ℕ) (ds : List Described) (d : Described) → 1 ≤ length ds → past_table (described_view (slice_index_or ds 0 d)) tree ≤ past_all tree (map described_view ds)
+first_fits tree [] d some = absurd (omega (arith, some))
+first_fits tree (x ∷ ds) d some = past_up (past_table (described_view x) tree) (map described_view ds)
+
+-- as many UNIQUE in the code's list
+pub first_count : (ds : List Described) (d : Described) → length (described_view (slice_index_or ds 0 d)).uniques ≡ length (slice_index_or ds 0 d).uniques.now
+first_count ds d = length-map (slice_index_or ds 0 d).uniques.now (λ u. (u.0.now, u.1.now))
+
+-- the indexes of the first table, and then those of the others
+pub indexes_split : (tree : ℕ) (ds : List Described) (d : Described) → 1 ≤ length ds
+    → indexes_from tree (map described_view ds) ≡ indexes_at tree (described_view (slice_index_or ds 0 d)).uniques (tree + 1) ++ indexes_from (past_table (described_view (slice_index_or ds 0 d)) tree) (map described_view (take (length ds - 1) (drop 1 ds)))
+indexes_split tree [] d some = absurd (omega (arith, some))
+indexes_split tree (x ∷ ds) d some =
+    let less : length (x ∷ ds) - 1 ≡ length ds = omega arith in
+    ap (λ rest. indexes_at tree (described_view x).uniques (tree + 1) ++ indexes_from (past_table (described_view x) tree) (map described_view rest)) (sym (ap (λ n. take n ds) less ∙ take-length ds))
+
 -- a place of the code's list
 pub at_view : (ds : List Described) (n : ℕ) (d : Described) → n < length ds → at_place (map described_view ds) n ≡ described_view (slice_index_or ds n d)
 at_view [] n d below = absurd (omega (arith, below))
@@ -51,25 +81,21 @@ abbrev pub blank : Described
 blank = record {
   name = record { ref_ptr = (0, 0); now = [] };
   columns = record { ref_ptr = (0, 0); now = [] };
-  key = record { ref_ptr = (0, 0); now = [] };
-  index = record { ref_ptr = (0, 0); now = [] };
+  key = Rowid;
+  uniques = record { ref_ptr = (0, 0); now = [] };
   make = record { ref_ptr = (0, 0); now = [] };
   look = record { ref_ptr = (0, 0); now = [] };
 }
 
 -- ---- rows by tree
 
-pub tree_is : (key : List ℕ) (d : Description) (tree : ℕ) → (keyed_table key d tree).tree ≡ tree
-tree_is [] d tree = refl
-tree_is (k ∷ ks) d tree = refl
-
 pub empty_by_place : (trees : Trees) (tree : ℕ) (ds : List Description) → ((n : ℕ) → n < length ds → trees (tree_from tree ds n) ≡ []) → AllByRecursion (λ (t : Table). trees t.tree ≡ []) (tables_from tree ds)
 empty_by_place trees tree [] each = tt
 empty_by_place trees tree (d ∷ ds) each =
-    (ap trees (tree_is d.key d tree) ∙ each zero (omega arith), empty_by_place trees (past_key d.key tree) ds (λ n below. each (suc n) (omega (arith, below))))
+    (each zero (omega arith), empty_by_place trees (past_table d tree) ds (λ n below. each (suc n) (omega (arith, below))))
 
 -- what is said of the tree of each table
 pub at_each : (P : ℕ → Type 0) (tree : ℕ) (ds : List Description) → AllByRecursion (λ (t : Table). P t.tree) (tables_from tree ds) → (n : ℕ) → n < length ds → P (tree_from tree ds n)
 at_each P tree [] all n few = absurd (omega (arith, few))
-at_each P tree (d ∷ ds) all zero few = subst P (tree_is d.key d tree) all.0
-at_each P tree (d ∷ ds) all (suc n) few = at_each P (past_key d.key tree) ds all.1 n (omega (arith, few))
+at_each P tree (d ∷ ds) all zero few = all.0
+at_each P tree (d ∷ ds) all (suc n) few = at_each P (past_table d tree) ds all.1 n (omega (arith, few))

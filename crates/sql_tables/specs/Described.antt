@@ -1,5 +1,5 @@
 -- Tables as data: a list of descriptions is a schema.
-use Rattle.std.specs.Prelude.{◌≡◌, ◌+◌, ◌<◌, ◌≤◌, ℕ, zero, suc, List, [], ◌∷◌, ◌++◌, None, Some, map, length, take, slice_index_or}
+use Rattle.std.specs.Prelude.{◌≡◌, ◌+◌, ◌<◌, ◌≤◌, ℕ, zero, suc, List, [], ◌∷◌, ◌++◌, Option, None, Some, map, length, take, slice_index_or}
 use Rattle.std.specs.List.{AllByRecursion}
 use Rattle.sqlite.specs.Kind.{Kind}
 use Rattle.sqlite.specs.Table.{Table}
@@ -9,6 +9,8 @@ use Rattle.sqlite_schema.specs.declared.schema.Index.{Index}
 use Rattle.sqlite_trees.specs.Tree.{Trees}
 use Rattle.sqlite_catalog.specs.Change.{next_tree}
 use Rattle.sql_tables.specs.declared.described.Described.{Described}
+use Rattle.sql_tables.specs.declared.described.Key.{Key}
+use Rattle.sql_tables.specs.declared.described.Key.TheVariants.{Rowid, FirstUnique, Absent}
 use Rattle.sql_tables.specs.Schema.{required, table, unique_index}
 use Rattle.sql_tables.specs.Making.{Makes, Asks}
 
@@ -16,8 +18,8 @@ use Rattle.sql_tables.specs.Making.{Makes, Asks}
 pub record Description : Type 0 where
   pub name : List ℕ
   pub columns : List (List ℕ × Kind)
-  pub key : List ℕ
-  pub index : List ℕ
+  pub key : Key
+  pub uniques : List (List ℕ × List ℕ)
   pub make : List ℕ
   pub look : List ℕ
 
@@ -25,8 +27,8 @@ abbrev pub described_view : Described → Description
 described_view d = record {
   name = d.name.now;
   columns = map (λ c. (c.0.now, c.1)) d.columns.now;
-  key = d.key.now;
-  index = d.index.now;
+  key = d.key;
+  uniques = map (λ u. (u.0.now, u.1.now)) d.uniques.now;
   make = d.make.now;
   look = d.look.now;
 }
@@ -36,34 +38,51 @@ described_view d = record {
 abbrev pub columns_of : List (List ℕ × Kind) → List Column
 columns_of columns = map (λ c. required c.0 c.1) columns
 
--- the table at a tree; without a key of its own its first column is the rowid
-abbrev pub keyed_table : List ℕ → Description → ℕ → Table
-keyed_table [] d = table d.name (columns_of d.columns) (Some 0) (0 ∷ []) []
-keyed_table (k ∷ ks) d = table d.name (columns_of d.columns) None (k ∷ ks) ((k ∷ ks) ∷ [])
+-- the column that is the rowid, by its place from 0
+abbrev pub rowid_of : Key → Option ℕ
+rowid_of Rowid = Some 0
+rowid_of FirstUnique = None
+rowid_of Absent = None
 
+-- the columns of the primary key, as SQL counts them: the first is 1, and the rowid is 0
+abbrev pub primary_of : Key → List (List ℕ × List ℕ) → List ℕ
+primary_of Rowid us = 0 ∷ []
+primary_of FirstUnique [] = []
+primary_of FirstUnique (u ∷ us) = u.0
+primary_of Absent us = []
+
+abbrev pub places_of : List (List ℕ × List ℕ) → List (List ℕ)
+places_of us = map (λ u. u.0) us
+
+-- the table at a tree
 abbrev pub table_of : Description → ℕ → Table
-table_of d = keyed_table d.key d
+table_of d = table d.name (columns_of d.columns) (rowid_of d.key) (primary_of d.key d.uniques) (places_of d.uniques)
 
--- a key has an index, at the tree behind that of its table
-abbrev pub keyed_indexes : List ℕ → Description → ℕ → List Index
-keyed_indexes [] d tree = []
-keyed_indexes (k ∷ ks) d tree = unique_index d.index (tree + 1) tree (k ∷ ks) ∷ []
+-- each UNIQUE of a table has an index, at the trees behind that of the table
+abbrev pub indexes_at : ℕ → List (List ℕ × List ℕ) → ℕ → List Index
+indexes_at on [] tree = []
+indexes_at on (u ∷ us) tree = unique_index u.1 tree on u.0 ∷ indexes_at on us (tree + 1)
 
-abbrev pub past_key : List ℕ → ℕ → ℕ
-past_key [] tree = tree + 1
-past_key (k ∷ ks) tree = tree + 2
+-- the tree behind those of the table and its indexes
+abbrev pub past_table : Description → ℕ → ℕ
+past_table d tree = tree + 1 + length d.uniques
 
 abbrev pub tables_from : ℕ → List Description → List Table
 tables_from tree [] = []
-tables_from tree (d ∷ ds) = table_of d tree ∷ tables_from (past_key d.key tree) ds
+tables_from tree (d ∷ ds) = table_of d tree ∷ tables_from (past_table d tree) ds
 
 abbrev pub indexes_from : ℕ → List Description → List Index
 indexes_from tree [] = []
-indexes_from tree (d ∷ ds) = keyed_indexes d.key d tree ++ indexes_from (past_key d.key tree) ds
+indexes_from tree (d ∷ ds) = indexes_at tree d.uniques (tree + 1) ++ indexes_from (past_table d tree) ds
 
 -- the tables in their order, from tree 0 on, and nothing else
 abbrev pub schema_of : List Description → Schema
 schema_of ds = record { tables = tables_from 0 ds; indexes = indexes_from 0 ds; views = [] }
+
+-- the tree behind those of all tables
+abbrev pub past_all : ℕ → List Description → ℕ
+past_all tree [] = tree
+past_all tree (d ∷ ds) = past_all (past_table d tree) ds
 
 -- the first tables
 abbrev pub beginning : List Description → ℕ → Schema
@@ -80,7 +99,7 @@ AreEmpty schema trees = AllByRecursion (λ (t : Table). trees t.tree ≡ []) sch
 -- ---- what the texts mean
 
 abbrev pub nothing : Description
-nothing = record { name = []; columns = []; key = []; index = []; make = []; look = [] }
+nothing = record { name = []; columns = []; key = Absent; uniques = []; make = []; look = [] }
 
 abbrev pub at_place : List Description → ℕ → Description
 at_place ds n = slice_index_or ds n nothing
@@ -89,7 +108,7 @@ at_place ds n = slice_index_or ds n nothing
 abbrev pub tree_from : ℕ → List Description → ℕ → ℕ
 tree_from tree [] n = tree
 tree_from tree (d ∷ ds) zero = tree
-tree_from tree (d ∷ ds) (suc n) = tree_from (past_key d.key tree) ds n
+tree_from tree (d ∷ ds) (suc n) = tree_from (past_table d tree) ds n
 
 -- each text makes its table behind those before it
 abbrev pub AllMake : List Description → Type 0

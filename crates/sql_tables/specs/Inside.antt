@@ -4,6 +4,8 @@ use Rattle.sqlite.specs.Kind.{Kind}
 use Rattle.sqlite.specs.Order.{Row, column}
 use Rattle.sqlite.specs.State.{State}
 use Rattle.sql_tables.specs.Rows.{AreRows}
+use Rattle.sql_tables.specs.declared.described.Key.{Key}
+use Rattle.sql_tables.specs.declared.described.Key.TheVariants.{Rowid, FirstUnique, Absent}
 use Rattle.sql_tables.specs.Described.{Description, at_place, schema_of, tree_from}
 
 abbrev pub columns_from : ℕ → List (List ℕ × Kind) → Row → Row
@@ -11,10 +13,11 @@ columns_from n [] r = []
 columns_from n (c ∷ cs) r = column r n ∷ columns_from (n + 1) cs r
 
 -- Column 0 of a stored row is the rowid, which a first column that is the rowid has as its value.
-abbrev pub shown_by : List ℕ → List (List ℕ × Kind) → Row → Row
-shown_by [] [] r = []
-shown_by [] (c ∷ cs) r = column r 0 ∷ columns_from 2 cs r
-shown_by (k ∷ ks) cs r = columns_from 1 cs r
+abbrev pub shown_by : Key → List (List ℕ × Kind) → Row → Row
+shown_by Rowid [] r = []
+shown_by Rowid (c ∷ cs) r = column r 0 ∷ columns_from 2 cs r
+shown_by FirstUnique cs r = columns_from 1 cs r
+shown_by Absent cs r = columns_from 1 cs r
 
 -- the cells of a stored row
 abbrev pub shown_of : Description → Row → Row

@@ -6,3 +6,5 @@ pub mod Inside
 pub mod Writing
 pub mod Loading
 pub mod Asking
+pub mod Cells
+pub mod Opening

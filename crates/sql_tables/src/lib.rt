@@ -1,6 +1,9 @@
 //! What SQL's tables hold, and what statements do to them, for tables of any names and columns, over the crate `sqlite`.
 #![tactic(auto)]
 
+mod cells;
+mod closing;
+mod connecting;
 mod described;
 mod items;
 mod looking;
@@ -9,7 +12,10 @@ mod numbering;
 mod shape;
 mod stepping;
 
-pub use described::Described;
+pub use cells::{blob_at, digest_of, is_same, number_at, text_at};
+pub use closing::close;
+pub use connecting::{check_open, renew};
+pub use described::{Described, Key};
 pub use items::{Item, gather};
 pub use looking::has_rows;
 pub use making::make_rest;

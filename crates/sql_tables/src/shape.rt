@@ -1,10 +1,11 @@
 // Whether the tables of a schema are the first of a list.
-ghost use Rattle.std.specs.Prelude.{◌≡◌, ◌≤◌, ◌<◌, ◌+◌, ◌*◌, ◌^◌, ◌≢◌, IsTrue, MatchOption, true, [], ◌∷◌, length, map, if◌then◌else◌, None, Some};
+ghost use Rattle.std.specs.Prelude.{◌≡◌, ◌≤◌, ◌<◌, ◌+◌, ◌++◌, ◌^◌, IsTrue, List, MatchOption, length, map};
+ghost use Rattle.sqlite_schema.specs.declared.schema.Index.{Index as PlainIndex};
 ghost use Rattle.sqlite_value.specs.Keys.{plain};
 ghost use Rattle.sql_tables.specs.Schema.{required, table, no_stamps, HasNoRule, unique_index};
-ghost use Rattle.sql_tables.specs.Described.{beginning, columns_of, described_view, indexes_from, IsBeginning, past_key, schema_of, table_of, tables_from};
+ghost use Rattle.sql_tables.specs.Described.{beginning, columns_of, described_view, indexes_at, indexes_from, IsBeginning, past_all, past_table, places_of, primary_of, rowid_of, schema_of, table_of, tables_from};
 
-use crate::described::Described;
+use crate::described::{Described, Key};
 use sqlite_items::Items;
 use sqlite_schema::schema::{Column, Index, Kind, Schema, Stamps, Table};
 use sqlite_value::keys::{Collation, Order};
@@ -21,47 +22,6 @@ fn is_column(column: &Column, name: &[u8], kind: Kind) -> bool
         && column.not_null
         && matches!(column.default, Value::Null)
         && column.collation == Collation::Binary
-}
-
-fn one<T>(items: &[T]) -> Option<&T>
-    ensures { MatchOption result (length items.now ≢ 1) (λ a. items.now ≡ a.now ∷ []) }
-{
-    match items {
-        [a] => Some(a),
-        _ => None,
-    }
-}
-
-fn is_only(lists: &[Items<usize>], places: &[usize]) -> bool
-    ensures same { IsTrue result → lists.now ≡ places.now ∷ [] }
-    ensures other { lists.now ≡ places.now ∷ [] → IsTrue result }
-{
-    match one(lists) {
-        Some(only) => only.as_slice() == places,
-        None => false,
-    }
-}
-
-fn is_only_plain(orders: &[Order]) -> bool
-    ensures same { IsTrue result → orders.now ≡ plain ∷ [] }
-    ensures other { orders.now ≡ plain ∷ [] → IsTrue result }
-{
-    match one(orders) {
-        Some(only) => only.digits == 0,
-        None => false,
-    }
-}
-
-// Whether the primary key is the one UNIQUE, if that is asked for, or else there is none.
-fn has_unique(of: &Table, primary: &[usize], is_unique: bool) -> bool
-    ensures same { IsTrue result → (of.now.uniques ≡ (if is_unique then primary.now ∷ [] else [])) × (of.now.orders ≡ (if is_unique then plain ∷ [] else [])) }
-    ensures other { (of.now.uniques ≡ (if is_unique then primary.now ∷ [] else [])) × (of.now.orders ≡ (if is_unique then plain ∷ [] else [])) → IsTrue result }
-{
-    if is_unique {
-        is_only(of.uniques.as_slice(), primary) && is_only_plain(of.orders.as_slice())
-    } else {
-        of.uniques.is_empty() && of.orders.is_empty()
-    }
 }
 
 // Whether no default reads the time.
@@ -84,24 +44,65 @@ fn has_no_rule(of: &Table) -> bool
         && !of.is_counted
 }
 
-// Whether the table is as asked, but for its columns.
-fn is_table(
-    of: &Table,
-    name: &[u8],
-    tree: u32,
-    key: Option<usize>,
-    primary: &[usize],
-    is_unique: bool,
-) -> bool
-    ensures same { IsTrue result → of.now ≡ table name.now of.now.columns key primary.now (if is_unique then primary.now ∷ [] else []) tree }
-    ensures other { of.now ≡ table name.now of.now.columns key primary.now (if is_unique then primary.now ∷ [] else []) tree → IsTrue result }
+// Whether the column that is the rowid is the one of this kind of key.
+fn is_rowid(column: Option<usize>, key: Key) -> bool
+    ensures same { IsTrue result → column ≡ rowid_of key }
+    ensures other { column ≡ rowid_of key → IsTrue result }
 {
-    of.name.as_slice() == name
-        && of.tree == tree
-        && of.key == key
-        && of.primary.as_slice() == primary
-        && has_unique(of, primary, is_unique)
-        && has_no_rule(of)
+    match key {
+        Key::Rowid => column == Some(0),
+        Key::FirstUnique | Key::Absent => column.is_none(),
+    }
+}
+
+fn are_places(places: &[usize], others: &[usize]) -> bool
+    ensures same { IsTrue result → places.now ≡ others.now }
+    ensures other { places.now ≡ others.now → IsTrue result }
+{
+    places == others
+}
+
+// Whether these are the columns of the primary key.
+fn is_primary(places: &[usize], key: Key, uniques: &[(&[usize], &[u8])]) -> bool
+    ensures same { IsTrue result → places.now ≡ primary_of key (map (λ u. (u.0.now, u.1.now)) uniques.now) }
+    ensures other { places.now ≡ primary_of key (map (λ u. (u.0.now, u.1.now)) uniques.now) → IsTrue result }
+{
+    match key {
+        Key::Rowid => are_places(places, &[0]),
+        Key::FirstUnique => match uniques {
+            [] => places.is_empty(),
+            [(first, _), ..] => are_places(places, first),
+        },
+        Key::Absent => places.is_empty(),
+    }
+}
+
+// Whether the UNIQUE constraints are over these columns.
+fn are_uniques(lists: &[Items<usize>], uniques: &[(&[usize], &[u8])]) -> bool
+    ensures same { IsTrue result → lists.now ≡ places_of (map (λ u. (u.0.now, u.1.now)) uniques.now) }
+    ensures other { lists.now ≡ places_of (map (λ u. (u.0.now, u.1.now)) uniques.now) → IsTrue result }
+{
+    match (lists, uniques) {
+        ([], []) => true,
+        ([list, lists @ ..], [(places, _), uniques @ ..]) => {
+            are_places(list.as_slice(), places) && are_uniques(lists, uniques)
+        }
+        _ => false,
+    }
+}
+
+// Whether there is the one plain order for each of them.
+fn are_plain(orders: &[Order], uniques: &[(&[usize], &[u8])]) -> bool
+    ensures same { IsTrue result → orders.now ≡ map (λ _. plain) (places_of (map (λ u. (u.0.now, u.1.now)) uniques.now)) }
+    ensures other { orders.now ≡ map (λ _. plain) (places_of (map (λ u. (u.0.now, u.1.now)) uniques.now)) → IsTrue result }
+{
+    match (orders, uniques) {
+        ([], []) => true,
+        ([order, orders @ ..], [_, uniques @ ..]) => {
+            order.digits == 0 && are_plain(orders, uniques)
+        }
+        _ => false,
+    }
 }
 
 // Whether the index is the one of a UNIQUE over these places.
@@ -131,34 +132,42 @@ fn are_columns(columns: &[Column], named: &[(&[u8], Kind)]) -> bool
     }
 }
 
+// Whether the keys of the table are those described.
+fn has_keys(of: &Table, described: &Described<'_>) -> bool
+    ensures same { IsTrue result → (of.now.key ≡ rowid_of described.now.key) × (of.now.primary ≡ primary_of described.now.key (described_view described.now).uniques)
+        × (of.now.uniques ≡ places_of (described_view described.now).uniques) × (of.now.orders ≡ map (λ _. plain) (places_of (described_view described.now).uniques)) }
+    ensures other { (of.now.key ≡ rowid_of described.now.key) × (of.now.primary ≡ primary_of described.now.key (described_view described.now).uniques)
+        × (of.now.uniques ≡ places_of (described_view described.now).uniques) × (of.now.orders ≡ map (λ _. plain) (places_of (described_view described.now).uniques)) → IsTrue result }
+{
+    is_rowid(of.key, described.key)
+        && is_primary(of.primary.as_slice(), described.key, described.uniques)
+        && are_uniques(of.uniques.as_slice(), described.uniques)
+        && are_plain(of.orders.as_slice(), described.uniques)
+}
+
 // Whether the table is the one described, at this tree.
 fn is_described(of: &Table, described: &Described<'_>, tree: u32) -> bool
     ensures same { IsTrue result → of.now ≡ table_of (described_view described.now) tree }
     ensures other { of.now ≡ table_of (described_view described.now) tree → IsTrue result }
 {
-    if described.key.is_empty() {
-        is_table(of, described.name, tree, Some(0), &[0], false)
-            && are_columns(of.columns.as_slice(), described.columns)
-    } else {
-        is_table(of, described.name, tree, None, described.key, true)
-            && are_columns(of.columns.as_slice(), described.columns)
-    }
+    of.name.as_slice() == described.name
+        && of.tree == tree
+        && has_keys(of, described)
+        && has_no_rule(of)
+        && are_columns(of.columns.as_slice(), described.columns)
 }
 
-// The tree behind those of the table and of its key.
+// The tree behind those of the table and of its indexes.
 fn past(described: &Described<'_>, tree: u32) -> u32
-    requires { tree + 2 < 2 ^ 32 }
-    ensures { result ≡ past_key described.now.key.now tree }
+    requires { past_table (described_view described.now) tree < 2 ^ 32 }
+    ensures { result ≡ past_table (described_view described.now) tree }
 {
-    match described.key {
-        [] => tree + 1,
-        _ => tree + 2,
-    }
+    tree + 1 + described.uniques.len() as u32
 }
 
 // Whether the tables are those described, from this tree on.
 fn are_tables(tables: &[Table], described: &[Described<'_>], tree: u32) -> bool
-    requires { tree + 2 * length described.now < 2 ^ 32 }
+    requires { past_all tree (map described_view described.now) < 2 ^ 32 }
     ensures same { IsTrue result → tables.now ≡ tables_from tree (map described_view described.now) }
     ensures other { tables.now ≡ tables_from tree (map described_view described.now) → IsTrue result }
 {
@@ -173,30 +182,48 @@ fn are_tables(tables: &[Table], described: &[Described<'_>], tree: u32) -> bool
     }
 }
 
-// Whether the indexes are those of the keys of the tables described, from this tree on.
+// What follows the indexes of the UNIQUE constraints of the table at the tree `on`, if these come first. Theirs are the trees from
+// this one on.
+fn after_indexes<'a>(
+    indexes: &'a [Index],
+    on: u32,
+    uniques: &[(&[usize], &[u8])],
+    tree: u32,
+) -> Option<&'a [Index]>
+    requires { tree + length uniques.now < 2 ^ 32 }
+    ensures { MatchOption result ((rest : List PlainIndex) → indexes.now ≡ indexes_at on (map (λ u. (u.0.now, u.1.now)) uniques.now) tree ++ rest → ⊥)
+        (λ rest. indexes.now ≡ indexes_at on (map (λ u. (u.0.now, u.1.now)) uniques.now) tree ++ rest.now) }
+{
+    let [(places, name), uniques @ ..] = uniques else {
+        return Some(indexes);
+    };
+    let [index, indexes @ ..] = indexes else {
+        return None;
+    };
+    if !is_index(index, name, tree, on, places) {
+        return None;
+    }
+    after_indexes(indexes, on, uniques, tree + 1)
+}
+
+// Whether the indexes are those of the tables described, from this tree on.
 fn are_indexes(indexes: &[Index], described: &[Described<'_>], tree: u32) -> bool
-    requires { tree + 2 * length described.now < 2 ^ 32 }
+    requires { past_all tree (map described_view described.now) < 2 ^ 32 }
     ensures same { IsTrue result → indexes.now ≡ indexes_from tree (map described_view described.now) }
     ensures other { indexes.now ≡ indexes_from tree (map described_view described.now) → IsTrue result }
 {
     match described {
         [] => indexes.is_empty(),
-        [first, described @ ..] => match first.key {
-            [] => are_indexes(indexes, described, tree + 1),
-            key => match indexes {
-                [] => false,
-                [index, indexes @ ..] => {
-                    is_index(index, first.index, tree + 1, tree, key)
-                        && are_indexes(indexes, described, tree + 2)
-                }
-            },
+        [first, described @ ..] => match after_indexes(indexes, tree, first.uniques, tree + 1) {
+            None => false,
+            Some(rest) => are_indexes(rest, described, past(first, tree)),
         },
     }
 }
 
 // Whether the schema is that of the tables described.
 fn is_schema(described: &[Described<'_>], schema: &Schema) -> bool
-    requires { length described.now < 2 ^ 30 }
+    requires { past_all 0 (map described_view described.now) < 2 ^ 32 }
     ensures same { IsTrue result → schema.now ≡ schema_of (map described_view described.now) }
     ensures other { schema.now ≡ schema_of (map described_view described.now) → IsTrue result }
 {
@@ -207,7 +234,7 @@ fn is_schema(described: &[Described<'_>], schema: &Schema) -> bool
 
 /// How many of the tables there are, where they are the first of those described, in their order, and nothing else.
 pub fn beginning_of(described: &[Described<'_>], schema: &Schema) -> Option<usize>
-    requires { length described.now < 2 ^ 30 }
+    requires { past_all 0 (map described_view described.now) < 2 ^ 32 }
     ensures { MatchOption result (IsBeginning (map described_view described.now) schema.now → ⊥) (λ count. (schema.now ≡ beginning (map described_view described.now) count) × (count ≤ length described.now)) }
 {
     let count = schema.tables.len();

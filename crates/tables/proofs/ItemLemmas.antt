@@ -21,7 +21,8 @@ use Rattle.std.proofs.lemmas.Cmp.{nat_cmp_total, nat_list_cmp_total}
 use Rattle.tables.proofs.Slots.{has_timestamp, has_snapshot}
 use Rattle.sql_tables.proofs.Gathering.{read_all, no_items}
 use Rattle.sql_tables.proofs.NumberLemmas.{IsNumbered, numbered_by}
-use Rattle.tables.proofs.Orders.{bytes_at, digits_less, row_cmp_total}
+use Rattle.sql_tables.proofs.ListLemmas.{bytes_at}
+use Rattle.tables.proofs.Orders.{digits_less, row_cmp_total}
 use Rattle.sql_tables.proofs.ItemLemmas.{after_less, bytes_one, int_less, int_one, none_answered, none_read, none_stored, not_bare, pair_less, rising_keyed, text_less, text_one}
 
 -- ---- a row is that of one item

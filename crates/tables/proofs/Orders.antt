@@ -4,7 +4,7 @@ use Rattle.std.specs.List.{AllByRecursion}
 use Rattle.std.specs.List.Sorted.{IsStrictlySortedBy}
 use Rattle.std.specs.Ordering.{ordering_then, nat_cmp, MatchOrdering}
 use Rattle.std.specs.declared.cmp.Ordering.{Ordering}
-use Rattle.hex.specs.Hex.{IsBytes, encode_lower, encode_with, lower_digits}
+use Rattle.hex.specs.Hex.{encode_lower, encode_with, lower_digits}
 use Rattle.std.specs.Cmp.{IsTotalOrder, ranks}
 use Rattle.std.specs.Cmp.Lexicographic.{slice_cmp}
 use Rattle.std.specs.declared.cmp.Ordering.TheVariants.{Less, Equal, Greater}
@@ -18,11 +18,6 @@ row_cmp_total = then_total (on_total (λ (k : List ℕ × ℕ). k.0) nat_list_cm
 
 pub exact_rows : (a b : List ℕ × ℕ) → row_cmp a b ≡ Equal → a ≡ b
 exact_rows = exact_pairs (slice_cmp nat_cmp) nat_cmp exact_bytes exact_unsigned
-
-pub bytes_at : (bytes : List ℕ) → AllByRecursion (λ b. b < 256) bytes → IsBytes bytes
-bytes_at [] all i = omega arith
-bytes_at (b ∷ bs) all zero = all.0
-bytes_at (b ∷ bs) all (suc i) = bytes_at bs all.1 i
 
 -- ---- digests and their digits rise alike
 

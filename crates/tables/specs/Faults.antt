@@ -2,15 +2,9 @@
 use Rattle.sqlite.specs.declared.error.Error.{Error}
 use Rattle.sqlite.specs.declared.error.Error.TheVariants.{SqliteFailure}
 use Rattle.sqlite.specs.declared.error.ErrorCode.TheVariants as code
-use Rattle.sqlite_trees.specs.declared.error.StoreError.{StoreError}
-use Rattle.sqlite_trees.specs.declared.error.StoreError.TheVariants as store
 use Rattle.tables.specs.declared.faults.StoreFault.{StoreFault}
 use Rattle.tables.specs.declared.faults.StoreFault.TheVariants.{Database, OutOfMemory}
 
 abbrev pub fault_of : Error → StoreFault
 fault_of (SqliteFailure code.OutOfMemory) = OutOfMemory
 fault_of _ = Database
-
-abbrev pub fault_of_store : StoreError → StoreFault
-fault_of_store store.OutOfMemory = OutOfMemory
-fault_of_store _ = Database

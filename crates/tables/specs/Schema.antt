@@ -3,13 +3,14 @@ use Rattle.std.specs.Prelude.{◌≡◌, [], ◌∷◌, codes, take, List, ℕ}
 use Rattle.sqlite.specs.Schema.{Schema}
 use Rattle.sqlite.specs.Kind.TheVariants.{Integer, Text, Any}
 use Rattle.sql_tables.specs.Described.{Description, schema_of}
+use Rattle.sql_tables.specs.declared.described.Key.TheVariants.{Rowid, FirstUnique}
 
 abbrev pub root_table : Description
 root_table = record {
   name = codes "root";
   columns = (codes "version", Integer) ∷ (codes "bytes", Any) ∷ [];
-  key = [];
-  index = [];
+  key = Rowid;
+  uniques = [];
   make = codes "CREATE TABLE root (version INTEGER NOT NULL PRIMARY KEY, bytes BLOB NOT NULL)";
   look = codes "SELECT version FROM root";
 }
@@ -18,8 +19,8 @@ abbrev pub current_table : Description
 current_table = record {
   name = codes "current";
   columns = (codes "slot", Text) ∷ (codes "version", Integer) ∷ (codes "bytes", Any) ∷ [];
-  key = 1 ∷ [];
-  index = codes "sqlite_autoindex_current_1";
+  key = FirstUnique;
+  uniques = (1 ∷ [], codes "sqlite_autoindex_current_1") ∷ [];
   make = codes "CREATE TABLE current (slot TEXT NOT NULL PRIMARY KEY, version INTEGER NOT NULL, bytes BLOB NOT NULL)";
   look = codes "SELECT version FROM current";
 }
@@ -28,8 +29,8 @@ abbrev pub shelf_table : Description
 shelf_table = record {
   name = codes "shelf";
   columns = (codes "role", Text) ∷ (codes "version", Integer) ∷ (codes "bytes", Any) ∷ [];
-  key = 1 ∷ 2 ∷ [];
-  index = codes "sqlite_autoindex_shelf_1";
+  key = FirstUnique;
+  uniques = (1 ∷ 2 ∷ [], codes "sqlite_autoindex_shelf_1") ∷ [];
   make = codes "CREATE TABLE shelf (role TEXT NOT NULL, version INTEGER NOT NULL, bytes BLOB NOT NULL, PRIMARY KEY (role, version))";
   look = codes "SELECT version FROM shelf";
 }
@@ -38,8 +39,8 @@ abbrev pub blob_table : Description
 blob_table = record {
   name = codes "blob";
   columns = (codes "digest", Text) ∷ (codes "bytes", Any) ∷ [];
-  key = 1 ∷ [];
-  index = codes "sqlite_autoindex_blob_1";
+  key = FirstUnique;
+  uniques = (1 ∷ [], codes "sqlite_autoindex_blob_1") ∷ [];
   make = codes "CREATE TABLE blob (digest TEXT NOT NULL PRIMARY KEY, bytes BLOB NOT NULL)";
   look = codes "SELECT digest FROM blob";
 }
@@ -48,8 +49,8 @@ abbrev pub version_table : Description
 version_table = record {
   name = codes "schema";
   columns = (codes "version", Integer) ∷ [];
-  key = [];
-  index = [];
+  key = Rowid;
+  uniques = [];
   make = codes "CREATE TABLE schema (version INTEGER NOT NULL PRIMARY KEY)";
   look = codes "SELECT version FROM schema";
 }

@@ -1,5 +1,5 @@
 -- What the tables hold, and what a change makes of it.
-use Rattle.std.specs.Prelude.{◌≡◌, ◌⊎◌, ◌<◌, ◌^◌, ℕ, pos, List, [], ◌∷◌, ◌++◌, map, Option, Some, None, IsTrue, IsUtf8, codes, length}
+use Rattle.std.specs.Prelude.{◌≡◌, ◌⊎◌, ◌<◌, ◌^◌, ℕ, pos, List, [], ◌∷◌, ◌++◌, map, Option, Some, None, IsTrue, IsUtf8, codes}
 use Rattle.std.specs.List.{AllByRecursion}
 use Rattle.std.specs.Ordering.{nat_cmp, on, then_cmp}
 use Rattle.std.specs.declared.cmp.Ordering.{Ordering}
@@ -15,6 +15,7 @@ use Rattle.sqlite.specs.State.{State}
 use Rattle.tables.specs.declared.change.Change.{Change}
 use Rattle.tables.specs.declared.change.Change.TheVariants.{PutRoot, Emptied, PutTimestamp, PutSnapshot, PutRow, PutBlob}
 use Rattle.contents.specs.Contents.{Contents, no_rows}
+pub use Rattle.sql_tables.specs.Cells.{IsDigest}
 use Rattle.sql_tables.specs.Described.{AreEmpty}
 use Rattle.tables.specs.Schema.{the_schema, IsBeginning}
 use Rattle.tables.specs.Rows.{root_cells, current_cells, shelf_cells, blob_cells, version_cells}
@@ -87,10 +88,6 @@ pub record AreSame (t u : Contents) : Type 0 where
 
 abbrev pub IsVersion : ℕ → Type 0
 IsVersion n = n < 2 ^ 32
-
--- a digest of 32 bytes
-abbrev pub IsDigest : List ℕ → Type 0
-IsDigest d = (length d ≡ 32) × AllByRecursion (λ b. b < 256) d
 
 pub record IsFit (t : Contents) : Type 0 where
   pub roots : AllByRecursion (λ r. IsVersion r.0) t.roots

@@ -5,8 +5,7 @@ ghost use Rattle.sqlite.specs.Order.{Row};
 ghost use Rattle.sql_tables.specs.Loading.{AreRead};
 ghost use Rattle.tables.specs.steps.Loading.{AreVersions, FitsSlot, HaveSlots, IsOne, IsSlotRow, current_items, slot_name};
 
-use crate::cells::{blob_at, is_same, text_at, version_at};
-use sql_tables::TakeRows;
+use sql_tables::{TakeRows, blob_at, is_same, number_at, text_at};
 use sqlite::Row;
 use std::alloc::{AllocError, Global};
 
@@ -19,7 +18,7 @@ fn slot_of(alloc: Global, row: &Row) -> Result<Option<(bool, (u32, Vec<u8>))>, A
     let Some(slot) = text_at(row, 0) else {
         return Ok(None);
     };
-    let Some(version) = version_at(row, 1) else {
+    let Some(version) = number_at(row, 1) else {
         return Ok(None);
     };
     let Some(bytes) = blob_at(row, 2) else {
@@ -119,7 +118,7 @@ fn is_one(row: &Row) -> bool
     ensures yes { IsTrue result → IsOne row.now }
     ensures no { result ≡ false → IsOne row.now → ⊥ }
 {
-    matches!(version_at(row, 0), Some(1))
+    matches!(number_at(row, 0), Some(1))
 }
 
 // The rows of `schema`: whether there is one, and whether one is not 1.

@@ -3,7 +3,7 @@ ghost use Rattle.std.specs.Prelude.{◌≡◌, map};
 ghost use Rattle.sql_tables.specs.Described.{described_view};
 ghost use Rattle.tables.specs.Schema.{five};
 
-use sql_tables::Described;
+use sql_tables::{Described, Key};
 use sqlite_schema::schema::Kind;
 
 static ROOT: [(&[u8], Kind); 2] = [(b"version", Kind::Integer), (b"bytes", Kind::Any)];
@@ -24,6 +24,12 @@ static BLOB: [(&[u8], Kind); 2] = [(b"digest", Kind::Text), (b"bytes", Kind::Any
 
 static VERSION: [(&[u8], Kind); 1] = [(b"version", Kind::Integer)];
 
+static CURRENT_KEY: [(&[usize], &[u8]); 1] = [(&[1], b"sqlite_autoindex_current_1")];
+
+static SHELF_KEY: [(&[usize], &[u8]); 1] = [(&[1, 2], b"sqlite_autoindex_shelf_1")];
+
+static BLOB_KEY: [(&[usize], &[u8]); 1] = [(&[1], b"sqlite_autoindex_blob_1")];
+
 // The five tables, in the order in which they are made.
 pub(crate) fn five_tables() -> [Described<'static>; 5]
     ensures { map described_view result ≡ five }
@@ -32,40 +38,40 @@ pub(crate) fn five_tables() -> [Described<'static>; 5]
         Described {
             name: b"root",
             columns: &ROOT,
-            key: &[],
-            index: b"",
+            key: Key::Rowid,
+            uniques: &[],
             make: "CREATE TABLE root (version INTEGER NOT NULL PRIMARY KEY, bytes BLOB NOT NULL)",
             look: "SELECT version FROM root",
         },
         Described {
             name: b"current",
             columns: &CURRENT,
-            key: &[1],
-            index: b"sqlite_autoindex_current_1",
+            key: Key::FirstUnique,
+            uniques: &CURRENT_KEY,
             make: "CREATE TABLE current (slot TEXT NOT NULL PRIMARY KEY, version INTEGER NOT NULL, bytes BLOB NOT NULL)",
             look: "SELECT version FROM current",
         },
         Described {
             name: b"shelf",
             columns: &SHELF,
-            key: &[1, 2],
-            index: b"sqlite_autoindex_shelf_1",
+            key: Key::FirstUnique,
+            uniques: &SHELF_KEY,
             make: "CREATE TABLE shelf (role TEXT NOT NULL, version INTEGER NOT NULL, bytes BLOB NOT NULL, PRIMARY KEY (role, version))",
             look: "SELECT version FROM shelf",
         },
         Described {
             name: b"blob",
             columns: &BLOB,
-            key: &[1],
-            index: b"sqlite_autoindex_blob_1",
+            key: Key::FirstUnique,
+            uniques: &BLOB_KEY,
             make: "CREATE TABLE blob (digest TEXT NOT NULL PRIMARY KEY, bytes BLOB NOT NULL)",
             look: "SELECT digest FROM blob",
         },
         Described {
             name: b"schema",
             columns: &VERSION,
-            key: &[],
-            index: b"",
+            key: Key::Rowid,
+            uniques: &[],
             make: "CREATE TABLE schema (version INTEGER NOT NULL PRIMARY KEY)",
             look: "SELECT version FROM schema",
         },

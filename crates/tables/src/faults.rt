@@ -1,6 +1,5 @@
 // What can go wrong, and which faults of the database stand for which.
 use sqlite::ErrorCode;
-use sqlite_trees::error::StoreError;
 use std::alloc::{AllocError, AllocFailed};
 use thiserror::Error;
 
@@ -51,22 +50,6 @@ impl From<sqlite::Error> for StoreFault {
     fn from(error: sqlite::Error) -> StoreFault {
         match error {
             sqlite::Error::SqliteFailure(ErrorCode::OutOfMemory) => StoreFault::OutOfMemory,
-            _ => StoreFault::Database,
-        }
-    }
-}
-
-// The same of the database's store.
-impl From<StoreError> for StoreFault {
-    ghost use Rattle.std.specs.Prelude.{◌≡◌, ◌≢◌};
-    ghost use Rattle.tables.specs.declared.faults.StoreFault.TheVariants.{Damaged};
-    ghost use Rattle.tables.specs.Faults.{fault_of_store};
-
-    ghost from_gives = { λ error f. (f ≡ fault_of_store error) × (f ≢ Damaged) };
-
-    fn from(error: StoreError) -> StoreFault {
-        match error {
-            StoreError::OutOfMemory => StoreFault::OutOfMemory,
             _ => StoreFault::Database,
         }
     }

@@ -14,7 +14,6 @@ ghost use Rattle.sql_tables.specs.Making.{IsMade, Makes};
 use crate::described::five_tables;
 use crate::faults::StoreFault;
 use sqlite::{Alter, Connection, Error, Transaction};
-use sqlite_trees::store::Store;
 use std::alloc::Global;
 
 // Makes the tables from this place on.
@@ -64,13 +63,5 @@ pub fn renew<S: Alter + Drop>(
     ensures untouched { conn.in_transaction ≡ false → result ≡ Ok conn }
     ensures fault { result ≢ Err StoreFault.Damaged }
 {
-    if conn.is_autocommit() {
-        return Ok(conn);
-    }
-    let mut store = conn.into_store();
-    store.commit()?;
-    match Connection::over(alloc, store) {
-        Ok(conn) => Ok(conn),
-        Err((error, _)) => Err(StoreFault::from(error)),
-    }
+    Ok(sql_tables::renew(alloc, conn)?)
 }

@@ -157,6 +157,6 @@ pub fn check_open<S: Alter>(conn: &mut Connection<S>) -> Result<(), StoreFault>
     ensures survives { Survives (state S.Store conn.old) (state S.Store conn.new) (λ _. ⊥) }
     ensures fault { result ≢ Err StoreFault.Damaged }
 {
-    conn.query_row("SELECT version FROM schema", &[])?;
+    sql_tables::check_open(conn, "SELECT version FROM schema")?;
     Ok(())
 }

@@ -9,8 +9,8 @@ ghost use Rattle.hex.specs.Hex.{encode_lower};
 ghost use Rattle.tables.specs.Tables.{IsDigest, row_cmp};
 ghost use Rattle.tables.specs.steps.Loading.{FitsBlob, FitsRoot, FitsShelf, IsBlobRow, IsRootRow, IsShelfRow};
 
-use crate::cells::{blob_at, is_same, text_at, text_order, version_at};
-use sql_tables::Item;
+use crate::cells::text_order;
+use sql_tables::{Item, blob_at, digest_of, is_same, number_at, text_at};
 use sqlite::Row;
 use std::alloc::{AllocError, Global};
 use std::cmp::Ordering;
@@ -38,7 +38,7 @@ impl Item for Roots {
     const ROWID: usize = 0;
 
     fn read(alloc: Global, row: &Row) -> Result<Option<(u32, Vec<u8>)>, AllocError> {
-        let Some(version) = version_at(row, 0) else {
+        let Some(version) = number_at(row, 0) else {
             return Ok(None);
         };
         let Some(bytes) = blob_at(row, 1) else {
@@ -86,7 +86,7 @@ impl Item for Documents {
         let Some(role) = text_at(row, 0) else {
             return Ok(None);
         };
-        let Some(version) = version_at(row, 1) else {
+        let Some(version) = number_at(row, 1) else {
             return Ok(None);
         };
         let Some(bytes) = blob_at(row, 2) else {
@@ -165,29 +165,4 @@ impl Item for Files {
     ghost total = { nat_list_cmp_total };
 
     ghost exact = { exact_bytes };
-}
-
-// The digest that 64 hex digits of lower case spell.
-fn digest_of(text: &[u8]) -> Option<[u8; 32]>
-    ensures value { MatchOption result ((d : List ℕ) → IsDigest d → text.now ≢ encode_lower d) (λ d. text.now ≡ encode_lower d) }
-    ensures fits { IfSome result (λ d. IsDigest d) }
-{
-    let mut digest = [0; 32];
-    if hex::decode_to_slice(text, &mut digest).is_err() {
-        return None;
-    }
-    let mut digits = [0; 64];
-    let _ = hex::encode_to_slice(&digest, &mut digits);
-    if !is_same(text, &digits) {
-        return None;
-    }
-    are_bytes(&digest);
-    Some(digest)
-}
-
-// A law, which does nothing: every byte is below 256.
-fn are_bytes(bytes: &[u8])
-    ensures { AllByRecursion (λ b. b < 256) bytes.now }
-{
-    let _count = bytes.len();
 }

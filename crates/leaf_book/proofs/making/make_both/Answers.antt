@@ -1,13 +1,13 @@
-use Rattle.std.proofs.Common.{arith, refl}
+use Rattle.std.proofs.Common.{List, OnOk, subst, refl}
 use Rattle.sqlite.specs.Held.{state}
-use Rattle.sqlite.specs.State.{HasCleanDisk}
-use Rattle.leaf_book.specs.Schema.{no_schema, signer_schema, the_schema}
+use Rattle.sql_tables.specs.Making.{IsMade}
+use Rattle.sql_tables.specs.Described.{AllMake, Description, LacksRest, beginning, schema_of}
 use Rattle.leaf_book.specs.steps.Making.{nowhere}
-use Rattle.leaf_book.proofs.Texts.{makes_leaf, makes_signer}
+use Rattle.leaf_book.proofs.Texts.{all_make}
 use Rattle.leaf_book.proofs.making.make_both.Goals as goal
 
 pub returns-clause-wrote : goal.returns-clause-wrote
 returns-clause-wrote g c clean is =
-    let one = state g.S.Store c.make.new.tx.conn.now in
-    let early : HasCleanDisk one = omega (arith, clean, c.make-2.ensures.survives.clean) in
-    c.make-2.ensures.wrote clean signer_schema the_schema makes_leaf nowhere refl (c.in_ok-make.ensures.wrote early no_schema signer_schema makes_signer nowhere refl is)
+    let old = state g.S.Store c.args.tx.now.conn.now in
+    let new = state g.S.Store c.make_rest.new.tx.conn.now in
+    subst (λ (ds : List Description). AllMake ds → (rows : _) → LacksRest ds 0 rows → IsMade rows (beginning ds 0) old → OnOk c.make_rest.result (IsMade rows (schema_of ds) new)) c.two_tables.ensures (c.make_rest.ensures.wrote clean) all_make nowhere (λ n up few. refl) is

@@ -1,8 +1,14 @@
 use Rattle.std.proofs.Common.{◌≡◌, length, map, ap, sym, ◌∙◌, arith, true≢false}
 use Rattle.std.proofs.lemmas.List.{length-map}
-use Rattle.sql_tables.specs.Described.{described_view, schema_of, beginning}
-use Rattle.sql_tables.proofs.Shapes.{as_counted_by, fits_in, mapped_take}
+use Rattle.sql_tables.specs.Described.{described_view, schema_of, beginning, past_all}
+use Rattle.sql_tables.proofs.Shapes.{as_counted_by, fits_in, mapped_take, past_taken}
 use Rattle.sql_tables.proofs.shape.beginning_of.Goals as goal
+
+pub is_schema-requires : goal.is_schema-requires
+is_schema-requires c =
+    let ds = map described_view c.args.described.now in
+    let few = past_taken 0 c.len-count.result ds in
+    omega (arith, c.requires, few, ap (past_all 0) (mapped_take described_view c.len-count.result c.args.described.now))
 
 pub returns-then-count-described : goal.returns-then-count-described
 returns-then-count-described c b = omega (arith, fits_in (map described_view c.args.described.now) c.args.schema.now b, length-map c.args.described.now described_view)

@@ -1,9 +1,9 @@
-use Rattle.std.proofs.Common.{Err, sym, subst, ap, arith}
+use Rattle.std.proofs.Common.{◌≡◌, Err, Ok, Result, sym, subst, ap, arith}
 use Rattle.sqlite.specs.Effect.{IsDatabase}
 use Rattle.sqlite.specs.Held.{state}
-use Rattle.sqlite.specs.State.{HasCleanDisk}
+use Rattle.sqlite.specs.State.{HasCleanDisk, Survives}
 use Rattle.leaf_book.specs.Book.{Book}
-use Rattle.leaf_book.specs.Rows.{IsRecorded, Stands}
+use Rattle.leaf_book.specs.Rows.{Begins, IsRecorded, Stands}
 use Rattle.leaf_book.proofs.book.Book.open_over.Goals as goal
 
 pub returns-in-Ok-prepare-clause-opened : goal.returns-in-Ok-prepare-clause-opened
@@ -29,3 +29,17 @@ returns-in-Err-prepare-clause-damaged g c is clean =
     let told = c.in-Err-prepare.ensures.damaged clean (ap Err is) in
     let sound : IsDatabase db = (c.prepare.ensures.live told.0).0 in
     (db, c.in-Ok.ensures.same early told.0, sound, told.1, told.2)
+
+ok_same : {A E : Type 0} {a b : A} → ◌≡◌ {A = Result A E} (Ok a) (Ok b) → a ≡ b
+ok_same e = let f = e in cc
+
+pub returns-in-Ok-prepare-clause-crash : goal.returns-in-Ok-prepare-clause-crash
+returns-in-Ok-prepare-clause-crash g c free =
+    let same = ok_same (c.in-Ok.ensures.untouched free) in
+    subst (λ k. Survives (state g.S.Store c.args.conn) (state g.S.Store k) (Begins (state g.S.Store c.args.conn))) (sym c.over.ensures.conn)
+    (subst (λ k. Survives (state g.S.Store k) (state g.S.Store c.prepare.new.conn) (Begins (state g.S.Store k))) same c.prepare.ensures.crash)
+
+pub returns-in-Err-prepare-clause-crash : goal.returns-in-Err-prepare-clause-crash
+returns-in-Err-prepare-clause-crash g c free =
+    let same = ok_same (c.in-Ok.ensures.untouched free) in
+    subst (λ k. Survives (state g.S.Store k) (state g.S.Store c.prepare.new.conn) (Begins (state g.S.Store k))) same c.prepare.ensures.crash
