@@ -25,7 +25,7 @@ less_all : (a b : List ℕ) (ns : List (List ℕ)) → compared a b ≡ Less →
 less_all a b [] p h = tt
 less_all a b (n ∷ ns) p h = (nat_list_cmp_total.trans a b n p h.0, less_all a b ns p h.1)
 
-in_order : (ns : List (List ℕ)) → AreRising ns → AreInOrder ns
+pub in_order : (ns : List (List ℕ)) → AreRising ns → AreInOrder ns
 unfolding IsStrictlySortedBy
 in_order [] h = tt
 in_order (a ∷ []) h = (tt, tt)

@@ -17,6 +17,7 @@ pub mod Named
 pub mod Once
 pub mod OneDocument
 pub mod PartsOnce
+pub mod Rising
 pub mod RootRoles
 pub mod OneOfTwo
 pub mod SnapshotNames

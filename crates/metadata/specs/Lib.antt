@@ -4,8 +4,11 @@ pub mod Dates
 pub mod Documents
 pub mod File
 pub mod FileViews
+pub mod Links
 pub mod Members
 pub mod Parts
+pub mod RuleViews
+pub mod Rules
 pub mod Shape
 pub mod Shaped
 pub mod Signed

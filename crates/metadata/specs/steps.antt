@@ -2,4 +2,6 @@
 pub mod Entries
 pub mod Faults
 pub mod Reads
+pub mod Rising
 pub mod Spelled
+pub mod Words

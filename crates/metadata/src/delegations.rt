@@ -16,7 +16,7 @@ ghost use Rattle.metadata.specs.steps.Spelled.{spelled_table, spelled_rule, spel
 ghost use Rattle.metadata.specs.Views.{delegation_view, delegations_view};
 
 use crate::documents::{Delegation, Delegations, Scope, ShapeFault};
-use crate::keys::{SpelledRule, SpelledTable, name_rule, name_table, read_rule, read_table};
+use crate::keys::{SpelledRule, SpelledTable, name_rule, name_table, read_role_rule, read_table};
 use crate::members::{bool_at, items_of, member_of, text_of};
 use crate::scopes::read_scope;
 use crate::snapshot::is_listable;
@@ -120,7 +120,7 @@ fn read_role(
         return Err(ShapeFault::WrongShape);
     };
     let name = read_name(alloc, text)?;
-    let rule = read_rule(alloc, value, "keyids", keys)?;
+    let rule = read_role_rule(alloc, value, "keyids", keys)?;
     let Some(terminating) = bool_at(value, "terminating") else {
         return Err(ShapeFault::WrongShape);
     };

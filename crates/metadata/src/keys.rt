@@ -126,7 +126,7 @@ fn read_rows(alloc: Global, members: &[(String, Value)]) -> Result<Vec<(String, 
 }
 
 /// The rule over the table that the object has, its ids under this name.
-pub(crate) fn read_rule(
+pub(crate) fn read_role_rule(
     alloc: Global,
     value: &Value,
     name: &str,

@@ -4,6 +4,7 @@
 //! Members of the signed part that no rule names are allowed, and signed over.
 #![tactic(auto)]
 
+mod artifacts;
 mod covering;
 mod dates;
 mod delegations;
@@ -14,11 +15,13 @@ mod file;
 mod head;
 mod keys;
 mod laws;
+mod links;
 mod lookups;
 mod members;
 mod moment;
 mod parts;
 mod root;
+mod rules;
 mod scopes;
 mod signed;
 mod snapshot;
@@ -42,8 +45,10 @@ pub use documents::{
 pub use file::{File, read_root_file, read_snapshot_file, read_targets_file, read_timestamp_file};
 pub use keys_roles::{Key, KeyId, KeyTable, RoleRule, Signature};
 pub use laws::{covers_tell, denied_shapes, snapshot_names};
+pub use links::{Artifacts, Link};
 pub use moment::{Moment, live};
 pub use path_patterns::{Digest, Pattern, RoleName, TargetPath};
+pub use rules::{Match, Rule, Side, read_rule};
 pub use signed::{SignedFile, read_signed};
 pub use snapshot::is_listable;
 pub use source::{Source, digest_of};

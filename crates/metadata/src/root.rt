@@ -13,7 +13,7 @@ ghost use Rattle.metadata.specs.Views.{root_view};
 
 use crate::documents::{Root, ShapeFault};
 use crate::head::read_head;
-use crate::keys::{SpelledRule, SpelledTable, name_rule, name_table, read_rule, read_table};
+use crate::keys::{SpelledRule, SpelledTable, name_rule, name_table, read_role_rule, read_table};
 use crate::members::{four_members, is_true_at, member_of};
 use canonical_json::Value;
 use keys_roles::{KeyTable, RoleRule};
@@ -103,10 +103,10 @@ fn read_roles(alloc: Global, roles: &Value, keys: &SpelledTable) -> Result<Spell
     ) else {
         return Err(ShapeFault::WrongShape);
     };
-    let root = read_rule(alloc, root, "keyids", keys)?;
-    let snapshot = read_rule(alloc, snapshot, "keyids", keys)?;
-    let targets = read_rule(alloc, targets, "keyids", keys)?;
-    let timestamp = read_rule(alloc, timestamp, "keyids", keys)?;
+    let root = read_role_rule(alloc, root, "keyids", keys)?;
+    let snapshot = read_role_rule(alloc, snapshot, "keyids", keys)?;
+    let targets = read_role_rule(alloc, targets, "keyids", keys)?;
+    let timestamp = read_role_rule(alloc, timestamp, "keyids", keys)?;
     Ok(SpelledRoles {
         root,
         snapshot,

@@ -25,7 +25,14 @@ pub fn matches_segmented(pattern: &Pattern, path: &TargetPath) -> bool
 pub fn matches_flat(pattern: &Pattern, path: &TargetPath) -> bool
     ensures { IsTrue result ↔ (MatchesFlat pattern.now path.now) }
 {
-    Wildcards::Flat.matches(pattern.as_str().as_bytes(), path.as_str().as_bytes())
+    matches_flat_text(pattern, path.as_str())
+}
+
+/// The same of any text, such as what follows a folder in a path.
+pub fn matches_flat_text(pattern: &Pattern, text: &str) -> bool
+    ensures { IsTrue result ↔ (MatchesFlat pattern.now text.now) }
+{
+    Wildcards::Flat.matches(pattern.as_str().as_bytes(), text.as_bytes())
 }
 
 /// Whether the SHA-256 of the path, in hex digits of lower case, begins with the prefix (TUF 1.0, section 4.5,

@@ -2,7 +2,7 @@ use Rattle.std.proofs.Common.{◌≡◌, false, true, refl, inr, sym, ◌∙◌}
 use Rattle.canonical_json.specs.View.{view}
 use Rattle.metadata.specs.steps.Spelled.{texts_view, spelled_table}
 use Rattle.metadata.proofs.PartsOnce.{over_same}
-use Rattle.metadata.proofs.keys.read_rule.Goals as goal
+use Rattle.metadata.proofs.keys.read_role_rule.Goals as goal
 
 pub returns-in_default-clause-err : goal.returns-in_default-clause-err
 returns-in_default-clause-err c = inr (refl, λ r. c.in_default.ensures r.0.threshold r.1.1)
