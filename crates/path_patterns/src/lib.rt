@@ -18,7 +18,8 @@ mod wildcards;
 pub use digests::{are_hex_digits, one_digest};
 pub use grammar::{is_hash_prefix, is_pattern, is_role_name, is_target_path};
 pub use matching::{
-    matches_flat, matches_flat_text, matches_segmented, prefix_covers, some_prefix_covers, tests_tell,
+    matches_flat, matches_flat_text, matches_segmented, prefix_covers, some_prefix_covers,
+    tests_tell,
 };
 pub use names::{consistent_name, names_undo, read_asked};
 
