@@ -44,7 +44,7 @@ NO_CASES = [
     (b"calendar ff\n", 1, b""),
     (b"calendar 30 30\n", 1, b""),
     (b"document 7b7d\n", 1, b""),
-    (b"document link 7b7d\n", 1, b""),
+    (b"document links 7b7d\n", 1, b""),
     (b"document Root 7b7d\n", 1, b""),
     (b"document root 7b7\n", 1, b""),
     (b"asked\n", 1, b""),

@@ -11,7 +11,7 @@ use Rattle.metadata.proofs.Congruence.{same2, same4}
 use Rattle.metadata.proofs.Once.{IsOnce, has-once, array-once, text-once}
 use Rattle.metadata.proofs.PartsOnce.{table-once, rule-once}
 
-text-of-once : (Grammar : List ℕ → Type 0) → IsOnce (IsTextOf Grammar)
+pub text-of-once : (Grammar : List ℕ → Type 0) → IsOnce (IsTextOf Grammar)
 text-of-once Grammar v a b p h k = text-once v a b p h.0 k.0
 
 texts-of-once : (Grammar : List ℕ → Type 0) → IsOnce (AreTextsOf Grammar)

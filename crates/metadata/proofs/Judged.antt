@@ -4,11 +4,12 @@ use Rattle.std.specs.List.{AllByRecursion}
 use Rattle.canonical_json.specs.Json.{Json, HasMember}
 use Rattle.canonical_json.specs.Spelling.{spelling, IsProper}
 use Rattle.keys_roles.specs.Plain.{Signature}
-use Rattle.metadata.specs.Documents.{Body, root, timestamp, snapshot, targets, Root, Timestamp, Snapshot, Targets}
+use Rattle.metadata.specs.Documents.{Body, root, targets, layout, Timestamp, Snapshot}
+use Rattle.metadata.specs.Links.{Link}
 use Rattle.metadata.specs.steps.Entries.{AreNamed as AreTargetsNamed}
 use Rattle.metadata.specs.steps.Faults.{IsIll, IsFaulty}
 use Rattle.metadata.specs.Parts.{IsEnvelope, NamesAreIds}
-use Rattle.metadata.specs.Bodies.{IsRoot, IsTimestamp, IsSnapshot, IsTargets}
+use Rattle.metadata.specs.Bodies.{IsRoot, IsTimestamp, IsSnapshot, IsTargets, IsLayout, IsLink}
 use Rattle.metadata.specs.Shape.{kind_name, tables, IsBody, IsShapeFault}
 use Rattle.metadata.specs.steps.Reads.{IsSignedAs, IsFaultOf}
 use Rattle.metadata.specs.declared.documents.Kind.{Kind}
@@ -16,6 +17,7 @@ use Rattle.metadata.specs.declared.documents.Kind.TheVariants as kinds
 use Rattle.metadata.specs.declared.documents.ShapeFault.{ShapeFault}
 use Rattle.metadata.specs.declared.documents.ShapeFault.TheVariants.{WrongShape, WrongType}
 use Rattle.metadata.proofs.Ill.{ill_again}
+use Rattle.metadata.proofs.SaidBy.{root_in, timestamp_in, snapshot_in, targets_in, layout_in, link_in}
 use Rattle.metadata.proofs.OneDocument.{envelope-once}
 
 abbrev AreNamed : Body → Type 0
@@ -23,43 +25,26 @@ AreNamed b = AllByRecursion NamesAreIds (tables b)
 
 -- ---- bodies by their kinds
 
-root_in : (es : List Signature) (v : Json) (b : Body) → IsBody kinds.Root es v b → (r : Root) × IsRoot v r
-root_in es v (root r) h = (r, h)
-root_in es v (timestamp t) h = absurd h
-root_in es v (snapshot s) h = absurd h
-root_in es v (targets t) h = absurd h
-
-timestamp_in : (es : List Signature) (v : Json) (b : Body) → IsBody kinds.Timestamp es v b → (t : Timestamp) × IsTimestamp v t
-timestamp_in es v (root r) h = absurd h
-timestamp_in es v (timestamp t) h = (t, h)
-timestamp_in es v (snapshot s) h = absurd h
-timestamp_in es v (targets t) h = absurd h
-
-snapshot_in : (es : List Signature) (v : Json) (b : Body) → IsBody kinds.Snapshot es v b → (s : Snapshot) × IsSnapshot v s
-snapshot_in es v (root r) h = absurd h
-snapshot_in es v (timestamp t) h = absurd h
-snapshot_in es v (snapshot s) h = (s, h)
-snapshot_in es v (targets t) h = absurd h
-
-targets_in : (es : List Signature) (v : Json) (b : Body) → IsBody kinds.Targets es v b → (t : Targets) × IsTargets v t
-targets_in es v (root r) h = absurd h
-targets_in es v (timestamp t) h = absurd h
-targets_in es v (snapshot s) h = absurd h
-targets_in es v (targets t) h = (t, h)
-
 pub root_faulty : (es : List Signature) (v : Json) (e : ShapeFault) → IsFaulty (IsRoot v) (λ r. NamesAreIds r.keys) e → IsFaulty (IsBody kinds.Root es v) AreNamed e
-root_faulty es v e (inl h) = inl (ill_again e h (λ b. root_in es v b.0 b.1))
+root_faulty es v e (inl h) = inl (ill_again e h (λ b. let f = root_in es v b.0 b.1 in (f.0, f.1)))
 root_faulty es v e (inr h) = inr (h.0, (root h.1.0, h.1.1, λ all. h.1.2 all.0))
 
 pub timestamp_faulty : (es : List Signature) (v : Json) → ((t : Timestamp) → IsTimestamp v t → ⊥) → IsFaulty (IsBody kinds.Timestamp es v) AreNamed WrongShape
 timestamp_faulty es v none = inl (inr (refl, λ b. let t = timestamp_in es v b.0 b.1 in none t.0 t.1))
 
 pub snapshot_faulty : (es : List Signature) (v : Json) (e : ShapeFault) → IsIll ((s : Snapshot) × IsSnapshot v s) e → IsFaulty (IsBody kinds.Snapshot es v) AreNamed e
-snapshot_faulty es v e h = inl (ill_again e h (λ b. snapshot_in es v b.0 b.1))
+snapshot_faulty es v e h = inl (ill_again e h (λ b. let f = snapshot_in es v b.0 b.1 in (f.0, f.1)))
 
 pub targets_faulty : (es : List Signature) (v : Json) (e : ShapeFault) → IsFaulty (IsTargets v) AreTargetsNamed e → IsFaulty (IsBody kinds.Targets es v) AreNamed e
-targets_faulty es v e (inl h) = inl (ill_again e h (λ b. targets_in es v b.0 b.1))
+targets_faulty es v e (inl h) = inl (ill_again e h (λ b. let f = targets_in es v b.0 b.1 in (f.0, f.1)))
 targets_faulty es v e (inr h) = inr (h.0, (targets h.1.0, h.1.1, h.1.2))
+
+pub layout_faulty : (es : List Signature) (v : Json) (e : ShapeFault) → IsFaulty (IsLayout v) (λ l. NamesAreIds l.keys) e → IsFaulty (IsBody kinds.Layout es v) AreNamed e
+layout_faulty es v e (inl h) = inl (ill_again e h (λ b. let f = layout_in es v b.0 b.1 in (f.0, f.1)))
+layout_faulty es v e (inr h) = inr (h.0, (layout h.1.0, h.1.1, λ all. h.1.2 all.0))
+
+pub link_faulty : (es : List Signature) (v : Json) (e : ShapeFault) → IsIll ((l : Link) × IsLink es v l) e → IsFaulty (IsBody kinds.Link es v) AreNamed e
+link_faulty es v e h = inl (ill_again e h (λ b. let f = link_in es v b.0 b.1 in (f.0, f.1)))
 
 -- ---- values
 

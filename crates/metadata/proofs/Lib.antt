@@ -12,6 +12,8 @@ pub mod HexBytes
 pub mod Ill
 pub mod Instants
 pub mod Judged
+pub mod LayoutsNamed
+pub mod LayoutsOnce
 pub mod KeyObjects
 pub mod Named
 pub mod Once
@@ -19,6 +21,8 @@ pub mod OneDocument
 pub mod PartsOnce
 pub mod Rising
 pub mod RootRoles
+pub mod RuleWords
 pub mod OneOfTwo
+pub mod SaidBy
 pub mod SnapshotNames
 pub mod TargetsNamed

@@ -6,7 +6,7 @@ use Rattle.keys_roles.specs.steps.Counting.{IsIn}
 use Rattle.path_patterns.specs.Grammar.{IsHex}
 use Rattle.canonical_json.specs.Json.{Json}
 use Rattle.canonical_json.specs.Spelling.{IsProper}
-use Rattle.metadata.specs.Documents.{Root, Delegation}
+use Rattle.metadata.specs.Documents.{Root}
 use Rattle.metadata.specs.steps.Faults.{IsMisnamed, IsFaulty}
 use Rattle.metadata.specs.Members.{Has}
 use Rattle.metadata.specs.Parts.{IsTable, NamesAreIds, NamesAreHex, IsRuleOver}
@@ -48,11 +48,11 @@ pub not_false : (b : Bool) → not b ≡ false → b ≡ true
 not_false true h = refl
 not_false false h = sym h
 
--- the rules of delegations over a table of hex names have hex ids
-pub each_ids_hex : (table : Table) (ds : List Delegation) → AllByRecursion (λ d. IsRuleOver table d.rule) ds → NamesAreHex table
-    → AllByRecursion (λ d. AllByRecursion (IsHex 64) d.rule.keyids) ds
-each_ids_hex table [] over all = tt
-each_ids_hex table (d ∷ ds) over all = (ids_hex table d.rule over.0 all, each_ids_hex table ds over.1 all)
+-- rules over a table of hex names have hex ids
+pub each_ids_hex : {A : Type 0} (rule : A → RoleRule) (table : Table) (xs : List A) → AllByRecursion (λ x. IsRuleOver table (rule x)) xs → NamesAreHex table
+    → AllByRecursion (λ x. AllByRecursion (IsHex 64) (rule x).keyids) xs
+each_ids_hex rule table [] over all = tt
+each_ids_hex rule table (x ∷ xs) over all = (ids_hex table (rule x) over.0 all, each_ids_hex rule table xs over.1 all)
 
 -- what holds of each holds of the one at a place
 pub each_at : {A B : Type 0} (f : A → B) (P : B → Type 0) (xs : List A) (n : ℕ) (x : A) → AllByRecursion P (map f xs) → n < length xs → x ≡ get_or xs n x → P (f x)

@@ -3,7 +3,7 @@ use Rattle.std.proofs.Common.{◌≡◌, ℕ, ◌<◌, List, length, codes, refl
 use Rattle.canonical_json.specs.Json.{Json}
 use Rattle.canonical_json.specs.Spelling.{spelling, IsProper, IsCanonical}
 use Rattle.keys_roles.specs.Plain.{Signature}
-use Rattle.metadata.specs.Documents.{Body, root, timestamp, snapshot, targets, Document}
+use Rattle.metadata.specs.Documents.{Body, root, timestamp, snapshot, targets, layout, link, Document}
 use Rattle.metadata.specs.Members.{Has, IsArray, IsText}
 use Rattle.metadata.specs.Parts.{IsEnvelope, IsEntry, NamesAreIds}
 use Rattle.std.specs.List.{AllByRecursion}
@@ -16,36 +16,38 @@ use Rattle.metadata.proofs.Congruence.{same3}
 use Rattle.metadata.proofs.Once.{has-once, array-once, text-once}
 use Rattle.metadata.proofs.PartsOnce.{signature-once}
 use Rattle.metadata.proofs.BodiesOnce.{root-once, timestamp-once, snapshot-once, targets-once}
+use Rattle.metadata.proofs.SaidBy.{root_in, timestamp_in, snapshot_in, targets_in, layout_in, link_in}
+use Rattle.metadata.proofs.LayoutsOnce.{layout-once, link-once}
+
+-- both are the kind's
+both : {A : Type 0} (make : A → Body) (x y : A) (a b : Body) → a ≡ make x → b ≡ make y → x ≡ y → a ≡ b
+both make x y a b p q e = p ∙ (ap make e ∙ sym q)
 
 body-once : (kind : Kind) (entries : List Signature) (signed : Json) (a b : Body) → IsProper signed → IsBody kind entries signed a → IsBody kind entries signed b → a ≡ b
-body-once kinds.Root entries signed (root a) (root b) p h k = ap root (root-once signed a b p h k)
-body-once kinds.Root entries signed (root a) (timestamp b) p h k = absurd k
-body-once kinds.Root entries signed (root a) (snapshot b) p h k = absurd k
-body-once kinds.Root entries signed (root a) (targets b) p h k = absurd k
-body-once kinds.Root entries signed (timestamp a) b p h k = absurd h
-body-once kinds.Root entries signed (snapshot a) b p h k = absurd h
-body-once kinds.Root entries signed (targets a) b p h k = absurd h
-body-once kinds.Timestamp entries signed (root a) b p h k = absurd h
-body-once kinds.Timestamp entries signed (timestamp a) (root b) p h k = absurd k
-body-once kinds.Timestamp entries signed (timestamp a) (timestamp b) p h k = ap timestamp (timestamp-once signed a b p h k)
-body-once kinds.Timestamp entries signed (timestamp a) (snapshot b) p h k = absurd k
-body-once kinds.Timestamp entries signed (timestamp a) (targets b) p h k = absurd k
-body-once kinds.Timestamp entries signed (snapshot a) b p h k = absurd h
-body-once kinds.Timestamp entries signed (targets a) b p h k = absurd h
-body-once kinds.Snapshot entries signed (root a) b p h k = absurd h
-body-once kinds.Snapshot entries signed (timestamp a) b p h k = absurd h
-body-once kinds.Snapshot entries signed (snapshot a) (root b) p h k = absurd k
-body-once kinds.Snapshot entries signed (snapshot a) (timestamp b) p h k = absurd k
-body-once kinds.Snapshot entries signed (snapshot a) (snapshot b) p h k = ap snapshot (snapshot-once signed a b p h k)
-body-once kinds.Snapshot entries signed (snapshot a) (targets b) p h k = absurd k
-body-once kinds.Snapshot entries signed (targets a) b p h k = absurd h
-body-once kinds.Targets entries signed (root a) b p h k = absurd h
-body-once kinds.Targets entries signed (timestamp a) b p h k = absurd h
-body-once kinds.Targets entries signed (snapshot a) b p h k = absurd h
-body-once kinds.Targets entries signed (targets a) (root b) p h k = absurd k
-body-once kinds.Targets entries signed (targets a) (timestamp b) p h k = absurd k
-body-once kinds.Targets entries signed (targets a) (snapshot b) p h k = absurd k
-body-once kinds.Targets entries signed (targets a) (targets b) p h k = ap targets (targets-once signed a b p h k)
+body-once kinds.Root entries signed a b p h k =
+    let f = root_in entries signed a h in
+    let g = root_in entries signed b k in
+    both root f.0 g.0 a b f.2 g.2 (root-once signed f.0 g.0 p f.1 g.1)
+body-once kinds.Timestamp entries signed a b p h k =
+    let f = timestamp_in entries signed a h in
+    let g = timestamp_in entries signed b k in
+    both timestamp f.0 g.0 a b f.2 g.2 (timestamp-once signed f.0 g.0 p f.1 g.1)
+body-once kinds.Snapshot entries signed a b p h k =
+    let f = snapshot_in entries signed a h in
+    let g = snapshot_in entries signed b k in
+    both snapshot f.0 g.0 a b f.2 g.2 (snapshot-once signed f.0 g.0 p f.1 g.1)
+body-once kinds.Targets entries signed a b p h k =
+    let f = targets_in entries signed a h in
+    let g = targets_in entries signed b k in
+    both targets f.0 g.0 a b f.2 g.2 (targets-once signed f.0 g.0 p f.1 g.1)
+body-once kinds.Layout entries signed a b p h k =
+    let f = layout_in entries signed a h in
+    let g = layout_in entries signed b k in
+    both layout f.0 g.0 a b f.2 g.2 (layout-once signed f.0 g.0 p f.1 g.1)
+body-once kinds.Link entries signed a b p h k =
+    let f = link_in entries signed a h in
+    let g = link_in entries signed b k in
+    both link f.0 g.0 a b f.2 g.2 (link-once entries signed f.0 g.0 p f.1 g.1)
 
 -- the parts of a file's envelope
 pub record SameEnvelope (es fs : List Signature) (x y : Json) (t u : List ℕ) : Type 0 where

@@ -1,12 +1,12 @@
 -- Names that rise are in order, and only those.
-use Rattle.std.proofs.Common.{◌≡◌, ℕ, List, [], ◌∷◌, Bool, true, false, ◌&&◌, IsTrue, refl, rules, arith}
+use Rattle.std.proofs.Common.{◌≡◌, ℕ, List, [], ◌∷◌, Bool, true, false, ◌&&◌, refl}
 use Rattle.std.specs.List.Sorted.{IsStrictlySortedBy}
 use Rattle.std.specs.Ordering.{is_lt}
 use Rattle.std.specs.declared.cmp.Ordering.{Ordering}
 use Rattle.std.specs.declared.cmp.Ordering.TheVariants.{Less, Equal, Greater}
 use Rattle.canonical_json.specs.Spelling.{AreRising}
 use Rattle.metadata.specs.Sorted.{AreInOrder, compared}
-use Rattle.metadata.specs.steps.Rising.{comes_before, rises}
+use Rattle.metadata.specs.steps.Rising.{rises}
 use Rattle.metadata.proofs.Halving.{in_order}
 
 is_less : (o : Ordering) → is_lt o ≡ true → o ≡ Less

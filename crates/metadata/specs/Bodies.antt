@@ -1,15 +1,17 @@
--- What the signed part of each kind of document is (TUF 1.0, sections 4.3 to 4.6; this project's profile). Members that are
--- not named here may stand beside those that are, except where `HasJust` or an equation says otherwise. No layouts are
--- judged yet: a document that has any is none.
+-- What the signed part of each kind of document is (TUF 1.0, sections 4.3 to 4.6; in-toto 1.0, sections 4.3 and 4.4; this
+-- project's profile). Members that are not named here may stand beside those that are, except where `HasJust` or an equation
+-- says otherwise. No target refers to a layout yet: targets metadata with such a reference is none.
 use Rattle.std.specs.Prelude.{◌≡◌, ◌≢◌, ℕ, ◌<◌, ◌≤◌, List, [], ◌∷◌, ◌++◌, length, codes, true, Option, Some, None, map, Contains, ◌⊎◌}
 use Rattle.std.specs.List.{AllByRecursion}
-use Rattle.canonical_json.specs.Json.{Json, boolean, HasMember, object, Members}
+use Rattle.canonical_json.specs.Json.{Json, boolean, array, no_items, HasMember, object, Members}
 use Rattle.path_patterns.specs.Grammar.{IsTargetPath, IsName, IsPattern, IsHashPrefix}
-use Rattle.keys_roles.specs.Plain.{Table, RoleRule}
+use Rattle.keys_roles.specs.Plain.{Table, RoleRule, Signature}
 use Rattle.keys_roles.specs.Rules.{AreDistinct}
-use Rattle.metadata.specs.Documents.{Root, Timestamp, Snapshot, MetaFile, LayoutReference, Listing, Scope, patterns, prefixes, Delegation, Delegations, Targets}
+use Rattle.metadata.specs.Documents.{Root, Timestamp, Snapshot, MetaFile, LayoutReference, Listing, Scope, patterns, prefixes, Delegation, Delegations, Targets, Step, Layout}
+use Rattle.metadata.specs.Links.{Artifacts, Link}
 use Rattle.metadata.specs.Members.{Has, MayHave, HasJust, IsArray, IsObject, IsText}
 use Rattle.metadata.specs.Parts.{IsVersion, IsLength, HasExpires, IsSpecVersion, IsHashes, IsTable, HasRule, IsMetaFile}
+use Rattle.metadata.specs.Rules.{ArtifactRule, AreWordsOf}
 
 -- the names of the four roles that delegations can't give
 abbrev pub top_roles : List (List ℕ)
@@ -143,3 +145,55 @@ pub record IsTargets (signed : Json) (t : Targets) : Type 0 where
   pub head : HasHead signed t.version t.expires
   pub targets : Has signed (codes "targets") (λ x. IsObject IsListing x t.targets)
   pub delegations : MayHave signed (codes "delegations") HasDelegations t.delegations
+
+-- a list of texts, which are the words of the rule
+abbrev pub IsListedRule : Json → ArtifactRule → Type 0
+IsListedRule v r = (words : List (List ℕ)) × IsArray IsText v words × AreWordsOf words r
+
+-- the most rules of one list
+abbrev pub max_rules : ℕ
+max_rules = 64
+
+-- rules in their order
+abbrev pub IsRuleList : Json → List ArtifactRule → Type 0
+IsRuleList v rs = IsArray IsListedRule v rs × (length rs ≤ max_rules)
+
+-- a step, over the keys of its layout
+abbrev pub IsStep : Table → Json → Step → Type 0
+IsStep keys v s =
+    Has v (codes "name") (λ x. IsTextOf IsName x s.name)
+    × HasRule (codes "pubkeys") v keys s.rule
+    × Has v (codes "expected_materials") (λ x. IsRuleList x s.materials)
+    × Has v (codes "expected_products") (λ x. IsRuleList x s.products)
+
+-- the most steps of a layout
+abbrev pub max_steps : ℕ
+max_steps = 16
+
+-- steps in their order, no name twice
+abbrev pub AreSteps : Table → Json → List Step → Type 0
+AreSteps keys v ss =
+    IsArray (IsStep keys) v ss × (0 < length ss) × (length ss ≤ max_steps) × AreDistinct (map (λ s. s.name) ss)
+
+abbrev pub HasNoInspections : Json → Type 0
+HasNoInspections signed = Has signed (codes "inspect") (λ x. x ≡ array no_items)
+
+pub record IsLayout (signed : Json) (l : Layout) : Type 0 where
+  pub expires : HasExpires signed l.expires
+  pub inspect : HasNoInspections signed
+  pub keys : Has signed (codes "keys") (λ x. IsTable x l.keys)
+  pub steps : Has signed (codes "steps") (λ x. AreSteps l.keys x l.steps)
+
+-- a path with the digest of the artifact
+abbrev pub IsArtifact : List ℕ → Json → List ℕ × List ℕ → Type 0
+IsArtifact path v a = (path ≡ a.0) × IsTargetPath path × IsHashes v a.1
+
+abbrev pub AreArtifacts : Json → Artifacts → Type 0
+AreArtifacts v artifacts = IsObject IsArtifact v artifacts
+
+-- a link, which has one signature
+pub record IsLink (entries : List Signature) (signed : Json) (l : Link) : Type 0 where
+  pub one : length entries ≡ 1
+  pub name : Has signed (codes "name") (λ x. IsTextOf IsName x l.name)
+  pub materials : Has signed (codes "materials") (λ x. AreArtifacts x l.materials)
+  pub products : Has signed (codes "products") (λ x. AreArtifacts x l.products)

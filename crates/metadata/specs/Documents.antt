@@ -1,7 +1,9 @@
 -- Documents as contracts see them: texts are lists of bytes, digests lists of 32 bytes, moments seconds
--- since 1970-01-01T00:00:00Z. (TUF 1.0, sections 4.3 to 4.6.)
+-- since 1970-01-01T00:00:00Z. (TUF 1.0, sections 4.3 to 4.6; in-toto 1.0, sections 4.3 and 4.4.)
 use Rattle.std.specs.Prelude.{ℕ, List, Bool, Option}
 use Rattle.keys_roles.specs.Plain.{Table, RoleRule, Signature}
+use Rattle.metadata.specs.Links.{Link}
+use Rattle.metadata.specs.Rules.{ArtifactRule}
 
 -- what a file says of another: its version, and its length and digest where these are given
 pub record MetaFile : Type 0 where
@@ -65,11 +67,26 @@ pub record Targets : Type 0 where
   pub targets : List Listing
   pub delegations : Option Delegations
 
+-- a step of a layout: whose links count and how many keys it takes, and what its link's materials and products must keep to
+pub record Step : Type 0 where
+  pub name : List ℕ
+  pub rule : RoleRule
+  pub materials : List ArtifactRule
+  pub products : List ArtifactRule
+
+-- steps in order, and the keys that their rules name
+pub record Layout : Type 0 where
+  pub expires : ℕ
+  pub keys : Table
+  pub steps : List Step
+
 pub data Body : Type 0 where
   root : Root → Body
   timestamp : Timestamp → Body
   snapshot : Snapshot → Body
   targets : Targets → Body
+  layout : Layout → Body
+  link : Link → Body
 
 -- a file: its signatures, the bytes that they are over, and what these say
 pub record Document : Type 0 where

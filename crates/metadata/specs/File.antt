@@ -4,7 +4,8 @@ use Rattle.std.specs.List.{list_any}
 use Rattle.keys_roles.specs.Plain.{Signature}
 pub use Rattle.keys_roles.specs.Plain.{look_up}
 pub use Rattle.hex.specs.Hex.{encode_lower}
-use Rattle.metadata.specs.Documents.{Root, Timestamp, Snapshot, Targets, Body, root, timestamp, snapshot, targets, Document}
+use Rattle.metadata.specs.Documents.{Root, Timestamp, Snapshot, Targets, Layout, Body, root, timestamp, snapshot, targets, layout, link, Document}
+use Rattle.metadata.specs.Links.{Link}
 use Rattle.metadata.specs.Shape.{IsDocument, IsShapeFault}
 use Rattle.denials.specs.Numbers as no
 use Rattle.metadata.specs.declared.documents.Kind.{Kind}
@@ -47,6 +48,12 @@ snapshot_form = record { kind = kinds.Snapshot; make = snapshot }
 
 abbrev pub targets_form : Form Targets
 targets_form = record { kind = kinds.Targets; make = targets }
+
+abbrev pub layout_form : Form Layout
+layout_form = record { kind = kinds.Layout; make = layout }
+
+abbrev pub link_form : Form Link
+link_form = record { kind = kinds.Link; make = link }
 
 abbrev pub document_of : {A : Type 0} → Form A → File A → Document
 document_of form f = record { entries = f.entries; signed = f.signed; body = form.make f.body }

@@ -1,11 +1,15 @@
 -- What the code's files stand for.
 use Rattle.metadata.specs.Documents as plain
 use Rattle.metadata.specs.File as spec
-use Rattle.metadata.specs.Views.{root_view, timestamp_view, snapshot_view, targets_view}
+use Rattle.metadata.specs.Links as links
+use Rattle.metadata.specs.RuleViews.{link_view}
+use Rattle.metadata.specs.Views.{root_view, timestamp_view, snapshot_view, targets_view, layout_view}
 use Rattle.metadata.specs.declared.documents.Root.{Root}
 use Rattle.metadata.specs.declared.documents.Timestamp.{Timestamp}
 use Rattle.metadata.specs.declared.documents.Snapshot.{Snapshot}
 use Rattle.metadata.specs.declared.documents.Targets.{Targets}
+use Rattle.metadata.specs.declared.documents.Layout.{Layout}
+use Rattle.metadata.specs.declared.links.Link.{Link}
 use Rattle.metadata.specs.declared.file.File.{File}
 
 abbrev file_view : {A B : Type 0} → (B → A) → File B → spec.File A
@@ -22,3 +26,9 @@ snapshot_file f = file_view snapshot_view f
 
 abbrev pub targets_file : File Targets → spec.File plain.Targets
 targets_file f = file_view targets_view f
+
+abbrev pub layout_file : File Layout → spec.File plain.Layout
+layout_file f = file_view layout_view f
+
+abbrev pub link_file : File Link → spec.File links.Link
+link_file f = file_view link_view f

@@ -1,6 +1,6 @@
 -- What a link says (in-toto 1.0, section 4.4): the artifacts of a step before it and after it, by their paths, each with its digest.
-use Rattle.std.specs.Prelude.{◌≡◌, ℕ, List, Option, Some}
-use Rattle.metadata.specs.File.{look_up}
+use Rattle.std.specs.Prelude.{◌≡◌, ℕ, List, Some}
+use Rattle.keys_roles.specs.Plain.{look_up}
 use Rattle.metadata.specs.Rules.{Side, materials, products}
 
 abbrev pub Artifacts : Type 0

@@ -1,5 +1,5 @@
 -- What the code's artifact rules and links stand for.
-use Rattle.std.specs.Prelude.{map, option_map}
+use Rattle.std.specs.Prelude.{map}
 use Rattle.metadata.specs.Rules as plain
 use Rattle.metadata.specs.Links as links
 use Rattle.metadata.specs.declared.rules.Side.{Side}

@@ -4,9 +4,9 @@ use Rattle.std.specs.List.{AllByRecursion}
 use Rattle.canonical_json.specs.Json.{Json}
 use Rattle.canonical_json.specs.Spelling.{spelling, IsCanonical}
 use Rattle.keys_roles.specs.Plain.{Table, Signature}
-use Rattle.metadata.specs.Documents.{Body, root, timestamp, snapshot, targets, Document, Delegations, LayoutReference}
+use Rattle.metadata.specs.Documents.{Body, root, timestamp, snapshot, targets, layout, link, Document, Delegations, LayoutReference}
 use Rattle.metadata.specs.Parts.{IsEnvelope, NamesAreIds}
-use Rattle.metadata.specs.Bodies.{IsRoot, IsTimestamp, IsSnapshot, IsTargets}
+use Rattle.metadata.specs.Bodies.{IsRoot, IsTimestamp, IsSnapshot, IsTargets, IsLayout, IsLink}
 use Rattle.metadata.specs.declared.documents.Kind.{Kind}
 use Rattle.metadata.specs.declared.documents.Kind.TheVariants as kinds
 use Rattle.metadata.specs.declared.documents.ShapeFault.{ShapeFault}
@@ -17,14 +17,17 @@ kind_name kinds.Root = codes "root"
 kind_name kinds.Timestamp = codes "timestamp"
 kind_name kinds.Snapshot = codes "snapshot"
 kind_name kinds.Targets = codes "targets"
+kind_name kinds.Layout = codes "layout"
+kind_name kinds.Link = codes "link"
 
--- the signed part has the members of its kind, and they say this. A kind may ask something of the signatures too: none of
--- these four does
+-- the signed part has the members of its kind, and they say this. A link asks something of the signatures too: it has just one
 abbrev pub IsBody : Kind → List Signature → Json → Body → Type 0
 IsBody kinds.Root entries signed (root r) = IsRoot signed r
 IsBody kinds.Timestamp entries signed (timestamp t) = IsTimestamp signed t
 IsBody kinds.Snapshot entries signed (snapshot s) = IsSnapshot signed s
 IsBody kinds.Targets entries signed (targets t) = IsTargets signed t
+IsBody kinds.Layout entries signed (layout l) = IsLayout signed l
+IsBody kinds.Link entries signed (link l) = IsLink entries signed l
 IsBody kind entries signed body = ⊥
 
 abbrev pub reference_tables : Option LayoutReference → List Table
@@ -41,6 +44,8 @@ tables (root r) = r.keys ∷ []
 tables (timestamp t) = []
 tables (snapshot s) = []
 tables (targets t) = delegation_tables t.delegations ++ flat_map (λ l. reference_tables l.layout) t.targets
+tables (layout l) = l.keys ∷ []
+tables (link l) = []
 
 abbrev pub max_file : ℕ
 max_file = 262144

@@ -2,6 +2,7 @@
 use Rattle.std.specs.Prelude.{map, option_map, None, string_bytes}
 use Rattle.keys_roles.specs.Views.{table_view, rule_view as role_view, entries_view}
 use Rattle.metadata.specs.Documents as plain
+use Rattle.metadata.specs.RuleViews.{rule_view, link_view}
 use Rattle.metadata.specs.declared.documents.Meta.{Meta}
 use Rattle.metadata.specs.declared.documents.Root.{Root}
 use Rattle.metadata.specs.declared.documents.Timestamp.{Timestamp}
@@ -12,6 +13,8 @@ use Rattle.metadata.specs.declared.documents.Delegations.{Delegations}
 use Rattle.metadata.specs.declared.documents.Scope.{Scope}
 use Rattle.metadata.specs.declared.documents.Scope.TheVariants as scopes
 use Rattle.metadata.specs.declared.documents.Targets.{Targets}
+use Rattle.metadata.specs.declared.documents.Step.{Step}
+use Rattle.metadata.specs.declared.documents.Layout.{Layout}
 use Rattle.metadata.specs.declared.documents.Body.{Body}
 use Rattle.metadata.specs.declared.documents.Body.TheVariants as bodies
 use Rattle.metadata.specs.declared.documents.Document.{Document}
@@ -52,11 +55,19 @@ listing_view l = record { path = l.path; len = l.length; digest = l.digest.0; la
 abbrev pub targets_view : Targets → plain.Targets
 targets_view t = record { version = t.version; expires = t.expires; targets = map listing_view t.targets.items; delegations = option_map delegations_view t.delegations }
 
+abbrev pub step_view : Step → plain.Step
+step_view s = record { name = s.name; rule = role_view s.rule; materials = map rule_view s.materials.items; products = map rule_view s.products.items }
+
+abbrev pub layout_view : Layout → plain.Layout
+layout_view l = record { expires = l.expires; keys = table_view l.keys; steps = map step_view l.steps.items }
+
 abbrev pub body_view : Body → plain.Body
 body_view (bodies.Root r) = plain.root (root_view r)
 body_view (bodies.Timestamp t) = plain.timestamp (timestamp_view t)
 body_view (bodies.Snapshot s) = plain.snapshot (snapshot_view s)
 body_view (bodies.Targets t) = plain.targets (targets_view t)
+body_view (bodies.Layout l) = plain.layout (layout_view l)
+body_view (bodies.Link l) = plain.link (link_view l)
 
 abbrev pub document_view : Document → plain.Document
 document_view d = record { entries = entries_view d.signatures.items; signed = d.signed.now; body = body_view d.body }

@@ -1,4 +1,4 @@
-// Which document a file is (TUF 1.0, section 4.2).
+// Which document a file is (TUF 1.0, section 4.2; in-toto 1.0, section 4.1).
 ghost use Rattle.std.specs.Prelude.{◌≡◌, ◌⊎◌, ◌↔◌, ℕ, List, IfOk, IfErr, IsTrue};
 ghost use Rattle.std.specs.List.{AllByRecursion};
 ghost use Rattle.canonical_json.specs.Spelling.{IsProper};
@@ -12,6 +12,8 @@ ghost use Rattle.metadata.specs.Views.{body_view, document_view};
 
 use crate::documents::{Body, Document, Kind, ShapeFault};
 use crate::envelope::{Envelope, read_envelope};
+use crate::layout::read_layout;
+use crate::link::read_link;
 use crate::root::read_root;
 use crate::snapshot::read_snapshot;
 use crate::targets::read_targets;
@@ -23,7 +25,7 @@ use std::alloc::Global;
 /// The bytes of the longest file.
 pub const MOST: usize = 262_144;
 
-/// The document of this kind that the bytes are (TUF 1.0, sections 4.2 to 4.6), or the first check that fails, in this
+/// The document of this kind that the bytes are (TUF 1.0, sections 4.2 to 4.6; in-toto 1.0, sections 4.3 and 4.4), or the first check that fails, in this
 /// order: at most 262,144 bytes, canonical JSON, an envelope whose signed part has a text `_type`, the kind's `_type`, the
 /// kind's members, and each name in a key table its key's id. The signed bytes are lent from the file.
 pub fn read_document<'a>(
@@ -92,6 +94,8 @@ fn is_kind(kind: Kind, type_name: &str) -> bool
         Kind::Timestamp => "timestamp",
         Kind::Snapshot => "snapshot",
         Kind::Targets => "targets",
+        Kind::Layout => "layout",
+        Kind::Link => "link",
     };
     *type_name == *name
 }
@@ -113,5 +117,7 @@ fn read_body(alloc: Global, kind: Kind, envelope: &Envelope) -> Result<Body, Sha
         },
         Kind::Snapshot => Ok(Body::Snapshot(read_snapshot(alloc, part)?)),
         Kind::Targets => Ok(Body::Targets(read_targets(alloc, part)?)),
+        Kind::Layout => Ok(Body::Layout(read_layout(alloc, part)?)),
+        Kind::Link => Ok(Body::Link(read_link(alloc, &envelope.signatures, part)?)),
     }
 }

@@ -2,7 +2,9 @@ ghost use Rattle.std.specs.Prelude.{◌++◌, codes, map};
 ghost use Rattle.std.proofs.Props.{props};
 ghost use Rattle.metadata.specs.Sorted.{AreInOrder};
 
+use crate::links::Link;
 use crate::moment::Moment;
+use crate::rules::Rule;
 use keys_roles::{KeyTable, RoleRule, Signature};
 use path_patterns::{Digest, Pattern, RoleName, TargetPath};
 use std::alloc::{AllocError, AllocFailed};
@@ -19,6 +21,10 @@ pub enum Kind {
     Snapshot,
     /// TUF 1.0, section 4.5.
     Targets,
+    /// In-toto 1.0, section 4.3.
+    Layout,
+    /// In-toto 1.0, section 4.4.
+    Link,
 }
 
 /// Why a file is no document of its kind: the first check that fails.
@@ -150,6 +156,24 @@ pub struct Targets {
     ghost in_order: { AreInOrder (map (λ l. l.path) targets.items) } by { Prim.hlevel props },
 }
 
+/// A step of a layout (in-toto 1.0, section 4.3.1): its name, whose links count for it and from how many keys there must be
+/// one, and the rules that its link's materials and products must keep to, at most 64 each.
+#[derive(Debug, Drop)]
+pub struct Step {
+    pub name: RoleName,
+    pub rule: RoleRule,
+    pub materials: Vec<Rule>,
+    pub products: Vec<Rule>,
+}
+
+/// A layout (in-toto 1.0, section 4.3): 1 to 16 steps in their order, no name twice, and the keys that their rules name.
+#[derive(Debug, Drop)]
+pub struct Layout {
+    pub expires: Moment,
+    pub keys: KeyTable,
+    pub steps: Vec<Step>,
+}
+
 /// What the signed part of a document says.
 #[derive(Debug, Drop)]
 pub enum Body {
@@ -157,6 +181,8 @@ pub enum Body {
     Timestamp(Timestamp),
     Snapshot(Snapshot),
     Targets(Targets),
+    Layout(Layout),
+    Link(Link),
 }
 
 /// A file (TUF 1.0, section 4.2): its signatures, the bytes that they are over, lent from the file, and what these say.

@@ -1,11 +1,14 @@
 //! Files kept with the documents that they spell.
 ghost use Rattle.std.specs.Prelude.{◌≡◌, IfOk, IfErr, ◌⊎◌};
-ghost use Rattle.metadata.specs.File.{IsFileOf, root_form, timestamp_form, snapshot_form, targets_form};
-ghost use Rattle.metadata.specs.FileViews.{root_file, timestamp_file, snapshot_file, targets_file};
+ghost use Rattle.metadata.specs.File.{IsFileOf, root_form, timestamp_form, snapshot_form, targets_form, layout_form, link_form};
+ghost use Rattle.metadata.specs.FileViews.{root_file, timestamp_file, snapshot_file, targets_file, layout_file, link_file};
 ghost use Rattle.metadata.specs.Shape.{IsShapeFault};
 
 use crate::document::read_document;
-use crate::documents::{Body, Document, Kind, Root, ShapeFault, Snapshot, Targets, Timestamp};
+use crate::documents::{
+    Body, Document, Kind, Layout, Root, ShapeFault, Snapshot, Targets, Timestamp,
+};
+use crate::links::Link;
 use crate::source::Source;
 use std::alloc::Global;
 
@@ -85,6 +88,44 @@ pub fn read_targets_file(alloc: Global, bytes: &[u8]) -> Result<File<Targets>, S
     } = read_document(alloc, Kind::Targets, bytes)?;
     match body {
         Body::Targets(body) => {
+            let source = Source::new(alloc, bytes, signed, signatures)?;
+            Ok(File { source, body })
+        }
+        _ => Err(ShapeFault::WrongShape),
+    }
+}
+
+/// The file as a layout, with a copy of its bytes, or the first check of its shape that fails.
+pub fn read_layout_file(alloc: Global, bytes: &[u8]) -> Result<File<Layout>, ShapeFault>
+    ensures file { IfOk result (λ f. IsFileOf layout_form (layout_file f) × ((layout_file f).bytes ≡ bytes.now)) }
+    ensures fault { IfErr result (λ e. (e ≡ ShapeFault.OutOfMemory) ⊎ IsShapeFault Kind.Layout bytes.now e) }
+{
+    let Document {
+        signatures,
+        signed,
+        body,
+    } = read_document(alloc, Kind::Layout, bytes)?;
+    match body {
+        Body::Layout(body) => {
+            let source = Source::new(alloc, bytes, signed, signatures)?;
+            Ok(File { source, body })
+        }
+        _ => Err(ShapeFault::WrongShape),
+    }
+}
+
+/// The file as a link, with a copy of its bytes, or the first check of its shape that fails.
+pub fn read_link_file(alloc: Global, bytes: &[u8]) -> Result<File<Link>, ShapeFault>
+    ensures file { IfOk result (λ f. IsFileOf link_form (link_file f) × ((link_file f).bytes ≡ bytes.now)) }
+    ensures fault { IfErr result (λ e. (e ≡ ShapeFault.OutOfMemory) ⊎ IsShapeFault Kind.Link bytes.now e) }
+{
+    let Document {
+        signatures,
+        signed,
+        body,
+    } = read_document(alloc, Kind::Link, bytes)?;
+    match body {
+        Body::Link(body) => {
             let source = Source::new(alloc, bytes, signed, signatures)?;
             Ok(File { source, body })
         }

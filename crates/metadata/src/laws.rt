@@ -6,7 +6,7 @@ ghost use Rattle.keys_roles.specs.Rules.{AreDistinct};
 ghost use Rattle.metadata.specs.Covers.{Covers, covers};
 ghost use Rattle.metadata.specs.Documents.{Delegation, Snapshot};
 ghost use Rattle.metadata.specs.Bodies.{IsListable};
-ghost use Rattle.metadata.specs.File.{Bytes, File, IsFileOf, IsDeniedShape, root_form, timestamp_form, snapshot_form, targets_form};
+ghost use Rattle.metadata.specs.File.{Bytes, File, IsFileOf, IsDeniedShape, root_form, timestamp_form, snapshot_form, targets_form, layout_form, link_form};
 ghost use Rattle.denials.specs.Orders.{Denied, Plain};
 ghost use Rattle.metadata.specs.Shaped.{shaped};
 ghost use Rattle.metadata.specs.declared.documents.Kind.TheVariants as kinds;
@@ -25,6 +25,8 @@ pub fn denied_shapes()
     ensures timestamps { (b : Bytes) (n : ℕ) → shaped timestamp_form b (Err (Denied (Plain n))) ↔ IsDeniedShape kinds.Timestamp b n }
     ensures snapshots { (b : Bytes) (n : ℕ) → shaped snapshot_form b (Err (Denied (Plain n))) ↔ IsDeniedShape kinds.Snapshot b n }
     ensures targets { (b : Bytes) (n : ℕ) → shaped targets_form b (Err (Denied (Plain n))) ↔ IsDeniedShape kinds.Targets b n }
+    ensures layouts { (b : Bytes) (n : ℕ) → shaped layout_form b (Err (Denied (Plain n))) ↔ IsDeniedShape kinds.Layout b n }
+    ensures links { (b : Bytes) (n : ℕ) → shaped link_form b (Err (Denied (Plain n))) ↔ IsDeniedShape kinds.Link b n }
 {}
 
 /// A law, which does nothing: the test by which a search follows a delegation holds exactly where one of its patterns

@@ -1,4 +1,4 @@
-//! Documents: which document a file is, and what of it was signed (TUF 1.0, sections 4.2 to 4.6).
+//! Documents: which document a file is, and what of it was signed (TUF 1.0, sections 4.2 to 4.6; in-toto 1.0, sections 4.3 and 4.4).
 //!
 //! A file is canonical JSON of at most 262,144 bytes: an envelope of 0 to 16 signatures and the part that they are over.
 //! Members of the signed part that no rule names are allowed, and signed over.
@@ -15,17 +15,21 @@ mod file;
 mod head;
 mod keys;
 mod laws;
+mod layout;
+mod link;
 mod links;
 mod lookups;
 mod members;
 mod moment;
 mod parts;
 mod root;
+mod rule_lists;
 mod rules;
 mod scopes;
 mod signed;
 mod snapshot;
 mod source;
+mod steps;
 mod targets;
 mod timestamp;
 
@@ -39,10 +43,13 @@ use canonical_json::one_spelling;
 pub use dates::read_date_time;
 pub use document::read_document;
 pub use documents::{
-    Body, Delegation, Delegations, Document, Kind, Listing, Meta, Root, Scope, ShapeFault,
-    Snapshot, Targets, Timestamp,
+    Body, Delegation, Delegations, Document, Kind, Layout, Listing, Meta, Root, Scope, ShapeFault,
+    Snapshot, Step, Targets, Timestamp,
 };
-pub use file::{File, read_root_file, read_snapshot_file, read_targets_file, read_timestamp_file};
+pub use file::{
+    File, read_layout_file, read_link_file, read_root_file, read_snapshot_file, read_targets_file,
+    read_timestamp_file,
+};
 pub use keys_roles::{Key, KeyId, KeyTable, RoleRule, Signature};
 pub use laws::{covers_tell, denied_shapes, snapshot_names};
 pub use links::{Artifacts, Link};

@@ -64,8 +64,8 @@ pub(crate) fn read_root(alloc: Global, signed: &Value) -> Result<Root, ShapeFaul
     })
 }
 
-// The key table that the object has under `keys`.
-fn keys_of(alloc: Global, signed: &Value) -> Result<SpelledTable, ShapeFault>
+/// The key table that the object has under `keys`.
+pub(crate) fn keys_of(alloc: Global, signed: &Value) -> Result<SpelledTable, ShapeFault>
     requires { IsProper (view signed.now) }
     ensures ok { IfOk result (λ t. Has (view signed.now) (codes "keys") (λ x. IsTable x (spelled_table t))) }
     ensures err { IfErr result (IsIll ((t : plain.Table) × Has (view signed.now) (codes "keys") (λ x. IsTable x t))) }

@@ -79,6 +79,10 @@ pub fn kind_of(word: &[u8]) -> Result<Kind, CaseFault>
         Ok(Kind::Snapshot)
     } else if word == b"targets".as_slice() {
         Ok(Kind::Targets)
+    } else if word == b"layout".as_slice() {
+        Ok(Kind::Layout)
+    } else if word == b"link".as_slice() {
+        Ok(Kind::Link)
     } else {
         Err(CaseFault::NotUnderstood)
     }

@@ -1,4 +1,4 @@
--- The rows of a snapshot, and the listings of targets metadata, as contracts see them, and its key tables.
+-- The rows of a snapshot, the listings of targets metadata with its key tables, and the artifacts of a link, as contracts see them.
 use Rattle.std.specs.Prelude.{◌≡◌, ℕ, List, codes, map}
 use Rattle.std.specs.List.{AllByRecursion}
 use Rattle.canonical_json.specs.Json.{Json, object, Members}
@@ -7,6 +7,8 @@ use Rattle.metadata.specs.Bodies.{NoMember}
 use Rattle.metadata.specs.Parts.{NamesAreIds}
 use Rattle.metadata.specs.Shape.{tables}
 use Rattle.metadata.specs.Views.{meta_view, listing_view}
+use Rattle.path_patterns.specs.declared.Digest.{Digest}
+use Rattle.metadata.specs.Links.{Artifacts}
 use Rattle.metadata.specs.declared.documents.Meta.{Meta}
 use Rattle.metadata.specs.declared.documents.Listing.{Listing}
 
@@ -15,6 +17,12 @@ rows_view rows = map (λ e. (e.0, meta_view e.1)) rows
 
 abbrev pub listings_view : List Listing → List plain.Listing
 listings_view listings = map listing_view listings
+
+abbrev pub artifact_view : List ℕ × Digest → List ℕ × List ℕ
+artifact_view r = (r.0, r.1.0)
+
+abbrev pub artifact_views : List (List ℕ × Digest) → Artifacts
+artifact_views rows = map artifact_view rows
 
 -- an object that refers to no layout
 abbrev pub IsCustom : Json → Type 0

@@ -9,11 +9,13 @@ use Rattle.metadata.specs.declared.keys.SpelledTable.{SpelledTable}
 use Rattle.metadata.specs.declared.keys.SpelledRule.{SpelledRule}
 use Rattle.metadata.specs.declared.delegations.SpelledDelegation.{SpelledDelegation}
 use Rattle.metadata.specs.declared.delegations.SpelledDelegations.{SpelledDelegations}
+use Rattle.metadata.specs.declared.steps.SpelledStep.{SpelledStep}
 use Rattle.metadata.specs.declared.root.SpelledRoles.{SpelledRoles}
 use Rattle.metadata.specs.declared.root.Keyed.{Keyed}
 use Rattle.metadata.specs.Parts.{IsRuleOver}
 use Rattle.metadata.specs.Bodies as bodies
 use Rattle.metadata.specs.Documents as documents
+use Rattle.metadata.specs.RuleViews.{rule_view as artifact_view}
 use Rattle.metadata.specs.Views.{scope_view}
 
 abbrev pub texts_view : List (String Global) → List (List ℕ)
@@ -47,6 +49,15 @@ spelled_delegations d = record { keys = spelled_table d.keys; roles = spelled_li
 
 abbrev pub names_of : List documents.Delegation → List (List ℕ)
 names_of ds = map (λ d. d.name) ds
+
+abbrev pub spelled_step : SpelledStep → documents.Step
+spelled_step s = record { name = s.name; rule = spelled_rule s.rule; materials = map artifact_view s.materials.items; products = map artifact_view s.products.items }
+
+abbrev pub spelled_steps : List SpelledStep → List documents.Step
+spelled_steps ss = map spelled_step ss
+
+abbrev pub step_names : List documents.Step → List (List ℕ)
+step_names ss = map (λ s. s.name) ss
 
 -- the keys and the roles of a root
 abbrev pub keyed_view : Keyed → plain.Table × bodies.Roles

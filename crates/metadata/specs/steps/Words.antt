@@ -1,5 +1,5 @@
 -- Which words of a rule stand behind which.
-use Rattle.std.specs.Prelude.{◌≡◌, ℕ, List, [], ◌∷◌, codes, Option, Some, None}
+use Rattle.std.specs.Prelude.{◌≡◌, ℕ, List, ◌∷◌, codes, Option, Some, None}
 use Rattle.path_patterns.specs.Grammar.{IsPattern, IsName}
 use Rattle.metadata.specs.Rules.{Side, Match, IsFolder}
 

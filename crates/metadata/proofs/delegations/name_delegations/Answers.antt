@@ -3,4 +3,4 @@ use Rattle.metadata.proofs.Named.{each_ids_hex}
 use Rattle.metadata.proofs.delegations.name_delegations.Goals as goal
 
 pub name_roles-requires : goal.name_roles-requires
-name_roles-requires c = each_ids_hex (spelled_table c.args.spelled.keys) (spelled_list c.args.spelled.roles.items) c.requires c.in_ok-table.ensures.ok.2
+name_roles-requires c = each_ids_hex (λ d. d.rule) (spelled_table c.args.spelled.keys) (spelled_list c.args.spelled.roles.items) c.requires c.in_ok-table.ensures.ok.2

@@ -1,4 +1,4 @@
-use Rattle.metadata.specs.File.{root_form, timestamp_form, snapshot_form, targets_form}
+use Rattle.metadata.specs.File.{root_form, timestamp_form, snapshot_form, targets_form, layout_form, link_form}
 use Rattle.metadata.proofs.DeniedShapes.{denied_just}
 use Rattle.metadata.proofs.laws.denied_shapes.Goals as goal
 
@@ -13,3 +13,9 @@ returns-clause-snapshots c = denied_just snapshot_form
 
 pub returns-clause-targets : goal.returns-clause-targets
 returns-clause-targets c = denied_just targets_form
+
+pub returns-clause-layouts : goal.returns-clause-layouts
+returns-clause-layouts c = denied_just layout_form
+
+pub returns-clause-links : goal.returns-clause-links
+returns-clause-links c = denied_just link_form

@@ -1,4 +1,4 @@
-use Rattle.std.proofs.Common.{rules, ◌≡◌, List, [], ◌∷◌, codes, length, map, string_bytes, refl, arith}
+use Rattle.std.proofs.Common.{rules, ◌≡◌, List, [], ◌∷◌, codes, length, string_bytes, refl, arith}
 use Rattle.metadata.proofs.rules.cut_step.Goals as goal
 
 none_left : {A : Type 0} (xs : List A) → length xs ≡ 0 → xs ≡ []

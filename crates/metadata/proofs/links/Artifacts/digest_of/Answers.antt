@@ -1,4 +1,4 @@
-use Rattle.std.proofs.Common.{rules, ◌≡◌, ℕ, List, Ok, Err, map, option_map, bytes_eq, sym, ap, subst, ◌∙◌}
+use Rattle.std.proofs.Common.{rules, ℕ, List, Ok, Err, map, option_map, bytes_eq, sym, ap, subst, ◌∙◌}
 use Rattle.std.proofs.lemmas.Fn.{always_returns_same}
 use Rattle.path_patterns.specs.declared.Digest.{Digest}
 use Rattle.keys_roles.specs.Plain.{look_up}

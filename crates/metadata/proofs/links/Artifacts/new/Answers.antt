@@ -1,4 +1,4 @@
-use Rattle.std.proofs.Common.{rules, ◌≡◌, ℕ, List, map, Bool, true, false, sym, ◌∙◌}
+use Rattle.std.proofs.Common.{rules, ◌≡◌, map, true, false, sym, ◌∙◌}
 use Rattle.metadata.specs.steps.Rising.{rises}
 use Rattle.metadata.proofs.Rising.{in_order_rises, rises_in_order}
 use Rattle.metadata.proofs.links.Artifacts.new.Goals as goal
