@@ -16,7 +16,8 @@ use Rattle.http_serve.specs.Response.{IsCommand, offers, puts, names, asks, kind
 use Rattle.machine.specs.Commands.{offer_of}
 use Rattle.http_serve.specs.Serving as serving
 use Rattle.http_serve.specs.Serving.{Answered, Made, Ended, Line, Serves}
-use Rattle.store.specs.Standing.{Moves, Standing}
+use Rattle.store.specs.Standing.{IsClean, Keeps, Moves, Standing}
+use Rattle.store.proofs.Applying.{replies_step}
 use Rattle.http_serve.specs.declared.serve.ServeFault.{ServeFault}
 use Rattle.http_serve.specs.declared.serve.ServeFault.TheVariants.{Read, Write}
 
@@ -99,18 +100,18 @@ unmoved A P each S at = (S, at, each S)
 
 abbrev IsAnswer : Standing → List ℕ → ℕ → List ℕ → Standing → Type 0
 IsAnswer A input now text B =
-    Moves A B (λ S T. Responds S input now text T) ⊎ (((text ≡ fault_response Memory) ⊎ (text ≡ fault_response Database)) × Moves A B (λ S T. T ≡ S))
+    Moves A B (λ S T. IsClean B → Responds S input now text T) ⊎ (((text ≡ fault_response Memory) ⊎ (text ≡ fault_response Database)) × Moves A B (λ S T. T ≡ S))
 
 of-made : (A B : Standing) (input : List ℕ) (now : ℕ) (text : List ℕ) (request : Request) (c : Command) → Asks input request → IsCommand request c
     → Made A c now text B → IsAnswer A input now text B
 of-made A B input now text request c asked is (serving.by_step reply t C moves says holds) =
-    inl (moved (λ S T steps. record { request = request; asks = asked; answers = by_step request c reply text T is steps says }) moves)
+    inl (moved (λ S T so clean. record { request = request; asks = asked; answers = by_step request c reply text T is (replies_step _ S c now T reply clean so) says }) moves)
 of-made A B input now text request c asked is (serving.no_memory C keeps) = inr (inl refl, keeps.state)
 of-made A B input now text request c asked is (serving.no_database C keeps) = inr (inr refl, keeps.state)
 
 pub only-responses : (A B : Standing) (input : List ℕ) (now : ℕ) (text : List ℕ) → Answered A input now text B → IsAnswer A input now text B
 only-responses A B input now text (serving.at_fault why asked) =
-    inl (unmoved A (λ S T. Responds S input now text T) (λ S. record { request = fault why; asks = asked; answers = at_fault why }))
+    inl (unmoved A (λ S T. IsClean A → Responds S input now text T) (λ S clean. record { request = fault why; asks = asked; answers = at_fault why }))
 only-responses A B input now text (serving.by_command request c t C asked is made) = of-made A B input now text request c asked is made
 only-responses A B input now text (serving.unread C wants keeps) = inr (inl refl, keeps.state)
 
@@ -125,38 +126,60 @@ runs-then : (S T U : State) (before later : List (Command × ℕ)) (replies more
 runs-then S T U before later replies more ended runs = runs
 runs-then S T U before later replies more (next step rest) runs = next step (runs-then _ T U _ later _ more rest runs)
 
+-- the same, unless a wrong answer of the disk was taken as true by the end; and if none was, none was before
+abbrev RunsOn : Standing → Standing → Type 0
+RunsOn A B = (IsClean B → IsClean A) × Moves A B (λ S T. IsClean B → RunsTo S T)
+
 rested : (S T : State) → T ≡ S → RunsTo S T
 rested S T same = ([], [], subst (λ (U : State). Runs S [] U []) (sym same) ended)
 
-made-runs : (A B : Standing) (c : Command) (now : ℕ) (text : List ℕ) → Made A c now text B → Moves A B RunsTo
-made-runs A B c now text (serving.by_step reply t C moves says holds) = moved (λ S T steps. ((c, now) ∷ [], reply ∷ [], next steps ended)) moves
-made-runs A B c now text (serving.no_memory C keeps) = moved rested keeps.state
-made-runs A B c now text (serving.no_database C keeps) = moved rested keeps.state
+kept-runs : (A B : Standing) → Keeps A B → RunsOn A B
+kept-runs A B keeps = (keeps.clean, moved (λ S T same clean. rested S T same) keeps.state)
 
-answered-runs : (A B : Standing) (input : List ℕ) (now : ℕ) (text : List ℕ) → Answered A input now text B → Moves A B RunsTo
-answered-runs A B input now text (serving.at_fault why asked) = unmoved A RunsTo (λ S. rested S S refl)
+made-runs : (A B : Standing) (c : Command) (now : ℕ) (text : List ℕ) → Made A c now text B → RunsOn A B
+made-runs A B c now text (serving.by_step reply t C moves says holds) =
+    (holds.clean, moved (λ S T so clean. ((c, now) ∷ [], reply ∷ [], next (replies_step _ S c now T reply clean so) ended)) moves)
+made-runs A B c now text (serving.no_memory C keeps) = kept-runs A B keeps
+made-runs A B c now text (serving.no_database C keeps) = kept-runs A B keeps
+
+on-itself : (A : Standing) → RunsOn A A
+on-itself A = ((λ clean. clean), unmoved A (λ S T. IsClean A → RunsTo S T) (λ S clean. rested S S refl))
+
+answered-runs : (A B : Standing) (input : List ℕ) (now : ℕ) (text : List ℕ) → Answered A input now text B → RunsOn A B
+answered-runs A B input now text (serving.at_fault why asked) = on-itself A
 answered-runs A B input now text (serving.by_command request c t C asked is made) = made-runs A B c now text made
-answered-runs A B input now text (serving.unread C wants keeps) = moved rested keeps.state
+answered-runs A B input now text (serving.unread C wants keeps) = kept-runs A B keeps
 
-still : (A B : Standing) → B ≡ A → Moves A B RunsTo
-still A B same = subst (λ (C : Standing). Moves A C RunsTo) (sym same) (unmoved A RunsTo (λ S. rested S S refl))
+still : (A B : Standing) → B ≡ A → RunsOn A B
+still A B same = subst (λ (C : Standing). RunsOn A C) (sym same) (on-itself A)
 
-ended-runs : (line : Line) (held : Option (List ℕ)) (A B : Standing) (r : Result (Unit {0}) ServeFault) → Ended line held A r B → Moves A B RunsTo
+ended-runs : (line : Line) (held : Option (List ℕ)) (A B : Standing) (r : Result (Unit {0}) ServeFault) → Ended line held A r B → RunsOn A B
 ended-runs line held A B (Ok u) (input, is, text, answered, w) = answered-runs A B input line.now text answered
 ended-runs line held A B (Err Read) h = still A B h.1
 ended-runs line held A B (Err Write) (sound, (input, is, text, answered, w)) = answered-runs A B input line.now text answered
 
-served-runs : (lines : List Line) (helds : List (Option (List ℕ))) (A B : Standing) (count : ℕ) → Serves lines helds A B count → Moves A B RunsTo
-served-runs [] [] A B count h S at = still A B h.0 S at
-served-runs [] (x ∷ helds) A B count h S at = absurd h
-served-runs (line ∷ lines) [] A B count h S at = absurd h
-served-runs (line ∷ lines) (held ∷ helds) A B count (result, mid, others, was, rest, total) S at =
-    let (M, there, (made, replies, first)) = ended-runs line held A mid result was S at in
-    let (T, to, (later, more, second)) = served-runs lines helds mid B others rest M there in
-    (T, to, (made ++ later, replies ++ more, runs-then S M T made later replies more first second))
+served-runs : (lines : List Line) (helds : List (Option (List ℕ))) (A B : Standing) (count : ℕ) → Serves lines helds A B count → RunsOn A B
+served-runs [] [] A B count h = still A B h.0
+served-runs [] (x ∷ helds) A B count h = absurd h
+served-runs (line ∷ lines) [] A B count h = absurd h
+served-runs (line ∷ lines) (held ∷ helds) A B count (result, mid, others, was, rest, total) =
+    let one = ended-runs line held A mid result was in
+    let more = served-runs lines helds mid B others rest in (
+      (λ clean. one.0 (more.0 clean)),
+      (λ S at.
+          let (M, there, first) = one.1 S at in
+          let (T, to, second) = more.1 M there in (
+            T,
+            to,
+            (λ clean.
+                let (made, replies, runs) = first (more.0 clean) in
+                let (later, others, on) = second clean in
+                (made ++ later, replies ++ others, runs-then S M T made later replies others runs on)),
+          )),
+    )
 
 pub runs-on : (lines : List Line) (helds : List (Option (List ℕ))) (A B : Standing) (count : ℕ) → Serves lines helds A B count
-    → Moves A B (λ S T. (first : State) (before : List (Command × ℕ)) (replies : List Reply) → Runs first before S replies
+    → Moves A B (λ S T. IsClean B → (first : State) (before : List (Command × ℕ)) (replies : List Reply) → Runs first before S replies
     → (made : List (Command × ℕ)) × (later : List Reply) × Runs first (before ++ made) T (replies ++ later))
 runs-on lines helds A B count h =
-    moved (λ S T runs first before replies was. (runs.0, runs.1, runs-then first S T before runs.0 replies runs.1 was runs.2)) (served-runs lines helds A B count h)
+    moved (λ S T on clean first before replies was. let runs = on clean in (runs.0, runs.1, runs-then first S T before runs.0 replies runs.1 was runs.2)) (served-runs lines helds A B count h).1

@@ -3,9 +3,9 @@ use Rattle.std.proofs.Common.{◌≡◌, inl, inr, ℕ, List, Option, None, Some
 use Rattle.std.specs.Prelude.{OnOk, OnErr}
 use Rattle.std.specs.Io.KnownBytes.{Appends}
 use Rattle.machine.specs.State.{State}
-use Rattle.machine.specs.Runs.{Command, Batch, PutBlob, Metadata, Target, Init, OfferOne, Reply, Steps, leads, Leads, settled, batch_outcome, Outcome, metadata_reply}
+use Rattle.machine.specs.Runs.{Command, Batch, PutBlob, Metadata, Target, Init, OfferOne, Reply, Begun, BatchDone, Offered, Stored, FileBytes, Absent, Refused, Steps, leads, Leads, settled, batch_outcome, Outcome, metadata_reply}
 use Rattle.denials.specs.Orders as orders
-use Rattle.store.specs.Applies.{Makes}
+use Rattle.store.specs.Applies.{Makes, Replies}
 use Rattle.tables.specs.declared.faults.StoreFault.{StoreFault}
 use Rattle.tables.specs.declared.faults.StoreFault.TheVariants.{OutOfMemory, Database, Damaged}
 use Rattle.store.specs.Views.{reply_view}
@@ -75,9 +75,39 @@ keeps S T (PutBlob digest b) now reply served denial h = let (j, m, e) = invert 
 keeps S T (Metadata name) now reply served denial h = ap (λ (o : Outcome). o.0) h
 keeps S T (Target path asked) now reply served denial h = let (j, m, e) = invert h in settled-keeps S _ _ j T reply (λ a d. d) denial e
 
+-- ---- the same of replies whose bytes a disk may have said wrongly
+
+pub said_so : (trusted : Type 0) (S T : State) (c : Command) (now : ℕ) (reply : Reply) → IsServed c → Replies trusted S c now T reply → IsSaid reply
+said_so trusted S T (Init b) now reply served h = absurd served
+said_so trusted S T (OfferOne o b) now reply served h = absurd served
+said_so trusted S T (Batch os) now reply served h = said S T (Batch os) now reply served h
+said_so trusted S T (PutBlob digest b) now reply served h = said S T (PutBlob digest b) now reply served h
+said_so trusted S T (Metadata name) now reply served h = said S T (Metadata name) now reply served h
+said_so trusted S T (Target path asked) now Begun served h = said S T (Target path asked) now Begun served h
+said_so trusted S T (Target path asked) now (Offered same) served h = said S T (Target path asked) now (Offered same) served h
+said_so trusted S T (Target path asked) now (BatchDone a s) served h = tt
+said_so trusted S T (Target path asked) now (Stored new) served h = tt
+said_so trusted S T (Target path asked) now (FileBytes bytes) served h = tt
+said_so trusted S T (Target path asked) now Absent served h = tt
+said_so trusted S T (Target path asked) now (Refused d index) served h = tt
+
+pub keeps_so : (trusted : Type 0) (S T : State) (c : Command) (now : ℕ) (reply : Reply) → IsServed c → IsDenial reply → Replies trusted S c now T reply → T ≡ S
+keeps_so trusted S T (Init b) now reply served denial h = absurd served
+keeps_so trusted S T (OfferOne o b) now reply served denial h = absurd served
+keeps_so trusted S T (Batch os) now reply served denial h = keeps S T (Batch os) now reply served denial h
+keeps_so trusted S T (PutBlob digest b) now reply served denial h = keeps S T (PutBlob digest b) now reply served denial h
+keeps_so trusted S T (Metadata name) now reply served denial h = keeps S T (Metadata name) now reply served denial h
+keeps_so trusted S T (Target path asked) now Begun served denial h = absurd denial
+keeps_so trusted S T (Target path asked) now (Offered same) served denial h = absurd denial
+keeps_so trusted S T (Target path asked) now (BatchDone a s) served denial h = absurd denial
+keeps_so trusted S T (Target path asked) now (Stored new) served denial h = absurd denial
+keeps_so trusted S T (Target path asked) now (FileBytes bytes) served denial h = absurd denial
+keeps_so trusted S T (Target path asked) now Absent served denial h = absurd denial
+keeps_so trusted S T (Target path asked) now (Refused d index) served denial h = keeps S T (Target path asked) now (Refused d index) served denial h
+
 -- the reply to a command can be said
 pub replied : (A B : Standing) (c : Command) (now : ℕ) (reply : Answer) (S : State) → StandsAt A S → IsServed c → Makes A B c now (Ok reply) → IsSaid (reply_view reply)
-replied A B c now reply S at served makes = let (T, to, steps) = makes.0 S at in said S T c now (reply_view reply) served steps
+replied A B c now reply S at served makes = let (T, to, so) = makes.0 S at in said_so _ S T c now (reply_view reply) served so
 
 -- ---- a command and its answer
 
@@ -88,7 +118,7 @@ told A B c now reply from to r served (moves, holds) (text, inl says, wrote) = (
 told A B c now reply from to r served (moves, holds) (text, inr (denial, e), wrote) = (
   text,
   subst (λ t. Made A c now t B) (sym e) (no_memory B (record {
-    state = λ S at. let (T, there, steps) = moves S at in (T, there, keeps S T c now (reply_view reply) served denial steps);
+    state = λ S at. let (T, there, so) = moves S at in (T, there, keeps_so _ S T c now (reply_view reply) served denial so);
     clean = holds.clean;
   })),
   wrote,

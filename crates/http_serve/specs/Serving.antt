@@ -1,7 +1,7 @@
 -- What serving does: one connection, and a list of them in order.
 use Rattle.std.specs.Prelude.{◌≡◌, ℕ, ◌+◌, List, [], ◌∷◌, Option, Result, Ok, Err, Bool, true}
 use Rattle.std.specs.Io.KnownBytes.{Appends, Keeps as KeepsBytes}
-use Rattle.machine.specs.Runs.{Command, Reply, Steps}
+use Rattle.machine.specs.Runs.{Command, Reply}
 use Rattle.http_messages.specs.Head.{IsInput}
 use Rattle.http_messages.specs.Request.{Request, Asks, HasWanted, fault}
 use Rattle.http_messages.specs.Faults.{fault_response}
@@ -9,7 +9,8 @@ use Rattle.http_messages.specs.Taken.{TookSome}
 use Rattle.http_messages.specs.declared.faults.Fault.{Fault}
 use Rattle.http_messages.specs.declared.faults.Fault.TheVariants.{Memory, Database}
 use Rattle.http_serve.specs.Response.{IsCommand, Says, kind_of}
-use Rattle.store.specs.Standing.{Holds, Keeps, Moves, Standing}
+use Rattle.store.specs.Applies.{Replies}
+use Rattle.store.specs.Standing.{Holds, IsClean, Keeps, Moves, Standing}
 use Rattle.http_serve.specs.declared.serve.ServeFault.{ServeFault}
 use Rattle.http_serve.specs.declared.serve.ServeFault.TheVariants.{Read, Write}
 use Rattle.http_messages.specs.declared.line.Cut.{Cut}
@@ -17,7 +18,7 @@ use Rattle.http_messages.specs.declared.line.Cut.{Cut}
 -- A command was made or not: the reply of the machine's step, over a connection that is open, or the refusal where there was no memory or
 -- where the database answered a fault, and nothing is changed.
 pub data Made (A : Standing) (command : Command) (now : ℕ) : List ℕ → Standing → Type 0 where
-  by_step : (reply : Reply) (text : List ℕ) (B : Standing) → Moves A B (λ S T. Steps S command now (T, reply)) → Says (kind_of command) reply text → Holds A B
+  by_step : (reply : Reply) (text : List ℕ) (B : Standing) → Moves A B (λ S T. Replies (IsClean B) S command now T reply) → Says (kind_of command) reply text → Holds A B
       → Made A command now text B
   no_memory : (B : Standing) → Keeps A B → Made A command now (fault_response Memory) B
   no_database : (B : Standing) → Keeps A B → Made A command now (fault_response Database) B

@@ -6,7 +6,7 @@ ghost use Rattle.http_messages.specs.Faults.{fault_response};
 ghost use Rattle.http_messages.specs.declared.faults.Fault.TheVariants.{Memory, Database};
 ghost use Rattle.http_serve.specs.Response.{Responds};
 ghost use Rattle.http_serve.specs.Serving.{Answered, Line, Serves};
-ghost use Rattle.store.specs.Standing.{Moves, Standing};
+ghost use Rattle.store.specs.Standing.{IsClean, Moves, Standing};
 
 use http_messages::one_request;
 use machine::one_judgement;
@@ -22,16 +22,17 @@ pub fn one_response()
 }
 
 /// A law, which does nothing: what an input is answered is its response, from the state at which the store stood to that at which it
-/// then stands, or a refusal by 503, which leaves the state as it was.
+/// then stands, or a refusal by 503, which leaves the state as it was. The bytes of a target are read from the disk, so that it is a
+/// response is said unless a wrong answer of the disk was taken as true.
 pub fn only_responses()
     ensures { (A B : Standing) (input : List ℕ) (now : ℕ) (text : List ℕ) → Answered A input now text B
-        → Moves A B (λ S T. Responds S input now text T) ⊎ (((text ≡ fault_response Memory) ⊎ (text ≡ fault_response Database)) × Moves A B (λ S T. T ≡ S)) }
+        → Moves A B (λ S T. IsClean B → Responds S input now text T) ⊎ (((text ≡ fault_response Memory) ⊎ (text ≡ fault_response Database)) × Moves A B (λ S T. T ≡ S)) }
 {}
 
 /// A law, which does nothing: whatever commands led to the state at which the store stood, they and those made while connections were
-/// served lead to the state at which it then stands.
+/// served lead to the state at which it then stands, unless a wrong answer of the disk was taken as true.
 pub fn runs_on()
     ensures { (lines : List Line) (helds : List (Option (List ℕ))) (A B : Standing) (count : ℕ) → Serves lines helds A B count
-        → Moves A B (λ S T. (first : State) (before : List (Command × ℕ)) (replies : List Reply) → Runs first before S replies
+        → Moves A B (λ S T. IsClean B → (first : State) (before : List (Command × ℕ)) (replies : List Reply) → Runs first before S replies
         → (made : List (Command × ℕ)) × (later : List Reply) × Runs first (before ++ made) T (replies ++ later)) }
 {}

@@ -13,7 +13,8 @@ use Rattle.delegations.specs.steps.Rising.{comes_first, rises}
 use Rattle.delegations.proofs.KeyOrder.{orders_bytes}
 use Rattle.delegations.proofs.RisingKeys.{rises_tells}
 use Rattle.machine.specs.Effects.{Effects, applied, brought, with_blobs}
-use Rattle.machine.specs.Held.{Held, IsHeld, held_of, held_with, length_at, lengths_of, with_lengths}
+use Rattle.contents.specs.Contents.{lengths_of}
+use Rattle.machine.specs.Held.{Held, IsHeld, held_of, held_with, length_at, with_lengths}
 use Rattle.machine.specs.steps.Permitting.{bytes_at}
 use Rattle.machine.specs.State.{State, Trusted, IsBlob, IsState, blob_at}
 
@@ -40,7 +41,7 @@ same_first : (key : Bytes) (rows : List (Bytes × Bytes)) → comes_first before
 same_first key [] = refl
 same_first key (row ∷ rows) = refl
 
-same_rises : (rows : List (Bytes × Bytes)) → rises before (lengths_of rows) ≡ rises before rows
+pub same_rises : (rows : List (Bytes × Bytes)) → rises before (lengths_of rows) ≡ rises before rows
 same_rises [] = refl
 same_rises (row ∷ rows) = rw (same_first row.0 rows, same_rises rows) refl
 

@@ -8,6 +8,7 @@ pub mod FilesMakeStates
 pub mod HeldStates
 pub mod ItemByItem
 pub mod LinesGive
+pub mod LoadedHeld
 pub mod MetadataNames
 pub mod MoreRootsAndRows
 pub mod OneJudgement

@@ -334,6 +334,21 @@ module _ (law : Shapes) where
   pub loaded_is : (C : Contents) (E : Effects) → AreStored C E → IsState (laid E) → contents_of (laid E) ≡ C
   loaded_is C E h s = contents_laid law E (stored_read C E h).roots s ∙ stored_rows C E h
 
+  -- rows are those of at most one state
+  pub one_state : (S T : State) → IsState S → IsState T → contents_of S ≡ contents_of T → S ≡ T
+  one_state S T s t e =
+      let f = files_of law S s in
+      let g = files_of law T t in
+      sym f.is ∙ (laid_once (contents_of T) f.files g.files (subst (λ C. AreStored C f.files) e f.stored) g.stored ∙ g.is)
+
+-- ---- the files of the rows of the metadata, and the blobs
+
+pub with_blobs_stored : {C : Contents} {E : Effects} {blobs : List (Bytes × Bytes)} → AreStored (record C { blobs = [] }) E → blobs ≡ C.blobs → AreStored C (record E { blobs = blobs })
+with_blobs_stored h e = record { roots = h.roots; timestamp = h.timestamp; snapshot = h.snapshot; shelf = h.shelf; blobs = e }
+
+pub without_blobs_stored : {C : Contents} {E : Effects} → AreStored C E → AreStored (record C { blobs = [] }) (record E { blobs = [] })
+without_blobs_stored h = record { roots = h.roots; timestamp = h.timestamp; snapshot = h.snapshot; shelf = h.shelf; blobs = refl }
+
 -- ---- what an answer says, said otherwise
 
 pub ok_some : {T E : Type 0} (P Q : T → Type 0) → ((x : T) → P x → Q x) → (r : Result (Option T) E) → IfOk r (λ o. IfSome o P) → IfOk r (λ o. IfSome o Q)

@@ -1,5 +1,6 @@
 -- A state whose blobs' bytes are elsewhere.
-use Rattle.std.specs.Prelude.{◌≡◌, ◌↔◌, ℕ, ◌≤◌, List, [], ◌∷◌, map, length, Option, None, bytes_eq, All, IfNone}
+use Rattle.std.specs.Prelude.{◌≡◌, ◌↔◌, ℕ, ◌≤◌, List, [], ◌∷◌, length, Option, None, bytes_eq, All, IfNone}
+use Rattle.contents.specs.Contents.{lengths_of}
 use Rattle.metadata.specs.File.{Bytes}
 use Rattle.delegations.specs.Delegation.{before}
 use Rattle.delegations.specs.Rows.{Rises, value_at, with_row}
@@ -11,9 +12,6 @@ use Rattle.machine.specs.Effects.{Effects, brought}
 pub record Held : Type 0 where
   pub trusted : Trusted
   pub blobs : List (Bytes × ℕ)
-
-abbrev pub lengths_of : List (Bytes × Bytes) → List (Bytes × ℕ)
-lengths_of blobs = map (λ b. (b.0, length b.1)) blobs
 
 -- a state without its blobs' bytes
 abbrev pub held_of : State → Held

@@ -1,5 +1,5 @@
 //! What a target is (TUF 1.0, section 5.7).
-ghost use Rattle.std.specs.Prelude.{◌≡◌, ◌↔◌, ◌⊎◌, ◌-◌, ◌≤◌, ◌<◌, ◌^◌, None, Some, Err, IfOk, IfSome, IsSome, IsTrue, length, option_map};
+ghost use Rattle.std.specs.Prelude.{◌≡◌, ◌↔◌, ◌⊎◌, ◌-◌, ◌≤◌, ◌<◌, ◌^◌, None, Some, Err, IfOk, IfSome, IsSome, IsTrue, OnOk, length, option_map};
 ghost use Rattle.delegations.specs.Delegation.{before};
 ghost use Rattle.delegations.specs.Rows.{Rises, place_before};
 ghost use Rattle.delegations.specs.Search.{search};
@@ -11,7 +11,8 @@ ghost use Rattle.metadata.specs.Views.{listing_view};
 ghost use Rattle.path_patterns.specs.Grammar.{IsTargetPath};
 ghost use Rattle.machine.specs.Answers.{Gives};
 ghost use Rattle.machine.specs.Commands as commands;
-ghost use Rattle.machine.specs.Held.{OfEachState, StandsFor, held_of, length_at, lengths_of};
+ghost use Rattle.contents.specs.Contents.{lengths_of};
+ghost use Rattle.machine.specs.Held.{OfEachState, StandsFor, held_of, length_at};
 ghost use Rattle.machine.specs.Knowing.{ChecksFew, WantsFew};
 ghost use Rattle.machine.specs.Serving.{IfDenied, Refuses, Serves};
 ghost use Rattle.machine.specs.State as trust;
@@ -98,6 +99,7 @@ pub fn get_from<B: Blobs>(
     ensures denial { OfEachState held.now.held (λ S. Refuses (commands.grants S path.now None now) result) }
     ensures unloaded { IfDenied result (blobs.new ≡ blobs.old) }
     ensures becomes { (blobs.new ≡ blobs.old) ⊎ B.MayBecome blobs.old blobs.new }
+    ensures loaded { OnOk result (B.HasLoaded blobs.new) }
 {
     get_from_counted(alloc, held, blobs, path, now, &mut Steps::new())
 }
@@ -116,6 +118,7 @@ pub fn get_from_counted<B: Blobs>(
     ensures denial { OfEachState held.now.held (λ S. Refuses (commands.grants S path.now None now) result) }
     ensures unloaded { IfDenied result (blobs.new ≡ blobs.old) }
     ensures becomes { (blobs.new ≡ blobs.old) ⊎ B.MayBecome blobs.old blobs.new }
+    ensures loaded { OnOk result (B.HasLoaded blobs.new) }
     ensures grows { checks.old ≤ checks.new }
     ensures few { ChecksFew held.now.held.trusted.root held.now.held.trusted.snapshot held.now.held.trusted.shelf held.now.verdicts path.now now (checks.new - checks.old) }
     ensures free { WantsFew held.now.held.trusted → checks.new ≡ checks.old }
@@ -140,6 +143,7 @@ pub fn target_from<B: Blobs>(
     ensures denial { OfEachState held.now.held (λ S. Refuses (commands.grants S path.now (option_map (λ d. d.0) asked) now) result) }
     ensures unloaded { IfDenied result (blobs.new ≡ blobs.old) }
     ensures becomes { (blobs.new ≡ blobs.old) ⊎ B.MayBecome blobs.old blobs.new }
+    ensures loaded { OnOk result (B.HasLoaded blobs.new) }
 {
     match permitted_text(alloc, held, path, asked, now) {
         Ok(digest) => loaded(alloc, blobs, digest),
@@ -168,6 +172,7 @@ fn permitted_text(
 fn loaded<B: Blobs>(alloc: Global, blobs: &mut B, digest: Digest) -> Result<Served, GetFault>
     ensures loads { IsLoaded (B.IsHonest blobs.new) (B.Holds blobs.old) digest.0 result }
     ensures becomes { B.MayBecome blobs.old blobs.new }
+    ensures loaded { OnOk result (B.HasLoaded blobs.new) }
 {
     let mut bytes = Vec::new(alloc);
     match blobs.load(&digest, &mut bytes) {

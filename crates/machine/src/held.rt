@@ -61,6 +61,19 @@ impl Held {
         }
     }
 
+    /// The same with these blobs.
+    pub(crate) fn with_lengths(self, blobs: Vec<BlobLength>) -> Held
+        requires { IsHeld (record { trusted = self.held.trusted; blobs = length_views blobs.items }) }
+        ensures { result.held ≡ record { trusted = self.held.trusted; blobs = length_views blobs.items } }
+    {
+        let Held {
+            trusted,
+            blobs: _,
+            verdicts,
+        } = self;
+        Held::of(trusted, blobs, verdicts)
+    }
+
     /// Makes room for these changes. If memory is refused, all is as before.
     pub fn room(&mut self, effects: &Effects) -> Result<(), AllocError>
         ensures kept { self.new.held ≡ self.old.held }

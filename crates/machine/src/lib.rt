@@ -32,7 +32,7 @@ mod updating;
 pub use batches::batch;
 pub use blobs::put_blob;
 pub use calls::{init, offer};
-pub use contents::Contents;
+pub use contents::{Contents, MetadataRows};
 pub use delegations::{
     File, Moment, RoleName, Root, Row, Snapshot, Steps, TargetPath, Targets, Verdicts,
 };

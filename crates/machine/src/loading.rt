@@ -1,23 +1,26 @@
 // What the rows of a database have to be, to be those of a state.
-ghost use Rattle.std.specs.Prelude.{◌≡◌, ◌↔◌, map, None, Some, All, IfOk, IfSome, IfNone, IsTrue, option_map};
+ghost use Rattle.std.specs.Prelude.{◌≡◌, ◌↔◌, ◌≤◌, [], map, None, Some, All, IfOk, IfSome, IfNone, IsTrue, option_map};
 ghost use Rattle.metadata.specs.File.{IsFileOf, root_form, targets_form};
 ghost use Rattle.metadata.specs.FileViews.{root_file, timestamp_file, snapshot_file, targets_file};
 ghost use Rattle.delegations.specs.Delegation.{before};
 ghost use Rattle.delegations.specs.Views.{row_views};
 ghost use Rattle.delegations.specs.steps.Rising.{comes_first, rises};
-ghost use Rattle.machine.specs.State.{FollowsRoot, IsBlob, IsHeldUnder, IsRootChain, IsShelfRow, IsState, MeetsTop};
+ghost use Rattle.limits.specs.Limits.{blob_limit};
+ghost use Rattle.machine.specs.Held.{IsHeld};
+ghost use Rattle.machine.specs.State.{FollowsRoot, IsBlob, IsHeldUnder, IsRootChain, IsShelfRow, IsState, IsTrusted, MeetsTop};
 ghost use Rattle.machine.specs.Effects.{last_or};
 ghost use Rattle.machine.specs.steps.Loading.{AreBlobs, AreRead, RowsAreRead, FollowOn, IsBare, IsChain, AreShelfRows, laid};
-ghost use Rattle.machine.specs.Views.{blob_views, effects_view};
+ghost use Rattle.machine.specs.Views.{blob_views, effects_view, length_views, trusted_view};
 
 use crate::blobs::{is_digest_of, is_short};
 use crate::checks::is_signed;
 use crate::effects::{Blob, Effects};
 use crate::knowing::trusted_verdicts;
+use crate::parts::{BlobLength, Trusted};
 use crate::state::State;
 use crate::taking::{blob_lengths, is_before, laid_parts};
 use delegations::{Row, are_in_order};
-use limits::MOST_HELD;
+use limits::{BLOB_LIMIT, MOST_HELD};
 use metadata::{File, Root, Snapshot, Timestamp, is_listable, one_document, one_shape};
 use std::alloc::{AllocError, Global};
 
@@ -270,4 +273,69 @@ pub(crate) fn settle(alloc: Global, files: Effects) -> Result<Option<State>, All
     let verdicts = trusted_verdicts(alloc, &parts.trusted)?;
     let lengths = blob_lengths(alloc, &parts.blobs)?;
     Ok(Some(State::of(parts, lengths, verdicts)))
+}
+
+// Whether the digests of lengths rise.
+fn lengths_rise(lengths: &[BlobLength]) -> bool
+    ensures { result ≡ rises before (length_views lengths.now) }
+{
+    let mut rest = lengths;
+    'lengths: while let Some((length, later)) = rest.split_first() {
+        if !is_before_lengths(length, later) {
+            return false;
+        }
+        rest = later;
+    }
+    true
+}
+
+// Whether a digest is before the first of these.
+fn is_before_lengths(length: &BlobLength, later: &[BlobLength]) -> bool
+    ensures { result ≡ comes_first before length.now.digest.0 (length_views later.now) }
+{
+    match later.first() {
+        Some(next) => is_before(&length.digest.0, &next.digest.0),
+        None => true,
+    }
+}
+
+// Whether each is few enough for a blob.
+fn each_is_short(lengths: &[BlobLength]) -> bool
+    ensures { IsTrue result ↔ (All (λ b. b.1 ≤ blob_limit) (length_views lengths.now)) }
+{
+    let mut rest = lengths;
+    'lengths: while let Some((length, later)) = rest.split_first() {
+        if length.length > BLOB_LIMIT {
+            return false;
+        }
+        rest = later;
+    }
+    true
+}
+
+/// Whether these may be the blobs of what is held beside what is trusted.
+pub(crate) fn may_be_held(trusted: &Trusted, lengths: &[BlobLength]) -> bool
+    requires { IsTrusted (trusted_view trusted.now) }
+    ensures { IsTrue result ↔ (IsHeld (record { trusted = trusted_view trusted.now; blobs = length_views lengths.now })) }
+{
+    if lengths.len() > MOST_HELD {
+        return false;
+    }
+    if !lengths_rise(lengths) {
+        return false;
+    }
+    if !has_root_or_none(trusted, lengths) {
+        return false;
+    }
+    each_is_short(lengths)
+}
+
+// Whether a root is trusted, or there is no blob.
+fn has_root_or_none(trusted: &Trusted, lengths: &[BlobLength]) -> bool
+    ensures { IsTrue result ↔ IfNone (trusted_view trusted.now).root (length_views lengths.now ≡ []) }
+{
+    match trusted.root.as_ref() {
+        Some(_) => true,
+        None => lengths.is_empty(),
+    }
 }

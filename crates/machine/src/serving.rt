@@ -1,5 +1,5 @@
 //! Bytes of blobs that are elsewhere, and what a request for a target answers from them.
-ghost use Rattle.std.specs.Prelude.{◌≡◌, ◌↔◌};
+ghost use Rattle.std.specs.Prelude.{◌≡◌, ◌↔◌, OnOk};
 ghost use Rattle.metadata.specs.File.{Bytes};
 ghost use Rattle.machine.specs.Serving.{Leaves};
 
@@ -34,12 +34,16 @@ pub trait Blobs {
     /// What one call may make of it.
     ghost MayBecome: { Self → Self → Type 0 };
 
+    /// What is so of it once bytes were loaded.
+    ghost HasLoaded: { Self → Type 0 };
+
     /// Puts the bytes with this digest behind what is there. On a fault, what is there is as before.
     fn load(&mut self, digest: &Digest, out: &mut Vec<u8>) -> Result<(), LoadFault>
         ensures leaves { Leaves (IsHonest self.new) (Holds self.old) digest.now.0 out.old.items result out.new.items }
         ensures stays { IsHonest self.new → (digest bytes : Bytes) → Holds self.old digest bytes ↔ Holds self.new digest bytes }
         ensures was { IsHonest self.new → IsHonest self.old }
-        ensures becomes { MayBecome self.old self.new };
+        ensures becomes { MayBecome self.old self.new }
+        ensures loaded { OnOk result (HasLoaded self.new) };
 }
 
 /// The blobs of a state, which are in memory.
@@ -52,6 +56,8 @@ impl Blobs for &State {
     ghost IsHonest = { λ _. Unit {0} };
 
     ghost MayBecome = { λ old new. new ≡ old };
+
+    ghost HasLoaded = { λ _. Unit {0} };
 
     fn load(&mut self, digest: &Digest, out: &mut Vec<u8>) -> Result<(), LoadFault> {
         let state: &State = self;

@@ -2,7 +2,8 @@
 ghost use Rattle.std.specs.Prelude.{◌≡◌, ◌≤◌, ◌<◌, IfOk, OnOk};
 ghost use Rattle.machine.specs.State.{IsState, nothing};
 ghost use Rattle.machine.specs.Effects.{applied};
-ghost use Rattle.machine.specs.Held.{held_of, lengths_of};
+ghost use Rattle.machine.specs.Held.{IsHeld, held_of};
+ghost use Rattle.contents.specs.Contents.{lengths_of};
 ghost use Rattle.machine.specs.Knowing.{IsKnown};
 ghost use Rattle.machine.specs.Views.{blob_views, effects_view, length_views, parts_view};
 ghost use Rattle.machine.specs.Room.{places};
@@ -26,7 +27,7 @@ pub struct State {
 
 impl Model for State {
     ghost use Rattle.std.specs.Prelude.{◌≡◌};
-    ghost use Rattle.machine.specs.Held.{lengths_of};
+    ghost use Rattle.contents.specs.Contents.{lengths_of};
     ghost use Rattle.machine.specs.Knowing.{IsKnown};
     ghost use Rattle.machine.specs.State.{IsState};
     ghost use Rattle.machine.specs.Views.{blob_views};
@@ -63,6 +64,15 @@ impl State {
             held: Held::of(trusted, lengths, verdicts),
             blobs,
         }
+    }
+
+    /// What the state holds, with these blobs in place of its own.
+    pub(crate) fn with_lengths(self, lengths: Vec<BlobLength>) -> Held
+        requires { IsHeld (record { trusted = self.state.trusted; blobs = length_views lengths.items }) }
+        ensures { result.held ≡ record { trusted = self.state.trusted; blobs = length_views lengths.items } }
+    {
+        let State { held, blobs: _ } = self;
+        held.with_lengths(lengths)
     }
 
     /// Makes room for these changes. If memory is refused, the state is as before.

@@ -1,22 +1,26 @@
 //! The rows of a repository's tables, and the state of which they are all.
-ghost use Rattle.std.specs.Prelude.{◌≡◌, map, option_map, string_bytes, Ok, IfOk, IfSome, IfNone, IsErrAnd};
+ghost use Rattle.std.specs.Prelude.{◌≡◌, List, [], All, map, option_map, string_bytes, Ok, IfOk, IfSome, IfNone, IsErrAnd};
 ghost use Rattle.std.specs.List.{AllZip};
+ghost use Rattle.sha2.specs.Sha256.{sha256};
 ghost use Rattle.metadata.specs.Documents as plain;
 ghost use Rattle.metadata.specs.File as files;
-ghost use Rattle.metadata.specs.File.{root_form, timestamp_form, snapshot_form};
+ghost use Rattle.metadata.specs.File.{Bytes, root_form, timestamp_form, snapshot_form};
 ghost use Rattle.metadata.specs.FileViews.{root_file, timestamp_file, snapshot_file, targets_file};
 ghost use Rattle.delegations.specs.Views.{row_views};
 ghost use Rattle.machine.specs.State as trust;
 ghost use Rattle.machine.specs.Contents.{contents_of};
 ghost use Rattle.machine.specs.steps.Stored.{AreStored, IsShelved, IsStored, Together};
 ghost use Rattle.machine.specs.Effects as changes;
-ghost use Rattle.machine.specs.Views.{blob_views, effects_view};
-ghost use Rattle.contents.specs.Contents.{contents_view};
+ghost use Rattle.machine.specs.Held.{held_of};
+ghost use Rattle.machine.specs.Views.{blob_views, changes_view, effects_view, length_views};
+ghost use Rattle.contents.specs.Contents.{contents_view, contents_with, lengths_of};
 
 use crate::effects::{Blob, Changes, Effects};
-use crate::loading::settle;
+use crate::held::Held;
+use crate::loading::{may_be_held, settle};
+use crate::parts::BlobLength;
 use crate::state::State;
-use contents::Contents;
+use contents::{Contents, MetadataRows};
 use delegations::{Row, Verdicts};
 use metadata::{
     File, Root, ShapeFault, Snapshot, Timestamp, one_document, one_shape, read_root_file,
@@ -40,18 +44,65 @@ impl State {
     }
 }
 
+impl Held {
+    /// What is held of the state of which these are all the rows, whatever the bytes of the target files are, of each of which this is the
+    /// digest, which was compared with its bytes, and the length. `None` where no state has them.
+    pub fn load(
+        alloc: Global,
+        metadata: MetadataRows,
+        blobs: Vec<([u8; 32], usize)>,
+    ) -> Result<Option<Held>, AllocError>
+        ensures some { IfOk result (λ o. IfSome o (λ h. (rows : List (Bytes × Bytes)) → lengths_of rows ≡ blobs.items → All (λ b. sha256 b.1 ≡ b.0) rows
+            → (S : trust.State) × trust.IsState S × (contents_of S ≡ contents_with metadata rows) × (held_of S ≡ h.held))) }
+        ensures none { IfOk result (λ o. IfNone o ((rows : List (Bytes × Bytes)) → lengths_of rows ≡ blobs.items
+            → (S : trust.State) → trust.IsState S → contents_of S ≡ contents_with metadata rows → ⊥)) }
+    {
+        one_document();
+        one_shape();
+        let lengths = all_lengths(alloc, blobs)?;
+        let contents = Contents {
+            metadata,
+            blobs: Vec::new(alloc),
+        };
+        let Some(state) = State::load(alloc, contents)? else {
+            return Ok(None);
+        };
+        state.is_valid();
+        if !may_be_held(state.held().trusted(), &lengths) {
+            return Ok(None);
+        }
+        Ok(Some(state.with_lengths(lengths)))
+    }
+}
+
 // The files of all rows, if each is one.
 fn read_files(alloc: Global, contents: Contents) -> Result<Option<Effects>, AllocError>
     ensures some { IfOk result (λ o. IfSome o (λ e. AreStored (contents_view contents) (effects_view e))) }
     ensures none { IfOk result (λ o. IfNone o ((E : changes.Effects) → AreStored (contents_view contents) E → ⊥)) }
 {
-    let Contents {
+    let Contents { metadata, blobs } = contents;
+    let Some(changes) = read_metadata(alloc, metadata)? else {
+        return Ok(None);
+    };
+    let blobs = all_blobs(alloc, blobs)?;
+    Ok(Some(Effects {
+        changes,
+        blobs,
+        verdicts: Verdicts::new(alloc),
+    }))
+}
+
+// The files of the rows of the metadata, if each is one.
+fn read_metadata(alloc: Global, metadata: MetadataRows) -> Result<Option<Changes>, AllocError>
+    ensures some { IfOk result (λ o. IfSome o (λ c. AreStored (contents_with metadata []) (changes_view c))) }
+    ensures none { IfOk result (λ o. IfNone o ((E : changes.Effects) → AreStored (contents_with metadata []) E → ⊥)) }
+{
+    let MetadataRows {
         roots,
         timestamp,
         snapshot,
         shelf,
-        blobs,
-    } = contents;
+    } = metadata;
     let Some(roots) = read_roots(alloc, &roots)? else {
         return Ok(None);
     };
@@ -64,17 +115,12 @@ fn read_files(alloc: Global, contents: Contents) -> Result<Option<Effects>, Allo
     let Some(rows) = read_rows(alloc, &shelf)? else {
         return Ok(None);
     };
-    let blobs = all_blobs(alloc, blobs)?;
-    Ok(Some(Effects {
-        changes: Changes {
-            roots,
-            emptied: false,
-            timestamp,
-            snapshot,
-            rows,
-        },
-        blobs,
-        verdicts: Verdicts::new(alloc),
+    Ok(Some(Changes {
+        roots,
+        emptied: false,
+        timestamp,
+        snapshot,
+        rows,
     }))
 }
 
@@ -251,4 +297,18 @@ fn all_blobs(alloc: Global, rows: Vec<([u8; 32], Vec<u8>)>) -> Result<Vec<Blob>,
         })?;
     }
     Ok(blobs)
+}
+
+// Digest and length of each blob.
+fn all_lengths(alloc: Global, rows: Vec<([u8; 32], usize)>) -> Result<Vec<BlobLength>, AllocError>
+    ensures { IfOk result (λ lengths. length_views lengths.items ≡ rows.items) }
+{
+    let mut lengths = Vec::with_capacity(alloc, rows.len())?;
+    'rows: for (digest, length) in rows {
+        lengths.push(BlobLength {
+            digest: Digest::new(digest),
+            length,
+        })?;
+    }
+    Ok(lengths)
 }

@@ -7,7 +7,8 @@ ghost use Rattle.delegations.specs.Rows.{with_row, with_rows, place_before};
 ghost use Rattle.delegations.specs.Views.{row_views};
 ghost use Rattle.machine.specs.Effects.{brought, last_or, renewed, with_blobs};
 ghost use Rattle.machine.specs.Views.{parts_view, effects_view, blob_views, changes_view, last_bytes, length_views, trusted_view};
-ghost use Rattle.machine.specs.Held.{lengths_of, with_lengths};
+ghost use Rattle.contents.specs.Contents.{lengths_of};
+ghost use Rattle.machine.specs.Held.{with_lengths};
 ghost use Rattle.machine.specs.steps.Loading.{laid};
 
 use crate::effects::{Blob, Changes, Effects};

@@ -135,6 +135,8 @@ impl<S: Alter> Looked<'_, S> {
             Body::Timestamp(timestamp) => timestamp.expires,
             Body::Snapshot(snapshot) => snapshot.expires,
             Body::Targets(targets) => targets.expires,
+            Body::Layout(layout) => layout.expires,
+            Body::Link(_) => return None,
         };
         if self.nearest.is_none_or(|nearest| expires < nearest.0) {
             self.nearest = Some(Nearest(expires));

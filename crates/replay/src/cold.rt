@@ -3,7 +3,7 @@ use crate::failure::LineFault;
 use delegations::{
     File, Moment, RoleName, Root, Row, Rows, Shelf, Snapshot, Steps, TargetPath, search_counted,
 };
-use machine::{State, metadata_file};
+use machine::Held;
 use metadata::{read_root_file, read_snapshot_file, read_targets_file, read_timestamp_file};
 use std::alloc::Global;
 
@@ -15,15 +15,15 @@ struct Documents {
     rows: Vec<Row>,
 }
 
-/// How many signatures the search checks, and how many roles it visits, where the state has a root, a timestamp and a snapshot.
+/// How many signatures the search checks, and how many roles it visits, where a root, a timestamp and a snapshot are held.
 pub fn cold_search(
     alloc: Global,
-    state: &State,
+    held: &Held,
     root_version: u32,
     path: &TargetPath,
     now: Moment,
 ) -> Result<(u64, u64), LineFault> {
-    let documents = documents_of(alloc, state, root_version)?;
+    let documents = documents_of(alloc, held, root_version)?;
     let rows = Rows {
         held: &[],
         added: &documents.rows,
@@ -35,14 +35,14 @@ pub fn cold_search(
     Ok((checks.count(), visits.count()))
 }
 
-fn documents_of(alloc: Global, state: &State, root_version: u32) -> Result<Documents, LineFault> {
+fn documents_of(alloc: Global, held: &Held, root_version: u32) -> Result<Documents, LineFault> {
     let name = format!(in alloc; "{root_version}.root.json")?;
-    let root = shaped(read_root_file(alloc, file(state, name.as_str())?))?;
-    let timestamp = shaped(read_timestamp_file(alloc, file(state, "timestamp.json")?))?;
+    let root = shaped(read_root_file(alloc, file(held, name.as_str())?))?;
+    let timestamp = shaped(read_timestamp_file(alloc, file(held, "timestamp.json")?))?;
     let version = timestamp.body.snapshot.version;
     let name = format!(in alloc; "{version}.snapshot.json")?;
-    let snapshot = shaped(read_snapshot_file(alloc, file(state, name.as_str())?))?;
-    let rows = rows_of(alloc, state, &snapshot.body)?;
+    let snapshot = shaped(read_snapshot_file(alloc, file(held, name.as_str())?))?;
+    let rows = rows_of(alloc, held, &snapshot.body)?;
     Ok(Documents {
         root,
         snapshot,
@@ -50,14 +50,14 @@ fn documents_of(alloc: Global, state: &State, root_version: u32) -> Result<Docum
     })
 }
 
-// The rows that the snapshot lists and the state holds.
-fn rows_of(alloc: Global, state: &State, snapshot: &Snapshot) -> Result<Vec<Row>, LineFault> {
+// The rows that the snapshot lists and that are held.
+fn rows_of(alloc: Global, held: &Held, snapshot: &Snapshot) -> Result<Vec<Row>, LineFault> {
     let mut rows = Vec::new(alloc);
     for (role, entry) in &snapshot.meta {
         let text = role.as_str();
         let version = entry.version;
         let name = format!(in alloc; "{version}.{text}.json")?;
-        if let Some(bytes) = metadata_file(state, name.as_str()) {
+        if let Some(bytes) = held.metadata_file(name.as_str()) {
             let row = row_of(alloc, text, version, bytes)?;
             rows.push(row)?;
         }
@@ -77,8 +77,8 @@ fn row_of(alloc: Global, role: &str, version: u32, bytes: &[u8]) -> Result<Row, 
     })
 }
 
-fn file<'a>(state: &'a State, name: &str) -> Result<&'a [u8], LineFault> {
-    match metadata_file(state, name) {
+fn file<'a>(held: &'a Held, name: &str) -> Result<&'a [u8], LineFault> {
+    match held.metadata_file(name) {
         Some(bytes) => Ok(bytes),
         None => Err(LineFault::NotUnderstood),
     }

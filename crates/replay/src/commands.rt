@@ -7,7 +7,7 @@ use crate::files::find;
 use crate::replies::{fault_text, reply_text, row_text, told};
 use crate::session::Session;
 use crate::words::{byte_of, digest_word};
-use machine::{Offer, Steps, TargetPath, get_counted};
+use machine::{Offer, Steps, TargetPath};
 use path_patterns::RoleName;
 use std::alloc::Global;
 use store::{Command, Reply, StoreFault};
@@ -137,7 +137,7 @@ impl Session {
             return Ok(told(alloc, "shut")?);
         };
         let mut checks = Steps::new();
-        let _ = get_counted(alloc, store.state(), &path, now, &mut checks);
+        let _ = store.get_counted(&path, now, &mut checks);
         let count = checks.count();
         Ok(format!(in alloc; "{count} checks")?)
     }
@@ -154,7 +154,7 @@ impl Session {
         let Some(version) = store.root_version() else {
             return Ok(told(alloc, "no root")?);
         };
-        let (checks, visits) = cold_search(alloc, store.state(), version, &path, self.now)?;
+        let (checks, visits) = cold_search(alloc, store.held(), version, &path, self.now)?;
         Ok(format!(in alloc; "{checks} checks, {visits} visits")?)
     }
 

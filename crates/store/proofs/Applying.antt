@@ -10,7 +10,7 @@ use Rattle.denials.specs.Orders.{Order, Same}
 use Rattle.machine.specs.State.{State, IsState, metadata_of}
 use Rattle.machine.specs.Commands as commands
 use Rattle.machine.specs.Effects.{applied, brought, on_state}
-use Rattle.machine.specs.Runs.{Command, Reply, Steps, leads, Init, Batch, OfferOne, PutBlob, Metadata, Target, Begun, BatchDone, Offered, Stored, FileBytes, Absent}
+use Rattle.machine.specs.Runs.{Command, Leads, Outcome, Reply, Steps, leads, settled, Init, Batch, OfferOne, PutBlob, Metadata, Target, Begun, BatchDone, Offered, Stored, FileBytes, Absent, Refused}
 use Rattle.machine.specs.Answers.{Answers, changes, unchanged, refused, AnswersBatch, done, denied, Gives, gives, denies}
 use Rattle.denials.specs.Views.{denial_view}
 use Rattle.machine.specs.Views.{effects_view}
@@ -23,16 +23,18 @@ use Rattle.machine.specs.declared.refusal.Refusal.TheVariants as refusals
 use Rattle.machine.specs.declared.refusal.BatchRefusal.{BatchRefusal}
 use Rattle.machine.specs.declared.refusal.BatchRefusal.TheVariants as batches
 use Rattle.tables.specs.Tables.{HoldsTables}
-use Rattle.store.specs.steps.Doing.{Does}
+use Rattle.store.specs.Applies.{Replies}
+use Rattle.store.specs.Standing.{IsStateOf, StandsAt, seen}
+use Rattle.store.specs.steps.Doing.{Does, DoesAt}
 use Rattle.store.specs.steps.Replies.{IsBatchRefusal, IsCopied, copied, wanting, IsRefusal}
-use Rattle.store.specs.StateRows.{rows_of}
+use Rattle.store.specs.StateRows.{Kept, rows_of}
 use Rattle.store.specs.Views.{reply_view}
 use Rattle.tables.specs.declared.faults.StoreFault.{StoreFault}
 use Rattle.tables.specs.declared.faults.StoreFault.TheVariants.{Damaged, OutOfMemory}
 use Rattle.store.specs.declared.command.Reply.{Reply as Answer}
 use Rattle.store.specs.declared.command.Reply.TheVariants as answers
 
-on_err : {A E : Type 0} (P : Type 0) (r : Result A E) → P → OnErr r P
+pub on_err : {A E : Type 0} (P : Type 0) (r : Result A E) → P → OnErr r P
 on_err P (Ok a) p = tt
 on_err P (Err e) p = p
 
@@ -40,14 +42,68 @@ on_ok : {A E : Type 0} (P : Type 0) (r : Result A E) → P → OnOk r P
 on_ok P (Ok a) p = p
 on_ok P (Err e) p = tt
 
+-- ---- replies
+
+invert : {A : Type 0} {m : A → Type 0} {out : A → Outcome} {o : Outcome} → Leads m out o → (j : A) × m j × (o ≡ out j)
+invert (leads j h) = (j, h, refl)
+
+-- a request for a target changes nothing
+target_stays : (S T : State) (path : Bytes) (asked : Option Bytes) (now : ℕ) (reply : Reply) → Steps S (Target path asked) now (T, reply) → T ≡ S
+target_stays S T path asked now reply h = let (j, m, e) = invert h in of j e
+  where
+    of : (j : orders.Judged Bytes) → ◌≡◌ {A = Outcome} (T, reply) (settled S (λ b. (S, FileBytes b)) Absent j) → T ≡ S
+    of (Ok b) e = ap (λ (o : Outcome). o.0) e
+    of (Err Same) e = ap (λ (o : Outcome). o.0) e
+    of (Err (orders.Denied d)) e = ap (λ (o : Outcome). o.0) e
+
+-- a step is a reply whatever the disk answered
+pub step_replies : (trusted : Type 0) (S : State) (c : Command) (now : ℕ) (T : State) (reply : Reply) → Steps S c now (T, reply) → Replies trusted S c now T reply
+step_replies trusted S (Init b) now T reply h = h
+step_replies trusted S (Batch os) now T reply h = h
+step_replies trusted S (OfferOne o b) now T reply h = h
+step_replies trusted S (PutBlob digest b) now T reply h = h
+step_replies trusted S (Metadata name) now T reply h = h
+step_replies trusted S (Target path asked) now T (FileBytes b) h = (target_stays S T path asked now (FileBytes b) h, λ sure. h)
+step_replies trusted S (Target path asked) now T Begun h = h
+step_replies trusted S (Target path asked) now T (BatchDone a s) h = h
+step_replies trusted S (Target path asked) now T (Offered s) h = h
+step_replies trusted S (Target path asked) now T (Stored n) h = h
+step_replies trusted S (Target path asked) now T Absent h = h
+step_replies trusted S (Target path asked) now T (Refused d i) h = h
+
+-- and a reply is a step where it is to be trusted
+pub replies_step : (trusted : Type 0) (S : State) (c : Command) (now : ℕ) (T : State) (reply : Reply) → trusted → Replies trusted S c now T reply → Steps S c now (T, reply)
+replies_step trusted S (Init b) now T reply sure h = h
+replies_step trusted S (Batch os) now T reply sure h = h
+replies_step trusted S (OfferOne o b) now T reply sure h = h
+replies_step trusted S (PutBlob digest b) now T reply sure h = h
+replies_step trusted S (Metadata name) now T reply sure h = h
+replies_step trusted S (Target path asked) now T (FileBytes b) sure h = h.1 sure
+replies_step trusted S (Target path asked) now T Begun sure h = h
+replies_step trusted S (Target path asked) now T (BatchDone a s) sure h = h
+replies_step trusted S (Target path asked) now T (Offered s) sure h = h
+replies_step trusted S (Target path asked) now T (Stored n) sure h = h
+replies_step trusted S (Target path asked) now T Absent sure h = h
+replies_step trusted S (Target path asked) now T (Refused d i) sure h = h
+
+pub replies_if : (trusted : Type 0) (S T : State) (c : Command) (now : ℕ) (r : Result Answer StoreFault) → IfOk r (λ reply. Steps S c now (T, reply_view reply))
+    → IfOk r (λ reply. Replies trusted S c now T (reply_view reply))
+replies_if trusted S T c now (Ok reply) h = step_replies trusted S c now T (reply_view reply) h
+replies_if trusted S T c now (Err fault) h = tt
+
 abbrev Left : State → database.State → Type 0
 Left S old = HasCleanDisk old → IsTrue old.is_open → (trees : Trees) → old.may_leave trees → HoldsTables trees (rows_of S)
 
+-- what rests of each state at which a store stands
+abbrev pub Resting : Kept → database.State → Type 0
+Resting kept old =
+    HasCleanDisk old → IsTrue old.is_open → (U : State) → StandsAt (seen kept old) U → (trees : Trees) → old.may_leave trees → HoldsTables trees (rows_of U)
+
 -- nothing was written
-pub still : (S : State) (old : database.State) (c : Command) (now : ℕ) (r : Result Answer StoreFault) → Left S old
+still : (S : State) (old : database.State) (c : Command) (now : ℕ) (r : Result Answer StoreFault) → Left S old
     → IfOk r (λ reply. Steps S c now (S, reply_view reply)) → (r ≡ Err Damaged → ⊥) → Does S S old old c now r
 still S old c now r left step sound = record {
-  step = step;
+  step = replies_if _ S S c now r step;
   kept = on_err (S ≡ S) r refl;
   sound = sound;
   clean = λ clean. clean;
@@ -59,11 +115,11 @@ abbrev Crash : State → State → database.State → database.State → Type 0
 Crash S U old new = HasCleanDisk new → IsTrue old.is_open → (trees : Trees) → new.may_leave trees → HoldsTables trees (rows_of S) ⊎ HoldsTables trees (rows_of U)
 
 -- the step was made, and written
-pub made : (S T : State) (old new : database.State) (c : Command) (now : ℕ) (e : Effects) (reply : Answer) → T ≡ applied S (effects_view e)
+made : (S T : State) (old new : database.State) (c : Command) (now : ℕ) (e : Effects) (reply : Answer) → T ≡ applied S (effects_view e)
     → Steps S c now (applied S (effects_view e), reply_view reply) → (HasCleanDisk new → HasCleanDisk old) → (HasCleanDisk new → IsTrue old.is_open → IsTrue new.is_open)
     → Crash S (applied S (effects_view e)) old new → Does S T old new c now (Ok reply)
 made S T old new c now e reply is step tidy live crash = record {
-  step = subst (λ (U : State). Steps S c now (U, reply_view reply)) (sym is) step;
+  step = step_replies _ S c now T (reply_view reply) (subst (λ (U : State). Steps S c now (U, reply_view reply)) (sym is) step);
   kept = tt;
   sound = λ same. let k : ◌≡◌ {A = Result Answer StoreFault} (Ok reply) (Err Damaged) = same in cc;
   clean = tidy;
@@ -72,7 +128,7 @@ made S T old new c now e reply is step tidy live crash = record {
 }
 
 -- a fault came in between
-pub unmade : (S T : State) (old new : database.State) (c : Command) (now : ℕ) (e : Effects) (reply : Reply) (fault : StoreFault) → T ≡ S
+unmade : (S T : State) (old new : database.State) (c : Command) (now : ℕ) (e : Effects) (reply : Reply) (fault : StoreFault) → T ≡ S
     → Steps S c now (applied S (effects_view e), reply) → (fault ≡ Damaged → ⊥) → (HasCleanDisk new → HasCleanDisk old)
     → Crash S (applied S (effects_view e)) old new → Does S T old new c now (Err fault)
 unmade S T old new c now e reply fault is step sound tidy crash = record {
@@ -83,6 +139,34 @@ unmade S T old new c now e reply fault is step sound tidy crash = record {
   live = λ clean there. tt;
   crash = λ clean there trees may. elim (crash clean there trees may) [ inl b ↦ inl b | inr a ↦ inr (applied S (effects_view e), reply, step, a) ];
 }
+
+-- ---- the same for each state at which a store stands
+
+pub still_at : (kept : Kept) (old : database.State) (c : Command) (now : ℕ) (r : Result Answer StoreFault) → Resting kept old
+    → ((S : State) → IsStateOf kept S → IfOk r (λ reply. Steps S c now (S, reply_view reply))) → (r ≡ Err Damaged → ⊥) → DoesAt kept kept old old c now r
+still_at kept old c now r rests step sound S at = (S, at, still S old c now r (λ clean there. rests clean there S at) (step S at.state) sound)
+
+abbrev CrashAt : Kept → database.State → database.State → Effects → Type 0
+CrashAt kept old new e =
+    HasCleanDisk new → IsTrue old.is_open → (U : State) → StandsAt (seen kept old) U → (trees : Trees) → new.may_leave trees
+    → HoldsTables trees (rows_of U) ⊎ HoldsTables trees (rows_of (applied U (effects_view e)))
+
+pub made_at : (kept left : Kept) (old new : database.State) (c : Command) (now : ℕ) (e : Effects) (reply : Answer)
+    → ((S : State) → StandsAt (seen kept old) S → StandsAt (seen left new) (applied S (effects_view e)))
+    → ((S : State) → IsStateOf kept S → Steps S c now (applied S (effects_view e), reply_view reply))
+    → (HasCleanDisk new → HasCleanDisk old) → (HasCleanDisk new → IsTrue old.is_open → IsTrue new.is_open) → CrashAt kept old new e
+    → DoesAt kept left old new c now (Ok reply)
+made_at kept left old new c now e reply leaves steps tidy live crash S at = (
+  applied S (effects_view e),
+  leaves S at,
+  made S (applied S (effects_view e)) old new c now e reply refl (steps S at.state) tidy live (λ clean there. crash clean there S at),
+)
+
+pub unmade_at : (kept left : Kept) (old new : database.State) (c : Command) (now : ℕ) (e : Effects) (reply : Reply) (fault : StoreFault)
+    → ((S : State) → StandsAt (seen kept old) S → StandsAt (seen left new) S) → ((S : State) → IsStateOf kept S → Steps S c now (applied S (effects_view e), reply))
+    → (fault ≡ Damaged → ⊥) → (HasCleanDisk new → HasCleanDisk old) → CrashAt kept old new e → DoesAt kept left old new c now (Err fault)
+unmade_at kept left old new c now e reply fault stays steps sound tidy crash S at =
+    (S, stays S at, unmade S S old new c now e reply fault refl (steps S at.state) sound tidy (λ clean there. crash clean there S at))
 
 -- the database was asked in vain
 pub failed : (S T : State) (old new : database.State) (c : Command) (now : ℕ) (fault : StoreFault) → T ≡ S → Left S old → Survives old new (λ _. ⊥)
@@ -97,16 +181,16 @@ failed S T old new c now fault is left survives sound = record {
 }
 
 -- the database answered, and then the command was made
-pub relayed : (S R T : State) (old mid new : database.State) (c : Command) (now : ℕ) (r : Result Answer StoreFault) → R ≡ S → Survives old mid (λ _. ⊥)
-    → (HasCleanDisk mid → IsTrue old.is_open × IsTrue mid.is_open) → Does R T mid new c now r → Does S T old new c now r
-relayed S R T old mid new c now r is survives there made = subst (λ (U : State). Does U T old new c now r) is (record {
+pub relayed : (S T : State) (old mid new : database.State) (c : Command) (now : ℕ) (r : Result Answer StoreFault) → Survives old mid (λ _. ⊥)
+    → (HasCleanDisk mid → IsTrue old.is_open × IsTrue mid.is_open) → Does S T mid new c now r → Does S T old new c now r
+relayed S T old mid new c now r survives there made = record {
   step = made.step;
   kept = made.kept;
   sound = made.sound;
   clean = λ clean. omega (arith, made.clean clean, survives.clean);
   live = λ clean was. made.live clean (there (made.clean clean)).1;
   crash = λ clean was trees may. made.crash clean (there (made.clean clean)).1 trees may;
-})
+}
 
 pub was_there : (S T : State) (mid new : database.State) (c : Command) (now : ℕ) (r : Result Answer StoreFault) (P Q : Type 0) → Does S T mid new c now r
     → (HasCleanDisk mid → P × Q) → HasCleanDisk new → OnOk r P
@@ -207,14 +291,3 @@ file_found S name now b r found wanting = tt
 
 pub file_absent : (S : State) (name : Bytes) (now : ℕ) → metadata_of S.trusted name ≡ None → Steps S (Metadata name) now (S, Absent)
 file_absent S name now none = rw none refl
-
-pub target_found : (S : State) (path : Bytes) (asked : Option Bytes) (now : ℕ) (b : Bor (List ℕ)) (r : Result Answer StoreFault)
-    → Gives {A = Bor (List ℕ)} (commands.grants S path asked now) (λ x. x.now) (Ok b) → IsCopied b.now r → Answered S (Target path asked) now r
-target_found S path asked now b r (gives h) (copied is) =
-    subst (λ (z : Bytes). Steps S (Target path asked) now (S, FileBytes z)) (sym is) (leads (Ok b.now) h)
-target_found S path asked now b r h wanting = tt
-
-pub target_refused : (S : State) (path : Bytes) (asked : Option Bytes) (now : ℕ) (refusal : Refusal) (r : Result Answer StoreFault)
-    → Gives {A = Bor (List ℕ)} (commands.grants S path asked now) (λ x. x.now) (Err refusal) → IsRefusal refusal r → Answered S (Target path asked) now r
-target_refused S path asked now (refusals.Denied d) r (denies h) is = answered_as S (Target path asked) now r _ is (leads (Err (orders.Denied (denial_view d))) h)
-target_refused S path asked now refusals.OutOfMemory r h is = answered_as S (Target path asked) now r _ is tt

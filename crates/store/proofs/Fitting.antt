@@ -36,7 +36,7 @@ use Rattle.machine.proofs.RowsOfOneState.{FilesOf, files_of, stored_read, stored
 use Rattle.tables.proofs.Orders.{row_cmp_total}
 use Rattle.sqlite.specs.Order.{Row}
 use Rattle.sqlite_trees.specs.Tree.{Trees}
-use Rattle.tables.specs.Tables.{AreRising, AreSame, HoldsTables, IsDigest, StandsFor, version_row, IsFit, IsVersion, row_cmp}
+use Rattle.tables.specs.Tables.{AreRising, AreSame, HaveDigests, HoldsTables, IsDigest, StandsFor, version_row, IsFit, IsVersion, row_cmp}
 use Rattle.sql_tables.specs.Rows.{AreKeyed}
 use Rattle.store.specs.StateRows.{rows_of}
 
@@ -244,6 +244,13 @@ module _ (law : Shapes) (S : State) (s : IsState S) where
   pub state_rises : AreRising (rows_of S)
   state_rises = record { roots = roots_rise; shelf = shelf_rises; blobs = blobs_rise }
 
+  pub state_digests : HaveDigests (rows_of S)
+  state_digests = of S.blobs s.blobs
+    where
+      of : (bs : List (Bytes × Bytes)) → All IsBlob bs → AllByRecursion (λ r. sha256 r.1 ≡ r.0) bs
+      of [] h = tt
+      of (b ∷ bs) h = ((All-head IsBlob b bs h).digest, of bs (All-tail IsBlob b bs h))
+
   pub state_fits : IsFit (rows_of S)
   state_fits = record {
     roots = subst (AllByRecursion (λ r. IsVersion r.0)) roots_are
@@ -261,6 +268,10 @@ module _ (law : Shapes) (S : State) (s : IsState S) where
       blob_fits : (bs : List (Bytes × Bytes)) → All IsBlob bs → AllByRecursion (λ r. IsDigest r.0) bs
       blob_fits [] h = tt
       blob_fits (b ∷ bs) h = (subst IsDigest (All-head IsBlob b bs h).digest (digest_fits b.1), blob_fits bs (All-tail IsBlob b bs h))
+
+-- a state has one file under a digest
+pub blobs_keyed : (S : State) → IsState S → AreKeyed S.blobs
+blobs_keyed S s = keyed (slice_cmp nat_cmp) nat_list_cmp_total S.blobs (sorted before (slice_cmp nat_cmp) before_less S.blobs s.in_order)
 
 -- rows that rise, and are the same, are the same lists
 pub same_tables : (t u : Contents) → AreRising t → AreRising u → AreSame t u → t ≡ u

@@ -3,4 +3,6 @@ pub mod SameRows
 pub mod Holding
 pub mod Applying
 pub mod Fitting
+pub mod Loads
 pub mod Standings
+pub mod Targets

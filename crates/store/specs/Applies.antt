@@ -1,12 +1,12 @@
 -- What a call to a store does.
-use Rattle.std.specs.Prelude.{◌⊎◌, ℕ, Result, Ok, Err, IsTrue}
+use Rattle.std.specs.Prelude.{◌≡◌, ◌⊎◌, ℕ, Result, Ok, Err, IsTrue}
 use Rattle.sqlite.specs.State as database
 use Rattle.sqlite.specs.State.{HasCleanDisk}
 use Rattle.sqlite_trees.specs.Tree.{Trees}
 use Rattle.machine.specs.State.{State}
-use Rattle.machine.specs.Runs.{Command, Reply, Steps}
+use Rattle.machine.specs.Runs.{Command, Reply, Steps, Target, FileBytes}
 use Rattle.tables.specs.Tables.{HoldsTables}
-use Rattle.store.specs.Standing.{Holds, Keeps, Moves, Standing, StandsAt, seen}
+use Rattle.store.specs.Standing.{Holds, IsClean, Keeps, Moves, Standing, StandsAt, seen}
 use Rattle.store.specs.StateRows.{Kept, rows_of}
 use Rattle.store.specs.Views.{reply_view}
 use Rattle.tables.specs.declared.faults.StoreFault.{StoreFault}
@@ -21,10 +21,16 @@ HoldsStep S command now trees = (U : State) × (reply : Reply) × Steps S comman
 abbrev pub HoldsReply : State → Command → ℕ → Reply → Trees → Type 0
 HoldsReply S command now reply trees = (U : State) × Steps S command now (U, reply) × HoldsTables trees (rows_of U)
 
+-- The step of the machine with its reply. The bytes of a target are read when they are asked for, so where the answers of the disk are
+-- not to be trusted, it is not known that they are those of the step.
+abbrev pub Replies : Type 0 → State → Command → ℕ → State → Reply → Type 0
+Replies trusted S (Target path asked) now T (FileBytes bytes) = (T ≡ S) × (trusted → Steps S (Target path asked) now (T, FileBytes bytes))
+Replies trusted S command now T reply = Steps S command now (T, reply)
+
 -- What a command makes of the state: the machine's step, whose reply is answered; and no change where memory was refused or a call of the
 -- database answered a fault. No command finds damaged rows.
 abbrev pub Makes : Standing → Standing → Command → ℕ → Result Answer StoreFault → Type 0
-Makes A B command now (Ok reply) = Moves A B (λ S T. Steps S command now (T, reply_view reply)) × Holds A B
+Makes A B command now (Ok reply) = Moves A B (λ S T. Replies (IsClean B) S command now T (reply_view reply)) × Holds A B
 Makes A B command now (Err OutOfMemory) = Keeps A B
 Makes A B command now (Err Database) = Keeps A B
 Makes A B command now (Err Damaged) = ⊥

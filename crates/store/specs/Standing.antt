@@ -1,9 +1,10 @@
 -- Where a store stands: a state that it stands for, and the rows of that state in the tables.
-use Rattle.std.specs.Prelude.{◌≡◌, Bool, IsTrue, refl}
+use Rattle.std.specs.Prelude.{◌≡◌, Bool, IsTrue}
 use Rattle.sqlite.specs.Effect.{Database}
 use Rattle.sqlite.specs.State as connection
 use Rattle.sqlite_trees.specs.View.{doubt}
-use Rattle.machine.specs.State.{State}
+use Rattle.machine.specs.State.{State, IsState}
+use Rattle.machine.specs.Held.{held_of}
 use Rattle.tables.specs.Schema.{the_schema}
 use Rattle.tables.specs.Tables.{HoldsTables}
 use Rattle.store.specs.StateRows.{Kept, TreesStand, rows_of}
@@ -24,9 +25,10 @@ seen kept s = record { kept = kept; database = s.now; committed = s.committed; i
 abbrev pub IsClean : Standing → Type 0
 IsClean A = doubt A.is_clean ≡ 0
 
--- What is kept is that of this state. Callers cannot open this: they have the laws `stands` and `holds_rows`.
-pub IsStateOf : Kept → State → Type 0
-IsStateOf kept S = kept ≡ S
+-- what is kept is that of this state, whatever the bytes of its target files are
+pub record IsStateOf (kept : Kept) (S : State) : Type 0 where
+  pub valid : IsState S
+  pub held : held_of S ≡ kept
 
 -- between two transactions: the tables are the five, and hold the rows of the state
 pub record HoldsRows (A : Standing) (S : State) : Type 0 where
@@ -34,7 +36,7 @@ pub record HoldsRows (A : Standing) (S : State) : Type 0 where
   pub settled : A.database ≡ A.committed
   pub holds : HoldsTables A.database.trees (rows_of S)
 
--- a store stands at a state: it keeps it, and while the connection is open the tables hold its rows
+-- a store stands at a state: what it keeps is that of the state, and while the connection is open the tables hold its rows
 pub record StandsAt (A : Standing) (S : State) : Type 0 where
   pub state : IsStateOf A.kept S
   pub rows : IsClean A → IsTrue A.is_open → HoldsRows A S
@@ -56,13 +58,3 @@ pub record Holds (A B : Standing) : Type 0 where
 -- What an open gives: the connection is open, and the store stands at a state whose rows the database stood for.
 abbrev pub Opens : connection.State → Standing → Type 0
 Opens old A = (S : State) × StandsAt A S × (IsClean A → IsTrue A.is_open × TreesStand old.committed.trees (rows_of S))
-
--- ---- for the proofs of this crate alone
-
-pub is_kept : (S : State) → IsStateOf S S
-unfolding IsStateOf
-is_kept S = refl
-
-pub kept_is : {kept S : State} → IsStateOf kept S → kept ≡ S
-unfolding IsStateOf
-kept_is same = same

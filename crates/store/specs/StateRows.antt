@@ -3,7 +3,8 @@ use Rattle.std.specs.Prelude.{◌≡◌, [], refl, IsTrue}
 use Rattle.std.specs.Coded.{Coded, code_by, coded×}
 use Rattle.sqlite.specs.Held.{Held as Connection, held_code}
 use Rattle.machine.specs.State.{State, IsState}
-use Rattle.machine.specs.Room.{WithRoom}
+use Rattle.machine.specs.Held.{Held}
+use Rattle.machine.specs.Room.{WithPlaces}
 use Rattle.machine.specs.Contents.{contents_of}
 use Rattle.contents.specs.Contents.{Contents, no_rows}
 use Rattle.sqlite.specs.Effect.{Database, IsDatabase}
@@ -13,19 +14,19 @@ use Rattle.tables.specs.Tables.{HoldsTables, Stands}
 use Rattle.tables.specs.Opening.{StandsEmpty}
 use Rattle.sqlite.specs.State as database
 
--- what a store keeps in memory
+-- what a store keeps in memory: its state but for the bytes of the target files
 abbrev pub Kept : Type 0
-Kept = State
+Kept = Held
 
 -- what a caller sees of a store: its connection, and what it keeps
 pub record Shown (S : Type 0) : Type 0 where
   pub conn : Connection S
   pub kept : Kept
 
-abbrev pub shown_code : {S : Type 0} → Coded S → Coded WithRoom → Coded (Shown S)
+abbrev pub shown_code : {S : Type 0} → Coded S → Coded WithPlaces → Coded (Shown S)
 shown_code {S} store kept =
-    code_by (Connection S × WithRoom) (coded× (held_code store) kept) (λ s. (s.conn, record { state = s.kept; room = 0; verdicts = [] }))
-    (λ p. record { conn = p.0; kept = p.1.state }) (λ _. refl)
+    code_by (Connection S × WithPlaces) (coded× (held_code store) kept) (λ s. (s.conn, record { held = s.kept; room = 0; verdicts = [] }))
+    (λ p. record { conn = p.0; kept = p.1.held }) (λ _. refl)
 
 -- the rows of a state
 abbrev pub rows_of : State → Contents

@@ -1,4 +1,5 @@
 -- Definitions that contracts of private functions cite.
 pub mod Changed
 pub mod Doing
+pub mod Loading
 pub mod Replies

@@ -7,6 +7,7 @@ ghost use Rattle.metadata.specs.FileViews.{root_file, snapshot_file, timestamp_f
 ghost use Rattle.delegations.specs.Views.{row_views};
 ghost use Rattle.machine.specs.Contents.{numbered, shelf_rows};
 ghost use Rattle.machine.specs.Views.{blob_views, effects_view};
+ghost use Rattle.machine.specs.State as trust;
 ghost use Rattle.machine.specs.State.{IsState};
 ghost use Rattle.machine.specs.Effects.{applied};
 ghost use Rattle.tables.specs.Tables.{HoldsTables, IsStore, after_all};
@@ -15,7 +16,7 @@ ghost use Rattle.store.specs.StateRows.{rows_of};
 ghost use Rattle.store.specs.steps.Changed.{changed, emptied_if, last_version, more_blobs, more_roots, more_rows, new_roots, new_snapshot, new_timestamp};
 
 use delegations::Row;
-use machine::{Blob, Effects, State, rows_stay};
+use machine::{Blob, Effects, rows_stay};
 use metadata::{File, Root, Snapshot, Timestamp};
 use sqlite::{Alter, Connection};
 use std::alloc::{AllocError, Global};
@@ -134,20 +135,21 @@ fn put_blobs<'a>(changes: &mut Vec<Change<'a>>, blobs: &'a [Blob]) -> Result<(),
 pub(crate) fn write<S: Alter>(
     alloc: Global,
     conn: &mut Connection<S>,
-    held: &State,
     effects: &Effects,
 ) -> Result<(), StoreFault>
     requires autocommit { conn.old.in_transaction ≡ false }
-    requires valid { IsState (applied held.now.state (effects_view effects.now)) }
+    requires few { length effects.now.changes.roots.items ≤ most_held }
     ensures autocommit { conn.new.in_transaction ≡ false }
-    ensures wrote { HasCleanDisk (state S.Store conn.new) → IsStore (state S.Store conn.old) (rows_of held.now.state) → OnOk result (IsStore (state S.Store conn.new) (rows_of (applied held.now.state (effects_view effects.now)))) }
-    ensures kept { HasCleanDisk (state S.Store conn.new) → IsTrue (state S.Store conn.new).is_open → IsStore (state S.Store conn.old) (rows_of held.now.state) → OnErr result (IsStore (state S.Store conn.new) (rows_of held.now.state)) }
+    ensures wrote { HasCleanDisk (state S.Store conn.new) → (U : trust.State) → IsState U → IsState (applied U (effects_view effects.now))
+        → IsStore (state S.Store conn.old) (rows_of U) → OnOk result (IsStore (state S.Store conn.new) (rows_of (applied U (effects_view effects.now)))) }
+    ensures some { HasCleanDisk (state S.Store conn.new) → (t : Contents) → IsStore (state S.Store conn.old) t → OnOk result ((u : Contents) × IsStore (state S.Store conn.new) u) }
+    ensures kept { HasCleanDisk (state S.Store conn.new) → IsTrue (state S.Store conn.new).is_open → (t : Contents) → IsStore (state S.Store conn.old) t → OnErr result (IsStore (state S.Store conn.new) t) }
     ensures was_open { HasCleanDisk (state S.Store conn.new) → IsTrue (state S.Store conn.new).is_open → IsTrue (state S.Store conn.old).is_open }
     ensures crash { Survives (state S.Store conn.old) (state S.Store conn.new)
-        (λ trees. IsStore (state S.Store conn.old) (rows_of held.now.state) → HoldsTables trees (rows_of (applied held.now.state (effects_view effects.now)))) }
+        (λ trees. (U : trust.State) → IsState U → IsState (applied U (effects_view effects.now))
+        → IsStore (state S.Store conn.old) (rows_of U) → HoldsTables trees (rows_of (applied U (effects_view effects.now)))) }
     ensures fault { result ≢ Err StoreFault.Damaged }
 {
-    held.is_valid();
     rows_stay();
     let changes = changes_of(alloc, effects)?;
     write_all(conn, &changes)

@@ -7,11 +7,14 @@ mod command;
 mod laws;
 mod opening;
 mod store;
+mod stored_rows;
 
 pub use closing::apply_and_close;
 pub use command::{Command, Reply};
-pub use laws::{holds_rows, stands};
-pub use machine::{Denial, Digest, Moment, Offer, RoleName, State, TargetPath, get, metadata_file};
+pub use laws::stands;
+pub use machine::{
+    Denial, Digest, Held, Moment, Offer, RoleName, State, TargetPath, get, metadata_file,
+};
 pub use opening::Unopened;
 pub use store::Store;
 pub use tables::StoreFault;

@@ -6,13 +6,14 @@ ghost use Rattle.tables.specs.Opening.{IsSettled, StandsEmpty};
 ghost use Rattle.tables.specs.Schema.{IsBeginning, beginning};
 ghost use Rattle.tables.specs.Tables.{HoldsTables, IsStore, Stands};
 ghost use Rattle.contents.specs.Contents.{no_rows};
-ghost use Rattle.store.specs.Standing.{Opens, seen};
+ghost use Rattle.store.specs.Standing.{IsStateOf, Opens, seen};
 ghost use Rattle.store.specs.StateRows.{Begins, HoldsNoState, rows_of};
 ghost use Rattle.machine.specs.State as trust;
 ghost use Rattle.machine.specs.State.{IsState};
 
 use crate::store::Store;
-use machine::State;
+use crate::stored_rows::StoredRows;
+use machine::Held;
 use metadata::{one_document, one_shape};
 use sqlite::{Alter, Connection};
 use std::alloc::Global;
@@ -63,7 +64,7 @@ impl<S: Alter + Drop> Store<S> {
             }
         };
         match read_state(alloc, &mut conn) {
-            Ok(held) => Ok(Store::over(alloc, conn, held)),
+            Ok(held) => Ok(Store::over(alloc, StoredRows::new(conn), held)),
             Err(fault) => Err(Unopened {
                 fault,
                 conn: Some(conn),
@@ -72,17 +73,15 @@ impl<S: Alter + Drop> Store<S> {
     }
 }
 
-// The state that stands in the tables. Where they have no row, those that are absent are made.
-fn read_state<S: Alter>(alloc: Global, conn: &mut Connection<S>) -> Result<State, StoreFault>
+// What is held of the state that stands in the tables. Where they have no row, those that are absent are made.
+fn read_state<S: Alter>(alloc: Global, conn: &mut Connection<S>) -> Result<Held, StoreFault>
     requires { conn.old.in_transaction ≡ false }
     ensures autocommit { conn.new.in_transaction ≡ false }
     ensures schema { IfOk result (λ _. IsBeginning conn.old.schema) }
-    ensures made { HasCleanDisk (state S.Store conn.new) → (count : ℕ) → count < 5 → conn.old.schema ≡ beginning count
-        → IfOk result (λ s. (rows_of s.state ≡ no_rows) × StandsEmpty (state S.Store conn.old) × IsStore (state S.Store conn.new) (rows_of s.state)) }
     ensures live { IsLive (state S.Store conn.old) }
     ensures was_open { HasCleanDisk (state S.Store conn.new) → OnOk result (IsTrue (state S.Store conn.old).is_open) }
-    ensures loaded { HasCleanDisk (state S.Store conn.new) → IsSettled (state S.Store conn.old)
-        → IfOk result (λ s. Stands (state S.Store conn.old).now (rows_of s.state) × IsStore (state S.Store conn.new) (rows_of s.state)) }
+    ensures loaded { IfOk result (λ h. (U : trust.State) × IsStateOf h.held U × (HasCleanDisk (state S.Store conn.new) → IsSettled (state S.Store conn.old)
+        → Stands (state S.Store conn.old).now (rows_of U) × IsStore (state S.Store conn.new) (rows_of U))) }
     ensures damaged { HasCleanDisk (state S.Store conn.new) → IsSettled (state S.Store conn.old)
         → result ≡ Err StoreFault.Damaged → IsTrue (state S.Store conn.old).is_open × IsBeginning conn.old.schema × ((U : trust.State) → IsState U → Stands (state S.Store conn.old).now (rows_of U) → ⊥) }
     ensures crash { Survives (state S.Store conn.old) (state S.Store conn.new) (λ trees. IsTrue (state S.Store conn.old).is_open → StandsEmpty (state S.Store conn.old) × HoldsTables trees no_rows) }
@@ -90,8 +89,8 @@ fn read_state<S: Alter>(alloc: Global, conn: &mut Connection<S>) -> Result<State
     one_document();
     one_shape();
     one_contents();
-    let contents = prepare(alloc, conn)?;
-    match State::load(alloc, contents) {
+    let read = prepare(alloc, conn)?;
+    match Held::load(alloc, read.0, read.1) {
         Ok(Some(held)) => Ok(held),
         Ok(None) => Err(StoreFault::Damaged),
         Err(_) => Err(StoreFault::OutOfMemory),

@@ -1,5 +1,5 @@
 //! A store: a state of the trust machine, whose rows the tables hold.
-ghost use Rattle.std.specs.Prelude.{◌≡◌, ◌≢◌, ◌⊎◌, false, Err, IsTrue, OnErr, OnOk, option_map};
+ghost use Rattle.std.specs.Prelude.{◌≡◌, ◌≢◌, ◌⊎◌, ◌<◌, ◌≤◌, ◌^◌, Err, IsTrue, None, OnErr, OnOk, option_map};
 ghost use Rattle.sqlite.specs.Held.{state};
 ghost use Rattle.sqlite.specs.State.{HasCleanDisk, Survives};
 ghost use Rattle.sqlite_trees.specs.Tree.{Trees};
@@ -7,54 +7,60 @@ ghost use Rattle.tables.specs.Tables.{HoldsTables, IsStore};
 ghost use Rattle.machine.specs.State as trust;
 ghost use Rattle.machine.specs.State.{IsSnapshotDue, IsState};
 ghost use Rattle.machine.specs.Effects.{applied};
-ghost use Rattle.machine.specs.Knowing.{IsKnown};
+ghost use Rattle.machine.specs.Held.{held_with};
+ghost use Rattle.machine.specs.Knowing.{IsKnown, WantsFew};
 ghost use Rattle.machine.specs.Views.{documents_view, effects_view, offer_view};
 ghost use Rattle.machine.specs.Runs as steps;
+ghost use Rattle.machine.specs.Commands as commands;
+ghost use Rattle.machine.specs.Serving.{IfDenied, Refuses, Serves};
 ghost use Rattle.store.specs.Applies.{Applies};
-ghost use Rattle.store.specs.Standing.{IsStateOf};
-ghost use Rattle.store.specs.steps.Doing.{Does};
-ghost use Rattle.store.specs.steps.Replies.{IsBatchRefusal, IsCopied, IsRefusal};
+ghost use Rattle.store.specs.Standing.{IsStateOf, Keeps, StandsAt, seen};
+ghost use Rattle.store.specs.steps.Doing.{DoesAt};
+ghost use Rattle.store.specs.steps.Loading.{ReadsOnly};
+ghost use Rattle.store.specs.steps.Replies.{IsBatchRefusal, IsCopied, IsGetFault, IsRefusal};
 ghost use Rattle.store.specs.StateRows.{rows_of};
 ghost use Rattle.store.specs.Views.{command_view};
 
-use crate::changes::write;
 use crate::command::{Command, Reply};
+use crate::stored_rows::StoredRows;
 use machine::{
-    BatchRefusal, Batched, Effects, Offer, Outcome, Refusal, State, batch, init, metadata_file,
-    offer, put_blob, root_version, snapshot_due, target,
+    BatchRefusal, Batched, Effects, GetFault, Held, LoadFault, Offer, Outcome, Refusal, Served,
+    Steps, get_from_counted, held_follows, target_from,
 };
 use metadata::Moment;
-use path_patterns::Digest;
+use path_patterns::{Digest, TargetPath};
 use sqlite::{Alter, Connection};
 use std::alloc::Global;
 use std::marker::Model;
-use tables::{StoreFault, check_open};
+use tables::StoreFault;
 
-/// A state of the trust machine, and the connection to the tables that hold its rows. A clause sees the connection, and the states
-/// that the store stands for. While the connection is open, and unless a wrong answer of the disk was taken as true, the rows are
-/// those of such a state.
+/// What a state of the trust machine holds beside the bytes of its target files, and the connection to the tables that hold its rows. A
+/// clause sees the connection, and the states that the store stands for. While the connection is open, and unless a wrong answer of the
+/// disk was taken as true, the rows are those of such a state.
 #[derive(Drop)]
 pub struct Store<S: Alter> {
-    conn: Connection<S>,
-    held: State,
+    rows: StoredRows<S>,
+    held: Held,
     alloc: Global,
 }
 
 impl<S: Alter> Model for Store<S> {
-    ghost use Rattle.std.specs.Prelude.{◌≡◌, false, IsTrue};
+    ghost use Rattle.std.specs.Prelude.{◌≡◌, IsTrue};
     ghost use Rattle.sqlite.specs.Held.{state};
     ghost use Rattle.sqlite.specs.State.{HasCleanDisk};
+    ghost use Rattle.machine.specs.State as trust;
     ghost use Rattle.tables.specs.Tables.{IsStore};
-    ghost use Rattle.machine.specs.contracts.state.State as machine;
+    ghost use Rattle.machine.specs.contracts.held.Held as machine;
+    ghost use Rattle.store.specs.Standing.{IsStateOf};
     ghost use Rattle.store.specs.StateRows.{Shown, shown_code, rows_of};
 
     ghost Value = { Shown S };
 
     ghost coded = { shown_code S.code machine.the_row.coded };
 
-    ghost view = { λ s. record { conn = s.conn; kept = s.held.state } };
+    ghost view = { λ s. record { conn = s.rows; kept = s.held.held } };
 
-    ghost invariant = { λ s. (s.conn.in_transaction ≡ false) × (HasCleanDisk (state S.Store s.conn) → IsTrue (state S.Store s.conn).is_open → IsStore (state S.Store s.conn) (rows_of s.held.state)) };
+    ghost invariant = { λ s. (U : trust.State) × IsStateOf s.held.held U × (HasCleanDisk (state S.Store s.rows) → IsTrue (state S.Store s.rows).is_open → IsStore (state S.Store s.rows) (rows_of U)) };
 }
 
 impl<S: Alter> Store<S> {
@@ -83,7 +89,7 @@ impl<S: Alter> Store<S> {
     pub fn root_version(&self) -> Option<u32>
         ensures { (U : trust.State) → IsStateOf self.now.kept U → result ≡ option_map (λ root. root.body.version) U.trusted.root }
     {
-        root_version(self.kept())
+        self.held().root_version()
     }
 
     /// The version of the snapshot that the held timestamp names, and `None` where no timestamp is held or it names the held
@@ -91,33 +97,45 @@ impl<S: Alter> Store<S> {
     pub fn snapshot_due(&self) -> Option<u32>
         ensures { (U : trust.State) → IsStateOf self.now.kept U → IsSnapshotDue U.trusted result }
     {
-        snapshot_due(self.kept())
+        self.held().snapshot_due()
     }
 
-    /// The state, with what is known of the signatures on its shelf.
-    pub fn state(&self) -> &State
-        ensures { IsStateOf self.now.kept result.now.state }
+    /// What is held of the state, with what is known of the signatures on its shelf.
+    pub fn held(&self) -> &Held
+        ensures { result.now.held ≡ self.now.kept }
     {
-        self.kept()
+        &self.held
+    }
+
+    /// The file of a target at a moment, as a request for it is answered, with one tick for each signature that is checked: none where
+    /// the pairs that searches may meet are at most 2,048. Nothing is written.
+    pub fn get_counted(
+        &mut self,
+        path: &TargetPath,
+        now: Moment,
+        checks: &mut Steps,
+    ) -> Result<Served, GetFault>
+        requires { checks.old < 2 ^ 63 }
+        ensures keeps { Keeps (seen self.old.kept (state S.Store self.old.conn)) (seen self.new.kept (state S.Store self.new.conn)) }
+        ensures denial { (U : trust.State) → IsStateOf self.old.kept U → Refuses (commands.grants U path.now None now) result }
+        ensures answer { HasCleanDisk (state S.Store self.new.conn) → IsTrue (state S.Store self.new.conn).is_open → (U : trust.State) → StandsAt (seen self.old.kept (state S.Store self.old.conn)) U
+            → Serves U (commands.grants U path.now None now) result }
+        ensures grows { checks.old ≤ checks.new }
+        ensures free { WantsFew self.old.kept.trusted → checks.new ≡ checks.old }
+    {
+        get_from_counted(self.alloc, &self.held, &mut self.rows, path, now, checks)
     }
 
     /// The connection of a store that is done.
     pub fn into_connection(self) -> Connection<S>
         ensures { result ≡ self.conn }
     {
-        self.conn
-    }
-
-    // What is kept in memory.
-    pub(crate) fn kept(&self) -> &State
-        ensures { result.now.state ≡ self.now.kept }
-    {
-        &self.held
+        self.rows.into_connection()
     }
 
     // Makes a command, over a connection that is open.
     fn make(&mut self, command: Command<'_>, now: Moment) -> Result<Reply, StoreFault>
-        ensures { Does self.old.kept self.new.kept (state S.Store self.old.conn) (state S.Store self.new.conn) (command_view command.entry) now result }
+        ensures { DoesAt self.old.kept self.new.kept (state S.Store self.old.conn) (state S.Store self.new.conn) (command_view command.entry) now result }
     {
         match command {
             Command::Init(bytes) => self.begin(bytes, now),
@@ -130,10 +148,10 @@ impl<S: Alter> Store<S> {
     }
 
     fn begin(&mut self, bytes: &[u8], now: Moment) -> Result<Reply, StoreFault>
-        ensures { Does self.old.kept self.new.kept (state S.Store self.old.conn) (state S.Store self.new.conn) (steps.Init bytes.now) now result }
+        ensures { DoesAt self.old.kept self.new.kept (state S.Store self.old.conn) (state S.Store self.new.conn) (steps.Init bytes.now) now result }
     {
         self.rests();
-        let effects = match init(self.alloc(), self.kept(), bytes) {
+        let effects = match self.held().init(self.alloc(), bytes) {
             Ok(Outcome::Changed(effects)) => effects,
             Ok(Outcome::Same) => return Ok(Reply::Begun),
             Err(refusal) => return refused(refusal),
@@ -150,10 +168,10 @@ impl<S: Alter> Store<S> {
         bytes: &[u8],
         now: Moment,
     ) -> Result<Reply, StoreFault>
-        ensures { Does self.old.kept self.new.kept (state S.Store self.old.conn) (state S.Store self.new.conn) (steps.OfferOne (offer_view offered.now) bytes.now) now result }
+        ensures { DoesAt self.old.kept self.new.kept (state S.Store self.old.conn) (state S.Store self.new.conn) (steps.OfferOne (offer_view offered.now) bytes.now) now result }
     {
         self.rests();
-        let effects = match offer(self.alloc(), self.kept(), offered, bytes, now) {
+        let effects = match self.held().offer(self.alloc(), offered, bytes, now) {
             Ok(Outcome::Changed(effects)) => effects,
             Ok(Outcome::Same) => return Ok(Reply::Offered { same: true }),
             Err(refusal) => return refused(refusal),
@@ -165,14 +183,14 @@ impl<S: Alter> Store<S> {
     }
 
     fn take_batch(&mut self, documents: &[(Offer, &[u8])], now: Moment) -> Result<Reply, StoreFault>
-        ensures { Does self.old.kept self.new.kept (state S.Store self.old.conn) (state S.Store self.new.conn) (steps.Batch (documents_view documents.now)) now result }
+        ensures { DoesAt self.old.kept self.new.kept (state S.Store self.old.conn) (state S.Store self.new.conn) (steps.Batch (documents_view documents.now)) now result }
     {
         self.rests();
         let Batched {
             effects,
             accepted,
             same,
-        } = match batch(self.alloc(), self.kept(), documents, now) {
+        } = match self.held().batch(self.alloc(), documents, now) {
             Ok(batched) => batched,
             Err(refusal) => return refused_batch(refusal),
         };
@@ -183,10 +201,10 @@ impl<S: Alter> Store<S> {
     }
 
     fn put(&mut self, digest: Digest, bytes: &[u8], now: Moment) -> Result<Reply, StoreFault>
-        ensures { Does self.old.kept self.new.kept (state S.Store self.old.conn) (state S.Store self.new.conn) (steps.PutBlob digest.0 bytes.now) now result }
+        ensures { DoesAt self.old.kept self.new.kept (state S.Store self.old.conn) (state S.Store self.new.conn) (steps.PutBlob digest.0 bytes.now) now result }
     {
         self.rests();
-        let effects = match put_blob(self.alloc(), self.kept(), &digest, bytes) {
+        let effects = match self.held().put_blob(self.alloc(), &digest, bytes) {
             Ok(Outcome::Changed(effects)) => effects,
             Ok(Outcome::Same) => return Ok(Reply::Stored(false)),
             Err(refusal) => return refused(refusal),
@@ -198,10 +216,10 @@ impl<S: Alter> Store<S> {
     }
 
     fn metadata(&mut self, name: &str, now: Moment) -> Result<Reply, StoreFault>
-        ensures { Does self.old.kept self.new.kept (state S.Store self.old.conn) (state S.Store self.new.conn) (steps.Metadata name.now) now result }
+        ensures { DoesAt self.old.kept self.new.kept (state S.Store self.old.conn) (state S.Store self.new.conn) (steps.Metadata name.now) now result }
     {
         self.rests();
-        match metadata_file(self.kept(), name) {
+        match self.held().metadata_file(name) {
             Some(bytes) => copied(self.alloc(), bytes),
             None => Ok(Reply::Absent),
         }
@@ -213,62 +231,81 @@ impl<S: Alter> Store<S> {
         asked: Option<Digest>,
         now: Moment,
     ) -> Result<Reply, StoreFault>
-        ensures { Does self.old.kept self.new.kept (state S.Store self.old.conn) (state S.Store self.new.conn) (steps.Target path.now (option_map (λ d. d.0) asked)) now result }
+        ensures { DoesAt self.old.kept self.new.kept (state S.Store self.old.conn) (state S.Store self.new.conn) (steps.Target path.now (option_map (λ d. d.0) asked)) now result }
     {
         self.rests();
-        match target(self.alloc(), self.kept(), path, asked, now) {
-            Ok(bytes) => copied(self.alloc(), bytes),
-            Err(refusal) => refused(refusal),
+        match self.load_target(path, asked, now) {
+            Ok(served) => Ok(Reply::Bytes(served.bytes)),
+            Err(fault) => unserved(fault),
         }
     }
 
-    // A store over a connection whose tables hold the rows of this state.
-    pub(crate) fn over(alloc: Global, conn: Connection<S>, held: State) -> Store<S>
-        requires autocommit { conn.in_transaction ≡ false }
-        requires rows { HasCleanDisk (state S.Store conn) → IsTrue (state S.Store conn).is_open → IsStore (state S.Store conn) (rows_of held.state) }
-        ensures conn { result.conn ≡ conn }
-        ensures kept { result.kept ≡ held.state }
+    // What a request for a target serves.
+    fn load_target(
+        &mut self,
+        path: &str,
+        asked: Option<Digest>,
+        now: Moment,
+    ) -> Result<Served, GetFault>
+        ensures same { self.new.kept ≡ self.old.kept }
+        ensures reads { ReadsOnly (state S.Store self.old.conn) (state S.Store self.new.conn) }
+        ensures denial { (U : trust.State) → IsStateOf self.old.kept U → Refuses (commands.grants U path.now (option_map (λ d. d.0) asked) now) result }
+        ensures unloaded { IsTrue (state S.Store self.old.conn).is_open → IfDenied result (IsTrue (state S.Store self.new.conn).is_open) }
+        ensures there { HasCleanDisk (state S.Store self.new.conn) → OnOk result (IsTrue (state S.Store self.new.conn).is_open) }
+        ensures answer { HasCleanDisk (state S.Store self.new.conn) → IsTrue (state S.Store self.new.conn).is_open → (U : trust.State) → StandsAt (seen self.old.kept (state S.Store self.old.conn)) U
+            → Serves U (commands.grants U path.now (option_map (λ d. d.0) asked) now) result }
     {
-        Store { conn, held, alloc }
+        target_from(self.alloc, &self.held, &mut self.rows, path, asked, now)
+    }
+
+    // A store over rows that are those of a state of which this is held.
+    pub(crate) fn over(alloc: Global, rows: StoredRows<S>, held: Held) -> Store<S>
+        requires { (U : trust.State) × IsStateOf held.held U × (HasCleanDisk (state S.Store rows) → IsTrue (state S.Store rows).is_open → IsStore (state S.Store rows) (rows_of U)) }
+        ensures conn { result.conn ≡ rows }
+        ensures kept { result.kept ≡ held.held }
+    {
+        Store { rows, held, alloc }
     }
 
     // Asks the database for one row, so that nothing is answered from memory where the connection is shut.
     fn touch(&mut self) -> Result<(), StoreFault>
         ensures same { self.new.kept ≡ self.old.kept }
         ensures open { HasCleanDisk (state S.Store self.new.conn) → OnOk result (IsTrue (state S.Store self.old.conn).is_open × IsTrue (state S.Store self.new.conn).is_open) }
-        ensures survives { Survives (state S.Store self.old.conn) (state S.Store self.new.conn) (λ _. ⊥) }
+        ensures reads { ReadsOnly (state S.Store self.old.conn) (state S.Store self.new.conn) }
         ensures sound { result ≢ Err StoreFault.Damaged }
     {
-        check_open(&mut self.conn)
+        self.rows.touch()
     }
 
-    // A law, which does nothing: the rows are those of the state, and a crash leaves just these.
+    // A law, which does nothing: a store stands at a state, and a crash leaves just the rows of each at which it stands.
     pub(crate) fn rests(&self)
-        ensures rows { HasCleanDisk (state S.Store self.now.conn) → IsTrue (state S.Store self.now.conn).is_open → IsStore (state S.Store self.now.conn) (rows_of self.now.kept) }
-        ensures left { HasCleanDisk (state S.Store self.now.conn) → IsTrue (state S.Store self.now.conn).is_open
-            → (trees : Trees) → (state S.Store self.now.conn).may_leave trees → HoldsTables trees (rows_of self.now.kept) }
+        ensures somewhere { (U : trust.State) × StandsAt (seen self.now.kept (state S.Store self.now.conn)) U }
+        ensures left { HasCleanDisk (state S.Store self.now.conn) → IsTrue (state S.Store self.now.conn).is_open → (U : trust.State) → StandsAt (seen self.now.kept (state S.Store self.now.conn)) U
+            → (trees : Trees) → (state S.Store self.now.conn).may_leave trees → HoldsTables trees (rows_of U) }
     {
-        let _ = &self.held;
+        self.rows.rests();
     }
 
     fn alloc(&self) -> Global {
         self.alloc
     }
 
-    // Makes these changes: all memory first, then the rows and their commit, then the state with no memory.
+    // Makes these changes: all memory first, then the rows and their commit, then what is held with no memory.
     fn keep(&mut self, effects: Effects) -> Result<(), StoreFault>
-        requires valid { IsState (applied self.old.kept (effects_view effects)) }
-        requires known { IsKnown (applied self.old.kept (effects_view effects)).trusted effects.verdicts }
-        ensures done { OnOk result (self.new.kept ≡ applied self.old.kept (effects_view effects)) }
-        ensures kept { OnErr result (self.new.kept ≡ self.old.kept) }
+        requires valid { (U : trust.State) → IsStateOf self.old.kept U → IsState (applied U (effects_view effects)) }
+        requires known { IsKnown (held_with self.old.kept (effects_view effects)).trusted effects.verdicts }
+        ensures done { (U : trust.State) → StandsAt (seen self.old.kept (state S.Store self.old.conn)) U → OnOk result (StandsAt (seen self.new.kept (state S.Store self.new.conn)) (applied U (effects_view effects))) }
+        ensures kept { (U : trust.State) → StandsAt (seen self.old.kept (state S.Store self.old.conn)) U → OnErr result (StandsAt (seen self.new.kept (state S.Store self.new.conn)) U) }
         ensures live { HasCleanDisk (state S.Store self.new.conn) → IsTrue (state S.Store self.old.conn).is_open → OnOk result (IsTrue (state S.Store self.new.conn).is_open) }
-        ensures crash { HasCleanDisk (state S.Store self.new.conn) → IsTrue (state S.Store self.old.conn).is_open → (trees : Trees) → (state S.Store self.new.conn).may_leave trees
-            → HoldsTables trees (rows_of self.old.kept) ⊎ HoldsTables trees (rows_of (applied self.old.kept (effects_view effects))) }
+        ensures crash { HasCleanDisk (state S.Store self.new.conn) → IsTrue (state S.Store self.old.conn).is_open → (U : trust.State) → StandsAt (seen self.old.kept (state S.Store self.old.conn)) U
+            → (trees : Trees) → (state S.Store self.new.conn).may_leave trees → HoldsTables trees (rows_of U) ⊎ HoldsTables trees (rows_of (applied U (effects_view effects))) }
         ensures sound { result ≢ Err StoreFault.Damaged }
         ensures clean { HasCleanDisk (state S.Store self.new.conn) → HasCleanDisk (state S.Store self.old.conn) }
     {
+        held_follows();
+        self.rows.rests();
         self.held.room(&effects)?;
-        write(self.alloc, &mut self.conn, &self.held, &effects)?;
+        self.rows.write(self.alloc, &effects)?;
         self.held.take(effects);
         Ok(())
     }
@@ -281,6 +318,18 @@ fn refused(refusal: Refusal) -> Result<Reply, StoreFault>
     match refusal {
         Refusal::Denied(denial) => Ok(Reply::Denied(denial, None)),
         Refusal::OutOfMemory => Err(StoreFault::OutOfMemory),
+    }
+}
+
+// What a request for a target was refused for: a reply, or a fault. A file that should be there and is not is one of the database.
+fn unserved(fault: GetFault) -> Result<Reply, StoreFault>
+    ensures { IsGetFault fault result }
+{
+    match fault {
+        GetFault::Denied(denial) => Ok(Reply::Denied(denial, None)),
+        GetFault::Load(LoadFault::OutOfMemory) => Err(StoreFault::OutOfMemory),
+        GetFault::Load(_) => Err(StoreFault::Database),
+        GetFault::OutOfMemory => Err(StoreFault::OutOfMemory),
     }
 }
 

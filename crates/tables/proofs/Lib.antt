@@ -1,11 +1,15 @@
 pub mod Texts
 pub mod Statements
 pub mod Changes
+pub mod Removals
 pub mod MakingLemmas
 pub mod Beginnings
 pub mod Orders
 pub mod Slots
 pub mod Selects
+pub mod FileLemmas
+pub mod Singles
 pub mod ItemLemmas
 pub mod Openings
 pub mod SetLemmas
+pub mod One

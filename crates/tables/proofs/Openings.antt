@@ -1,10 +1,12 @@
 -- What an opening and a look at the connection leave.
-use Rattle.std.proofs.Common.{◌≡◌, ◌⊎◌, inl, inr, IsTrue, sym, ap, subst, ◌∙◌}
+use Rattle.std.proofs.Common.{◌≡◌, ◌⊎◌, inl, inr, IsTrue, IfOk, OnOk, Result, Ok, Err, Bool, true, sym, ap, subst, arith, ◌∙◌}
 use Rattle.sqlite.specs.Effect.{Database}
-use Rattle.sqlite.specs.State.{State, IsUnchanged, IsRolledBack}
+use Rattle.sqlite.specs.State.{State, HasCleanDisk, IsUnchanged, IsRolledBack, Survives}
+use Rattle.sqlite.proofs.StateLemmas.{survives_then}
+use Rattle.sqlite_trees.specs.Tree.{Trees}
 use Rattle.tables.specs.Schema.{the_schema}
-use Rattle.contents.specs.Contents.{Contents}
-use Rattle.tables.specs.Tables.{HoldsTables, IsStore}
+use Rattle.contents.specs.Contents.{Contents, no_rows}
+use Rattle.tables.specs.Tables.{AreBare, HoldsTables, IsStore}
 
 pub loaded_store : (old new : State) (t : Contents) → IsUnchanged old new → old.now ≡ old.committed → old.now.schema ≡ the_schema → HoldsTables old.now.trees t → IsStore new t
 loaded_store old new t same settled schema holds = record {
@@ -38,3 +40,27 @@ store_back old new t stays back is =
 pub looked : (old new : State) (t : Contents) → IsTrue new.is_open → IsUnchanged old new ⊎ IsRolledBack old new → IsStore old t → IsStore new t
 looked old new t stays (inl same) is = store_same old new t same is
 looked old new t stays (inr back) is = store_back old new t stays back is
+
+-- ---- one answer, of which two facts are known
+
+pub both_ok : {A E : Type 0} (P : A → Type 0) (H Q : Type 0) (r : Result A E) → IfOk r P → (H → OnOk r Q) → IfOk r (λ a. P a × (H → Q))
+both_ok P H Q (Ok a) p q = (p, q)
+both_ok P H Q (Err e) p q = tt
+
+-- ---- the row of `schema` is put behind a look at the tables
+
+abbrev pub Begins : State → Trees → Type 0
+Begins s trees = IsTrue s.is_open → s.now.schema ≡ the_schema → AreBare s.now.trees × HoldsTables trees no_rows
+
+pub began : (old mid end : State) (is_bare : Bool) → (HasCleanDisk mid → old.now.schema ≡ the_schema → IsUnchanged old mid) → (HasCleanDisk mid → old.now.schema ≡ the_schema → is_bare ≡ true → AreBare old.now.trees)
+    → Survives old mid (λ _. ⊥) → Survives mid end (λ trees. IsTrue mid.is_open → mid.now.schema ≡ the_schema → (is_bare ≡ true) × (AreBare mid.now.trees → HoldsTables trees no_rows)) → Survives old end (Begins old)
+began old mid end is_bare unchanged empty quiet writes =
+    let Q = λ (trees : Trees). IsTrue mid.is_open → mid.now.schema ≡ the_schema → (is_bare ≡ true) × (AreBare mid.now.trees → HoldsTables trees no_rows) in
+    survives_then old mid end (λ _. ⊥) Q (Begins old) (λ _ db none. absurd none)
+    (λ clean db h is_open schema.
+    let early : HasCleanDisk mid = omega (arith, clean, writes.clean) in
+    let same : IsUnchanged old mid = unchanged early schema in
+    let done = h same.0.is_open (ap (λ (d : Database). d.schema) same.0.now_is ∙ schema) in
+    let bare = empty early schema done.0 in
+    (bare, done.1 (subst (λ (d : Database). AreBare d.trees) (sym same.0.now_is) bare)))
+    quiet writes

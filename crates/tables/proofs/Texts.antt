@@ -1,15 +1,18 @@
 -- What the texts mean.
-use Rattle.std.proofs.Common.{◌≡◌, List, ℕ, [], ◌∷◌, codes, refl}
+use Rattle.std.proofs.Common.{◌≡◌, List, ℕ, [], ◌∷◌, codes, refl, false}
 use Rattle.sqlite_tied.specs.Compute.{everything}
 use Rattle.tables.specs.Schema.{the_schema}
-use Rattle.sqlite.specs.Term.{Term, lit, col, op2}
+use Rattle.sqlite.specs.Term.{Term, lit, col, op1, op2}
+use Rattle.sqlite_sql.specs.declared.ops.UnaryOp.TheVariants.{ToNumeric}
 use Rattle.sqlite_sql.specs.declared.ops.BinaryOp.TheVariants.{Compare}
 use Rattle.sqlite_sql.specs.declared.ops.CompareOp.TheVariants.{Eq}
 use Rattle.sqlite_value.specs.declared.keys.Collation.TheVariants.{Binary}
 use Rattle.sqlite.specs.Source.TheVariants.{Values}
-use Rattle.sqlite.specs.Command.TheVariants.{Insert, Delete}
+use Rattle.sqlite.specs.Command.TheVariants.{Insert, Delete, Select}
 use Rattle.sqlite.specs.declared.types.Value.TheVariants.{Null}
-use Rattle.sqlite.specs.Listing.{understood}
+use Rattle.sqlite.specs.Listing.{understood, reads_listing}
+use Rattle.sqlite_resolve.specs.Compile.{first}
+use Rattle.sql_tables.specs.Asking.{IsQuiet}
 use Rattle.sqlite.proofs.Callers.{IsPlain, command_of}
 use Rattle.sql_tables.proofs.AnswerLemmas.{plain_query}
 
@@ -85,6 +88,32 @@ pub delete_slot_plain : IsPlain (understood the_schema delete_slot)
 unfolding understood everything
 delete_slot_plain = (refl, refl)
 
+-- the first two columns are the parameters, the second of which is read as a number where it is a text
+abbrev pub by_text_and_number : List Term
+by_text_and_number = op2 (Compare Eq Binary) (col 1 1) (col 0 0) ∷ op2 (Compare Eq Binary) (col 1 2) (op1 ToNumeric (col 0 1)) ∷ []
+
+abbrev pub delete_row : List ℕ
+delete_row = codes "DELETE FROM shelf WHERE role = ?1 AND version = ?2"
+
+pub delete_row_is : command_of (understood the_schema delete_row) ≡ Delete 2 (record { lets = []; body = plain_query 3 by_text_and_number (col 1 0 ∷ []) [] })
+unfolding understood everything
+delete_row_is = refl
+
+pub delete_row_plain : IsPlain (understood the_schema delete_row)
+unfolding understood everything
+delete_row_plain = (refl, refl)
+
+abbrev pub delete_blob : List ℕ
+delete_blob = codes "DELETE FROM blob WHERE digest = ?1"
+
+pub delete_blob_is : command_of (understood the_schema delete_blob) ≡ Delete 3 (record { lets = []; body = plain_query 5 by_text (col 1 0 ∷ []) [] })
+unfolding understood everything
+delete_blob_is = refl
+
+pub delete_blob_plain : IsPlain (understood the_schema delete_blob)
+unfolding understood everything
+delete_blob_plain = (refl, refl)
+
 abbrev pub delete_current : List ℕ
 delete_current = codes "DELETE FROM current"
 
@@ -106,3 +135,24 @@ delete_shelf_is = refl
 pub delete_shelf_plain : IsPlain (understood the_schema delete_shelf)
 unfolding understood everything
 delete_shelf_plain = (refl, refl)
+
+-- ---- SELECT by a key
+
+abbrev pub select_one : List ℕ
+select_one = codes "SELECT bytes FROM blob WHERE digest = ?1"
+
+pub select_one_is : command_of (understood the_schema select_one) ≡ Select (record { lets = []; body = plain_query 5 by_text (col 1 2 ∷ []) [] }) (codes "bytes" ∷ [])
+unfolding understood everything
+select_one_is = refl
+
+pub select_one_plain : IsPlain (understood the_schema select_one)
+unfolding understood everything
+select_one_plain = (refl, refl)
+
+pub select_one_unlisted : reads_listing the_schema select_one ≡ false
+unfolding understood everything
+select_one_unlisted = refl
+
+pub select_one_quiet : IsQuiet (first select_one)
+unfolding understood everything
+select_one_quiet = λ _ _. refl

@@ -1,11 +1,12 @@
 -- What the tables hold, and what a change makes of it.
-use Rattle.std.specs.Prelude.{◌≡◌, ◌⊎◌, ◌<◌, ◌^◌, ℕ, pos, List, [], ◌∷◌, ◌++◌, map, Option, Some, None, IsTrue, IsUtf8, codes}
+use Rattle.std.specs.Prelude.{◌≡◌, ◌⊎◌, ◌<◌, ◌^◌, ℕ, pos, List, [], ◌∷◌, ◌++◌, map, Option, Some, None, IsTrue, IsUtf8, Bool, filter, not, bytes_eq, ◌==◌, ◌&&◌, codes}
 use Rattle.std.specs.List.{AllByRecursion}
 use Rattle.std.specs.Ordering.{nat_cmp, on, then_cmp}
 use Rattle.std.specs.declared.cmp.Ordering.{Ordering}
 use Rattle.std.specs.Cmp.Lexicographic.{slice_cmp}
 use Rattle.std.specs.List.Sorted.{IsStrictlySortedBy}
 use Rattle.hex.specs.Hex.{encode_lower}
+use Rattle.sha2.specs.Sha256.{sha256}
 use Rattle.sqlite_rules.specs.Lists.{Has}
 use Rattle.sqlite.specs.declared.types.Value.TheVariants.{Int, Text, Blob}
 use Rattle.sqlite.specs.Order.{Row}
@@ -13,7 +14,7 @@ use Rattle.sqlite_trees.specs.Tree.{Trees}
 use Rattle.sqlite.specs.Effect.{Database}
 use Rattle.sqlite.specs.State.{State}
 use Rattle.tables.specs.declared.change.Change.{Change}
-use Rattle.tables.specs.declared.change.Change.TheVariants.{PutRoot, Emptied, PutTimestamp, PutSnapshot, PutRow, PutBlob}
+use Rattle.tables.specs.declared.change.Change.TheVariants.{PutRoot, Emptied, PutTimestamp, PutSnapshot, PutRow, PutBlob, RowGone, BlobGone}
 use Rattle.contents.specs.Contents.{Contents, no_rows}
 pub use Rattle.sql_tables.specs.Cells.{IsDigest}
 use Rattle.sql_tables.specs.Described.{AreEmpty}
@@ -99,6 +100,10 @@ pub record IsFit (t : Contents) : Type 0 where
   pub blobs : AllByRecursion (λ r. IsDigest r.0) t.blobs
   pub one_blob : AreKeyed t.blobs
 
+-- each target file has the SHA-256 under which it stands
+abbrev pub HaveDigests : Contents → Type 0
+HaveDigests t = AllByRecursion (λ r. sha256 r.1 ≡ r.0) t.blobs
+
 -- by role, and then by version
 abbrev pub row_cmp : List ℕ × ℕ → List ℕ × ℕ → Ordering
 row_cmp = then_cmp (on (λ k. k.0) (slice_cmp nat_cmp)) (on (λ k. k.1) nat_cmp)
@@ -130,6 +135,21 @@ with_blob r t = record t { blobs = t.blobs ++ r ∷ [] }
 abbrev pub emptied : Contents → Contents
 emptied t = record t { timestamp = None; snapshot = None; shelf = [] }
 
+-- the row of a key goes, if it is there
+
+abbrev pub is_row_of : List ℕ → ℕ → (List ℕ × ℕ) × List ℕ → Bool
+is_row_of role version r = bytes_eq r.0.0 role && (r.0.1 == version)
+
+abbrev pub without_row : List ℕ → ℕ → Contents → Contents
+without_row role version t = record t { shelf = filter (λ r. not (is_row_of role version r)) t.shelf }
+
+-- digests are compared as the digits that stand in the table
+abbrev pub is_blob_of : List ℕ → List ℕ × List ℕ → Bool
+is_blob_of digest r = bytes_eq (encode_lower r.0) (encode_lower digest)
+
+abbrev pub without_blob : List ℕ → Contents → Contents
+without_blob digest t = record t { blobs = filter (λ r. not (is_blob_of digest r)) t.blobs }
+
 abbrev pub after : Change → Contents → Contents
 after (PutRoot version bytes) t = with_root (version, bytes.now) t
 after Emptied t = emptied t
@@ -137,6 +157,8 @@ after (PutTimestamp version bytes) t = with_timestamp (version, bytes.now) t
 after (PutSnapshot version bytes) t = with_snapshot (version, bytes.now) t
 after (PutRow role version bytes) t = with_row ((role.now, version), bytes.now) t
 after (PutBlob digest bytes) t = with_blob (digest.now, bytes.now) t
+after (RowGone role version) t = without_row role.now version t
+after (BlobGone digest) t = without_blob digest.now t
 
 abbrev pub after_all : List Change → Contents → Contents
 after_all [] t = t

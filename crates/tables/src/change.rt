@@ -15,4 +15,8 @@ pub enum Change<'a> {
     PutRow(&'a str, u32, &'a [u8]),
     /// A target file of this digest more.
     PutBlob(&'a [u8; 32], &'a [u8]),
+    /// The targets document of this role and version goes, if it is there.
+    RowGone(&'a str, u32),
+    /// The target file of this digest goes, if it is there.
+    BlobGone(&'a [u8; 32]),
 }

@@ -1,6 +1,7 @@
 //! The five tables of a release repository, over the crate `sqlite`.
 #![tactic(auto)]
 
+mod blobs;
 mod cells;
 mod change;
 mod completing;
@@ -15,8 +16,9 @@ mod reading;
 mod shape;
 mod writing;
 
+pub use blobs::load_blob;
 pub use change::Change;
-pub use contents::Contents;
+pub use contents::{Contents, MetadataRows};
 pub use faults::StoreFault;
 pub use laws::{one_contents, rows_are_sets};
 pub use making::renew;

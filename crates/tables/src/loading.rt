@@ -5,18 +5,18 @@ ghost use Rattle.std.specs.Cmp.Lexicographic.{slice_cmp};
 ghost use Rattle.sqlite.specs.Order.{Row};
 ghost use Rattle.sqlite.specs.State.{HasCleanDisk, IsUnchanged, Survives};
 ghost use Rattle.sqlite.specs.Held.{state};
-ghost use Rattle.contents.specs.Contents.{contents_view, slot_view};
+ghost use Rattle.contents.specs.Contents.{slot_view};
 ghost use Rattle.tables.specs.Schema.{the_schema};
 ghost use Rattle.tables.specs.Rows.{root_cells, current_cells, shelf_cells, blob_cells, version_cells};
 ghost use Rattle.tables.specs.Tables.{row_cmp};
-ghost use Rattle.tables.specs.steps.Loading.{AllComeOnce, Answers, AreAnswers, AreDamaged, AreItems, AreSorted, AreTaken, AreVersions, FitsBlob, FitsRoot, FitsShelf, HaveSlots, IsBlobRow, IsGathered, IsOne, IsRootRow, IsShelfRow, document_shows, file_shows, root_shows};
+ghost use Rattle.tables.specs.steps.Loading.{AllComeOnce, Answers, AreAnswers, AreDamaged, AreItems, AreSorted, AreTaken, AreVersions, FitsLength, FitsRoot, FitsShelf, HaveSlots, IsGathered, IsLengthRow, IsOne, IsRootRow, IsShelfRow, document_shows, length_shows, root_shows};
 ghost use Rattle.sql_tables.specs.Loading.{AreLoaded, ComeOnce, rises, with_rowid};
 ghost use Rattle.sqlite_rules.specs.Lists.{Has};
 
 use crate::current::{Current, Versions};
 use crate::faults::StoreFault;
 use crate::reading::{Documents, Files, Roots};
-use contents::Contents;
+use contents::MetadataRows;
 use sql_tables::{gather, take_rows};
 use sqlite::{Alter, Connection};
 use std::alloc::Global;
@@ -79,13 +79,13 @@ fn shelf_rows<S: Alter>(
     )?)
 }
 
-// The target files, by digest. No more than one of them stands twice in what is held here, or so many as have 256 KiB
+// Digest and length of the target files, by digest. No more than one of them is held at a time, or so many as have 256 KiB
 // together.
 fn blob_rows<S: Alter>(
     alloc: Global,
     conn: &mut Connection<S>,
-) -> Result<(Option<Vec<([u8; 32], Vec<u8>)>>, bool), StoreFault>
-    ensures rows { IfOk result (λ p. (rows : List Row) × (IsTrue p.1 → ComeOnce 2 rows) × IsGathered (slice_cmp nat_cmp) IsBlobRow FitsBlob file_shows rows p.0
+) -> Result<(Option<Vec<([u8; 32], usize)>>, bool), StoreFault>
+    ensures rows { IfOk result (λ p. (rows : List Row) × (IsTrue p.1 → ComeOnce 2 rows) × IsGathered (slice_cmp nat_cmp) IsLengthRow FitsLength length_shows rows p.0
         × (HasCleanDisk (state S.Store conn.new) → (state S.Store conn.old).now.schema ≡ the_schema → AreLoaded (with_rowid blob_cells) (rises ∷ []) ((state S.Store conn.old).now.trees 5) rows)) }
     ensures unchanged { HasCleanDisk (state S.Store conn.new) → (state S.Store conn.old).now.schema ≡ the_schema → OnOk result (IsUnchanged (state S.Store conn.old) (state S.Store conn.new)) }
     ensures fault { result ≢ Err StoreFault.Damaged }
@@ -120,7 +120,7 @@ pub(crate) struct Taken {
     pub roots: Option<Vec<(u32, Vec<u8>)>>,
     pub current: Current,
     pub shelf: Option<Vec<(String, u32, Vec<u8>)>>,
-    pub blobs: Option<Vec<([u8; 32], Vec<u8>)>>,
+    pub blobs: Option<Vec<([u8; 32], usize)>>,
     pub versions: Versions,
 }
 
@@ -166,9 +166,12 @@ pub(crate) fn ask<S: Alter>(alloc: Global, conn: &mut Connection<S>) -> Result<T
     })
 }
 
+/// The rows of the metadata, and digest and length of each target file.
+pub(crate) type Rows = (MetadataRows, Vec<([u8; 32], usize)>);
+
 // The items of the rows, and whether `schema` has its row.
-pub(crate) fn contents_of(taken: Taken) -> Result<(Contents, bool), StoreFault>
-    ensures read { (a : Answers) → AreTaken a taken → IfOk result (λ p. AreItems a (contents_view p.0)) }
+pub(crate) fn rows_of(taken: Taken) -> Result<(Rows, bool), StoreFault>
+    ensures read { (a : Answers) → AreTaken a taken → IfOk result (λ p. AreItems a p.0.0 p.0.1.items) }
     ensures ones { (a : Answers) → AreTaken a taken → OnOk result ((r : Row) → Has a.version r → IsOne r) }
     ensures some { (a : Answers) → AreTaken a taken → IfOk result (λ p. p.1 ≡ true → a.version ≢ []) }
     ensures none { (a : Answers) → AreTaken a taken → IfOk result (λ p. p.1 ≡ false → a.version ≡ []) }
@@ -197,12 +200,11 @@ pub(crate) fn contents_of(taken: Taken) -> Result<(Contents, bool), StoreFault>
     let Some(blobs) = blobs else {
         return Err(StoreFault::Damaged);
     };
-    let contents = Contents {
+    let metadata = MetadataRows {
         roots,
         timestamp: current.timestamp,
         snapshot: current.snapshot,
         shelf,
-        blobs,
     };
-    Ok((contents, versions.is_begun))
+    Ok(((metadata, blobs), versions.is_begun))
 }

@@ -1,33 +1,31 @@
 // Opening: the tables are made, or what they hold is read.
-ghost use Rattle.std.specs.Prelude.{◌≡◌, ◌≢◌, ◌<◌, ℕ, true, false, Err, IfOk, OnOk, OnErr, IsTrue};
+ghost use Rattle.std.specs.Prelude.{◌≡◌, ◌≢◌, ◌<◌, ℕ, [], true, false, Err, IfOk, OnOk, IsTrue};
 ghost use Rattle.sqlite.specs.State.{HasCleanDisk, IsLive, IsUnchanged, KeepsCommit, Survives};
 ghost use Rattle.sqlite.specs.Held.{state};
 ghost use Rattle.tables.specs.Schema.{the_schema, beginning, IsBeginning};
 ghost use Rattle.contents.specs.Contents as plain;
-ghost use Rattle.contents.specs.Contents.{contents_view, no_rows};
-ghost use Rattle.tables.specs.Tables.{HoldsTables, IsStore, IsFit, AreBare, AreRising, Stands, StandsFor};
+ghost use Rattle.contents.specs.Contents.{contents_with, no_rows};
+ghost use Rattle.tables.specs.Tables.{HoldsTables, HaveDigests, IsStore, IsFit, AreBare, Stands, StandsFor};
 ghost use Rattle.sql_tables.specs.Schema.{counted};
-ghost use Rattle.tables.specs.Opening.{IsSettled, StandsEmpty};
+ghost use Rattle.tables.specs.Opening.{IsReadAs, IsSettled, StandsEmpty};
 ghost use Rattle.tables.specs.steps.Loading.{IsUnbegun};
 
 use crate::completing::complete;
 use crate::faults::StoreFault;
-use crate::loading::{ask, contents_of};
+use crate::loading::{Rows, ask, rows_of};
 use crate::making::begin;
 use crate::shape::beginning_of;
-use contents::Contents;
+use contents::MetadataRows;
 use sqlite::{Alter, Connection};
 use std::alloc::Global;
 
 // What the five tables hold, and whether `schema` has its row.
-fn gather<S: Alter>(alloc: Global, conn: &mut Connection<S>) -> Result<(Contents, bool), StoreFault>
-    ensures begun { HasCleanDisk (state S.Store conn.new) → (state S.Store conn.old).now.schema ≡ the_schema
-        → IfOk result (λ p. p.1 ≡ true → HoldsTables (state S.Store conn.old).now.trees (contents_view p.0)) }
-    ensures unbegun { HasCleanDisk (state S.Store conn.new) → (state S.Store conn.old).now.schema ≡ the_schema
-        → IfOk result (λ p. p.1 ≡ false → IsUnbegun (state S.Store conn.old).now.trees (contents_view p.0)) }
-    ensures fit { IfOk result (λ p. IsFit (contents_view p.0) × AreRising (contents_view p.0)) }
+fn gather<S: Alter>(alloc: Global, conn: &mut Connection<S>) -> Result<(Rows, bool), StoreFault>
+    ensures read { IfOk result (λ p. (t : plain.Contents) × IsReadAs p.0.0 p.0.1.items t
+        × (HasCleanDisk (state S.Store conn.new) → (state S.Store conn.old).now.schema ≡ the_schema → IsLive (state S.Store conn.old)
+        → (p.1 ≡ true → HoldsTables (state S.Store conn.old).now.trees t) × (p.1 ≡ false → IsUnbegun (state S.Store conn.old).now.trees t))) }
     ensures damaged { HasCleanDisk (state S.Store conn.new) → (state S.Store conn.old).now.schema ≡ the_schema → result ≡ Err StoreFault.Damaged
-        → (t : plain.Contents) → IsFit t → StandsFor (state S.Store conn.old).now.trees t → ⊥ }
+        → (t : plain.Contents) → IsFit t → HaveDigests t → StandsFor (state S.Store conn.old).now.trees t → ⊥ }
     ensures kept { HasCleanDisk (state S.Store conn.new) → (state S.Store conn.old).now.schema ≡ the_schema → result ≡ Err StoreFault.Damaged → KeepsCommit (state S.Store conn.old) (state S.Store conn.new) }
     ensures was_open { HasCleanDisk (state S.Store conn.new) → (state S.Store conn.old).now.schema ≡ the_schema → result ≡ Err StoreFault.Damaged → IsTrue (state S.Store conn.old).is_open }
     ensures unchanged { HasCleanDisk (state S.Store conn.new) → (state S.Store conn.old).now.schema ≡ the_schema → OnOk result (IsUnchanged (state S.Store conn.old) (state S.Store conn.new)) }
@@ -35,50 +33,56 @@ fn gather<S: Alter>(alloc: Global, conn: &mut Connection<S>) -> Result<(Contents
     ensures survives { Survives (state S.Store conn.old) (state S.Store conn.new) (λ _. ⊥) }
 {
     let taken = ask(alloc, conn)?;
-    Ok(contents_of(taken)?)
+    Ok(rows_of(taken)?)
+}
+
+// Whether nothing was read.
+fn are_none(rows: &Rows) -> bool
+    ensures yes { IsTrue result → (t : plain.Contents) → IsReadAs rows.now.0 rows.now.1.items t → t ≡ no_rows }
+    ensures no { result ≡ false → (t : plain.Contents) → IsReadAs rows.now.0 rows.now.1.items t → t ≢ no_rows }
+{
+    rows.0.is_empty() && rows.1.is_empty()
 }
 
 // Puts the row of `schema` where nothing was read.
-fn begin_bare<S: Alter>(
-    conn: &mut Connection<S>,
-    contents: Contents,
-) -> Result<Contents, StoreFault>
+fn begin_bare<S: Alter>(conn: &mut Connection<S>, is_bare: bool) -> Result<(), StoreFault>
     requires { conn.old.in_transaction ≡ false }
     ensures autocommit { conn.new.in_transaction ≡ false }
-    ensures same { IfOk result (λ t. (contents_view t ≡ contents_view contents) × (contents_view t ≡ no_rows)) }
+    ensures bare { OnOk result (is_bare ≡ true) }
     ensures begun { HasCleanDisk (state S.Store conn.new) → (state S.Store conn.old).now.schema ≡ the_schema → AreBare (state S.Store conn.old).now.trees → OnOk result (IsStore (state S.Store conn.new) no_rows) }
-    ensures damaged { result ≡ Err StoreFault.Damaged → contents_view contents ≢ no_rows }
-    ensures told { contents_view contents ≢ no_rows → (result ≡ Err StoreFault.Damaged) × (conn.new ≡ conn.old) }
+    ensures damaged { result ≡ Err StoreFault.Damaged → is_bare ≡ false }
+    ensures told { is_bare ≡ false → (result ≡ Err StoreFault.Damaged) × (conn.new ≡ conn.old) }
     ensures crash { Survives (state S.Store conn.old) (state S.Store conn.new) (λ trees. IsTrue (state S.Store conn.old).is_open → (state S.Store conn.old).now.schema ≡ the_schema
-        → (contents_view contents ≡ no_rows) × (AreBare (state S.Store conn.old).now.trees → HoldsTables trees no_rows)) }
+        → (is_bare ≡ true) × (AreBare (state S.Store conn.old).now.trees → HoldsTables trees no_rows)) }
 {
-    if !contents.is_empty() {
+    if !is_bare {
         return Err(StoreFault::Damaged);
     }
     begin(conn)?;
-    Ok(contents)
+    Ok(())
 }
 
 // What the five tables hold. Where all are empty, the row of `schema` is put.
-fn load<S: Alter>(alloc: Global, conn: &mut Connection<S>) -> Result<Contents, StoreFault>
+fn load<S: Alter>(alloc: Global, conn: &mut Connection<S>) -> Result<Rows, StoreFault>
     requires { conn.old.in_transaction ≡ false }
     ensures autocommit { conn.new.in_transaction ≡ false }
-    ensures loaded { HasCleanDisk (state S.Store conn.new) → IsSettled (state S.Store conn.old) → (state S.Store conn.old).now.schema ≡ the_schema
-        → IfOk result (λ t. StandsFor (state S.Store conn.old).now.trees (contents_view t) × IsStore (state S.Store conn.new) (contents_view t)) }
-    ensures fit { IfOk result (λ t. IsFit (contents_view t) × AreRising (contents_view t)) }
+    ensures loaded { IfOk result (λ r. (t : plain.Contents) × IsReadAs r.0 r.1.items t
+        × (HasCleanDisk (state S.Store conn.new) → IsSettled (state S.Store conn.old) → (state S.Store conn.old).now.schema ≡ the_schema → IsLive (state S.Store conn.old)
+        → StandsFor (state S.Store conn.old).now.trees t × IsStore (state S.Store conn.new) t)) }
     ensures was_open { HasCleanDisk (state S.Store conn.new) → (state S.Store conn.old).now.schema ≡ the_schema → OnOk result (IsTrue (state S.Store conn.old).is_open) }
     ensures found_open { HasCleanDisk (state S.Store conn.new) → (state S.Store conn.old).now.schema ≡ the_schema → result ≡ Err StoreFault.Damaged → IsTrue (state S.Store conn.old).is_open }
-    ensures damaged { HasCleanDisk (state S.Store conn.new) → (state S.Store conn.old).now.schema ≡ the_schema → result ≡ Err StoreFault.Damaged
-        → (t : plain.Contents) → IsFit t → StandsFor (state S.Store conn.old).now.trees t → ⊥ }
+    ensures damaged { HasCleanDisk (state S.Store conn.new) → (state S.Store conn.old).now.schema ≡ the_schema → IsLive (state S.Store conn.old) → result ≡ Err StoreFault.Damaged
+        → (t : plain.Contents) → IsFit t → HaveDigests t → StandsFor (state S.Store conn.old).now.trees t → ⊥ }
     ensures kept { HasCleanDisk (state S.Store conn.new) → (state S.Store conn.old).now.schema ≡ the_schema → result ≡ Err StoreFault.Damaged → KeepsCommit (state S.Store conn.old) (state S.Store conn.new) }
-    ensures crash { Survives (state S.Store conn.old) (state S.Store conn.new) (λ trees. IsTrue (state S.Store conn.old).is_open → (state S.Store conn.old).now.schema ≡ the_schema
+    ensures crash { IsLive (state S.Store conn.old) → Survives (state S.Store conn.old) (state S.Store conn.new) (λ trees. IsTrue (state S.Store conn.old).is_open → (state S.Store conn.old).now.schema ≡ the_schema
         → AreBare (state S.Store conn.old).now.trees × HoldsTables trees no_rows) }
 {
-    let (contents, is_begun) = gather(alloc, conn)?;
+    let (rows, is_begun) = gather(alloc, conn)?;
     if is_begun {
-        return Ok(contents);
+        return Ok(rows);
     }
-    begin_bare(conn, contents)
+    begin_bare(conn, are_none(&rows))?;
+    Ok(rows)
 }
 
 // The first of the five tables, or none, hold no row: the others are made, and the row of `schema` is put.
@@ -86,13 +90,13 @@ fn complete_bare<S: Alter>(
     alloc: Global,
     conn: &mut Connection<S>,
     count: usize,
-) -> Result<Contents, StoreFault>
+) -> Result<Rows, StoreFault>
     requires autocommit { conn.old.in_transaction ≡ false }
     requires few { count < 5 }
     ensures autocommit { conn.new.in_transaction ≡ false }
     ensures made { HasCleanDisk (state S.Store conn.new) → (state S.Store conn.old).now.schema ≡ beginning count
-        → IfOk result (λ t. (contents_view t ≡ no_rows) × AreBare (counted (beginning count) (state S.Store conn.old).now.trees) × IsStore (state S.Store conn.new) no_rows) }
-    ensures empty { IfOk result (λ t. contents_view t ≡ no_rows) }
+        → OnOk result (AreBare (counted (beginning count) (state S.Store conn.old).now.trees) × IsStore (state S.Store conn.new) no_rows) }
+    ensures empty { IfOk result (λ r. IsReadAs r.0 r.1.items no_rows) }
     ensures was_open { HasCleanDisk (state S.Store conn.new) → OnOk result (IsTrue (state S.Store conn.old).is_open) }
     ensures found_open { HasCleanDisk (state S.Store conn.new) → result ≡ Err StoreFault.Damaged → IsTrue (state S.Store conn.old).is_open }
     ensures damaged { HasCleanDisk (state S.Store conn.new) → (state S.Store conn.old).now.schema ≡ beginning count → result ≡ Err StoreFault.Damaged
@@ -102,39 +106,44 @@ fn complete_bare<S: Alter>(
         → AreBare (counted (beginning count) (state S.Store conn.old).now.trees) × HoldsTables trees no_rows) }
 {
     if complete(conn, count)? {
-        Ok(Contents::empty(alloc))
+        Ok((MetadataRows::empty(alloc), Vec::new(alloc)))
     } else {
         Err(StoreFault::Damaged)
     }
 }
 
-/// Reads what the five tables hold. The first of them in the order in which they are made may stand alone, and there may be
-/// none: a table that is absent counts as empty. Where all are empty, those that are absent are made and version 1 is put into
-/// `schema`, in one transaction. Call `renew` before: it gives what `loaded` asks for. Each table is read once.
+/// Reads what the five tables hold: the rows of the metadata, and digest and length of each target file, by digest. The bytes
+/// of a target file are read once, and let go once their SHA-256 was compared with their digest.
 ///
-/// - `Damaged`: the tables hold no rows that fit their columns, or `schema` has another row than 1 or none beside rows, also
-///   where it is absent. A value of another type than its column's, a version outside 32 bits, a role that is not UTF-8, a
-///   digest that is not 64 hex digits of lower case, and a third slot in `current` do not fit. Nothing is made.
+/// The first of the tables in the order in which they are made may stand alone, and there may be none: a table that is absent
+/// counts as empty. Where all are empty, those that are absent are made and version 1 is put into `schema`, in one transaction.
+/// Call `renew` before: it gives what `loaded` asks for.
+///
+/// - `Damaged`: the tables hold no rows that fit their columns and whose target files have their digests, or `schema` has another
+///   row than 1 or none beside rows, also where it is absent. A value of another type than its column's, a version outside 32
+///   bits, a role that is not UTF-8, a digest that is not 64 hex digits of lower case or not that of its bytes, and a third slot in
+///   `current` do not fit. Nothing is made.
 /// - `Database`: a call of the database answered a fault, or the database has other tables than the first of these five in
 ///   their order (no other is tried), or the rowids that it answered are not integers that come once, which by its own laws
 ///   they are.
 /// - `OutOfMemory`: memory was refused.
-pub fn prepare<S: Alter>(alloc: Global, conn: &mut Connection<S>) -> Result<Contents, StoreFault>
+pub fn prepare<S: Alter>(
+    alloc: Global,
+    conn: &mut Connection<S>,
+) -> Result<(MetadataRows, Vec<([u8; 32], usize)>), StoreFault>
     requires { conn.old.in_transaction ≡ false }
     ensures autocommit { conn.new.in_transaction ≡ false }
     ensures schema { IfOk result (λ _. IsBeginning conn.old.schema) }
     ensures ours { result ≡ Err StoreFault.Damaged → IsBeginning conn.old.schema }
     ensures foreign { (IsBeginning conn.old.schema → ⊥) → (result ≡ Err StoreFault.Database) × (conn.new ≡ conn.old) }
-    ensures made { HasCleanDisk (state S.Store conn.new) → (count : ℕ) → count < 5 → conn.old.schema ≡ beginning count → IfOk result (λ t. (contents_view t ≡ no_rows) × StandsEmpty (state S.Store conn.old) × IsStore (state S.Store conn.new) no_rows) }
-    ensures loaded { HasCleanDisk (state S.Store conn.new) → IsSettled (state S.Store conn.old)
-        → IfOk result (λ t. Stands (state S.Store conn.old).now (contents_view t) × IsStore (state S.Store conn.new) (contents_view t)) }
+    ensures made { HasCleanDisk (state S.Store conn.new) → (count : ℕ) → count < 5 → conn.old.schema ≡ beginning count → IfOk result (λ r. IsReadAs r.0 r.1.items no_rows × StandsEmpty (state S.Store conn.old) × IsStore (state S.Store conn.new) no_rows) }
+    ensures loaded { IfOk result (λ r. (t : plain.Contents) × IsReadAs r.0 r.1.items t
+        × (HasCleanDisk (state S.Store conn.new) → IsSettled (state S.Store conn.old) → Stands (state S.Store conn.old).now t × IsStore (state S.Store conn.new) t)) }
     ensures was_open { HasCleanDisk (state S.Store conn.new) → OnOk result (IsTrue (state S.Store conn.old).is_open) }
     ensures found_open { HasCleanDisk (state S.Store conn.new) → result ≡ Err StoreFault.Damaged → IsTrue (state S.Store conn.old).is_open }
     ensures live { IsLive (state S.Store conn.old) }
-    ensures fit { IfOk result (λ t. IsFit (contents_view t)) }
-    ensures rising { IfOk result (λ t. AreRising (contents_view t)) }
     ensures damaged { HasCleanDisk (state S.Store conn.new) → result ≡ Err StoreFault.Damaged
-        → IsBeginning conn.old.schema × ((t : plain.Contents) → IsFit t → Stands (state S.Store conn.old).now t → ⊥) }
+        → IsBeginning conn.old.schema × ((t : plain.Contents) → IsFit t → HaveDigests t → Stands (state S.Store conn.old).now t → ⊥) }
     ensures kept { HasCleanDisk (state S.Store conn.new) → result ≡ Err StoreFault.Damaged → KeepsCommit (state S.Store conn.old) (state S.Store conn.new) }
     ensures crash { Survives (state S.Store conn.old) (state S.Store conn.new) (λ trees. IsTrue (state S.Store conn.old).is_open → StandsEmpty (state S.Store conn.old) × HoldsTables trees no_rows) }
 {

@@ -7,9 +7,9 @@ ghost use Rattle.std.proofs.lemmas.Cmp.{nat_cmp_total, nat_list_cmp_total, on_to
 ghost use Rattle.std.proofs.lemmas.Map.Lookups.{exact_bytes, exact_pairs, exact_unsigned};
 ghost use Rattle.hex.specs.Hex.{encode_lower};
 ghost use Rattle.tables.specs.Tables.{IsDigest, row_cmp};
-ghost use Rattle.tables.specs.steps.Loading.{FitsBlob, FitsRoot, FitsShelf, IsBlobRow, IsRootRow, IsShelfRow};
+ghost use Rattle.tables.specs.steps.Loading.{FitsLength, FitsRoot, FitsShelf, IsLengthRow, IsRootRow, IsShelfRow, length_shows};
 
-use crate::cells::text_order;
+use crate::cells::{has_digest, text_order};
 use sql_tables::{Item, blob_at, digest_of, is_same, number_at, text_at};
 use sqlite::Row;
 use std::alloc::{AllocError, Global};
@@ -119,29 +119,29 @@ fn row_order(role: &[u8], version: u32, other_role: &[u8], other: u32) -> Orderi
     text_order(role, other_role).then(version.cmp(&other))
 }
 
-// Target files, by their digest.
+// Target files, by their digest: the length is kept, and the bytes are let go.
 pub(crate) struct Files;
 
 impl Item for Files {
-    type Of = ([u8; 32], Vec<u8>);
+    type Of = ([u8; 32], usize);
 
     ghost Key = { List ℕ };
 
-    ghost Kept = { List ℕ };
+    ghost Kept = { ℕ };
 
-    ghost shows = { λ r. (r.0, r.1.items) };
+    ghost shows = { length_shows };
 
     ghost key_cmp = { slice_cmp nat_cmp };
 
-    ghost Reads = { IsBlobRow };
+    ghost Reads = { IsLengthRow };
 
-    ghost Fits = { FitsBlob };
+    ghost Fits = { FitsLength };
 
     ghost ROWID = { 2 };
 
     const ROWID: usize = 2;
 
-    fn read(alloc: Global, row: &Row) -> Result<Option<([u8; 32], Vec<u8>)>, AllocError> {
+    fn read(_alloc: Global, row: &Row) -> Result<Option<([u8; 32], usize)>, AllocError> {
         let Some(digits) = text_at(row, 0) else {
             return Ok(None);
         };
@@ -151,15 +151,18 @@ impl Item for Files {
         let Some(digest) = digest_of(digits) else {
             return Ok(None);
         };
-        Ok(Some((digest, Vec::from_slice(alloc, bytes)?)))
+        if !has_digest(bytes, &digest) {
+            return Ok(None);
+        }
+        Ok(Some((digest, bytes.len())))
     }
 
-    fn order(one: &([u8; 32], Vec<u8>), other: &([u8; 32], Vec<u8>)) -> Ordering {
+    fn order(one: &([u8; 32], usize), other: &([u8; 32], usize)) -> Ordering {
         text_order(&one.0, &other.0)
     }
 
-    fn is_equal(one: &([u8; 32], Vec<u8>), other: &([u8; 32], Vec<u8>)) -> bool {
-        is_same(one.1.as_slice(), other.1.as_slice())
+    fn is_equal(one: &([u8; 32], usize), other: &([u8; 32], usize)) -> bool {
+        one.1 == other.1
     }
 
     ghost total = { nat_list_cmp_total };

@@ -4,7 +4,7 @@ ghost use Rattle.sqlite.specs.State.{HasCleanDisk, KeepsCommit, Survives};
 ghost use Rattle.sqlite.specs.Held.{state};
 ghost use Rattle.sqlite.specs.declared.types.Value.TheVariants.{Text, Blob};
 ghost use Rattle.contents.specs.Contents.{Contents};
-ghost use Rattle.tables.specs.Tables.{IsStore, HoldsTables, after, after_all, slot_row, with_root, with_row, with_blob, with_timestamp, with_snapshot, emptied};
+ghost use Rattle.tables.specs.Tables.{IsStore, HoldsTables, after, after_all, slot_row, with_root, with_row, with_blob, with_timestamp, with_snapshot, without_blob, without_row, emptied};
 ghost use Rattle.tables.specs.steps.Writing.{Cells, IsInside, cells_of};
 ghost use Rattle.sql_tables.specs.Writing.{without_text};
 
@@ -170,6 +170,47 @@ fn empty<S: Alter>(tx: &mut Transaction<'_, S>) -> Result<(), Error>
     empty_shelf(tx)
 }
 
+// The targets document of this role and version goes, where it is there.
+fn drop_row<S: Alter>(tx: &mut Transaction<'_, S>, role: &str, version: u32) -> Result<(), Error>
+    ensures same_reference { tx.new.conn.ghost_name ≡ tx.old.conn.ghost_name }
+    ensures wrote { HasCleanDisk (state S.Store tx.new.conn.now) → (t : Contents) → IsInside (state S.Store tx.old.conn.now) (cells_of t) → OnOk result (IsInside (state S.Store tx.new.conn.now) (cells_of (without_row role.now version t))) }
+    ensures kept { HasCleanDisk (state S.Store tx.new.conn.now) → KeepsCommit (state S.Store tx.old.conn.now) (state S.Store tx.new.conn.now) }
+    ensures survives { Survives (state S.Store tx.old.conn.now) (state S.Store tx.new.conn.now) (λ _. ⊥) }
+{
+    tx.execute(
+        "DELETE FROM shelf WHERE role = ?1 AND version = ?2",
+        params![role, version],
+    )?;
+    Ok(())
+}
+
+// The target file under these digits goes, where it is there.
+fn drop_digits<S: Alter>(tx: &mut Transaction<'_, S>, digits: &[u8]) -> Result<(), Error>
+    ensures same_reference { tx.new.conn.ghost_name ≡ tx.old.conn.ghost_name }
+    ensures wrote { HasCleanDisk (state S.Store tx.new.conn.now) → (c : Cells) → IsInside (state S.Store tx.old.conn.now) c → OnOk result (IsInside (state S.Store tx.new.conn.now) (record c { blob = without_text digits.now c.blob })) }
+    ensures kept { HasCleanDisk (state S.Store tx.new.conn.now) → KeepsCommit (state S.Store tx.old.conn.now) (state S.Store tx.new.conn.now) }
+    ensures survives { Survives (state S.Store tx.old.conn.now) (state S.Store tx.new.conn.now) (λ _. ⊥) }
+{
+    tx.execute(
+        "DELETE FROM blob WHERE digest = ?1",
+        &[ValueRef::Text(digits)],
+    )?;
+    Ok(())
+}
+
+// The target file of this digest goes, where it is there.
+fn drop_blob<S: Alter>(tx: &mut Transaction<'_, S>, digest: &[u8; 32]) -> Result<(), Error>
+    ensures same_reference { tx.new.conn.ghost_name ≡ tx.old.conn.ghost_name }
+    ensures wrote { HasCleanDisk (state S.Store tx.new.conn.now) → (t : Contents) → IsInside (state S.Store tx.old.conn.now) (cells_of t) → OnOk result (IsInside (state S.Store tx.new.conn.now) (cells_of (without_blob digest.now t))) }
+    ensures kept { HasCleanDisk (state S.Store tx.new.conn.now) → KeepsCommit (state S.Store tx.old.conn.now) (state S.Store tx.new.conn.now) }
+    ensures survives { Survives (state S.Store tx.old.conn.now) (state S.Store tx.new.conn.now) (λ _. ⊥) }
+{
+    let mut digits = [0; 64];
+    let _ = hex::encode_to_slice(digest, &mut digits);
+    drop_digits(tx, &digits)?;
+    Ok(())
+}
+
 // One change.
 fn write<S: Alter>(tx: &mut Transaction<'_, S>, change: &Change<'_>) -> Result<(), Error>
     ensures same_reference { tx.new.conn.ghost_name ≡ tx.old.conn.ghost_name }
@@ -184,6 +225,8 @@ fn write<S: Alter>(tx: &mut Transaction<'_, S>, change: &Change<'_>) -> Result<(
         Change::PutSnapshot(version, bytes) => put_snapshot(tx, *version, bytes),
         Change::PutRow(role, version, bytes) => put_row(tx, role, *version, bytes),
         Change::PutBlob(digest, bytes) => put_blob(tx, digest, bytes),
+        Change::RowGone(role, version) => drop_row(tx, role, *version),
+        Change::BlobGone(digest) => drop_blob(tx, digest),
     }
 }
 

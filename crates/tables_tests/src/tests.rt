@@ -2,13 +2,39 @@ use sqlite::{Alter, Connection, MemStore};
 use sqlite_value::value::ValueRef;
 use std::alloc::Global;
 use std::test::Fail;
-use tables::{Change, Contents, StoreFault, check_open, prepare, renew, write_all};
+use tables::{Change, MetadataRows, StoreFault, check_open, load_blob, prepare, renew, write_all};
 
-fn read<S: Alter>(alloc: Global, conn: &mut Connection<S>) -> Result<Contents, StoreFault> {
+// What an opening reads.
+#[derive(Drop)]
+struct Found {
+    metadata: MetadataRows,
+    blobs: Vec<([u8; 32], usize)>,
+}
+
+impl Found {
+    fn is_empty(&self) -> bool {
+        self.metadata.is_empty() && self.blobs.is_empty()
+    }
+}
+
+// The SHA-256 of `low`.
+const LOW: [u8; 32] = [
+    0x6c, 0x1f, 0xf0, 0x9d, 0xb3, 0xa7, 0x3d, 0xc4, 0xa8, 0x54, 0xf6, 0x95, 0xd2, 0x0d, 0x17, 0x4a,
+    0x84, 0x8d, 0x55, 0xf2, 0xd7, 0x43, 0xba, 0xb2, 0xee, 0x1f, 0x8f, 0xc7, 0x5b, 0xe4, 0x54, 0xf3,
+];
+
+// The SHA-256 of `high`.
+const HIGH: [u8; 32] = [
+    0x6e, 0xf7, 0xc9, 0xb1, 0x5e, 0xcd, 0xd6, 0x90, 0x83, 0x72, 0x4b, 0x84, 0xcf, 0xdc, 0x21, 0x00,
+    0x35, 0x19, 0x63, 0x48, 0x8b, 0x51, 0xb4, 0xea, 0x2f, 0xcb, 0xdd, 0xf4, 0x93, 0xfb, 0xec, 0x94,
+];
+
+fn read<S: Alter>(alloc: Global, conn: &mut Connection<S>) -> Result<Found, StoreFault> {
     if !conn.is_autocommit() {
         return Err(StoreFault::Database);
     }
-    prepare(alloc, conn)
+    let (metadata, blobs) = prepare(alloc, conn)?;
+    Ok(Found { metadata, blobs })
 }
 
 fn put<S: Alter>(conn: &mut Connection<S>, changes: &[Change<'_>]) -> Result<(), StoreFault> {
@@ -30,8 +56,8 @@ fn put_some<S: Alter>(conn: &mut Connection<S>) -> Result<(), StoreFault> {
             Change::PutRow("targets", 3, b"targets 3"),
             Change::PutRow("a", 4_294_967_295, b"a"),
             Change::PutRow("targets", 2, b""),
-            Change::PutBlob(&[255; 32], b"high"),
-            Change::PutBlob(&[16; 32], b"low"),
+            Change::PutBlob(&HIGH, b"high"),
+            Change::PutBlob(&LOW, b"low"),
             Change::PutTimestamp(8, b"timestamp 8"),
         ],
     )
@@ -44,8 +70,8 @@ fn is_at(slot: &Option<(u32, Vec<u8>)>, version: u32, bytes: &[u8]) -> bool {
     }
 }
 
-fn are_roots(contents: &Contents) -> bool {
-    match contents.roots.as_slice() {
+fn are_roots(metadata: &MetadataRows) -> bool {
+    match metadata.roots.as_slice() {
         [one, two] => {
             one.0 == 1
                 && one.1.as_slice() == b"root 1".as_slice()
@@ -56,8 +82,8 @@ fn are_roots(contents: &Contents) -> bool {
     }
 }
 
-fn are_rows(contents: &Contents) -> bool {
-    match contents.shelf.as_slice() {
+fn are_rows(metadata: &MetadataRows) -> bool {
+    match metadata.shelf.as_slice() {
         [a, two, three] => {
             a.0.as_str() == "a"
                 && a.1 == 4_294_967_295
@@ -72,24 +98,19 @@ fn are_rows(contents: &Contents) -> bool {
     }
 }
 
-fn are_blobs(contents: &Contents) -> bool {
-    match contents.blobs.as_slice() {
-        [low, high] => {
-            low.0 == [16; 32]
-                && low.1.as_slice() == b"low".as_slice()
-                && high.0 == [255; 32]
-                && high.1.as_slice() == b"high".as_slice()
-        }
+fn are_blobs(found: &Found) -> bool {
+    match found.blobs.as_slice() {
+        [low, high] => low.0 == LOW && low.1 == 3 && high.0 == HIGH && high.1 == 4,
         _ => false,
     }
 }
 
-fn is_some(contents: &Contents) -> bool {
-    are_roots(contents)
-        && is_at(&contents.timestamp, 8, b"timestamp 8")
-        && is_at(&contents.snapshot, 5, b"snapshot 5")
-        && are_rows(contents)
-        && are_blobs(contents)
+fn is_some(found: &Found) -> bool {
+    are_roots(&found.metadata)
+        && is_at(&found.metadata.timestamp, 8, b"timestamp 8")
+        && is_at(&found.metadata.snapshot, 5, b"snapshot 5")
+        && are_rows(&found.metadata)
+        && are_blobs(found)
 }
 
 // A database in memory with the five tables and the rows.
@@ -112,11 +133,15 @@ fn reads_what_was_put(rt: HostRuntime) -> Result<(), Fail> {
     assert!(rt; is_some(&read(alloc, &mut conn)?));
     check_open(&mut conn)?;
     put(&mut conn, &[Change::Emptied])?;
-    let contents = read(alloc, &mut conn)?;
-    assert!(rt; are_roots(&contents) && are_blobs(&contents));
-    assert!(rt;
-        contents.shelf.is_empty() && contents.timestamp.is_none() && contents.snapshot.is_none()
-    );
+    let found = read(alloc, &mut conn)?;
+    assert!(rt; are_roots(&found.metadata) && are_blobs(&found));
+    let MetadataRows {
+        timestamp,
+        snapshot,
+        shelf,
+        ..
+    } = &found.metadata;
+    assert!(rt; shelf.is_empty() && timestamp.is_none() && snapshot.is_none());
     Ok(())
 }
 
@@ -137,15 +162,49 @@ fn a_refused_change_takes_the_others_back(rt: HostRuntime) -> Result<(), Fail> {
     Ok(())
 }
 
+#[test]
+fn a_file_is_loaded_by_its_digest(rt: HostRuntime) -> Result<(), Fail> {
+    let alloc = rt.alloc();
+    let mut conn = made(alloc)?;
+    let mut bytes = Vec::from_slice(alloc, b"before ")?;
+    assert!(rt; load_blob(&mut conn, &LOW, &mut bytes)?);
+    assert!(rt; bytes.as_slice() == b"before low".as_slice());
+    assert!(rt; !load_blob(&mut conn, &[0; 32], &mut bytes)?);
+    conn.execute_batch("UPDATE blob SET bytes = x'00'")?;
+    assert!(rt; !load_blob(&mut conn, &HIGH, &mut bytes)?);
+    assert!(rt; bytes.as_slice() == b"before low".as_slice());
+    Ok(())
+}
+
+#[test]
+fn rows_go_by_their_keys(rt: HostRuntime) -> Result<(), Fail> {
+    let alloc = rt.alloc();
+    let mut conn = made(alloc)?;
+    put(
+        &mut conn,
+        &[
+            Change::RowGone("targets", 2),
+            Change::RowGone("b", 3),
+            Change::BlobGone(&HIGH),
+            Change::BlobGone(&[0; 32]),
+        ],
+    )?;
+    let found = read(alloc, &mut conn)?;
+    let shelf = found.metadata.shelf.as_slice();
+    assert!(rt; matches!(shelf, [a, three] if a.1 == 4_294_967_295 && three.1 == 3));
+    assert!(rt; matches!(found.blobs.as_slice(), [low] if low.0 == LOW));
+    Ok(())
+}
+
 // What a statement makes of the rows for the next opening.
-fn after(alloc: Global, text: &str) -> Result<Result<Contents, StoreFault>, Fail> {
+fn after(alloc: Global, text: &str) -> Result<Result<Found, StoreFault>, Fail> {
     let mut conn = made(alloc)?;
     conn.execute_batch(text)?;
     let mut conn = renew(alloc, conn)?;
     Ok(read(alloc, &mut conn))
 }
 
-const DAMAGED: [&str; 19] = [
+const DAMAGED: [&str; 21] = [
     "INSERT INTO root (version, bytes) VALUES (-1, x'00')",
     "INSERT INTO root (version, bytes) VALUES (4294967296, x'00')",
     "INSERT INTO root (version, bytes) VALUES (3, 'text')",
@@ -162,6 +221,8 @@ const DAMAGED: [&str; 19] = [
     "INSERT INTO blob (digest, bytes) VALUES ('00', x'00')",
     "INSERT INTO blob (digest, bytes) VALUES ('ABCDEF0123456789ABCDEF0123456789ABCDEF0123456789ABCDEF0123456789', x'00')",
     "UPDATE blob SET bytes = 'text'",
+    "UPDATE blob SET bytes = x'6c6f77'",
+    "INSERT INTO blob (digest, bytes) VALUES ('0000000000000000000000000000000000000000000000000000000000000000', x'00')",
     "INSERT INTO schema (version) VALUES (2)",
     "DELETE FROM schema",
     "DROP TABLE schema",
@@ -179,7 +240,7 @@ fn each_damage_is_told(rt: HostRuntime) -> Result<(), Fail> {
 }
 
 // What a targets document with a role of these bytes makes of the rows for the next opening.
-fn with_role(alloc: Global, role: &[u8]) -> Result<Result<Contents, StoreFault>, Fail> {
+fn with_role(alloc: Global, role: &[u8]) -> Result<Result<Found, StoreFault>, Fail> {
     let mut conn = made(alloc)?;
     conn.execute(
         "INSERT INTO shelf (role, version, bytes) VALUES (?1, 1, x'00')",
@@ -221,7 +282,7 @@ fn tables_without_rows_are_begun(rt: HostRuntime) -> Result<(), Fail> {
         "DELETE FROM root; DELETE FROM current; DELETE FROM shelf; DELETE FROM blob; DELETE FROM schema",
     )?;
     match found {
-        Ok(contents) => assert!(rt; contents.is_empty()),
+        Ok(found) => assert!(rt; found.is_empty()),
         Err(_) => assert!(rt; false),
     }
     Ok(())
@@ -294,7 +355,7 @@ fn the_first_four_tables_are_completed(rt: HostRuntime) -> Result<(), Fail> {
 }
 
 // What the opening of the database that the texts made answers, and how many tables there are afterwards.
-fn opened(alloc: Global, texts: &[&str]) -> Result<(Result<Contents, StoreFault>, usize), Fail> {
+fn opened(alloc: Global, texts: &[&str]) -> Result<(Result<Found, StoreFault>, usize), Fail> {
     let mut conn = holding(alloc, texts)?;
     let found = read(alloc, &mut conn);
     Ok((found, conn.schema().tables.len()))
@@ -348,7 +409,7 @@ fn goes_on_after_a_refused_allocation(rt: HostRuntime) -> Result<(), Fail> {
         return Ok(());
     };
     match read(alloc, &mut conn) {
-        Ok(contents) => assert!(rt; contents.is_empty()),
+        Ok(found) => assert!(rt; found.is_empty()),
         Err(fault) => {
             assert_eq!(rt; fault, StoreFault::OutOfMemory);
             assert!(rt; read(alloc, &mut conn)?.is_empty());
@@ -363,7 +424,7 @@ fn goes_on_after_a_refused_allocation(rt: HostRuntime) -> Result<(), Fail> {
         }
     }
     match read(alloc, &mut conn) {
-        Ok(contents) => assert!(rt; is_some(&contents)),
+        Ok(found) => assert!(rt; is_some(&found)),
         Err(fault) => {
             assert_eq!(rt; fault, StoreFault::OutOfMemory);
             assert!(rt; is_some(&read(alloc, &mut conn)?));

@@ -4,10 +4,11 @@ use Rattle.sqlite.specs.State as database
 use Rattle.sqlite.specs.State.{HasCleanDisk}
 use Rattle.sqlite_trees.specs.Tree.{Trees}
 use Rattle.machine.specs.State.{State}
-use Rattle.machine.specs.Runs.{Command, Steps}
+use Rattle.machine.specs.Runs.{Command}
 use Rattle.tables.specs.Tables.{HoldsTables}
-use Rattle.store.specs.Applies.{HoldsStep}
-use Rattle.store.specs.StateRows.{rows_of}
+use Rattle.store.specs.Applies.{HoldsStep, Replies}
+use Rattle.store.specs.Standing.{StandsAt, seen}
+use Rattle.store.specs.StateRows.{Kept, rows_of}
 use Rattle.store.specs.Views.{reply_view}
 use Rattle.tables.specs.declared.faults.StoreFault.{StoreFault}
 use Rattle.tables.specs.declared.faults.StoreFault.TheVariants.{Damaged}
@@ -16,9 +17,13 @@ use Rattle.store.specs.declared.command.Reply.{Reply as Answer}
 -- The command is the machine's step, or a fault that leaves the state as it was. A crash leaves the rows from before the
 -- command or those from after it.
 pub record Does (S T : State) (old new : database.State) (command : Command) (now : ℕ) (r : Result Answer StoreFault) : Type 0 where
-  pub step : IfOk r (λ reply. Steps S command now (T, reply_view reply))
+  pub step : IfOk r (λ reply. Replies (HasCleanDisk new) S command now T (reply_view reply))
   pub kept : OnErr r (T ≡ S)
   pub sound : r ≡ Err Damaged → ⊥
   pub clean : HasCleanDisk new → HasCleanDisk old
   pub live : HasCleanDisk new → IsTrue old.is_open → OnOk r (IsTrue new.is_open)
   pub crash : HasCleanDisk new → IsTrue old.is_open → (trees : Trees) → new.may_leave trees → HoldsTables trees (rows_of S) ⊎ HoldsStep S command now trees
+
+-- for each state at which a store stands there is one at which it then stands, and this was done
+abbrev pub DoesAt : Kept → Kept → database.State → database.State → Command → ℕ → Result Answer StoreFault → Type 0
+DoesAt kept left old new command now r = (S : State) → StandsAt (seen kept old) S → (T : State) × StandsAt (seen left new) T × Does S T old new command now r

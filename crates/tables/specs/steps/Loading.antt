@@ -1,15 +1,17 @@
 -- What is read of a table.
-use Rattle.std.specs.Prelude.{◌≡◌, ◌≢◌, ◌⊎◌, ℕ, pos, Bool, true, false, map, MatchOption, string_bytes, List, [], ◌∷◌, ◌++◌, Option, Some, None, IsUtf8, codes, if◌then◌else◌}
+use Rattle.std.specs.Prelude.{◌≡◌, ◌≢◌, ◌⊎◌, ℕ, pos, Bool, true, false, length, map, MatchOption, string_bytes, List, [], ◌∷◌, ◌++◌, Option, Some, None, IsUtf8, codes, if◌then◌else◌}
 use Rattle.std.specs.Ordering.{nat_cmp}
 use Rattle.std.proofs.Common.{Vec, Global}
 use Rattle.std.specs.declared.string.String.{String}
 use Rattle.hex.specs.Hex.{encode_lower}
+use Rattle.sha2.specs.Sha256.{sha256}
 use Rattle.sqlite.specs.declared.types.Value.TheVariants.{Int, Text, Blob}
 use Rattle.sqlite.specs.Order.{Row, column}
 use Rattle.sqlite_trees.specs.Tree.{Trees}
 use Rattle.std.specs.declared.cmp.Ordering.{Ordering}
 use Rattle.sqlite_rules.specs.Lists.{Has}
 use Rattle.contents.specs.Contents.{slot_view}
+use Rattle.contents.specs.declared.MetadataRows.{MetadataRows}
 use Rattle.tables.specs.declared.loading.Taken.{Taken}
 use Rattle.tables.specs.Rows.{root_cells, current_cells, shelf_cells, blob_cells, version_cells}
 use Rattle.std.specs.Cmp.Lexicographic.{slice_cmp}
@@ -45,6 +47,17 @@ IsBlobRow x r = (column x 0 ≡ Text (encode_lower r.0)) × (column x 1 ≡ Blob
 
 abbrev pub FitsBlob : List ℕ × List ℕ → Type 0
 FitsBlob r = IsDigest r.0
+
+-- the bytes of the row have this digest and length
+abbrev pub IsLengthRow : Row → List ℕ × ℕ → Type 0
+IsLengthRow x r = (bytes : List ℕ) × IsBlobRow x (r.0, bytes) × (length bytes ≡ r.1) × (sha256 bytes ≡ r.0)
+
+abbrev pub FitsLength : List ℕ × ℕ → Type 0
+FitsLength r = IsDigest r.0
+
+-- no text comes twice in the first column
+abbrev pub AreSingle : List Row → Type 0
+AreSingle rows = (x y : Row) (d : List ℕ) → Has rows x → Has rows y → column x 0 ≡ Text d → column y 0 ≡ Text d → x ≡ y
 
 -- the items of `current`
 abbrev pub slot_items : List ℕ → Option (ℕ × List ℕ) → List (List ℕ × (ℕ × List ℕ))
@@ -102,8 +115,8 @@ root_shows r = (r.0, r.1.items)
 abbrev pub document_shows : String Global × ℕ × Vec ℕ Global → (List ℕ × ℕ) × List ℕ
 document_shows r = ((string_bytes r.0, r.1), r.2.items)
 
-abbrev pub file_shows : List ℕ × Vec ℕ Global → List ℕ × List ℕ
-file_shows r = (r.0, r.1.items)
+abbrev pub length_shows : List ℕ × ℕ → List ℕ × ℕ
+length_shows r = r
 
 -- the items of the rows, and none only where they are spoiled; that keys rise is known of rows that come in their order
 abbrev pub IsGathered : {K V T : Type 0} → (K → K → Ordering) → (Row → K × V → Type 0) → (K × V → Type 0) → (T → K × V) → List Row → Option (Vec T Global) → Type 0
@@ -114,29 +127,45 @@ pub record AreTaken (a : Answers) (t : Taken) : Type 0 where
   pub root : IsGathered nat_cmp IsRootRow FitsRoot root_shows a.root t.roots
   pub current : HaveSlots a.current (slot_view t.current.timestamp) (slot_view t.current.snapshot) t.current.is_spoiled
   pub shelf : IsGathered row_cmp IsShelfRow FitsShelf document_shows a.shelf t.shelf
-  pub blob : IsGathered (slice_cmp nat_cmp) IsBlobRow FitsBlob file_shows a.blob t.blobs
+  pub blob : IsGathered (slice_cmp nat_cmp) IsLengthRow FitsLength length_shows a.blob t.blobs
   pub version : AreVersions a.version t.versions.is_begun t.versions.is_other
 
 -- the items of the answers
-pub record AreItems (a : Answers) (t : Contents) : Type 0 where
-  pub root : AreGathered nat_cmp IsRootRow FitsRoot a.root t.roots
+pub record AreItems (a : Answers) (m : MetadataRows) (lengths : List (List ℕ × ℕ)) : Type 0 where
+  pub root : AreGathered nat_cmp IsRootRow FitsRoot a.root (map root_shows m.roots.items)
+  pub current : AreRead IsSlotRow FitsSlot a.current (current_items (slot_view m.timestamp) (slot_view m.snapshot))
+  pub shelf : AreGathered row_cmp IsShelfRow FitsShelf a.shelf (map document_shows m.shelf.items)
+  pub blob : AreGathered (slice_cmp nat_cmp) IsLengthRow FitsLength a.blob lengths
+
+-- and the rows that they are
+pub record AreContents (a : Answers) (t : Contents) : Type 0 where
+  pub root : AreRead IsRootRow FitsRoot a.root t.roots
   pub current : AreRead IsSlotRow FitsSlot a.current (current_items t.timestamp t.snapshot)
-  pub shelf : AreGathered row_cmp IsShelfRow FitsShelf a.shelf t.shelf
-  pub blob : AreGathered (slice_cmp nat_cmp) IsBlobRow FitsBlob a.blob t.blobs
+  pub shelf : AreRead IsShelfRow FitsShelf a.shelf t.shelf
+  pub blob : AreRead IsBlobRow FitsBlob a.blob t.blobs
 
 pub record AreSorted (a : Answers) : Type 0 where
   pub root : AreOrdered nat_cmp IsRootRow FitsRoot a.root
   pub shelf : AreOrdered row_cmp IsShelfRow FitsShelf a.shelf
-  pub blob : AreOrdered (slice_cmp nat_cmp) IsBlobRow FitsBlob a.blob
+  pub blob : AreOrdered (slice_cmp nat_cmp) IsLengthRow FitsLength a.blob
 
 pub data AreDamaged (a : Answers) : Type 0 where
   root : AreSpoiled IsRootRow FitsRoot a.root → AreDamaged a
   current : AreSpoiled IsSlotRow FitsSlot a.current → AreDamaged a
   shelf : AreSpoiled IsShelfRow FitsShelf a.shelf → AreDamaged a
-  blob : AreSpoiled IsBlobRow FitsBlob a.blob → AreDamaged a
+  blob : AreSpoiled IsLengthRow FitsLength a.blob → AreDamaged a
   version : (r : Row) → Has a.version r → (IsOne r → ⊥) → AreDamaged a
 
 -- What was read where `schema` has no row: either nothing is there, or the trees stand for nothing.
 pub record IsUnbegun (trees : Trees) (t : Contents) : Type 0 where
   pub bare : t ≡ no_rows → AreBare trees
   pub other : t ≢ no_rows → (u : Contents) → StandsFor trees u → ⊥
+
+-- ---- one target file
+
+abbrev pub one_text : List ℕ
+one_text = codes "SELECT bytes FROM blob WHERE digest = ?1"
+
+-- a row of one cell, which has these bytes
+abbrev pub HasBytes : List Row → List ℕ → Type 0
+HasBytes rows bytes = (row : Row) × Has rows row × (column row 0 ≡ Blob bytes)

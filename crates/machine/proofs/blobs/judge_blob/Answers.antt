@@ -7,7 +7,7 @@ use Rattle.limits.specs.Limits.{most_held}
 use Rattle.denials.specs.declared.denial.Denial.TheVariants.{NoRoot, BlobLength, DigestMismatch, Full}
 use Rattle.machine.specs.declared.refusal.Refusal.TheVariants.{Denied}
 use Rattle.machine.specs.Commands.{put_blob}
-use Rattle.machine.specs.Held.{lengths_of}
+use Rattle.contents.specs.Contents.{lengths_of}
 use Rattle.machine.specs.State.{State}
 use Rattle.machine.specs.Views.{length_views}
 use Rattle.machine.specs.steps.Judging.{Judges, accepts, keeps, rejects}

@@ -1,22 +1,8 @@
+use Rattle.machine.proofs.RowsOfOneState.{with_blobs_stored, without_blobs_stored}
 use Rattle.machine.proofs.stored.read_files.Goals as goal
 
 pub returns-in_default-clause-none : goal.returns-in_default-clause-none
-returns-in_default-clause-none c E h = (rw (c.deref.ensures.value, c.in_default.is) at c.in_ok-roots.ensures.none) E.roots h.roots
-
-pub returns-in_default-2-clause-none : goal.returns-in_default-2-clause-none
-returns-in_default-2-clause-none c E h = (rw (c.in_default-2.is) at c.in_ok-timestamp.ensures.none) E.timestamp h.timestamp
-
-pub returns-in_default-3-clause-none : goal.returns-in_default-3-clause-none
-returns-in_default-3-clause-none c E h = (rw (c.in_default-3.is) at c.in_ok-snapshot.ensures.none) E.snapshot h.snapshot
-
-pub returns-in_default-4-clause-none : goal.returns-in_default-4-clause-none
-returns-in_default-4-clause-none c E h = (rw (c.deref-2.ensures.value, c.in_default-4.is) at c.in_ok-rows.ensures.none) E.rows h.shelf
+returns-in_default-clause-none c E h = (rw (c.in_default.is) at c.in_ok-changes.ensures.none) _ (without_blobs_stored h)
 
 pub returns-clause-some : goal.returns-clause-some
-returns-clause-some c = record {
-  roots = rw (c.deref.ensures.value, c.in-Some.is) at c.in_ok-roots.ensures.some;
-  timestamp = rw (c.in-Some-2.is) at c.in_ok-timestamp.ensures.some;
-  snapshot = rw (c.in-Some-3.is) at c.in_ok-snapshot.ensures.some;
-  shelf = rw (c.deref-2.ensures.value, c.in-Some-4.is) at c.in_ok-rows.ensures.some;
-  blobs = c.in_ok-blobs.ensures;
-}
+returns-clause-some c = with_blobs_stored (rw (c.in-Some.is) at c.in_ok-changes.ensures.some) c.in_ok-blobs.ensures

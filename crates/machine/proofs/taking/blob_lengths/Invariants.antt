@@ -1,5 +1,5 @@
 use Rattle.std.proofs.Common.{◌≡◌, ◌++◌, length}
-use Rattle.machine.specs.Held.{lengths_of}
+use Rattle.contents.specs.Contents.{lengths_of}
 use Rattle.machine.specs.Views.{blob_views, length_views}
 use Rattle.machine.proofs.taking.blob_lengths.Given as goal
 

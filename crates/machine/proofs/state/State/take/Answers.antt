@@ -2,7 +2,8 @@ use Rattle.std.proofs.Common.{◌≡◌, ◌∙◌, ℕ, List, ap, refl, sym, su
 use Rattle.metadata.specs.File.{Bytes}
 use Rattle.machine.specs.Effects as changes
 use Rattle.machine.specs.Effects.{applied}
-use Rattle.machine.specs.Held.{Held, IsHeld, held_of, held_with, lengths_of, with_lengths}
+use Rattle.contents.specs.Contents.{lengths_of}
+use Rattle.machine.specs.Held.{Held, IsHeld, held_of, held_with, with_lengths}
 use Rattle.machine.specs.Room.{WithRoom, state_with}
 use Rattle.machine.specs.State.{State, IsState}
 use Rattle.machine.specs.Views.{blob_views, effects_view, made_view}

@@ -1,31 +1,40 @@
+use Rattle.std.proofs.Common.{refl}
 use Rattle.std.specs.Prelude.{IsTrue}
 use Rattle.sqlite.specs.Held.{state}
 use Rattle.store.specs.Views.{command_view}
 use Rattle.store.proofs.Applying.{failed, relayed, was_there}
-use Rattle.store.proofs.Standings.{applies}
+use Rattle.store.proofs.Standings.{applies, stands_on}
 use Rattle.store.proofs.store.Store.apply.Goals as goal
 
 pub returns-in-Err : goal.returns-in-Err
 returns-in-Err g c =
-    let S = c.args.self.now.kept in
-    let T = c.touch.new.self.kept in
+    let kept = c.args.self.now.kept in
+    let left = c.touch.new.self.kept in
     let old = state g.S.Store c.args.self.now.conn in
     let new = state g.S.Store c.touch.new.self.conn in
     let command = command_view c.args.command in
-    applies S T old new command c.args.now _
-    (failed S T old new command c.args.now c.in-Err.fault c.touch.ensures.same c.rests.ensures.left c.touch.ensures.survives c.in-Err.ensures.sound)
-    (λ clean. tt) c.rests-in-Err.ensures.rows c.rests-in-Err.ensures.left
+    applies kept left old new command c.args.now _
+    (λ S at. (
+      S,
+      stands_on kept left old new c.touch.ensures.same c.touch.ensures.reads S at,
+      failed S S old new command c.args.now c.in-Err.fault refl (λ clean there. c.rests.ensures.left clean there S at) c.touch.ensures.reads.survives c.in-Err.ensures.sound,
+    ))
+    (λ clean. tt) c.rests.ensures.somewhere c.rests-in-Err.ensures.left
 
 pub returns : goal.returns
 returns g c =
-    let S = c.args.self.now.kept in
-    let R = c.touch.new.self.kept in
-    let T = c.make-result.new.self.kept in
+    let kept = c.args.self.now.kept in
+    let mid = c.touch.new.self.kept in
+    let left = c.make-result.new.self.kept in
     let old = state g.S.Store c.args.self.now.conn in
-    let mid = state g.S.Store c.touch.new.self.conn in
+    let middle = state g.S.Store c.touch.new.self.conn in
     let new = state g.S.Store c.make-result.new.self.conn in
     let command = command_view c.args.command in
-    applies S T old new command c.args.now c.make-result.result
-    (relayed S R T old mid new command c.args.now c.make-result.result c.touch.ensures.same c.touch.ensures.survives c.in-Ok.ensures.open c.make-result.ensures)
-    (was_there R T mid new command c.args.now c.make-result.result (IsTrue old.is_open) _ c.make-result.ensures c.in-Ok.ensures.open)
-    c.rests-2.ensures.rows c.rests-2.ensures.left
+    let on = stands_on kept mid old middle c.touch.ensures.same c.touch.ensures.reads in
+    let (S, at) = c.rests.ensures.somewhere in
+    let (T, to, done) = c.make-result.ensures S (on S at) in
+    applies kept left old new command c.args.now c.make-result.result
+    (λ S at. let (T, to, done) = c.make-result.ensures S (on S at) in
+    (T, to, relayed S T old middle new command c.args.now c.make-result.result c.touch.ensures.reads.survives c.in-Ok.ensures.open done))
+    (was_there S T middle new command c.args.now c.make-result.result (IsTrue old.is_open) _ done c.in-Ok.ensures.open)
+    c.rests.ensures.somewhere c.rests-2.ensures.left

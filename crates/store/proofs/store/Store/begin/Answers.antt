@@ -1,43 +1,57 @@
 use Rattle.std.proofs.Common.{Ok, Err, ap, subst}
 use Rattle.sqlite.specs.Held.{state}
-use Rattle.machine.specs.Knowing.{CarriesKnown}
-use Rattle.machine.specs.State.{State}
+use Rattle.machine.specs.Answers.{Answers}
+use Rattle.machine.specs.Commands as commands
+use Rattle.machine.specs.Held.{OfEachState}
+use Rattle.machine.specs.Knowing.{CarriesVerdicts}
+use Rattle.machine.specs.Runs.{Init, Begun}
 use Rattle.machine.specs.declared.outcome.Outcome.{Outcome}
 use Rattle.machine.specs.declared.outcome.Outcome.TheVariants.{Changed}
-use Rattle.machine.specs.Runs.{Init, Begun}
+use Rattle.machine.specs.declared.outcome.Outcome.TheVariants as outcomes
 use Rattle.store.specs.declared.command.Reply.TheVariants as answers
-use Rattle.store.proofs.Applying.{begin_refused, begins, begins_same, is_valid, made, refusal_sound, still, unmade}
+use Rattle.store.proofs.Applying.{is_valid, made_at, refusal_sound, still_at, unmade_at, begins, begins_same, begin_refused}
+use Rattle.store.proofs.Standings.{each}
 use Rattle.store.proofs.store.Store.begin.Goals as goal
 
 pub returns-in-Ok-Same : goal.returns-in-Ok-Same
 returns-in-Ok-Same g c =
-    still c.args.self.now.kept (state g.S.Store c.args.self.now.conn) (Init c.args.bytes.now) c.args.now _ c.rests.ensures.left
-    (begins_same c.args.self.now.kept c.args.bytes.now c.args.now (rw (c.kept.ensures, c.in-Ok-Same.field-0-is) at c.in-Ok-Same.ensures.answers)) (λ same. cc)
+    let kept = c.args.self.now.kept in
+    let told : OfEachState c.held.result.now.held (λ S. Answers S (commands.init S c.args.bytes.now) (Ok outcomes.Same)) = rw (c.in-Ok-Same.field-0-is) at c.in-Ok-Same.ensures.answers in
+    still_at kept (state g.S.Store c.args.self.now.conn) (Init c.args.bytes.now) c.args.now _ c.rests.ensures.left
+    (λ S of. begins_same S c.args.bytes.now c.args.now (each c.held.result.now.held kept (λ S. Answers S (commands.init S c.args.bytes.now) (Ok outcomes.Same)) c.held.ensures told S of)) (λ same. cc)
 
 pub returns-in-Err : goal.returns-in-Err
 returns-in-Err g c =
-    still c.args.self.now.kept (state g.S.Store c.args.self.now.conn) (Init c.args.bytes.now) c.args.now c.refused.result c.rests.ensures.left
-    (begin_refused c.args.self.now.kept c.args.bytes.now c.args.now c.in-Err.refusal c.refused.result (rw (c.kept.ensures) at c.in-Err.ensures.answers) c.refused.ensures)
+    let kept = c.args.self.now.kept in
+    still_at kept (state g.S.Store c.args.self.now.conn) (Init c.args.bytes.now) c.args.now c.refused.result c.rests.ensures.left
+    (λ S of. begin_refused S c.args.bytes.now c.args.now c.in-Err.refusal c.refused.result
+    (each c.held.result.now.held kept (λ S. Answers S (commands.init S c.args.bytes.now) (Err c.in-Err.refusal)) c.held.ensures c.in-Err.ensures.answers S of) c.refused.ensures)
     (refusal_sound c.in-Err.refusal c.refused.result c.refused.ensures)
 
 pub keep-requires-clause-known : goal.keep-requires-clause-known
 keep-requires-clause-known g c =
-    subst (λ (S : State). CarriesKnown S (Ok (Changed c.in-Ok-Changed.effects))) c.kept.ensures
-    (subst (λ (o : Outcome). CarriesKnown c.kept.result.now.state (Ok o)) c.in-Ok-Changed.field-0-is c.in-Ok-Changed.ensures.known)
+    subst (λ H. CarriesVerdicts H.trusted (Ok (Changed c.in-Ok-Changed.effects))) c.held.ensures
+    (subst (λ (o : Outcome). CarriesVerdicts c.held.result.now.held.trusted (Ok o)) c.in-Ok-Changed.field-0-is c.in-Ok-Changed.ensures.known)
 
 pub keep-requires-clause-valid : goal.keep-requires-clause-valid
-keep-requires-clause-valid g c = is_valid (rw (c.kept.ensures, c.in-Ok-Changed.field-0-is) at c.in-Ok-Changed.ensures.answers)
+keep-requires-clause-valid g c S of =
+    let told : OfEachState c.held.result.now.held (λ S. Answers S (commands.init S c.args.bytes.now) (Ok (Changed c.in-Ok-Changed.effects))) = rw (c.in-Ok-Changed.field-0-is) at c.in-Ok-Changed.ensures.answers in
+    is_valid (each c.held.result.now.held c.args.self.now.kept (λ S. Answers S (commands.init S c.args.bytes.now) (Ok (Changed c.in-Ok-Changed.effects))) c.held.ensures told S of)
 
 pub returns-in-Ok : goal.returns-in-Ok
 returns-in-Ok g c =
-    made c.args.self.now.kept c.keep.new.self.kept (state g.S.Store c.args.self.now.conn) (state g.S.Store c.keep.new.self.conn) (Init c.args.bytes.now) c.args.now
+    let kept = c.args.self.now.kept in
+    let told : OfEachState c.held.result.now.held (λ S. Answers S (commands.init S c.args.bytes.now) (Ok (Changed c.in-Ok-Changed.effects))) = rw (c.in-Ok-Changed.field-0-is) at c.in-Ok-Changed.ensures.answers in
+    made_at kept c.keep.new.self.kept (state g.S.Store c.args.self.now.conn) (state g.S.Store c.keep.new.self.conn) (Init c.args.bytes.now) c.args.now
     c.in-Ok-Changed.effects answers.Begun c.in-Ok.ensures.done
-    (begins c.args.self.now.kept c.args.bytes.now c.args.now c.in-Ok-Changed.effects (rw (c.kept.ensures, c.in-Ok-Changed.field-0-is) at c.in-Ok-Changed.ensures.answers))
+    (λ S of. begins S c.args.bytes.now c.args.now c.in-Ok-Changed.effects (each c.held.result.now.held kept (λ S. Answers S (commands.init S c.args.bytes.now) (Ok (Changed c.in-Ok-Changed.effects))) c.held.ensures told S of))
     c.in-Ok.ensures.clean c.in-Ok.ensures.live c.in-Ok.ensures.crash
 
 pub returns-in-Err-keep : goal.returns-in-Err-keep
 returns-in-Err-keep g c =
-    unmade c.args.self.now.kept c.keep.new.self.kept (state g.S.Store c.args.self.now.conn) (state g.S.Store c.keep.new.self.conn) (Init c.args.bytes.now) c.args.now
+    let kept = c.args.self.now.kept in
+    let told : OfEachState c.held.result.now.held (λ S. Answers S (commands.init S c.args.bytes.now) (Ok (Changed c.in-Ok-Changed.effects))) = rw (c.in-Ok-Changed.field-0-is) at c.in-Ok-Changed.ensures.answers in
+    unmade_at kept c.keep.new.self.kept (state g.S.Store c.args.self.now.conn) (state g.S.Store c.keep.new.self.conn) (Init c.args.bytes.now) c.args.now
     c.in-Ok-Changed.effects Begun c.in-Err-keep.fault c.in-Err-keep.ensures.kept
-    (begins c.args.self.now.kept c.args.bytes.now c.args.now c.in-Ok-Changed.effects (rw (c.kept.ensures, c.in-Ok-Changed.field-0-is) at c.in-Ok-Changed.ensures.answers))
+    (λ S of. begins S c.args.bytes.now c.args.now c.in-Ok-Changed.effects (each c.held.result.now.held kept (λ S. Answers S (commands.init S c.args.bytes.now) (Ok (Changed c.in-Ok-Changed.effects))) c.held.ensures told S of))
     (λ same. c.in-Err-keep.ensures.sound (ap Err same)) c.in-Err-keep.ensures.clean c.in-Err-keep.ensures.crash

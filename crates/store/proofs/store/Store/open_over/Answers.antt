@@ -1,30 +1,53 @@
-use Rattle.std.proofs.Common.{◌≡◌, Ok, Err, Result, sym, subst, subst₂, ap, arith}
+use Rattle.std.proofs.Common.{◌≡◌, ◌∙◌, Ok, Err, Result, sym, subst, subst₂, ap, arith}
+use Rattle.std.specs.Prelude.{IsTrue}
+use Rattle.machine.specs.State.{State}
 use Rattle.sqlite.specs.Effect.{IsDatabase}
 use Rattle.sqlite.specs.Held.{state}
 use Rattle.sqlite.specs.State.{HasCleanDisk, Survives}
 use Rattle.tables.specs.Tables.{IsStore, Stands}
-use Rattle.store.specs.Standing.{Opens, seen}
+use Rattle.store.specs.Standing.{IsStateOf, Opens, seen}
 use Rattle.store.specs.StateRows.{Begins, TreesStand, rows_of}
 use Rattle.store.proofs.Standings.{stands_at}
 use Rattle.store.proofs.store.Store.open_over.Goals as goal
+
+pub new-requires-clause-rows : goal.new-requires-clause-rows
+new-requires-clause-rows g c late there =
+    let (U, of, found) = c.in-Ok-read_state.ensures.loaded in
+    (rows_of U, (found late (c.in-Ok.ensures.settled (omega (arith, late, c.read_state.ensures.crash.clean)))).1)
+
+pub over-requires : goal.over-requires
+over-requires g c =
+    let (U, of, found) = c.in-Ok-read_state.ensures.loaded in
+    subst (λ k. (V : State) × IsStateOf c.in-Ok-read_state.held.held V × (HasCleanDisk (state g.S.Store k) → IsTrue (state g.S.Store k).is_open → IsStore (state g.S.Store k) (rows_of V)))
+    (sym c.new.ensures) (U, of, λ late there. (found late (c.in-Ok.ensures.settled (omega (arith, late, c.read_state.ensures.crash.clean)))).1)
 
 pub returns-in-Ok-read_state-clause-opened : goal.returns-in-Ok-read_state-clause-opened
 returns-in-Ok-read_state-clause-opened g c =
     let conn = c.in-Ok.conn in
     let db = (state g.S.Store conn).now in
-    let kept = c.in-Ok-read_state.held.state in
+    let kept = c.in-Ok-read_state.held.held in
     let new = state g.S.Store c.read_state.new.conn in
+    let (U, of, loaded) = c.in-Ok-read_state.ensures.loaded in
     let early : HasCleanDisk new → HasCleanDisk (state g.S.Store conn) = λ late. omega (arith, late, c.read_state.ensures.crash.clean) in
-    let found : HasCleanDisk new → Stands db (rows_of kept) × IsStore new (rows_of kept) = λ late. c.in-Ok-read_state.ensures.loaded late (c.in-Ok.ensures.settled (early late)) in
-    let stood : HasCleanDisk new → TreesStand (state g.S.Store c.args.conn).committed.trees (rows_of kept) = λ late.
+    let found : HasCleanDisk new → Stands db (rows_of U) × IsStore new (rows_of U) = λ late. loaded late (c.in-Ok.ensures.settled (early late)) in
+    let stood : HasCleanDisk new → TreesStand (state g.S.Store c.args.conn).committed.trees (rows_of U) = λ late.
     let is_open = c.in-Ok-read_state.ensures.was_open late in
     (db, c.in-Ok.ensures.same (early late) is_open, (c.read_state.ensures.live is_open).0, (found late).0) in
     let opens : Opens (state g.S.Store c.args.conn) (seen kept new) = (
-      kept,
-      stands_at kept new (λ late there. (found late).1),
+      U,
+      stands_at kept new U of (λ late there. (found late).1),
       λ late. ((found late).1.is_open, stood late),
     ) in
-    subst₂ (λ k S. Opens (state g.S.Store c.args.conn) (seen S (state g.S.Store k))) (sym c.over.ensures.conn) (sym c.over.ensures.kept) opens
+    subst₂ (λ k H. Opens (state g.S.Store c.args.conn) (seen H (state g.S.Store k))) (sym (c.over.ensures.conn ∙ c.new.ensures)) (sym c.over.ensures.kept) opens
+
+ok_same : {A E : Type 0} {a b : A} → ◌≡◌ {A = Result A E} (Ok a) (Ok b) → a ≡ b
+ok_same e = let f = e in cc
+
+pub returns-in-Ok-read_state-clause-crash : goal.returns-in-Ok-read_state-clause-crash
+returns-in-Ok-read_state-clause-crash g c free =
+    let same = ok_same (c.in-Ok.ensures.untouched free) in
+    subst (λ k. Survives (state g.S.Store c.args.conn) (state g.S.Store k) (Begins (state g.S.Store c.args.conn))) (sym (c.over.ensures.conn ∙ c.new.ensures))
+    (subst (λ k. Survives (state g.S.Store k) (state g.S.Store c.read_state.new.conn) (Begins (state g.S.Store k))) same c.read_state.ensures.crash)
 
 pub returns-in-Err-read_state-clause-damaged : goal.returns-in-Err-read_state-clause-damaged
 returns-in-Err-read_state-clause-damaged g c is clean =
@@ -33,9 +56,6 @@ returns-in-Err-read_state-clause-damaged g c is clean =
     let told = c.in-Err-read_state.ensures.damaged clean (c.in-Ok.ensures.settled early) (ap Err is) in
     let sound : IsDatabase db = (c.read_state.ensures.live told.0).0 in
     (db, c.in-Ok.ensures.same early told.0, sound, told.1, told.2)
-
-ok_same : {A E : Type 0} {a b : A} → ◌≡◌ {A = Result A E} (Ok a) (Ok b) → a ≡ b
-ok_same e = let f = e in cc
 
 pub returns-in-Err-read_state-clause-crash : goal.returns-in-Err-read_state-clause-crash
 returns-in-Err-read_state-clause-crash g c free =

@@ -1,7 +1,7 @@
-use Rattle.std.proofs.Common.{◌∙◌, subst}
-use Rattle.machine.specs.State.{IsSnapshotDue, State}
-use Rattle.store.specs.Standing.{kept_is}
+use Rattle.std.proofs.Common.{◌∙◌, subst, sym}
+use Rattle.machine.specs.Held.{Held}
+use Rattle.machine.specs.State.{IsSnapshotDue}
 use Rattle.store.proofs.store.Store.snapshot_due.Goals as goal
 
 pub returns : goal.returns
-returns g c U is = subst (λ (S : State). IsSnapshotDue S.trusted c.snapshot_due.result) (c.kept.ensures ∙ kept_is is) c.snapshot_due.ensures
+returns g c U is = subst (λ (H : Held). IsSnapshotDue H.trusted c.snapshot_due.result) (c.held.ensures ∙ sym is.held) c.snapshot_due.ensures

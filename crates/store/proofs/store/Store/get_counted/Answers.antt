@@ -1,0 +1,42 @@
+use Rattle.std.proofs.Common.{arith, refl, sym, subst}
+use Rattle.sqlite.specs.Held.{state}
+use Rattle.sqlite.specs.State.{HasCleanDisk}
+use Rattle.store.specs.Standing.{StandsAt, seen}
+use Rattle.store.specs.StateRows.{rows_of}
+use Rattle.store.proofs.Fitting.{blobs_keyed}
+use Rattle.store.proofs.Loads.{holds_blobs}
+use Rattle.store.proofs.Standings.{reads_if, stands_on, store_at}
+use Rattle.store.proofs.store.Store.get_counted.Goals as goal
+
+pub invariant_of-self : goal.invariant_of-self
+invariant_of-self g c =
+    let (U, of, rows) = c.self.invariant in
+    let reads = reads_if (λ k. state g.S.Store k) c.self.inside.rows c.get_from_counted.new.blobs c.get_from_counted.ensures.becomes in (
+      U,
+      of,
+      (λ clean there. reads.kept clean there (rows_of U) (rows (omega (arith, clean, reads.survives.clean)) (reads.was_open clean there))),
+    )
+
+pub returns-clause-keeps : goal.returns-clause-keeps
+returns-clause-keeps g c =
+    let inside = c.self.inside in
+    let reads = reads_if (λ k. state g.S.Store k) inside.rows c.get_from_counted.new.blobs c.get_from_counted.ensures.becomes in
+    record {
+      state = λ U at.
+          let within = subst (λ s. StandsAt (seen s.kept (state g.S.Store s.conn)) U) (sym c.self.view_is) at in
+          (U, stands_on inside.held.held inside.held.held (state g.S.Store inside.rows) (state g.S.Store c.get_from_counted.new.blobs) refl reads U within, refl);
+      clean = λ clean.
+          subst (λ s. HasCleanDisk (state g.S.Store s.conn)) c.self.view_is (omega (arith, clean, reads.survives.clean));
+    }
+
+pub returns-clause-answer : goal.returns-clause-answer
+returns-clause-answer g c clean there U at =
+    let inside = c.self.inside in
+    let within = subst (λ s. StandsAt (seen s.kept (state g.S.Store s.conn)) U) (sym c.self.view_is) at in
+    let reads = reads_if (λ k. state g.S.Store k) inside.rows c.get_from_counted.new.blobs c.get_from_counted.ensures.becomes in
+    let is = store_at inside.held.held (state g.S.Store inside.rows) U within (omega (arith, clean, reads.survives.clean)) (reads.was_open clean there) in
+    c.get_from_counted.ensures.answer (clean, there) U (record {
+      valid = at.state.valid;
+      held = within.state.held;
+      blobs = holds_blobs (state g.S.Store inside.rows) U at.state.valid (blobs_keyed U at.state.valid) is;
+    })

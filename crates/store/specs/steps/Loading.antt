@@ -1,0 +1,23 @@
+-- What asking for the bytes of a target file does to a connection.
+use Rattle.std.specs.Prelude.{◌≡◌, List, ℕ, IsTrue}
+use Rattle.sha2.specs.Sha256.{sha256}
+use Rattle.sqlite.specs.Order.{Row}
+use Rattle.sqlite.specs.State as database
+use Rattle.sqlite.specs.State.{HasCleanDisk, Survives}
+use Rattle.sqlite_rules.specs.Lists.{Has}
+use Rattle.contents.specs.Contents.{Contents}
+use Rattle.tables.specs.Rows.{blob_cells}
+use Rattle.tables.specs.Tables.{IsStore, blob_row}
+
+-- it writes nothing
+pub record ReadsOnly (old new : database.State) : Type 0 where
+  pub was_open : HasCleanDisk new → IsTrue new.is_open → IsTrue old.is_open
+  pub kept : HasCleanDisk new → IsTrue new.is_open → (t : Contents) → IsStore old t → IsStore new t
+  pub survives : Survives old new (λ _. ⊥)
+
+-- the table of target files has a row of this digest and these bytes, which have it
+pub record HasFile (s : database.State) (digest bytes : List ℕ) : Type 0 where
+  pub row : Row
+  pub there : Has (s.now.trees 5) row
+  pub cells : blob_cells row ≡ blob_row (digest, bytes)
+  pub digest_is : sha256 bytes ≡ digest
