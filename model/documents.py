@@ -1,10 +1,12 @@
-"""The signed files of the four roles (TUF 1.0, sections 4.2 to 4.6), key ids and thresholds."""
+"""The signed files of the four roles (TUF 1.0, sections 4.2 to 4.6), layouts and links (in-toto 1.0, sections 4.3 and 4.4), key
+ids and thresholds."""
 import hashlib
 import re
 from functools import lru_cache
 
 import canonical_json
 import lms
+from artifact_rules import read_rule as read_artifact_rule
 from denials import Denied, deny_unless
 from names import LARGEST_NUMBER, is_hex, is_role_name, is_target_path, is_whole, moment_of
 from patterns import is_pattern, is_prefix, matches_segmented, prefix_covers
@@ -19,6 +21,8 @@ MAXIMUM_RULE_KEYS = 16
 MAXIMUM_SNAPSHOT_ENTRIES = 128
 MAXIMUM_DELEGATIONS = 64
 MAXIMUM_COVERINGS = 64
+MAXIMUM_STEPS = 16
+MAXIMUM_ARTIFACT_RULES = 64
 TOP_LEVEL_ROLES = {"root", "targets", "snapshot", "timestamp"}
 
 
@@ -26,7 +30,8 @@ class Document:
     """A file that was read.
 
     Each has `version`, `expires`, `signatures`, `bytes`, `signed_bytes` and `digest`; a root has `keys` and `rules`, a
-    timestamp `snapshot`, a snapshot `roles`, and targets metadata `listings` and `delegations`.
+    timestamp `snapshot`, a snapshot `roles`, and targets metadata `listings` and `delegations`. A layout has no version, but
+    `expires`, `keys` and `steps`; a link has neither, but `name`, `materials` and `products`.
     """
 
 
@@ -62,6 +67,16 @@ class Entry:
 
     def names(self, document):
         return self.version == document.version and self.has_length(document) and self.has_digest(document)
+
+
+class Step:
+    """A step of a layout: whose links are good for it, and the artifact rules of both sides."""
+
+    def __init__(self, name, rule, materials, products):
+        self.name = name
+        self.rule = rule
+        self.materials = materials
+        self.products = products
 
 
 class Delegation:
@@ -137,9 +152,9 @@ def judge_ids(keys):
     deny_unless(all(keyid == key_id(public) for keyid, public in keys.items()), "BadKeyId")
 
 
-def read_rule(value, keys):
+def read_rule(value, keys, ids="keyids"):
     shape(type(value) is dict)
-    keyids = value.get("keyids")
+    keyids = value.get(ids)
     threshold = value.get("threshold")
     shape(type(keyids) is list and 1 <= len(keyids) <= MAXIMUM_RULE_KEYS)
     shape(all(type(keyid) is str for keyid in keyids) and len(set(keyids)) == len(keyids))
@@ -228,7 +243,51 @@ def read_targets(document, signed):
     judge_ids(keys)
 
 
+def read_artifact_rules(value):
+    """Lists of words, each of which has to be a rule."""
+    shape(type(value) is list and len(value) <= MAXIMUM_ARTIFACT_RULES)
+    shape(all(type(words) is list and all(type(word) is str for word in words) for words in value))
+    rules = [read_artifact_rule(words) for words in value]
+    shape(None not in rules)
+    return rules
+
+
+def read_step(value, keys):
+    """In-toto 1.0, section 4.3.1."""
+    shape(type(value) is dict and type(value.get("name")) is str and is_role_name(value["name"]))
+    rule = read_rule(value, keys, "pubkeys")
+    materials = read_artifact_rules(value.get("expected_materials"))
+    return Step(value["name"], rule, materials, read_artifact_rules(value.get("expected_products")))
+
+
+def read_layout(document, signed):
+    """In-toto 1.0, section 4.3. There are no inspections."""
+    document.expires = read_expires(signed)
+    shape(type(signed.get("inspect")) is list and not signed["inspect"])
+    document.keys = read_keys(signed.get("keys"))
+    steps = signed.get("steps")
+    shape(type(steps) is list and 1 <= len(steps) <= MAXIMUM_STEPS)
+    document.steps = [read_step(step, document.keys) for step in steps]
+    shape(len({step.name for step in document.steps}) == len(document.steps))
+    judge_ids(document.keys)
+
+
+def read_artifacts(value):
+    shape(type(value) is dict and all(map(is_target_path, value)))
+    return {path: read_digest(hashes) for path, hashes in value.items()}
+
+
+def read_link(document, signed):
+    """In-toto 1.0, section 4.4. One functionary signs it."""
+    shape(len(document.signatures) == 1)
+    shape(type(signed.get("name")) is str and is_role_name(signed["name"]))
+    document.name = signed["name"]
+    document.materials = read_artifacts(signed.get("materials"))
+    document.products = read_artifacts(signed.get("products"))
+
+
 READERS = {"root": read_root, "timestamp": read_timestamp, "snapshot": read_snapshot, "targets": read_targets}
+READERS_OF_LAYOUTS = {"layout": read_layout, "link": read_link}
 
 
 def read_envelope(text):
@@ -246,20 +305,33 @@ def read_envelope(text):
     return signatures, signed, text[first:end]
 
 
+def read_expires(signed):
+    moment = moment_of(signed.get("expires"))
+    shape(moment is not None)
+    return moment
+
+
+def read_head(document, signed):
+    """What the files of all roles have."""
+    specification = signed.get("spec_version")
+    shape(type(specification) is str and re.fullmatch(r"1\.0\.[0-9]{1,3}", specification) is not None)
+    shape(is_whole(signed.get("version"), 1, LARGEST_NUMBER))
+    document.version = signed["version"]
+    document.expires = read_expires(signed)
+
+
 def read_checked(kind, text):
     """The checks in their order: those of the envelope, type, members, key table."""
     document = Document()
     document.signatures, signed, document.signed_bytes = read_envelope(text)
     deny_unless(signed["_type"] == kind, "WrongType")
-    specification = signed.get("spec_version")
-    shape(type(specification) is str and re.fullmatch(r"1\.0\.[0-9]{1,3}", specification) is not None)
-    shape(is_whole(signed.get("version"), 1, LARGEST_NUMBER))
-    document.version = signed["version"]
-    document.expires = moment_of(signed.get("expires"))
-    shape(document.expires is not None)
     document.bytes = text
     document.digest = hashlib.sha256(text).hexdigest()
-    READERS[kind](document, signed)
+    if kind in READERS_OF_LAYOUTS:
+        READERS_OF_LAYOUTS[kind](document, signed)
+    else:
+        read_head(document, signed)
+        READERS[kind](document, signed)
     return document
 
 

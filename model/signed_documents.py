@@ -93,6 +93,25 @@ def targets(version, expires, listings, delegating=None):
     return document("targets", version, expires, members)
 
 
+def step(name, keys, threshold, materials=(), products=()):
+    """A step of a layout: the keys whose links are good for it, and the rules of both sides."""
+    return {
+        "name": name, "pubkeys": [key.id for key in keys], "threshold": threshold,
+        "expected_materials": [list(words) for words in materials], "expected_products": [list(words) for words in products],
+    }
+
+
+def layout(expires, keys, steps):
+    return {"_type": "layout", "expires": date(expires), "inspect": [], "keys": key_table(keys), "steps": steps}
+
+
+def link(name, materials, products):
+    """Both have, for each path, a digest."""
+    sides = {"materials": materials, "products": products}
+    said = {side: {path: {"sha256": held} for path, held in sides[side].items()} for side in sides}
+    return {"_type": "link", "name": name, **said}
+
+
 def signature_entry(signer, signed_bytes):
     """A signer is a key, or a key id with hex digits or with a function that makes them of the signed bytes."""
     if not isinstance(signer, tuple):

@@ -16,6 +16,24 @@ import sys
 import tempfile
 import time
 
+# The texts of a case of artifact rules, and of some that are nearly one.
+RULE_CASE = b'{"links":{"s":{"materials":{},"products":{}}},"rules":[],"side":"materials","step":"s"}'
+DIGEST = b'{"sha256":"' + b"0" * 64 + b'"}'
+NO_RULE_CASES = [
+    RULE_CASE.replace(held, put)
+    for held, put in [
+        (b"{", b"{ "), (b'"step":"s"', b'"step":"t"'), (b',"step":"s"', b""), (b'"step":"s"', b'"step":"s","then":1'),
+        (b'"step":"s"', b'"step":1'), (b'"rules":[]', b'"rules":{}'), (b'"rules":[]', b'"rules":["ALLOW","*"]'),
+        (b'"rules":[]', b'"rules":[["ALLOW",1]]'), (b'"rules":[],', b""), (b'"rules":[]', b'"role":[]'),
+        (b'"side":"materials"', b'"side":"Materials"'), (b'"side":"materials"', b'"side":"both"'),
+        (b'"side":"materials","step":"s"', b'"step":"s","side":"materials"'), (b'{"s":', b'{"S":'),
+        (b'{"s":{"materials":{},"products":{}}}', b"{}"), (b'"materials":{},', b""), (b',"products":{}', b""),
+        (b'"products":{}', b'"products":{},"x":1'), (b'"products":{}', b'"products":{"a/":' + DIGEST + b"}"),
+        (b'"products":{}', b'"products":{"b":' + DIGEST + b',"a":' + DIGEST + b"}"),
+        (b'"products":{}', b'"products":{"a":{"sha256":"0"}}'), (b'"products":{}', b'"products":{"a":"' + b"0" * 64 + b'"}'),
+        (b'"products":{}', b'"products":[]'), (b'"materials":{},"products":{}', b'"products":{},"materials":{}'),
+    ]
+]
 # The input, the number of the first line that is no case, and what is printed for the lines before it.
 NO_CASES = [
     (b"\n", 1, b""),
@@ -55,6 +73,15 @@ NO_CASES = [
     (b"match 61 61\n", 1, b""),
     (b"match prefix c3 61\n", 1, b""),
     (b"match segmented 61 61 61\n", 1, b""),
+    (b"rules\n", 1, b""),
+    (b"rules -\n", 1, b""),
+    (b"rules 7b7d\n", 1, b""),
+    (b"rules 7b7d 7b7d\n", 1, b""),
+    (b"rules 7B7D\n", 1, b""),
+    (b"rule 7b7d\n", 1, b""),
+    *((b"rules " + text.hex().encode() + b"\n", 1, b"") for text in NO_RULE_CASES),
+    (b"rules " + RULE_CASE.hex().encode() + b"\nrules 7b7d\n", 2, b"holds\n"),
+    (b"rules " + RULE_CASE.hex().encode() + b" \n", 1, b""),
     (b"json 30\n\njson 31\n", 2, b"canonical\n"),
     (b"json 30\njson -\njson x", 3, b"canonical\nnot_canonical\n"),
     (b"json 30\njson \xff\xfe\n", 2, b"canonical\n"),

@@ -162,7 +162,9 @@ fn threshold_of(value: &Value) -> Option<u8>
 }
 
 /// The texts of the list that the value is.
-pub(crate) fn read_texts(alloc: Global, value: &Value) -> Result<Vec<String>, ShapeFault>
+///
+/// Errors: `WrongShape` where it is no list of texts, and `OutOfMemory`.
+pub fn read_texts(alloc: Global, value: &Value) -> Result<Vec<String>, ShapeFault>
     ensures ok { IfOk result (λ texts. IsArray IsText (view value.now) (texts_view texts.items)) }
     ensures err { IfErr result (IsIll ((texts : List (List ℕ)) × IsArray IsText (view value.now) texts)) }
 {

@@ -50,9 +50,12 @@ pub use file::{
     File, read_layout_file, read_link_file, read_root_file, read_snapshot_file, read_targets_file,
     read_timestamp_file,
 };
+pub use keys::read_texts;
 pub use keys_roles::{Key, KeyId, KeyTable, RoleRule, Signature};
 pub use laws::{covers_tell, denied_shapes, snapshot_names};
+pub use link::read_artifacts;
 pub use links::{Artifacts, Link};
+pub use members::{four_members, items_of, members_of, text_of, two_members};
 pub use moment::{Moment, live};
 pub use path_patterns::{Digest, Pattern, RoleName, TargetPath};
 pub use rules::{Match, Rule, Side, read_rule};

@@ -56,8 +56,10 @@ fn artifacts_at(alloc: Global, value: &Value, name: &str) -> Result<Artifacts, S
     read_artifacts(alloc, found)
 }
 
-// The artifacts that the value is, in the order of their paths, which is that of the members.
-fn read_artifacts(alloc: Global, value: &Value) -> Result<Artifacts, ShapeFault>
+/// The artifacts that the value is, in the order of their paths, which is that of the members.
+///
+/// Errors: `WrongShape` where it is no object from target paths to digests, and `OutOfMemory`.
+pub fn read_artifacts(alloc: Global, value: &Value) -> Result<Artifacts, ShapeFault>
     requires { IsProper (view value.now) }
     ensures ok { IfOk result (λ a. AreArtifacts (view value.now) (artifacts_view a)) }
     ensures err { IfErr result (IsIll ((a : plain.Artifacts) × AreArtifacts (view value.now) a)) }

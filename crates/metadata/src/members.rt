@@ -39,7 +39,7 @@ fn first_named<'a>(value: &'a Value, name: &str) -> Option<&'a Value>
 }
 
 /// The text that the value is.
-pub(crate) fn text_of(value: &Value) -> Option<&str>
+pub fn text_of(value: &Value) -> Option<&str>
     ensures { MatchOption result ((t : List ℕ) → IsText (view value.now) t → ⊥) (λ t. IsText (view value.now) t.now) }
 {
     match value {
@@ -49,7 +49,7 @@ pub(crate) fn text_of(value: &Value) -> Option<&str>
 }
 
 /// The values of the list that the value is.
-pub(crate) fn items_of(value: &Value) -> Option<&[Value]>
+pub fn items_of(value: &Value) -> Option<&[Value]>
     ensures { MatchOption result ((vs : Items) → view value.now ≡ array vs → ⊥) (λ vs. view value.now ≡ array (items_view vs.now)) }
 {
     match value {
@@ -59,7 +59,7 @@ pub(crate) fn items_of(value: &Value) -> Option<&[Value]>
 }
 
 /// The members of the object that the value is.
-pub(crate) fn members_of(value: &Value) -> Option<&[(String, Value)]>
+pub fn members_of(value: &Value) -> Option<&[(String, Value)]>
     ensures { MatchOption result ((ms : Members) → view value.now ≡ object ms → ⊥) (λ ms. view value.now ≡ object (members_view ms.now)) }
 {
     match value {
@@ -113,7 +113,7 @@ pub(crate) fn one_member<'a>(value: &'a Value, name: &str) -> Option<&'a Value>
 }
 
 /// The values of the two members of the object, which have these names in this order.
-pub(crate) fn two_members<'a>(
+pub fn two_members<'a>(
     value: &'a Value,
     first: &str,
     second: &str,
@@ -171,7 +171,7 @@ pub(crate) fn number_at(value: &Value, name: &str, low: u32, high: u32) -> Optio
 }
 
 /// The values of the four members of the object, which have these names in this order.
-pub(crate) fn four_members<'a>(
+pub fn four_members<'a>(
     value: &'a Value,
     first: &str,
     second: &str,

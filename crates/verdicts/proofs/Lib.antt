@@ -1,5 +1,9 @@
 mod FirstLine
 mod Hexes
 mod Leaves
+mod Parts
+mod Ruled
+mod RulesWord
 mod Signing
 mod SoFar
+mod StepNames

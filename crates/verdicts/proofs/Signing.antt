@@ -1,7 +1,7 @@
 -- The words of a line that begins with `sign`.
 use Rattle.std.proofs.Common.{◌≡◌, ◌⊎◌, ℕ, ◌≤◌, ◌<◌, refl, ap, inl, inr, List, [], ◌∷◌, length, map, get_or, slice_index_or, Bor, codes, arith}
 use Rattle.verdicts.specs.declared.case.Case.{Case}
-use Rattle.verdicts.specs.declared.case.Case.TheVariants.{Json, Lms, Key, Sign, Calendar, Document, Asked, Match}
+use Rattle.verdicts.specs.declared.case.Case.TheVariants.{Json, Lms, Key, Sign, Calendar, Document, Asked, Match, Rules}
 use Rattle.verdicts.specs.declared.case.CaseFault.{CaseFault}
 use Rattle.verdicts.specs.declared.case.CaseFault.TheVariants.{NotUnderstood, OutOfMemory}
 use Rattle.verdicts.specs.Case.{IsCase, IsCaseFault}
@@ -36,5 +36,6 @@ no_message a b i s q m bad (Calendar text) is = let e = ap length is.0 in omega 
 no_message a b i s q m bad (Document kind bytes) is = let e = ap length is.0 in omega (arith, e)
 no_message a b i s q m bad (Asked text) is = let e = ap length is.0 in omega (arith, e)
 no_message a b i s q m bad (Match covering pattern path) is = let e = ap length is.0 in omega (arith, e)
+no_message a b i s q m bad (Rules part) is = let e = ap length is.1 in omega (arith, e)
 no_message a b i s q m bad (Sign seed params leaf message) is =
     bad message.items is.4 (ap (λ (ws : List (List ℕ)). get_or ws 6 []) is.0)

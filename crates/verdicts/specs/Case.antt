@@ -5,9 +5,10 @@ use Rattle.std.specs.Str.{IsUtf8}
 use Rattle.hex.specs.Hex.{IsBytes}
 use Rattle.metadata.specs.Shape.{kind_name}
 use Rattle.verdicts.specs.declared.case.Case.{Case}
-use Rattle.verdicts.specs.declared.case.Case.TheVariants.{Json, Lms, Key, Sign, Calendar, Document, Asked, Match}
+use Rattle.verdicts.specs.declared.case.Case.TheVariants.{Json, Lms, Key, Sign, Calendar, Document, Asked, Match, Rules}
 use Rattle.verdicts.specs.declared.case.CaseFault.{CaseFault}
 use Rattle.verdicts.specs.declared.case.CaseFault.TheVariants.{NotUnderstood, OutOfMemory}
+use Rattle.verdicts.specs.RuleCase.{rule_case_view, IsRuleText}
 use Rattle.verdicts.specs.Words.{hex_word, ots_word, height_word, covering_word}
 
 -- the words of a line, parted at each space
@@ -39,6 +40,8 @@ IsCase words (Asked text) = (words ≡ codes "asked" ∷ hex_word (string_bytes 
 IsCase words (Match covering pattern path) =
     (words ≡ codes "match" ∷ covering_word covering ∷ hex_word (string_bytes pattern) ∷ hex_word (string_bytes path) ∷ [])
     × IsText (string_bytes pattern) × IsText (string_bytes path)
+IsCase words (Rules part) =
+    (bytes : List ℕ) × (words ≡ codes "rules" ∷ hex_word bytes ∷ []) × IsBytes bytes × IsRuleText bytes (rule_case_view part)
 
 -- why words are no case
 abbrev pub IsCaseFault : List (List ℕ) → CaseFault → Type 0

@@ -1,4 +1,5 @@
 pub mod Words
+pub mod RuleCase
 pub mod Case
 pub mod Verdict
 pub mod Lines

@@ -1,6 +1,7 @@
 -- What a case comes to, and how that is printed.
 use Rattle.std.specs.Prelude.{◌≡◌, ◌<◌, ◌≤◌, ℕ, List, ◌++◌, codes, decimal, string_bytes, Option}
 use Rattle.hex.specs.Hex.{encode_lower}
+use Rattle.artifact_rules.specs.Rules.{RulesHold, RulesForbid, RulesRequire}
 use Rattle.canonical_json.specs.Json.{Json}
 use Rattle.canonical_json.specs.Spelling.{IsCanonical}
 use Rattle.canonical_json.specs.Faults.{IsReadFault}
@@ -27,8 +28,9 @@ use Rattle.verdicts.specs.declared.case.Case.TheVariants as cases
 use Rattle.verdicts.specs.declared.case.Covering.{Covering}
 use Rattle.verdicts.specs.declared.case.Covering.TheVariants.{Segmented, Flat, Prefix}
 use Rattle.verdicts.specs.declared.verdict.Verdict.{Verdict}
-use Rattle.verdicts.specs.declared.verdict.Verdict.TheVariants.{Canonical, NotCanonical, TooDeep, IntegerRange, Valid, Invalid, KeyId, Signed, LeafRange, Moment, NoMoment, Document, NoDocument, AsksFor, Covered, NotCovered, IllFormed}
+use Rattle.verdicts.specs.declared.verdict.Verdict.TheVariants.{Canonical, NotCanonical, TooDeep, IntegerRange, Valid, Invalid, KeyId, Signed, LeafRange, Moment, NoMoment, Document, NoDocument, AsksFor, Covered, NotCovered, IllFormed, Holds, Disallowed, Required, NoRule}
 use Rattle.verdicts.specs.Case.{IsCase, words_of}
+use Rattle.verdicts.specs.RuleCase.{RuleCase, rule_case_view, AreJudged, IsFirstNoRule}
 use Rattle.verdicts.specs.Words.{hex_word, digest_word}
 
 -- whether the bytes are the canonical text of a value, and else which fault they have
@@ -104,6 +106,14 @@ IsMatching covering pattern path NotCovered =
 IsMatching covering pattern path IllFormed = IsCovering covering pattern × IsTargetPath path → ⊥
 IsMatching covering pattern path verdict = ⊥
 
+-- whether the rules hold, or which fails first, or which words are no rule's
+abbrev pub IsRuling : RuleCase → Verdict → Type 0
+IsRuling c Holds = AreJudged c (λ link rules. RulesHold c.side link c.links rules)
+IsRuling c (Disallowed rule path) = AreJudged c (λ link rules. RulesForbid c.side link c.links rules rule (string_bytes path))
+IsRuling c (Required rule path) = AreJudged c (λ link rules. RulesRequire c.side link c.links rules rule (string_bytes path))
+IsRuling c (NoRule rule) = IsFirstNoRule c.rules rule
+IsRuling c verdict = ⊥
+
 -- the verdict on a case
 abbrev pub IsVerdict : Case → Verdict → Type 0
 IsVerdict (cases.Json part) verdict = IsReading part.items verdict
@@ -115,6 +125,7 @@ IsVerdict (cases.Document kind bytes) verdict = IsShaping kind bytes.items verdi
 IsVerdict (cases.Asked text) verdict = IsAsking (string_bytes text) verdict
 IsVerdict (cases.Match covering pattern path) verdict =
     IsMatching covering (string_bytes pattern) (string_bytes path) verdict
+IsVerdict (cases.Rules part) verdict = IsRuling (rule_case_view part) verdict
 
 -- the line writes a case down, and this is the verdict on it
 abbrev pub IsAnswer : List ℕ → Verdict → Type 0
@@ -139,3 +150,7 @@ text_of (AsksFor path digest) = string_bytes path ++ (codes " " ++ string_bytes 
 text_of Covered = codes "yes"
 text_of NotCovered = codes "no"
 text_of IllFormed = codes "ill"
+text_of Holds = codes "holds"
+text_of (Disallowed rule path) = codes "disallowed " ++ (decimal rule ++ (codes " " ++ string_bytes path))
+text_of (Required rule path) = codes "required " ++ (decimal rule ++ (codes " " ++ string_bytes path))
+text_of (NoRule rule) = codes "no_rule " ++ decimal rule

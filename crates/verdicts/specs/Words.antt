@@ -7,6 +7,8 @@ use Rattle.lms.specs.declared.OtsType.{OtsType}
 use Rattle.lms.specs.declared.OtsType.TheVariants.{W1, W2, W4, W8}
 use Rattle.lms.specs.declared.SigningHeight.{SigningHeight}
 use Rattle.lms.specs.declared.SigningHeight.TheVariants.{H5, H10}
+use Rattle.metadata.specs.declared.documents.ShapeFault.{ShapeFault}
+use Rattle.metadata.specs.declared.documents.ShapeFault.TheVariants as shape_faults
 use Rattle.verdicts.specs.declared.case.Covering.{Covering}
 use Rattle.verdicts.specs.declared.case.Covering.TheVariants.{Segmented, Flat, Prefix}
 use Rattle.verdicts.specs.declared.case.CaseFault.{CaseFault}
@@ -45,3 +47,8 @@ fault_of hex_errors.OutOfMemory = OutOfMemory
 fault_of hex_errors.OddLength = NotUnderstood
 fault_of hex_errors.InvalidStringLength = NotUnderstood
 fault_of (hex_errors.InvalidHexCharacter c i) = NotUnderstood
+
+-- what a fault of a part of a document comes to
+abbrev pub fault_of_shape : ShapeFault → CaseFault
+fault_of_shape shape_faults.OutOfMemory = OutOfMemory
+fault_of_shape fault = NotUnderstood

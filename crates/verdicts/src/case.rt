@@ -1,11 +1,13 @@
-ghost use Rattle.std.specs.Prelude.{◌≡◌, ◌∷◌, IfOk, IfErr, codes, map};
+ghost use Rattle.std.specs.Prelude.{◌≡◌, ◌∷◌, [], IfOk, IfErr, codes, map};
 ghost use Rattle.verdicts.specs.Case.{words_of, IsCase, IsCaseFault};
 
+use crate::rule_case::RuleCase;
+use crate::rule_text::rule_case_of;
 use crate::words::{array_of, bytes_of, covering_of, height_of, kind_of, leaf_of, ots_of, text_of};
 use hex::FromHexError;
 use lms::{Params, Seed};
-use metadata::Kind;
-use std::alloc::{AllocError, Global};
+use metadata::{Kind, ShapeFault};
+use std::alloc::{AllocError, AllocFailed, Global};
 
 /// One line, taken apart.
 #[derive(Drop)]
@@ -42,6 +44,8 @@ pub enum Case {
         pattern: String,
         path: String,
     },
+    /// `rules HEX`: do these artifact rules hold of this link?
+    Rules(RuleCase),
 }
 
 /// How a path is covered.
@@ -70,6 +74,31 @@ impl From<AllocError> for CaseFault {
 
     fn from(_: AllocError) -> Self {
         CaseFault::OutOfMemory
+    }
+}
+
+impl<T: Drop> From<AllocFailed<T>> for CaseFault {
+    ghost use Rattle.std.specs.Prelude.{◌≡◌};
+    ghost use Rattle.verdicts.specs.declared.case.CaseFault.TheVariants.{OutOfMemory};
+
+    ghost from_gives = { λ _ e. e ≡ OutOfMemory };
+
+    fn from(_: AllocFailed<T>) -> Self {
+        CaseFault::OutOfMemory
+    }
+}
+
+impl From<ShapeFault> for CaseFault {
+    ghost use Rattle.std.specs.Prelude.{◌≡◌};
+    ghost use Rattle.verdicts.specs.Words.{fault_of_shape};
+
+    ghost from_gives = { λ error fault. fault ≡ fault_of_shape error };
+
+    fn from(error: ShapeFault) -> Self {
+        match error {
+            ShapeFault::OutOfMemory => CaseFault::OutOfMemory,
+            _ => CaseFault::NotUnderstood,
+        }
     }
 }
 
@@ -113,6 +142,8 @@ impl Case {
             asked_case(alloc, parts)
         } else if *kind == b"match".as_slice() {
             match_case(alloc, parts)
+        } else if *kind == b"rules".as_slice() {
+            rules_case(alloc, parts)
         } else {
             Err(CaseFault::NotUnderstood)
         }
@@ -236,4 +267,24 @@ fn match_case(alloc: Global, parts: &[&[u8]]) -> Result<Case, CaseFault>
         pattern: text_of(alloc, pattern)?,
         path: text_of(alloc, path)?,
     })
+}
+
+// The same for `rules`.
+fn rules_case(alloc: Global, parts: &[&[u8]]) -> Result<Case, CaseFault>
+    ensures case { IfOk result (IsCase (codes "rules" ∷ map (λ w. w.now) parts.now)) }
+    ensures fault { IfErr result (IsCaseFault (codes "rules" ∷ map (λ w. w.now) parts.now)) }
+{
+    let [text] = parts else {
+        return Err(CaseFault::NotUnderstood);
+    };
+    rules_of_word(alloc, text)
+}
+
+// The case whose word stands behind `rules`.
+fn rules_of_word(alloc: Global, word: &[u8]) -> Result<Case, CaseFault>
+    ensures case { IfOk result (IsCase (codes "rules" ∷ word.now ∷ [])) }
+    ensures fault { IfErr result (IsCaseFault (codes "rules" ∷ word.now ∷ [])) }
+{
+    let part = rule_case_of(alloc, word)?;
+    Ok(Case::Rules(part))
 }

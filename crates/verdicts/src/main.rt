@@ -5,6 +5,9 @@ mod case;
 mod covering;
 mod failure;
 mod lines;
+mod rule_case;
+mod rule_text;
+mod ruling;
 mod verdict;
 mod words;
 

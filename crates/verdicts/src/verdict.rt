@@ -6,6 +6,7 @@ ghost use Rattle.verdicts.specs.Words.{hex_word};
 
 use crate::case::{Case, CaseFault};
 use crate::covering::matching;
+use crate::ruling::ruling;
 use canonical_json::ReadFault;
 use keys_roles::{Key, key_id};
 use lms::{Params, Seed, SignFault, Steps, public_of, sign, verify_counted};
@@ -44,6 +45,14 @@ pub enum Verdict {
     NotCovered,
     /// One of the texts is no pattern, no prefix or no path.
     IllFormed,
+    /// No artifact rule fails.
+    Holds,
+    /// The first rule that fails, by its place, is a DISALLOW that matches this path.
+    Disallowed { rule: usize, path: String },
+    /// It is a REQUIRE of this path.
+    Required { rule: usize, path: String },
+    /// The words of this place are no rule.
+    NoRule(usize),
 }
 
 impl fmt::Display for Verdict {
@@ -71,6 +80,10 @@ impl fmt::Display for Verdict {
             Verdict::Covered => f.write_str("yes"),
             Verdict::NotCovered => f.write_str("no"),
             Verdict::IllFormed => f.write_str("ill"),
+            Verdict::Holds => f.write_str("holds"),
+            Verdict::Disallowed { rule, path } => write!(f, "disallowed {rule} {path}"),
+            Verdict::Required { rule, path } => write!(f, "required {rule} {path}"),
+            Verdict::NoRule(rule) => write!(f, "no_rule {rule}"),
         }
     }
 }
@@ -124,6 +137,7 @@ pub fn judge(alloc: Global, case: &Case) -> Result<Verdict, AllocError>
             pattern,
             path,
         } => matching(alloc, *covering, pattern, path),
+        Case::Rules(part) => ruling(alloc, part),
     }
 }
 
