@@ -14,7 +14,7 @@ use Rattle.metadata.specs.Documents.{Targets, MetaFile}
 use Rattle.metadata.specs.File.{Name, Names, File}
 use Rattle.delegations.specs.Rows.{Place, named_row, row_at, same_place, value_at}
 use Rattle.delegations.specs.Search.{Shelf, doc}
-use Rattle.delegations.specs.Verdicts.{Table, known_at, AreTrue, AreOfRows, IsWanted, AreFew, IsComplete, most_verdicts, verdict_count}
+use Rattle.delegations.specs.Verdicts.{Table, known_at, AreTrue, AreListed, AreOfRows, IsWanted, AreFew, IsComplete, most_verdicts, verdict_count}
 use Rattle.delegations.specs.steps.Gathering.{IsRow, AreGathered}
 use Rattle.delegations.proofs.Gathered.{count_more, or_none, roles_distinct}
 use Rattle.delegations.proofs.KeyOrder.{place_one}
@@ -29,6 +29,10 @@ module _ (V : Shelf) where
   pub all_of_rows : (T : Table) → AllByRecursion (IsRow V) T → AreOfRows V.rows T
   all_of_rows [] h = tt
   all_of_rows (row ∷ T) h = (is_some_of (row_at V.rows row.0.0 row.0.1) h.0.file h.0.stands, all_of_rows T h.1)
+
+  pub all_listed : (T : Table) → AllByRecursion (IsRow V) T → AreListed V.listing T
+  all_listed [] h = tt
+  all_listed (row ∷ T) h = (h.0.listed, all_listed T h.1)
 
   row_tells : (row : Place × List Verdict) (T : Table) (role : Name) (version : ℕ) (file : File Targets) → IsRow V row → row_at V.rows role version ≡ Some file
       → AreVerdicts file.signed file.entries (known_at T (role, version)) → (b : Bool) → same_place row.0 (role, version) ≡ b

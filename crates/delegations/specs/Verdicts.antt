@@ -3,7 +3,7 @@ use Rattle.std.specs.Prelude.{◌≡◌, ℕ, ◌+◌, ◌≤◌, List, [], ◌�
 use Rattle.std.specs.List.{AllByRecursion}
 use Rattle.keys_roles.specs.Plain.{look_up}
 use Rattle.keys_roles.specs.Verdicts.{Pair, Verdict, AreVerdicts, is_known, pairs, unknown}
-use Rattle.metadata.specs.Documents.{Targets, Delegation, Delegations}
+use Rattle.metadata.specs.Documents.{Targets, MetaFile, Delegation, Delegations}
 use Rattle.metadata.specs.File.{Bytes, Name, File}
 use Rattle.delegations.specs.Delegation.{Edge}
 use Rattle.delegations.specs.Rows.{Place, Rows, row_at, same_place, value_at}
@@ -31,6 +31,10 @@ AreTrue rows T = (role : Name) (version : ℕ) (file : File Targets) → row_at 
 -- each row that the table names stands on the shelf
 abbrev pub AreOfRows : Rows → Table → Type 0
 AreOfRows rows T = AllByRecursion (λ row. IsSome (row_at rows row.0.0 row.0.1)) T
+
+-- each row that the table names is at the version that the snapshot lists
+abbrev pub AreListed : List (Name × MetaFile) → Table → Type 0
+AreListed listing T = AllByRecursion (λ row. option_map (λ m. m.version) (look_up listing row.0.0) ≡ Some row.0.1) T
 
 module _ (V : Shelf) where
   -- an edge by which a search may judge a role's document: the root's into `targets`, and those of the documents on the shelf

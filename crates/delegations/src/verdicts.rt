@@ -8,7 +8,7 @@ ghost use Rattle.metadata.specs.File as files;
 ghost use Rattle.metadata.specs.FileViews.{targets_file};
 ghost use Rattle.delegations.specs.Rows.{AllFiles, row_at, same_place, value_at};
 ghost use Rattle.delegations.specs.Search.{doc};
-ghost use Rattle.delegations.specs.Verdicts.{AreOfRows, AreTrue, IsComplete, known_at};
+ghost use Rattle.delegations.specs.Verdicts.{AreListed, AreOfRows, AreTrue, IsComplete, known_at};
 ghost use Rattle.delegations.specs.Views.{edge_view, held_rows, known_row, row_views, rows_view, shelf_view, table_view};
 ghost use Rattle.delegations.specs.steps.Gathering.{AreEdges, IsRow};
 
@@ -106,6 +106,7 @@ pub fn all_verdicts(alloc: Global, shelf: &Shelf, held: &Verdicts) -> Result<Ver
     requires few { AllFiles (λ f. length f.entries ≤ 16) (shelf_view shelf.now).rows }
     ensures sound { IfOk result (λ t. AreTrue (shelf_view shelf.now).rows t) }
     ensures rows { IfOk result (λ t. AreOfRows (shelf_view shelf.now).rows t) }
+    ensures listed { IfOk result (λ t. AreListed (shelf_view shelf.now).listing t) }
     ensures complete { IfOk result (λ t. IsComplete (shelf_view shelf.now) t) }
 {
     let edges = all_edges(alloc, shelf)?;

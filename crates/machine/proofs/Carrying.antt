@@ -56,6 +56,14 @@ pub ok_all : {A E : Type 0} (P Q R S : A → Type 0) (r : Result A E) → ((x : 
 ok_all P Q R S (Ok x) so p q r = so x p q r
 ok_all P Q R S (Err e) so p q r = tt
 
+pub ok_two : {A E : Type 0} (P Q R : A → Type 0) (r : Result A E) → ((x : A) → P x → Q x → R x) → IfOk r P → IfOk r Q → IfOk r R
+ok_two P Q R (Ok x) so p q = so x p q
+ok_two P Q R (Err e) so p q = tt
+
+pub ok_one : {A E : Type 0} (P Q : A → Type 0) (r : Result A E) → ((x : A) → P x → Q x) → IfOk r P → IfOk r Q
+ok_one P Q (Ok x) so p = so x p
+ok_one P Q (Err e) so p = tt
+
 -- no document of what is trusted has more than 16 signatures
 few_in : (rows : Rows) → AllByRecursion IsShelfRow rows → AllFiles (λ f. length f.entries ≤ 16) rows
 few_in [] all = tt

@@ -1,5 +1,5 @@
 -- What changes make of a state.
-use Rattle.std.proofs.Common.{◌≡◌, List, [], ◌∷◌, Bool, true, false, cond, IsTrue, Option, Some, None, Ok, Err, refl, sym, ap, ◌∙◌, subst}
+use Rattle.std.proofs.Common.{◌≡◌, List, [], ◌∷◌, Bool, true, false, cond, bytes_eq, IsTrue, Option, Some, None, Ok, Err, refl, sym, ap, ◌∙◌, subst}
 use Rattle.std.specs.Prelude.{IsNone, IfNone, is_some, option_map}
 use Rattle.metadata.specs.Documents.{Root, Timestamp, Snapshot}
 use Rattle.delegations.specs.Rows.{Rows}
@@ -11,15 +11,22 @@ use Rattle.machine.specs.declared.refusal.Refusal.{Refusal}
 use Rattle.machine.specs.State.{Trusted, State, nothing_trusted, AreCoherent}
 use Rattle.machine.specs.Commands.{with_root, init}
 use Rattle.machine.specs.Effects as changes
-use Rattle.machine.specs.Effects.{applied, brought, no_effects, with_blobs, on_state}
+use Rattle.machine.specs.Effects.{Gone, applied, brought, no_effects, nothing_gone, with_blobs, without, on_state}
 
--- changes without blobs
-pub trusted_alone : (S : State) (E : changes.Effects) → E.blobs ≡ [] → applied S E ≡ record S { trusted = brought S.trusted E }
-trusted_alone S E e = ap (λ (bs : List (Bytes × Bytes)). record S { trusted = brought S.trusted E; blobs = with_blobs S.blobs bs }) e
+-- changes without blobs, and without what goes
+abbrev pub OfTrustAlone : changes.Effects → Type 0
+OfTrustAlone E = (E.blobs ≡ []) × (E.gone ≡ nothing_gone)
+
+same_blobs : (blobs : List (Bytes × Bytes)) (E : changes.Effects) → OfTrustAlone E → with_blobs (without bytes_eq blobs E.gone.blobs) E.blobs ≡ blobs
+same_blobs blobs E e =
+    ap (λ (g : Gone). with_blobs (without bytes_eq blobs g.blobs) E.blobs) e.1 ∙ ap (λ (bs : List (Bytes × Bytes)). with_blobs blobs bs) e.0
+
+pub trusted_alone : (S : State) (E : changes.Effects) → OfTrustAlone E → applied S E ≡ record S { trusted = brought S.trusted E }
+trusted_alone S E e = ap (λ (bs : List (Bytes × Bytes)). record S { trusted = brought S.trusted E; blobs = bs }) (same_blobs S.blobs E e)
 
 -- what an offer gives, on the whole state
-pub on_whole : (S : State) (E : changes.Effects) (m : Order Trusted) → E.blobs ≡ [] → m (Ok (brought S.trusted E)) → on_state S m (Ok (applied S E))
-on_whole S E m e h = (h, ap (λ (bs : List (Bytes × Bytes)). with_blobs S.blobs bs) e)
+pub on_whole : (S : State) (E : changes.Effects) (m : Order Trusted) → OfTrustAlone E → m (Ok (brought S.trusted E)) → on_state S m (Ok (applied S E))
+on_whole S E m e h = (h, same_blobs S.blobs E e)
 
 -- the state that begins with this root
 pub first_root : (S : State) (new : File Root) → S.trusted ≡ nothing_trusted → S.blobs ≡ []

@@ -5,7 +5,8 @@ use Rattle.metadata.specs.File.{Bytes}
 use Rattle.denials.specs.Orders.{Judged, Denial, Denied, Same, pass, decide, given, judges}
 use Rattle.machine.specs.State.{Trusted, State, IsCoherent}
 use Rattle.machine.specs.Commands.{Offer, Batched, BatchOrder, coherent, incoherent, going_on, batch_from, init, put_blob}
-use Rattle.machine.specs.Runs.{Init, Batch, OfferOne, PutBlob, Metadata, Target, Reply, Outcome, settled, batch_outcome, Leads, leads, StaysCoherent}
+use Rattle.machine.proofs.PrunedStates.{prune_coherent}
+use Rattle.machine.specs.Runs.{Init, Batch, OfferOne, PutBlob, Prune, Metadata, Target, Reply, Outcome, settled, batch_outcome, Leads, leads, StaysCoherent}
 
 abbrev IfCoherent : Judged State → Type 0
 IfCoherent j = IfOk j (λ S. IsCoherent S.trusted)
@@ -73,6 +74,7 @@ stays_coherent S T (Batch os) now reply u c h =
     let w = led _ _ _ h in subst Kept w.2 (batched-coherent S w.0 c (batch-coherent _ 0 os now w.0 w.1))
 stays_coherent S T (OfferOne o b) now reply u c h = absurd (u tt)
 stays_coherent S T (PutBlob digest b) now reply u c h = by_change S _ _ _ _ (λ T. refl) c (put-coherent S digest b c) h
+stays_coherent S T Prune now reply u c h = by_change S _ _ _ _ (λ T. refl) c (prune_coherent S c) h
 stays_coherent S T (Metadata name) now reply u c h = subst Kept (sym h) c
 stays_coherent S T (Target path asked) now reply u c h =
     let w = led _ _ _ h in subst Kept w.2 (settled-coherent S _ _ w.0 c (λ a e. c))

@@ -1,5 +1,5 @@
 -- States without their blobs' bytes.
-use Rattle.std.proofs.Common.{◌≡◌, ℕ, List, [], ◌∷◌, length, Bool, true, false, Option, Some, None, refl, sym, ap, ◌∙◌, subst}
+use Rattle.std.proofs.Common.{◌≡◌, ℕ, List, [], ◌∷◌, filter, length, not, Bool, true, false, Option, Some, None, refl, sym, ap, ◌∙◌, subst}
 use Rattle.std.proofs.lemmas.Bool.{true≢false}
 use Rattle.std.proofs.lemmas.List.{length-map}
 use Rattle.std.proofs.lemmas.List.Elements.{recursion_from_All, All-from_recursion}
@@ -12,7 +12,8 @@ use Rattle.delegations.specs.Rows.{Rises, value_at, with_row}
 use Rattle.delegations.specs.steps.Rising.{comes_first, rises}
 use Rattle.delegations.proofs.KeyOrder.{orders_bytes}
 use Rattle.delegations.proofs.RisingKeys.{rises_tells}
-use Rattle.machine.specs.Effects.{Effects, applied, brought, with_blobs}
+use Rattle.machine.proofs.GoneKeys.{map_filter}
+use Rattle.machine.specs.Effects.{Effects, applied, brought, with_blobs, without}
 use Rattle.contents.specs.Contents.{lengths_of}
 use Rattle.machine.specs.Held.{Held, IsHeld, held_of, held_with, length_at, with_lengths}
 use Rattle.machine.specs.steps.Permitting.{bytes_at}
@@ -33,8 +34,15 @@ lengths_with rows [] = refl
 lengths_with rows (b ∷ bs) =
     lengths_with (with_row before rows b.0 b.1) bs ∙ ap (λ (l : List (Bytes × ℕ)). with_lengths l bs) (one_more rows b.0 b.1)
 
+lengths_left : (rows : List (Bytes × Bytes)) (keys : List Bytes) → lengths_of (without bytes_eq rows keys) ≡ without bytes_eq (lengths_of rows) keys
+lengths_left rows [] = refl
+lengths_left rows (key ∷ keys) =
+    lengths_left (filter (λ b. not (bytes_eq b.0 key)) rows) keys
+    ∙ ap (λ (l : List (Bytes × ℕ)). without bytes_eq l keys) (map_filter (λ (b : Bytes × Bytes). (b.0, length b.1)) (λ (b : Bytes × ℕ). not (bytes_eq b.0 key)) rows)
+
 pub held_applied : (S : State) (E : Effects) → held_of (applied S E) ≡ held_with (held_of S) E
-held_applied S E = ap (λ (l : List (Bytes × ℕ)). record { trusted = brought S.trusted E; blobs = l }) (lengths_with S.blobs E.blobs)
+held_applied S E = ap (λ (l : List (Bytes × ℕ)). record { trusted = brought S.trusted E; blobs = l })
+    (lengths_with (without bytes_eq S.blobs E.gone.blobs) E.blobs ∙ ap (λ (l : List (Bytes × ℕ)). with_lengths l E.blobs) (lengths_left S.blobs E.gone.blobs))
 
 -- digests rise as they did
 same_first : (key : Bytes) (rows : List (Bytes × Bytes)) → comes_first before key (lengths_of rows) ≡ comes_first before key rows

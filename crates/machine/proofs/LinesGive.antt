@@ -1,9 +1,12 @@
 -- What an order gives, from what its lines give.
 use Rattle.std.proofs.Common.{◌≡◌, ℕ, Option, Some, None, Ok, refl}
 use Rattle.std.specs.Prelude.{IfOk}
+use Rattle.metadata.specs.Documents.{Root}
 use Rattle.metadata.specs.File.{Bytes, File, Form, IsFileOf}
 use Rattle.denials.specs.Orders.{Denial, Judged, Order, pass, decide, holds, fails, differs, same, given, stopped, ◌>>=◌, give, check, need_or, same_if}
 use Rattle.metadata.specs.Shaped.{reads, faulty, shaped}
+use Rattle.machine.specs.Commands.{live_snapshot}
+use Rattle.machine.specs.State.{Trusted}
 
 -- whatever value it gives is such a one
 pub record Gives {A : Type 0} (P : A → Type 0) (m : Order A) : Type 0 where
@@ -55,3 +58,11 @@ read form b f h = shaped_each form b (Ok f) h
 
 pub given_by : {A : Type 0} (P : A → Type 0) (m : Order A) (a : A) → Gives P m → m (Ok a) → P a
 given_by P m a g h = g.each (Ok a) h
+
+-- the snapshot that is live is the one that is held
+pub live_gives : (T : Trusted) (root : File Root) (now : ℕ) → Gives (λ snap. T.snapshot ≡ Some snap) (live_snapshot T.timestamp T.snapshot root now)
+live_gives T root now =
+    line (λ stamp h.
+    line (λ snap at.
+    line (λ _ k.
+    line (λ _ l. gives snap (needed _ T.snapshot snap at)))))

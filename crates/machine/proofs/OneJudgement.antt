@@ -6,8 +6,8 @@ use Rattle.denials.specs.Orders.{Order, Judged, Denied, Same}
 use Rattle.delegations.specs.Delegation.{Edge}
 use Rattle.delegations.specs.Search.{Shelf, Found, visit, find_in, found_or, listing_of, search, shelf_of}
 use Rattle.machine.specs.State.{Trusted, State}
-use Rattle.machine.specs.Commands.{kept, rotated, after_root, live_timestamp, live_snapshot, after_timestamp, after_snapshot, named_snapshot, named_targets, placed, Offer, RootOffer, TimestampOffer, SnapshotOffer, TargetsOffer, init, offer_root, offer_timestamp, offer_snapshot, offer_targets, offer, put_blob, Batched, BatchOrder, Ended, coherent, incoherent, going_on, batch_from, batch, blob_of, grants}
-use Rattle.machine.specs.Runs.{Outcome, Command, Init, Batch, OfferOne, PutBlob, Metadata, Target, Leads, leads, Steps}
+use Rattle.machine.specs.Commands.{kept, rotated, after_root, live_timestamp, live_snapshot, after_timestamp, after_snapshot, named_snapshot, named_targets, placed, Offer, RootOffer, TimestampOffer, SnapshotOffer, TargetsOffer, init, offer_root, offer_timestamp, offer_snapshot, offer_targets, offer, prune, put_blob, Batched, BatchOrder, Ended, coherent, incoherent, going_on, batch_from, batch, blob_of, grants}
+use Rattle.machine.specs.Runs.{Outcome, Command, Init, Batch, OfferOne, PutBlob, Prune, Metadata, Target, Leads, leads, Steps}
 use Rattle.machine.proofs.DefiniteOrders.{Definite, check-definite, same_if-definite, give-definite, stop-definite, need_or-definite, judged-definite}
 use Rattle.machine.proofs.ShapedOnce.{Shapes, line, shaped-definite, root-tells, timestamp-tells, snapshot-tells, targets-tells}
 
@@ -65,6 +65,9 @@ blob-definite S digest b =
     line (check-definite _ _) (λ _.
     line (same_if-definite _) (λ _.
     line (check-definite _ _) (λ _. give-definite _)))))
+
+pub prune-definite : (S : State) → Definite (prune S)
+prune-definite S = line (check-definite _ _) (λ _. give-definite _)
 
 -- ---- searches
 
@@ -188,5 +191,6 @@ module _ (law : Shapes) where
   steps-definite S (Batch os) now = leads-definite _ _ (batch-definite S.trusted os now)
   steps-definite S (OfferOne o b) now = leads-definite _ _ (offer-definite law S.trusted o b now)
   steps-definite S (PutBlob digest b) now = leads-definite _ _ (blob-definite S digest b)
+  steps-definite S Prune now = leads-definite _ _ (prune-definite S)
   steps-definite S (Metadata name) now = λ r q h k. h ∙ sym k
   steps-definite S (Target path asked) now = leads-definite _ _ (grants-definite S path asked now)

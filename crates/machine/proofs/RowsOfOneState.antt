@@ -13,7 +13,7 @@ use Rattle.metadata.specs.Documents.{Root, Targets}
 use Rattle.metadata.specs.File.{root_form, timestamp_form, snapshot_form, targets_form}
 use Rattle.delegations.specs.Rows.{Place, Rows}
 use Rattle.machine.specs.State.{Trusted, State, IsRootChain, IsHeldUnder, IsShelfRow, IsState, MeetsTop, first, then, nothing_trusted, root_version}
-use Rattle.machine.specs.Effects.{Effects, applied, last_or, no_effects}
+use Rattle.machine.specs.Effects.{Gone, nothing_gone, Effects, applied, last_or, no_effects}
 use Rattle.machine.specs.steps.Loading.{AreRead, FollowOn, IsChain, RowsAreRead, laid}
 use Rattle.machine.specs.Contents.{contents_of, numbered, root_rows, shelf_rows}
 use Rattle.contents.specs.Contents.{Contents}
@@ -256,7 +256,7 @@ module _ (law : Shapes) where
       let c = chain_files held.chain in
       let ends = (back law held.chain c.files c.are c.read).1 in
       files_held S
-      (record { roots = c.files; emptied = false; timestamp = S.trusted.timestamp; snapshot = S.trusted.snapshot; rows = S.trusted.shelf; blobs = S.blobs })
+      (record { roots = c.files; emptied = false; timestamp = S.trusted.timestamp; snapshot = S.trusted.snapshot; rows = S.trusted.shelf; blobs = S.blobs; gone = nothing_gone })
       s (same_state _ _ _ _ _ _ _ _ _ _ _ _ c.are (ends ∙ sym e) refl refl refl refl)
       (record {
         roots = c.read;
@@ -343,7 +343,8 @@ module _ (law : Shapes) where
 
 -- ---- the files of the rows of the metadata, and the blobs
 
-pub with_blobs_stored : {C : Contents} {E : Effects} {blobs : List (Bytes × Bytes)} → AreStored (record C { blobs = [] }) E → blobs ≡ C.blobs → AreStored C (record E { blobs = blobs })
+pub with_blobs_stored : {C : Contents} {E : Effects} {blobs : List (Bytes × Bytes)} {gone : Gone} → AreStored (record C { blobs = [] }) E → blobs ≡ C.blobs
+    → AreStored C (record E { blobs = blobs; gone = gone })
 with_blobs_stored h e = record { roots = h.roots; timestamp = h.timestamp; snapshot = h.snapshot; shelf = h.shelf; blobs = e }
 
 pub without_blobs_stored : {C : Contents} {E : Effects} → AreStored C E → AreStored (record C { blobs = [] }) (record E { blobs = [] })

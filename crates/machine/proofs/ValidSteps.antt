@@ -18,12 +18,13 @@ use Rattle.delegations.specs.Rows.{Place, place_before, same_place, with_row, ro
 use Rattle.machine.specs.State.{Trusted, State, nothing_trusted, nothing, blob_at, MeetsTop, FollowsRoot, first, then, IsShelfRow, IsBlob, IsHeldUnder, IsTrusted, IsState}
 use Rattle.limits.specs.Limits.{most_held, blob_limit}
 use Rattle.machine.specs.Commands.{KeepsRoles, with_root, emptied, kept, rotated, after_root, live_snapshot, named_snapshot, named_targets, Offer, RootOffer, TimestampOffer, SnapshotOffer, TargetsOffer, init, offer_root, offer_timestamp, offer_snapshot, offer_targets, offer, put_blob, Batched, BatchOrder, coherent, incoherent, going_on, batch_from, batch}
-use Rattle.machine.specs.Runs.{Command, Reply, Outcome, Init, Batch, OfferOne, PutBlob, Metadata, Target, with_trusted, settled, batch_outcome, Steps, Runs, done, next}
+use Rattle.machine.specs.Runs.{Command, Reply, Outcome, Init, Batch, OfferOne, PutBlob, Prune, Metadata, Target, with_trusted, settled, batch_outcome, Steps, Runs, done, next}
 use Rattle.machine.proofs.CoherentSteps.{led}
-use Rattle.machine.proofs.LinesGive.{checked_each, Gives, line, gives, checked, differed, needed, read, given_by}
+use Rattle.machine.proofs.LinesGive.{live_gives, checked_each, Gives, line, gives, checked, differed, needed, read, given_by}
 use Rattle.delegations.proofs.KeyOrder.{orders_bytes, orders_places}
 use Rattle.delegations.proofs.RisingKeys.{none_rise}
 use Rattle.delegations.proofs.Walk.{by_test}
+use Rattle.machine.proofs.PrunedStates.{prune_each}
 use Rattle.machine.proofs.RowsInOrder.{all_with_row, length_with_row, rises_with_row}
 
 -- ---- rules that stay
@@ -249,13 +250,6 @@ listed_of (row ∷ rows) role entry all at = by_test (bytes_eq row.0 role)
     (λ t. subst (λ (z : Name). IsName z × IsListable z) ((bytes_eq-Decides row.0 role).0 t) all.0)
     (λ f. listed_of rows role entry all.1 (rw f at at))
 
-live_gives : (T : Trusted) (root : File Root) (now : ℕ) → Gives (λ snap. T.snapshot ≡ Some snap) (live_snapshot T.timestamp T.snapshot root now)
-live_gives T root now =
-    line (λ stamp h.
-    line (λ snap at.
-    line (λ _ k.
-    line (λ _ l. gives snap (needed _ T.snapshot snap at)))))
-
 after_each : (T : Trusted) (old new : File Root) → (KeepsRoles old.body new.body → Left (with_root T new)) → Left (emptied (with_root T new))
     → (j : Judged Trusted) → after_root T old new j → IfOk j Left
 after_each T old new keeps empties _ (kept h) = keeps h
@@ -425,6 +419,8 @@ module _ (law : ListsNames) where
       (if_ok Left (λ U. IsState (with_trusted S U)) w.0 (λ U left. left_valid S U v left) ((offer_gives law S.trusted o b now v.trusted).each w.0 w.1)))
   steps_valid S T (PutBlob digest b) now reply v h =
       let w = led _ _ _ h in subst Stands w.2 (settled_valid S _ _ w.0 v ((put_gives S digest b v).each w.0 w.1))
+  steps_valid S T Prune now reply v h =
+      let w = led _ _ _ h in subst Stands w.2 (settled_valid S _ _ w.0 v (prune_each S v w.0 w.1))
   steps_valid S T (Metadata name) now reply v h = subst Stands (sym h) v
   steps_valid S T (Target path asked) now reply v h =
       let w = led _ _ _ h in subst Stands w.2 (settled_valid S _ _ w.0 v (kept_by S w.0 v))

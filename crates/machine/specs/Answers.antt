@@ -1,9 +1,9 @@
 -- What a call's answer says of its order of checks.
-use Rattle.std.specs.Prelude.{◌≡◌, ℕ, Result, Ok, Err}
+use Rattle.std.specs.Prelude.{◌≡◌, ℕ, ◌-◌, length, Result, Ok, Err}
 use Rattle.denials.specs.Orders as orders
 use Rattle.denials.specs.Orders.{Order, Plain, Same}
 use Rattle.machine.specs.State.{State, IsState}
-use Rattle.machine.specs.Commands.{BatchOrder}
+use Rattle.machine.specs.Commands.{BatchOrder, GrantAlike}
 use Rattle.machine.specs.Effects.{applied, brought}
 use Rattle.denials.specs.Views.{denial_view}
 use Rattle.machine.specs.Views.{effects_view}
@@ -30,6 +30,20 @@ pub data Answers (S : State) (m : Order State) : Result Outcome Refusal → Type
   unchanged : m (Err Same) → Answers S m (Ok outcomes.Same)
   refused : {d : Denial} → m (Err (orders.Denied (denial_view d))) → Answers S m (Err (Denied d))
   unanswered : Answers S m (Err OutOfMemory)
+
+-- after the changes, each request for a target has the same end as before
+abbrev pub ChangesNoGrant : State → Result Outcome Refusal → Type 0
+ChangesNoGrant S (Ok (Changed e)) = GrantAlike S (applied S (effects_view e))
+ChangesNoGrant S (Ok outcomes.Same) = Unit {0}
+ChangesNoGrant S (Err refusal) = Unit {0}
+
+-- by the changes, as many rows of the shelf and as many blobs go as they name
+abbrev pub CountsGone : State → Result Outcome Refusal → Type 0
+CountsGone S (Ok (Changed e)) =
+    (length S.trusted.shelf - length (applied S (effects_view e)).trusted.shelf ≡ length e.gone.rows.items)
+    × (length S.blobs - length (applied S (effects_view e)).blobs ≡ length e.gone.blobs.items)
+CountsGone S (Ok outcomes.Same) = Unit {0}
+CountsGone S (Err refusal) = Unit {0}
 
 -- what a batch has done by its end, or the first denial with its index
 pub data AnswersBatch (S : State) (m : BatchOrder) : Result Batched BatchRefusal → Type 0 where

@@ -1,6 +1,6 @@
 -- The trust machine: what each command is judged by, and what it leaves.
-use Rattle.std.specs.Prelude.{◌≡◌, ℕ, suc, ◌+◌, ◌<◌, ◌≤◌, List, [], ◌∷◌, ◌++◌, length, Option, Some, None, Result, Ok, Err, IfSome, IsNone, IsSome, option_map, bytes_eq, codes, if◌then◌else◌}
-use Rattle.std.specs.List.{AllByRecursion}
+use Rattle.std.specs.Prelude.{◌≡◌, ℕ, suc, ◌+◌, ◌<◌, ◌≤◌, List, [], ◌∷◌, ◌++◌, length, filter, Bool, false, ◌↔◌, Option, Some, None, Result, Ok, Err, IfSome, IsNone, IsSome, option_map, bytes_eq, codes, if◌then◌else◌}
+use Rattle.std.specs.List.{AllByRecursion, list_any}
 use Rattle.keys_roles.specs.Plain.{look_up}
 use Rattle.keys_roles.specs.Rules.{SameRule}
 use Rattle.metadata.specs.Documents.{Root, Timestamp, Snapshot, Targets, Listing, MetaFile}
@@ -11,7 +11,7 @@ use Rattle.denials.specs.Numbers as no
 use Rattle.denials.specs.Orders.{Denial, Plain, BlobMissing, Denied, Same, Judged, Order, ◌>>=◌, ◌>>◌, give, check, need, need_or, same_if, judged}
 use Rattle.metadata.specs.Shaped.{shaped}
 use Rattle.delegations.specs.Delegation.{before}
-use Rattle.delegations.specs.Rows.{row_at, with_row, place_before, entry_of, HasLength, HasHash}
+use Rattle.delegations.specs.Rows.{Place, Rows, same_place, row_at, with_row, place_before, entry_of, HasLength, HasHash}
 use Rattle.machine.specs.State.{Trusted, State, nothing_trusted, blob_at, NamesSnapshot, MeetsTop, IsCoherent}
 use Rattle.limits.specs.Limits.{most_held, blob_limit}
 use Rattle.delegations.specs.Search.{shelf_of, search, Vouched}
@@ -209,6 +209,31 @@ put_blob S digest b = do
   check no.full (length S.blobs < most_held)
   give (record S { blobs = with_row before S.blobs digest b })
 
+-- pruning keeps the rows at the versions that the snapshot lists, and the blobs that these rows list
+
+-- the snapshot, if there is one, lists the role at this version
+abbrev pub is_listed : Option (File Snapshot) → Place → Bool
+is_listed None place = false
+is_listed (Some snap) place = list_any (λ m. same_place (m.0, m.1.version) place) snap.body.meta
+
+abbrev pub kept_rows : Trusted → Rows
+kept_rows T = filter (λ row. is_listed T.snapshot row.0) T.shelf
+
+-- a document among these rows lists a file with this digest
+abbrev pub is_wanted : Rows → Bytes → Bool
+is_wanted rows digest = list_any (λ row. list_any (λ l. bytes_eq digest l.digest) row.1.body.targets) rows
+
+abbrev pub kept_blobs : {A : Type 0} → Rows → List (Bytes × A) → List (Bytes × A)
+kept_blobs rows blobs = filter (λ b. is_wanted rows b.0) blobs
+
+abbrev pub pruned : State → State
+pruned S = record { trusted = record S.trusted { shelf = kept_rows S.trusted }; blobs = kept_blobs (kept_rows S.trusted) S.blobs }
+
+abbrev pub prune : State → Order State
+prune S = do
+  check no.no_root (IsSome S.trusted.root)
+  give (pruned S)
+
 -- a batch after one offer
 abbrev pub going_on : Batched → ℕ → (Batched → BatchOrder) → Judged Trusted → BatchOrder
 going_on B i go (Ok T) = go (record { trusted = T; accepted = suc B.accepted; same = B.same })
@@ -244,3 +269,7 @@ grants S path asked now = do
   snap ← live_snapshot S.trusted.timestamp S.trusted.snapshot root now
   found ← search (shelf_of root snap S.trusted.shelf) path now
   asked_blob_of S path found.listing asked
+
+-- each request for a target, of this state and of that, has the same end
+abbrev pub GrantAlike : State → State → Type 0
+GrantAlike S T = (path : Bytes) (asked : Option Bytes) (now : ℕ) (r : Judged Bytes) → grants S path asked now r ↔ grants T path asked now r

@@ -6,7 +6,7 @@ use Rattle.delegations.specs.Delegation.{before}
 use Rattle.delegations.specs.Rows.{Rises, value_at, with_row}
 use Rattle.limits.specs.Limits.{blob_limit, most_held}
 use Rattle.machine.specs.State.{Trusted, State, IsTrusted, IsState}
-use Rattle.machine.specs.Effects.{Effects, brought}
+use Rattle.machine.specs.Effects.{Effects, brought, without}
 
 -- what is trusted, and the length of each blob by its digest
 pub record Held : Type 0 where
@@ -47,4 +47,4 @@ with_lengths blobs (b ∷ bs) = with_lengths (with_row before blobs b.0 (length 
 
 -- the same with the changes made
 abbrev pub held_with : Held → Effects → Held
-held_with H E = record { trusted = brought H.trusted E; blobs = with_lengths H.blobs E.blobs }
+held_with H E = record { trusted = brought H.trusted E; blobs = with_lengths (without bytes_eq H.blobs E.gone.blobs) E.blobs }

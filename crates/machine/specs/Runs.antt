@@ -1,15 +1,16 @@
 -- Commands, replies, and runs of commands.
-use Rattle.std.specs.Prelude.{◌≡◌, ℕ, Bool, true, false, List, [], ◌∷◌, Option, Some, None, Result, Ok, Err}
+use Rattle.std.specs.Prelude.{◌≡◌, ℕ, ◌-◌, length, Bool, true, false, List, [], ◌∷◌, Option, Some, None, Result, Ok, Err}
 use Rattle.metadata.specs.File.{Bytes}
 use Rattle.denials.specs.Orders.{Denial, Denied, Same, Judged}
 use Rattle.machine.specs.State.{Trusted, State, IsCoherent, metadata_of}
-use Rattle.machine.specs.Commands.{Offer, Batched, init, offer, batch, put_blob, grants}
+use Rattle.machine.specs.Commands.{Offer, Batched, init, offer, batch, put_blob, prune, grants}
 
 pub data Command : Type 0 where
   Init : Bytes → Command
   Batch : List (Offer × Bytes) → Command
   OfferOne : Offer → Bytes → Command
   PutBlob : Bytes → Bytes → Command
+  Prune : Command
   Metadata : Bytes → Command
   Target : Bytes → Option Bytes → Command
 
@@ -18,6 +19,7 @@ pub data Reply : Type 0 where
   BatchDone : ℕ → ℕ → Reply
   Offered : Bool → Reply
   Stored : Bool → Reply
+  Pruned : ℕ → ℕ → Reply
   FileBytes : Bytes → Reply
   Absent : Reply
   Refused : Denial → Option ℕ → Reply
@@ -43,6 +45,10 @@ abbrev pub metadata_reply : Option Bytes → Reply
 metadata_reply (Some b) = FileBytes b
 metadata_reply None = Absent
 
+-- how many blobs and how many rows of the shelf went
+abbrev pub pruned_reply : State → State → Reply
+pruned_reply S T = Pruned (length S.blobs - length T.blobs) (length S.trusted.shelf - length T.trusted.shelf)
+
 -- the outcome that a judgement makes
 pub data Leads {A : Type 0} (m : A → Type 0) (out : A → Outcome) : Outcome → Type 0 where
   leads : (j : A) → m j → Leads m out (out j)
@@ -52,6 +58,7 @@ Steps S (Init b) now = Leads (init S b) (settled S (λ T. (T, Begun)) Begun)
 Steps S (Batch os) now = Leads (batch S.trusted os now) (batch_outcome S)
 Steps S (OfferOne o b) now = Leads (offer S.trusted o b now) (settled S (λ T. (with_trusted S T, Offered false)) (Offered true))
 Steps S (PutBlob digest b) now = Leads (put_blob S digest b) (settled S (λ T. (T, Stored true)) (Stored false))
+Steps S Prune now = Leads (prune S) (settled S (λ T. (T, pruned_reply S T)) (Pruned 0 0))
 Steps S (Metadata name) now = λ r. r ≡ (S, metadata_reply (metadata_of S.trusted name))
 Steps S (Target path asked) now = Leads (grants S path asked now) (settled S (λ b. (S, FileBytes b)) Absent)
 

@@ -6,6 +6,7 @@ use Rattle.metadata.specs.FileViews.{root_file, timestamp_file, snapshot_file}
 use Rattle.metadata.specs.declared.file.File.{File}
 use Rattle.metadata.specs.declared.documents.Root.{Root}
 use Rattle.delegations.specs.Views.{row_views}
+use Rattle.path_patterns.specs.declared.Digest.{Digest}
 use Rattle.machine.specs.Commands as commands
 use Rattle.machine.specs.Effects as changes
 use Rattle.machine.specs.Held as holding
@@ -13,6 +14,7 @@ use Rattle.machine.specs.State as plain
 use Rattle.machine.specs.declared.effects.Blob.{Blob}
 use Rattle.machine.specs.declared.effects.Changes.{Changes}
 use Rattle.machine.specs.declared.effects.Effects.{Effects}
+use Rattle.machine.specs.declared.effects.Gone.{Gone}
 use Rattle.machine.specs.declared.parts.BlobLength.{BlobLength}
 use Rattle.machine.specs.declared.parts.Parts.{Parts}
 use Rattle.machine.specs.declared.parts.Trusted.{Trusted}
@@ -32,13 +34,20 @@ changes_view c = record {
   snapshot = option_map snapshot_file c.snapshot;
   rows = row_views c.rows.items;
   blobs = [];
+  gone = changes.nothing_gone;
 }
 
-abbrev pub made_view : Changes → List Blob → changes.Effects
-made_view c blobs = record (changes_view c) { blobs = blob_views blobs }
+abbrev pub digest_views : List Digest → List spec.Bytes
+digest_views digests = map (λ d. d.0) digests
+
+abbrev pub gone_view : Gone → changes.Gone
+gone_view g = record { rows = g.rows.items; blobs = digest_views g.blobs.items }
+
+abbrev pub made_view : Changes → List Blob → Gone → changes.Effects
+made_view c blobs gone = record (changes_view c) { blobs = blob_views blobs; gone = gone_view gone }
 
 abbrev pub effects_view : Effects → changes.Effects
-effects_view e = made_view e.changes e.blobs.items
+effects_view e = made_view e.changes e.blobs.items e.gone
 
 abbrev pub last_bytes : Option (File Root) → List spec.Bytes
 last_bytes None = []

@@ -4,4 +4,5 @@ pub mod Judging
 pub mod Loading
 pub mod NamedFiles
 pub mod Permitting
+pub mod Pruning
 pub mod Stored

@@ -189,8 +189,8 @@ pub(crate) fn is_digest_of(digest: &Digest, bytes: &[u8]) -> bool
     are_same(&own.0, &digest.0)
 }
 
-// Whether the digests are the same.
-fn is_same(a: &Digest, b: &Digest) -> bool
+/// Whether the digests are the same.
+pub(crate) fn is_same(a: &Digest, b: &Digest) -> bool
     ensures { result ≡ bytes_eq a.now.0 b.now.0 }
 {
     a.0 == b.0

@@ -1,11 +1,11 @@
 //! What a command changes.
 ghost use Rattle.std.specs.Prelude.{◌≡◌};
-ghost use Rattle.machine.specs.Effects.{no_effects};
-ghost use Rattle.machine.specs.Views.{changes_view, effects_view};
+ghost use Rattle.machine.specs.Effects.{no_effects, nothing_gone};
+ghost use Rattle.machine.specs.Views.{changes_view, effects_view, gone_view};
 
 use delegations::{Row, Verdicts};
 use metadata::{File, Root, Snapshot, Timestamp};
-use path_patterns::Digest;
+use path_patterns::{Digest, RoleName};
 use std::alloc::Global;
 
 /// A file of a target with its digest.
@@ -26,11 +26,20 @@ pub struct Changes {
     pub rows: Vec<Row>,
 }
 
-/// What a command changes: what is trusted; new blobs; and what is known of the signatures on the shelf after all this.
+/// What goes: shelf rows by role and version, blobs by digest.
+#[derive(Drop)]
+pub struct Gone {
+    pub rows: Vec<(RoleName, u32)>,
+    pub blobs: Vec<Digest>,
+}
+
+/// What a command changes: what goes of what was there; what is trusted; new blobs; and what is known of the signatures on the shelf
+/// after all this.
 #[derive(Drop)]
 pub struct Effects {
     pub changes: Changes,
     pub blobs: Vec<Blob>,
+    pub gone: Gone,
     pub verdicts: Verdicts,
 }
 
@@ -45,6 +54,18 @@ impl Changes {
             timestamp: None,
             snapshot: None,
             rows: Vec::new(alloc),
+        }
+    }
+}
+
+impl Gone {
+    /// Nothing goes.
+    pub fn new(alloc: Global) -> Gone
+        ensures { gone_view result ≡ nothing_gone }
+    {
+        Gone {
+            rows: Vec::new(alloc),
+            blobs: Vec::new(alloc),
         }
     }
 }
@@ -64,6 +85,7 @@ impl Effects {
         Effects {
             changes,
             blobs: Vec::new(alloc),
+            gone: Gone::new(alloc),
             verdicts: Verdicts::new(alloc),
         }
     }

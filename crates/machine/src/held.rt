@@ -5,10 +5,10 @@ ghost use Rattle.machine.specs.Knowing.{IsKnown};
 ghost use Rattle.machine.specs.Views.{effects_view, held_view, length_views, made_view, trusted_view};
 ghost use Rattle.machine.specs.Room.{places, places_in};
 
-use crate::effects::{Blob, Changes, Effects};
+use crate::effects::{Blob, Changes, Effects, Gone};
 use crate::laws::nothing_is_valid;
 use crate::parts::{BlobLength, Trusted};
-use crate::taking::{take_changes, take_lengths};
+use crate::taking::{drop_lengths, drop_rows, take_changes, take_lengths};
 use delegations::Verdicts;
 use std::alloc::{AllocError, Global};
 use std::marker::Model;
@@ -94,19 +94,28 @@ impl Held {
         let Effects {
             changes,
             blobs,
+            gone,
             verdicts,
         } = effects;
-        self.take_beside(changes, &blobs, verdicts);
+        self.take_beside(changes, &blobs, &gone, verdicts);
     }
 
-    /// Makes changes of what is trusted, and puts digest and length of new blobs there.
-    pub(crate) fn take_beside(&mut self, changes: Changes, blobs: &[Blob], verdicts: Verdicts)
-        requires valid { IsHeld (held_with self.old.held (made_view changes blobs.now)) }
-        requires known { IsKnown (held_with self.old.held (made_view changes blobs.now)).trusted verdicts }
-        requires room { places (made_view changes blobs.now) ≤ self.old.room }
-        ensures held { self.new.held ≡ held_with self.old.held (made_view changes blobs.now) }
+    /// Takes away what goes, makes changes of what is trusted, and puts digest and length of new blobs there.
+    pub(crate) fn take_beside(
+        &mut self,
+        changes: Changes,
+        blobs: &[Blob],
+        gone: &Gone,
+        verdicts: Verdicts,
+    )
+        requires valid { IsHeld (held_with self.old.held (made_view changes blobs.now gone.now)) }
+        requires known { IsKnown (held_with self.old.held (made_view changes blobs.now gone.now)).trusted verdicts }
+        requires room { places (made_view changes blobs.now gone.now) ≤ self.old.room }
+        ensures held { self.new.held ≡ held_with self.old.held (made_view changes blobs.now gone.now) }
         ensures verdicts { self.new.verdicts ≡ verdicts }
     {
+        drop_rows(&mut self.trusted.shelf, &gone.rows);
+        drop_lengths(&mut self.blobs, &gone.blobs);
         take_changes(&mut self.trusted, changes);
         take_lengths(&mut self.blobs, blobs);
         self.verdicts = verdicts;

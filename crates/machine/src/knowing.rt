@@ -2,11 +2,13 @@
 ghost use Rattle.std.specs.Prelude.{◌≡◌, ◌≤◌, IfOk, length};
 ghost use Rattle.delegations.specs.Rows.{AllFiles};
 ghost use Rattle.delegations.specs.Verdicts.{AreTrue};
-ghost use Rattle.machine.specs.Effects.{brought};
+ghost use Rattle.machine.specs.Commands.{kept_rows};
+ghost use Rattle.machine.specs.Effects.{brought, nothing_gone};
 ghost use Rattle.machine.specs.Knowing.{BatchCarriesVerdicts, CarriesVerdicts, IsKnown};
 ghost use Rattle.machine.specs.State.{IsTrusted};
-ghost use Rattle.machine.specs.steps.Carrying.{IsSameBatch, IsSameOutcome, MakesTrusted};
-ghost use Rattle.machine.specs.Views.{draft_view, effects_view, trusted_view};
+ghost use Rattle.machine.specs.steps.Carrying.{BatchMakesTrusted, IsSameBatch, IsSameOutcome, MakesTrusted};
+ghost use Rattle.machine.specs.steps.Pruning.{AreAtListed};
+ghost use Rattle.machine.specs.Views.{draft_view, effects_view, gone_view, trusted_view};
 
 use crate::draft::Draft;
 use crate::effects::Effects;
@@ -42,7 +44,7 @@ pub(crate) fn batch_with_verdicts(
     held: &Held,
     batched: Batched,
 ) -> Result<Batched, BatchRefusal>
-    requires { IsTrusted (brought held.now.held.trusted (effects_view batched.effects)) }
+    requires { BatchMakesTrusted held.now.held.trusted batched }
     ensures same { IsSameBatch batched result }
     ensures known { BatchCarriesVerdicts held.now.held.trusted result }
 {
@@ -67,13 +69,15 @@ pub(crate) fn effects_with_verdicts(
     held: &Held,
     effects: Effects,
 ) -> Result<Effects, AllocError>
-    requires { IsTrusted (brought held.now.held.trusted (effects_view effects)) }
+    requires none { gone_view effects.gone ≡ nothing_gone }
+    requires trusted { IsTrusted (brought held.now.held.trusted (effects_view effects)) }
     ensures same { IfOk result (λ e. effects_view e ≡ effects_view effects) }
     ensures known { IfOk result (λ e. IsKnown (brought held.now.held.trusted (effects_view effects)) e.verdicts) }
 {
     let Effects {
         changes,
         blobs,
+        gone,
         verdicts: _,
     } = effects;
     let draft = Draft::over(held.trusted(), changes);
@@ -81,6 +85,7 @@ pub(crate) fn effects_with_verdicts(
     Ok(Effects {
         changes: draft.into_changes(),
         blobs,
+        gone,
         verdicts,
     })
 }
@@ -93,11 +98,20 @@ pub(crate) fn trusted_verdicts(alloc: Global, trusted: &Trusted) -> Result<Verdi
     draft_verdicts(alloc, &Draft::new(alloc, trusted), &Verdicts::new(alloc))
 }
 
+/// What is known of the rows of the shelf at listed versions.
+pub(crate) fn listed_verdicts(alloc: Global, held: &Held) -> Result<Verdicts, AllocError>
+    ensures { IfOk result (λ t. IsKnown (record held.now.held.trusted { shelf = kept_rows held.now.held.trusted }) t) }
+{
+    held.is_valid();
+    draft_verdicts(alloc, &Draft::new(alloc, held.trusted()), held.verdicts())
+}
+
 // What is known after changes, where this is known of the state before them.
 fn draft_verdicts(alloc: Global, draft: &Draft<'_>, held: &Verdicts) -> Result<Verdicts, AllocError>
     requires sound { AreTrue (trusted_view draft.now.base.now).shelf held.now }
     requires few { AllFiles (λ f. length f.entries ≤ 16) (draft_view draft.now).shelf }
-    ensures { IfOk result (λ t. IsKnown (draft_view draft.now) t) }
+    ensures known { IfOk result (λ t. IsKnown (draft_view draft.now) t) }
+    ensures listed { IfOk result (λ t. AreAtListed (draft_view draft.now).snapshot t) }
 {
     let Some(root) = draft.root() else {
         return Ok(Verdicts::new(alloc));

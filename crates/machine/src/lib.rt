@@ -18,6 +18,7 @@ mod loading;
 mod names;
 mod outcome;
 mod parts;
+mod pruning;
 mod refusal;
 mod roots;
 mod serving;
@@ -37,16 +38,18 @@ pub use delegations::{
     File, Moment, RoleName, Root, Row, Snapshot, Steps, TargetPath, Targets, Verdicts,
 };
 pub use denials::Denial;
-pub use effects::{Blob, Changes, Effects};
+pub use effects::{Blob, Changes, Effects, Gone};
 pub use getting::{get, get_counted, get_from, get_from_counted, target, target_from};
 pub use held::Held;
 pub use laws::{
-    held_follows, nothing_is_valid, one_judgement, rows_stay, stays_coherent, stays_valid,
+    held_follows, nothing_is_valid, one_judgement, prune_keeps_answers, rows_stay, stays_coherent,
+    stays_valid,
 };
 pub use metadata::{Digest, Timestamp};
 pub use names::metadata_file;
 pub use outcome::{Batched, Offer, Outcome};
 pub use parts::BlobLength;
+pub use pruning::prune;
 pub use refusal::{BatchRefusal, Refusal};
 pub use serving::{Blobs, GetFault, LoadFault, Served};
 pub use state::State;

@@ -12,7 +12,7 @@ use crate::effects::{Blob, Effects};
 use crate::held::{Held, most_places};
 use crate::laws::nothing_is_valid;
 use crate::parts::{BlobLength, Parts};
-use crate::taking::take_blobs;
+use crate::taking::{drop_blobs, take_blobs};
 use delegations::Verdicts;
 use std::alloc::{AllocError, Global};
 use std::marker::Model;
@@ -96,9 +96,11 @@ impl State {
         let Effects {
             changes,
             blobs,
+            gone,
             verdicts,
         } = effects;
-        self.held.take_beside(changes, &blobs, verdicts);
+        self.held.take_beside(changes, &blobs, &gone, verdicts);
+        drop_blobs(&mut self.blobs, &gone.blobs);
         take_blobs(&mut self.blobs, blobs);
     }
 

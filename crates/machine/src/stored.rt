@@ -15,7 +15,7 @@ ghost use Rattle.machine.specs.Held.{held_of};
 ghost use Rattle.machine.specs.Views.{blob_views, changes_view, effects_view, length_views};
 ghost use Rattle.contents.specs.Contents.{contents_view, contents_with, lengths_of};
 
-use crate::effects::{Blob, Changes, Effects};
+use crate::effects::{Blob, Changes, Effects, Gone};
 use crate::held::Held;
 use crate::loading::{may_be_held, settle};
 use crate::parts::BlobLength;
@@ -88,6 +88,7 @@ fn read_files(alloc: Global, contents: Contents) -> Result<Option<Effects>, Allo
     Ok(Some(Effects {
         changes,
         blobs,
+        gone: Gone::new(alloc),
         verdicts: Verdicts::new(alloc),
     }))
 }

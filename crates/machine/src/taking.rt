@@ -1,12 +1,12 @@
 // Putting changes into what a state keeps. It takes no memory.
-ghost use Rattle.std.specs.Prelude.{◌≡◌, ◌≤◌, ◌<◌, ◌-◌, ◌+◌, ◌++◌, [], ◌∷◌, ℕ, List, IfOk, Option, Some, cond, map, length, vec_len, vec_capacity};
-ghost use Rattle.std.specs.List.{insert, position_or_len, position};
+ghost use Rattle.std.specs.Prelude.{◌≡◌, ◌≤◌, ◌<◌, ◌-◌, ◌+◌, ◌++◌, [], ◌∷◌, ℕ, List, IfOk, Option, Some, bytes_eq, not, cond, map, length, vec_len, vec_capacity};
+ghost use Rattle.std.specs.List.{insert, list_any, position_or_len, position};
 ghost use Rattle.metadata.specs.FileViews.{targets_file};
 ghost use Rattle.delegations.specs.Delegation.{before};
-ghost use Rattle.delegations.specs.Rows.{with_row, with_rows, place_before};
+ghost use Rattle.delegations.specs.Rows.{same_place, with_row, with_rows, place_before};
 ghost use Rattle.delegations.specs.Views.{row_views};
-ghost use Rattle.machine.specs.Effects.{brought, last_or, renewed, with_blobs};
-ghost use Rattle.machine.specs.Views.{parts_view, effects_view, blob_views, changes_view, last_bytes, length_views, trusted_view};
+ghost use Rattle.machine.specs.Effects.{brought, last_or, renewed, with_blobs, without};
+ghost use Rattle.machine.specs.Views.{parts_view, effects_view, blob_views, digest_views, changes_view, last_bytes, length_views, trusted_view};
 ghost use Rattle.contents.specs.Contents.{lengths_of};
 ghost use Rattle.machine.specs.Held.{with_lengths};
 ghost use Rattle.machine.specs.steps.Loading.{laid};
@@ -279,6 +279,70 @@ pub(crate) fn laid_parts(alloc: Global, files: Effects) -> Result<Parts, AllocEr
         },
         blobs: files.blobs,
     })
+}
+
+// Whether a row is among those that go.
+fn is_row_gone(gone: &[(RoleName, u32)], row: &Row) -> bool
+    ensures { result ≡ list_any (λ place. same_place (row.now.role, row.now.version) place) gone.now }
+{
+    let mut rest = gone;
+    'places: while let Some((place, later)) = rest.split_first() {
+        if place.0.as_str() == row.role.as_str() && place.1 == row.version {
+            return true;
+        }
+        rest = later;
+    }
+    false
+}
+
+// Whether a digest is among those that go.
+fn is_digest_gone(gone: &[Digest], digest: &Digest) -> bool
+    ensures { result ≡ list_any (λ d. bytes_eq digest.now.0 d) (digest_views gone.now) }
+{
+    let mut rest = gone;
+    'digests: while let Some((first, later)) = rest.split_first() {
+        if digest.0 == first.0 {
+            return true;
+        }
+        rest = later;
+    }
+    false
+}
+
+/// Takes rows off the shelf.
+pub(crate) fn drop_rows(shelf: &mut Vec<Row>, gone: &[(RoleName, u32)])
+    ensures rows { row_views shelf.new.items ≡ without same_place (row_views shelf.old.items) gone.now }
+    ensures room { vec_capacity shelf.old - vec_len shelf.old ≤ vec_capacity shelf.new - vec_len shelf.new }
+{
+    shelf.retain(
+        |row: &Row| -> bool
+            ensures { result ≡ not (list_any (λ place. same_place (row.now.role, row.now.version) place) gone.entry.now) }
+        { !is_row_gone(gone, row) },
+    );
+}
+
+/// Takes away blobs.
+pub(crate) fn drop_blobs(blobs: &mut Vec<Blob>, gone: &[Digest])
+    ensures rows { blob_views blobs.new.items ≡ without bytes_eq (blob_views blobs.old.items) (digest_views gone.now) }
+    ensures room { vec_capacity blobs.old - vec_len blobs.old ≤ vec_capacity blobs.new - vec_len blobs.new }
+{
+    blobs.retain(
+        |blob: &Blob| -> bool
+            ensures { result ≡ not (list_any (λ d. bytes_eq blob.now.digest.0 d) (digest_views gone.entry.now)) }
+        { !is_digest_gone(gone, &blob.digest) },
+    );
+}
+
+/// Takes away digest and length of blobs.
+pub(crate) fn drop_lengths(lengths: &mut Vec<BlobLength>, gone: &[Digest])
+    ensures rows { length_views lengths.new.items ≡ without bytes_eq (length_views lengths.old.items) (digest_views gone.now) }
+    ensures room { vec_capacity lengths.old - vec_len lengths.old ≤ vec_capacity lengths.new - vec_len lengths.new }
+{
+    lengths.retain(
+        |blob: &BlobLength| -> bool
+            ensures { result ≡ not (list_any (λ d. bytes_eq blob.now.digest.0 d) (digest_views gone.entry.now)) }
+        { !is_digest_gone(gone, &blob.digest) },
+    );
 }
 
 /// Puts changes into what is trusted.

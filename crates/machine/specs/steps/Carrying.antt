@@ -1,8 +1,9 @@
 -- Outcomes that are the same but for what they say is known.
 use Rattle.std.specs.Prelude.{◌≡◌, Result, Ok, Err}
 use Rattle.machine.specs.State.{Trusted, IsTrusted}
-use Rattle.machine.specs.Effects.{brought}
-use Rattle.machine.specs.Views.{effects_view}
+use Rattle.machine.specs.Effects.{brought, nothing_gone}
+use Rattle.machine.specs.Views.{effects_view, gone_view}
+use Rattle.machine.specs.declared.effects.Effects.{Effects}
 use Rattle.machine.specs.declared.outcome.Outcome.{Outcome}
 use Rattle.machine.specs.declared.outcome.Outcome.TheVariants.{Changed}
 use Rattle.machine.specs.declared.outcome.Outcome.TheVariants as outcomes
@@ -12,10 +13,16 @@ use Rattle.machine.specs.declared.refusal.Refusal.TheVariants.{OutOfMemory}
 use Rattle.machine.specs.declared.refusal.BatchRefusal.{BatchRefusal}
 use Rattle.machine.specs.declared.refusal.BatchRefusal.TheVariants as batches
 
--- with the changes made, what is trusted is valid
+-- with the changes made, what is trusted is valid, and nothing goes
+abbrev pub TakesOnly : Trusted → Effects → Type 0
+TakesOnly T e = IsTrusted (brought T (effects_view e)) × (gone_view e.gone ≡ nothing_gone)
+
 abbrev pub MakesTrusted : Trusted → Outcome → Type 0
-MakesTrusted T (Changed e) = IsTrusted (brought T (effects_view e))
+MakesTrusted T (Changed e) = TakesOnly T e
 MakesTrusted T outcomes.Same = Unit {0}
+
+abbrev pub BatchMakesTrusted : Trusted → Batched → Type 0
+BatchMakesTrusted T b = TakesOnly T b.effects
 
 -- the same of what a call answers
 abbrev pub LeavesTrusted : Trusted → Result Outcome Refusal → Type 0
@@ -23,7 +30,7 @@ LeavesTrusted T (Ok o) = MakesTrusted T o
 LeavesTrusted T (Err refusal) = Unit {0}
 
 abbrev pub BatchLeavesTrusted : Trusted → Result Batched BatchRefusal → Type 0
-BatchLeavesTrusted T (Ok b) = IsTrusted (brought T (effects_view b.effects))
+BatchLeavesTrusted T (Ok b) = BatchMakesTrusted T b
 BatchLeavesTrusted T (Err refusal) = Unit {0}
 
 -- the same outcome, or want of memory

@@ -11,7 +11,7 @@ use Rattle.delegations.specs.Views.{known_row, shelf_view, table_view}
 use Rattle.delegations.specs.declared.verdicts.RowVerdicts.{RowVerdicts}
 use Rattle.delegations.specs.steps.Gathering.{AreGathered, IsRow}
 use Rattle.delegations.proofs.Gathered.{count_more, listed_names, names_distinct, no_row, no_rows, with_row}
-use Rattle.delegations.proofs.Holding.{all_of_rows, all_true, complete, too_many}
+use Rattle.delegations.proofs.Holding.{all_listed, all_of_rows, all_true, complete, too_many}
 use Rattle.delegations.proofs.verdicts.all_verdicts.Goals as goal
 
 abbrev names : List (Name × Meta) → Names
@@ -53,6 +53,9 @@ returns-then-count-room-clause-sound c = all_true (shelf_view c.args.shelf.now) 
 
 pub returns-then-count-room-clause-rows : goal.returns-then-count-room-clause-rows
 returns-then-count-room-clause-rows c = all_of_rows (shelf_view c.args.shelf.now) (table_view c.roles.rows.items) c.roles.invariant.gathered.rows
+
+pub returns-then-count-room-clause-listed : goal.returns-then-count-room-clause-listed
+returns-then-count-room-clause-listed c = all_listed (shelf_view c.args.shelf.now) (table_view c.roles.rows.items) c.roles.invariant.gathered.rows
 
 pub returns-then-count-room-clause-complete : goal.returns-then-count-room-clause-complete
 returns-then-count-room-clause-complete c =
@@ -109,6 +112,9 @@ returns-clause-sound c = all_true (shelf_view c.args.shelf.now) (table_view c.ro
 
 pub returns-clause-rows : goal.returns-clause-rows
 returns-clause-rows c = all_of_rows (shelf_view c.args.shelf.now) (table_view c.roles.rows.items) c.roles.invariant.gathered.rows
+
+pub returns-clause-listed : goal.returns-clause-listed
+returns-clause-listed c = all_listed (shelf_view c.args.shelf.now) (table_view c.roles.rows.items) c.roles.invariant.gathered.rows
 
 pub returns-clause-complete : goal.returns-clause-complete
 returns-clause-complete c =

@@ -12,7 +12,7 @@ use Rattle.machine.specs.State.{State, Trusted, IsState}
 use Rattle.machine.specs.Views.{changes_view, effects_view, documents_view, draft_view, trusted_view}
 use Rattle.machine.proofs.BatchOneByOne.{so_far, batch_refused}
 use Rattle.machine.proofs.OrderSteps.{yes, no as not_so}
-use Rattle.machine.proofs.ChangesMake.{trusted_alone}
+use Rattle.machine.proofs.ChangesMake.{OfTrustAlone, trusted_alone}
 use Rattle.machine.proofs.HeldStates.{same_trusted_held, bare}
 use Rattle.machine.proofs.batches.judge_batch.Goals as goal
 
@@ -38,7 +38,7 @@ returns-clause-answers c S valid is =
     let base : trusted_view c.in_ok-progress.progress.draft.base.now ≡ S.trusted =
     ap (λ t. trusted_view t) (c.in_ok-progress.ensures.base ∙ c.new-draft.ensures.base) ∙ view in
     let same : E ≡ changes_view c.in_ok-progress.progress.draft.changes = c.of.ensures ∙ ap (λ d. changes_view d) c.into_changes.ensures in
-    let bare : E.blobs ≡ [] = ap (λ (F : spec.Effects). F.blobs) same in
+    let bare : OfTrustAlone E = (ap (λ (F : spec.Effects). F.blobs) same, ap (λ (F : spec.Effects). F.gone) same) in
     let left : draft_view c.in_ok-progress.progress.draft ≡ brought S.trusted E =
     ap (λ (T : Trusted). brought T (changes_view c.in_ok-progress.progress.draft.changes)) base ∙ ap (λ (F : spec.Effects). brought S.trusted F) (sym same) in
     let made : commands.batch S.trusted (documents_view c.args.documents.now) c.args.now (Ok (so_far (brought S.trusted E) c.in_ok-progress.progress.accepted c.in_ok-progress.progress.same)) =
@@ -60,11 +60,13 @@ returns-clause-trusted c =
     let base : trusted_view c.in_ok-progress.progress.draft.base.now ≡ S.trusted =
     ap (λ t. trusted_view t) (c.in_ok-progress.ensures.base ∙ c.new-draft.ensures.base) ∙ view in
     let same : E ≡ changes_view c.in_ok-progress.progress.draft.changes = c.of.ensures ∙ ap (λ d. changes_view d) c.into_changes.ensures in
-    let bare : E.blobs ≡ [] = ap (λ (F : spec.Effects). F.blobs) same in
+    let bare : OfTrustAlone E = (ap (λ (F : spec.Effects). F.blobs) same, ap (λ (F : spec.Effects). F.gone) same) in
     let left : draft_view c.in_ok-progress.progress.draft ≡ brought S.trusted E =
     ap (λ (T : Trusted). brought T (changes_view c.in_ok-progress.progress.draft.changes)) base ∙ ap (λ (F : spec.Effects). brought S.trusted F) (sym same) in
     let made : commands.batch S.trusted (documents_view c.args.documents.now) c.args.now (Ok (so_far (brought S.trusted E) c.in_ok-progress.progress.accepted c.in_ok-progress.progress.same)) =
     subst (λ (T : Trusted). commands.batch S.trusted (documents_view c.args.documents.now) c.args.now (Ok (so_far T c.in_ok-progress.progress.accepted c.in_ok-progress.progress.same))) left
     (subst (λ (T : Trusted). commands.batch T (documents_view c.args.documents.now) c.args.now (Ok (so_far (draft_view c.in_ok-progress.progress.draft) c.in_ok-progress.progress.accepted c.in_ok-progress.progress.same))) begun
-    (c.in_ok-progress.ensures.ok _ (coherent (yes c.if-not-is_coherent.ensures)))) in
-    c.stays_valid.ensures.batches S.trusted (documents_view c.args.documents.now) c.args.now _ c.trusted.ensures.valid.trusted made
+    (c.in_ok-progress.ensures.ok _ (coherent (yes c.if-not-is_coherent.ensures)))) in (
+      c.stays_valid.ensures.batches S.trusted (documents_view c.args.documents.now) c.args.now _ c.trusted.ensures.valid.trusted made,
+      ap (λ (F : spec.Effects). F.gone) same,
+    )

@@ -1,6 +1,7 @@
 use Rattle.std.proofs.Common.{ap, sym, subst}
 use Rattle.std.proofs.lemmas.Result.{err_from_is_err_and}
 use Rattle.machine.specs.Answers.{unchanged, unanswered}
+use Rattle.machine.specs.Effects as changed
 use Rattle.machine.specs.State.{State, Trusted, IsTrusted}
 use Rattle.machine.proofs.OrderSteps.{accepted, kept_same}
 use Rattle.machine.proofs.OneMoreBlob.{with_one, as_judged, answers_rejected}
@@ -23,8 +24,10 @@ returns-clause-answers c S valid is =
 
 pub returns-clause-trusted : goal.returns-clause-trusted
 returns-clause-trusted c =
-    let S : State = bare c.args.held.now.held.trusted in
-    subst (λ (T : Trusted). IsTrusted T) (sym (ap (λ (S : State). S.trusted) (with_one S _ c.args.digest.now.0 c.args.bytes.now c.in_ok-effects.ensures))) c.is_valid.ensures.trusted
+    let S : State = bare c.args.held.now.held.trusted in (
+      subst (λ (T : Trusted). IsTrusted T) (sym (ap (λ (S : State). S.trusted) (with_one S _ c.args.digest.now.0 c.args.bytes.now c.in_ok-effects.ensures))) c.is_valid.ensures.trusted,
+      ap (λ (F : changed.Effects). F.gone) c.in_ok-effects.ensures,
+    )
 
 pub returns-in_err-effects-clause-answers : goal.returns-in_err-effects-clause-answers
 returns-in_err-effects-clause-answers c S valid is =

@@ -5,6 +5,7 @@ use Rattle.metadata.specs.FileViews.{root_file}
 use Rattle.denials.specs.Orders.{pass, decide, holds, fails, given}
 use Rattle.machine.specs.Answers.{changes, refused, unanswered}
 use Rattle.machine.specs.Commands as commands
+use Rattle.machine.specs.Effects as changed
 use Rattle.machine.specs.Effects.{applied}
 use Rattle.machine.specs.Held.{Held}
 use Rattle.machine.specs.State.{State, Trusted, nothing_trusted}
@@ -48,7 +49,7 @@ returns-clause-trusted c =
     let made : commands.init S c.args.bytes.now (Ok (applied S (effects_view c.in_ok-effects.effects))) =
     began S c.args.bytes.now (root_file c.in_ok-new.new) (effects_view c.in_ok-effects.effects) nothing refl c.in_ok-effects.ensures
     (pass (holds none) (pass (given_by c.in_ok-new.ensures.shape) (pass (holds (yes c.if-not-is_signed.ensures)) given))) in
-    (c.stays_valid.ensures.begins S _ _ made).trusted
+    ((c.stays_valid.ensures.begins S _ _ made).trusted, ap (λ (F : changed.Effects). F.gone) c.in_ok-effects.ensures)
 
 pub returns-in_err-effects-clause-answers : goal.returns-in_err-effects-clause-answers
 returns-in_err-effects-clause-answers c S valid is =

@@ -6,7 +6,7 @@ use Rattle.machine.specs.Effects as spec
 use Rattle.machine.specs.Effects.{applied, brought}
 use Rattle.machine.specs.State.{State, IsState}
 use Rattle.machine.specs.Views.{changes_view, effects_view, offer_view, draft_view, trusted_view}
-use Rattle.machine.proofs.ChangesMake.{offered, offered_same, offered_refused, on_whole, trusted_alone}
+use Rattle.machine.proofs.ChangesMake.{OfTrustAlone, offered, offered_same, offered_refused, on_whole, trusted_alone}
 use Rattle.machine.proofs.HeldStates.{same_trusted_held, bare}
 use Rattle.machine.proofs.calls.judge_offer.Goals as goal
 
@@ -18,7 +18,7 @@ returns-clause-answers c S valid is =
     let base : trusted_view c.offer_one.new.draft.base.now ≡ S.trusted =
     ap (λ t. trusted_view t) (c.offer_one.ensures.base ∙ c.new-draft.ensures.base) ∙ view in
     let same : E ≡ changes_view c.offer_one.new.draft.changes = c.of.ensures ∙ ap (λ d. changes_view d) c.into_changes.ensures in
-    let bare : E.blobs ≡ [] = ap (λ (F : spec.Effects). F.blobs) same in
+    let bare : OfTrustAlone E = (ap (λ (F : spec.Effects). F.blobs) same, ap (λ (F : spec.Effects). F.gone) same) in
     let taken : commands.offer S.trusted (offer_view c.args.offer.now) c.args.bytes.now c.args.now (Ok (brought S.trusted E)) =
     offered S (λ T. commands.offer T (offer_view c.args.offer.now) c.args.bytes.now c.args.now) (draft_view c.new-draft.result) (trusted_view c.offer_one.new.draft.base.now) E
     (changes_view c.offer_one.new.draft.changes) _ begun base (sym same) c.if-not-branch.false c.in_ok-offer_one.ensures.ends in
@@ -50,7 +50,9 @@ returns-clause-trusted c =
     let begun : draft_view c.new-draft.result ≡ S.trusted = c.new-draft.ensures.view ∙ view in
     let base : trusted_view c.offer_one.new.draft.base.now ≡ S.trusted =
     ap (λ t. trusted_view t) (c.offer_one.ensures.base ∙ c.new-draft.ensures.base) ∙ view in
-    let same : E ≡ changes_view c.offer_one.new.draft.changes = c.of.ensures ∙ ap (λ d. changes_view d) c.into_changes.ensures in
-    c.stays_valid.ensures.offers S.trusted (brought S.trusted E) (offer_view c.args.offer.now) c.args.bytes.now c.args.now c.trusted.ensures.valid.trusted
-    (offered S (λ T. commands.offer T (offer_view c.args.offer.now) c.args.bytes.now c.args.now) (draft_view c.new-draft.result) (trusted_view c.offer_one.new.draft.base.now) E
-    (changes_view c.offer_one.new.draft.changes) _ begun base (sym same) c.if-not-branch.false c.in_ok-offer_one.ensures.ends)
+    let same : E ≡ changes_view c.offer_one.new.draft.changes = c.of.ensures ∙ ap (λ d. changes_view d) c.into_changes.ensures in (
+      c.stays_valid.ensures.offers S.trusted (brought S.trusted E) (offer_view c.args.offer.now) c.args.bytes.now c.args.now c.trusted.ensures.valid.trusted
+          (offered S (λ T. commands.offer T (offer_view c.args.offer.now) c.args.bytes.now c.args.now) (draft_view c.new-draft.result) (trusted_view c.offer_one.new.draft.base.now) E
+          (changes_view c.offer_one.new.draft.changes) _ begun base (sym same) c.if-not-branch.false c.in_ok-offer_one.ensures.ends),
+      ap (λ (F : spec.Effects). F.gone) same,
+    )

@@ -1,16 +1,19 @@
-use Rattle.std.proofs.Common.{ap, sym, ◌∙◌}
+use Rattle.std.proofs.Common.{ap, sym, subst, Option, ◌∙◌}
+use Rattle.metadata.specs.Documents.{Snapshot}
+use Rattle.metadata.specs.File.{File}
 use Rattle.metadata.specs.FileViews.{root_file, snapshot_file}
 use Rattle.delegations.specs.Rows.{Rows}
-use Rattle.delegations.specs.Search.{shelf_of}
-use Rattle.delegations.specs.Verdicts.{AreTrue, AreOfRows, IsComplete}
+use Rattle.delegations.specs.Search.{Shelf, shelf_of}
+use Rattle.delegations.specs.Verdicts.{AreListed, AreTrue, AreOfRows, IsComplete}
 use Rattle.delegations.specs.Views.{shelf_view}
 use Rattle.machine.specs.Knowing.{IsKnown}
 use Rattle.machine.specs.Views.{draft_view}
-use Rattle.machine.proofs.Carrying.{known_over, ok_all}
+use Rattle.machine.specs.steps.Pruning.{AreAtListed}
+use Rattle.machine.proofs.Carrying.{known_over, ok_all, ok_one}
 use Rattle.machine.proofs.knowing.draft_verdicts.Goals as goal
 
-pub returns : goal.returns
-returns c =
+pub returns-clause-known : goal.returns-clause-known
+returns-clause-known c =
     let T = draft_view c.args.draft.now in
     let root = root_file c.in-Some.root.now in
     let snap = snapshot_file c.in-Some-snapshot.snapshot.now in
@@ -19,3 +22,13 @@ returns c =
     ok_all (AreTrue V.rows) (AreOfRows V.rows) (IsComplete V) (IsKnown T) c.all_verdicts.result
     (λ t sound rows complete. known_over T root snap V t c.in-Some.ensures (sym c.in-Some-snapshot.ensures) is sound rows complete)
     c.all_verdicts.ensures.sound c.all_verdicts.ensures.rows c.all_verdicts.ensures.complete
+
+pub returns-clause-listed : goal.returns-clause-listed
+returns-clause-listed c =
+    let T = draft_view c.args.draft.now in
+    let root = root_file c.in-Some.root.now in
+    let snap = snapshot_file c.in-Some-snapshot.snapshot.now in
+    let is = c.new-shelf.ensures.shelf in
+    ok_one (AreListed (shelf_view c.new-shelf.result).listing) (AreAtListed T.snapshot) c.all_verdicts.result
+    (λ t listed. subst (λ (o : Option (File Snapshot)). AreAtListed o t) c.in-Some-snapshot.ensures
+    (subst (λ (V : Shelf). AreListed V.listing t) is listed)) c.all_verdicts.ensures.listed

@@ -1,4 +1,4 @@
-use Rattle.machine.proofs.OneJudgement.{init-definite, offer-definite, batch-definite, blob-definite, grants-definite, steps-definite}
+use Rattle.machine.proofs.OneJudgement.{init-definite, offer-definite, batch-definite, blob-definite, prune-definite, grants-definite, steps-definite}
 use Rattle.machine.proofs.ShapedOnce.{Shapes}
 use Rattle.machine.proofs.laws.one_judgement.Goals as goal
 
@@ -16,6 +16,9 @@ returns-clause-batches c = batch-definite (shapes c)
 
 pub returns-clause-puts : goal.returns-clause-puts
 returns-clause-puts c = blob-definite
+
+pub returns-clause-prunes : goal.returns-clause-prunes
+returns-clause-prunes c = prune-definite
 
 pub returns-clause-targets : goal.returns-clause-targets
 returns-clause-targets c = grants-definite

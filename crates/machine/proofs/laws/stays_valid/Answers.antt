@@ -1,3 +1,4 @@
+use Rattle.machine.proofs.PrunedStates.{prune_valid}
 use Rattle.machine.proofs.ValidSteps.{init_valid, offer_valid, offer_roots, batch_valid, batch_roots, put_valid, state_valid, steps_valid, runs_valid}
 use Rattle.machine.proofs.laws.stays_valid.Goals as goal
 
@@ -18,6 +19,9 @@ returns-clause-batch_roots c = batch_roots c.snapshot_names.ensures.names
 
 pub returns-clause-puts : goal.returns-clause-puts
 returns-clause-puts c = put_valid
+
+pub returns-clause-prunes : goal.returns-clause-prunes
+returns-clause-prunes c = prune_valid
 
 pub returns-clause-trusted : goal.returns-clause-trusted
 returns-clause-trusted c = state_valid

@@ -1,16 +1,31 @@
-use Rattle.std.proofs.Common.{ap, ◌∙◌, sym, subst}
-use Rattle.machine.specs.Held.{Held, IsHeld, held_with}
+use Rattle.std.proofs.Common.{◌≡◌, ◌∙◌, ℕ, List, ap, sym, subst, bytes_eq}
+use Rattle.metadata.specs.File.{Bytes}
+use Rattle.path_patterns.specs.declared.Digest.{Digest}
+use Rattle.delegations.specs.Rows.{Place, Rows, same_place}
+use Rattle.machine.specs.Effects.{brought, without}
+use Rattle.machine.specs.Held.{Held, IsHeld, held_with, with_lengths}
 use Rattle.machine.specs.Knowing.{IsKnown}
 use Rattle.machine.specs.Room.{WithPlaces}
-use Rattle.machine.specs.Views.{made_view}
+use Rattle.machine.specs.State.{Trusted}
+use Rattle.machine.specs.Views.{blob_views, changes_view, digest_views, length_views, made_view, trusted_view}
 use Rattle.machine.proofs.HeldStates.{both_held}
 use Rattle.machine.proofs.held.Held.take_beside.Goals as goal
 
 pub invariant_of-self : goal.invariant_of-self
 invariant_of-self c =
-    let made = both_held c.take_changes.ensures c.take_lengths.ensures ∙ ap (λ (k : WithPlaces). held_with k.held (made_view c.args.changes c.args.blobs.now)) c.self.view_is in
+    let T : Trusted = trusted_view c.self.inside.trusted in
+    let rows = c.drop_rows.ensures.rows ∙ ap (λ (places : List Place). without same_place T.shelf places) c.deref.ensures.value in
+    let trust = c.take_changes.ensures ∙ ap (λ (shelf : Rows). brought (record T { shelf = shelf }) (changes_view c.args.changes)) rows in
+    let left = c.drop_lengths.ensures.rows ∙ ap (λ (ds : List Digest). without bytes_eq (length_views c.self.inside.blobs.items) (digest_views ds)) c.deref-2.ensures.value in
+    let lengths = c.take_lengths.ensures ∙ ap (λ (l : List (Bytes × ℕ)). with_lengths l (blob_views c.args.blobs.now)) left in
+    let made = both_held trust lengths ∙ ap (λ (k : WithPlaces). held_with k.held (made_view c.args.changes c.args.blobs.now c.args.gone.now)) c.self.view_is in
     (subst IsHeld (sym made) c.requires.valid, subst (λ (H : Held). IsKnown H.trusted c.args.verdicts) (sym made) c.requires.known)
 
 pub returns-clause-held : goal.returns-clause-held
 returns-clause-held c =
-    both_held c.take_changes.ensures c.take_lengths.ensures ∙ ap (λ (k : WithPlaces). held_with k.held (made_view c.args.changes c.args.blobs.now)) c.self.view_is
+    let T : Trusted = trusted_view c.self.inside.trusted in
+    let rows = c.drop_rows.ensures.rows ∙ ap (λ (places : List Place). without same_place T.shelf places) c.deref.ensures.value in
+    let trust = c.take_changes.ensures ∙ ap (λ (shelf : Rows). brought (record T { shelf = shelf }) (changes_view c.args.changes)) rows in
+    let left = c.drop_lengths.ensures.rows ∙ ap (λ (ds : List Digest). without bytes_eq (length_views c.self.inside.blobs.items) (digest_views ds)) c.deref-2.ensures.value in
+    let lengths = c.take_lengths.ensures ∙ ap (λ (l : List (Bytes × ℕ)). with_lengths l (blob_views c.args.blobs.now)) left in
+    both_held trust lengths ∙ ap (λ (k : WithPlaces). held_with k.held (made_view c.args.changes c.args.blobs.now c.args.gone.now)) c.self.view_is

@@ -1,14 +1,15 @@
-use Rattle.std.proofs.Common.{◌≡◌, ◌∙◌, ℕ, List, ap, refl, sym, subst}
+use Rattle.std.proofs.Common.{◌≡◌, ◌∙◌, ℕ, List, ap, refl, sym, subst, bytes_eq}
 use Rattle.metadata.specs.File.{Bytes}
+use Rattle.path_patterns.specs.declared.Digest.{Digest}
 use Rattle.machine.specs.Effects as changes
-use Rattle.machine.specs.Effects.{applied}
+use Rattle.machine.specs.Effects.{applied, with_blobs, without}
 use Rattle.contents.specs.Contents.{lengths_of}
 use Rattle.machine.specs.Held.{Held, IsHeld, held_of, held_with, with_lengths}
 use Rattle.machine.specs.Room.{WithRoom, state_with}
 use Rattle.machine.specs.State.{State, IsState}
-use Rattle.machine.specs.Views.{blob_views, effects_view, made_view}
+use Rattle.machine.specs.Views.{blob_views, digest_views, effects_view, made_view}
 use Rattle.machine.specs.declared.effects.Blob.{Blob}
-use Rattle.machine.proofs.HeldStates.{both_held, lengths_with, taken}
+use Rattle.machine.proofs.HeldStates.{both_held, held_applied, taken}
 use Rattle.machine.proofs.state.State.take.Goals as goal
 
 pub take_beside-requires-clause-valid : goal.take_beside-requires-clause-valid
@@ -16,16 +17,20 @@ take_beside-requires-clause-valid c =
     let S : State = state_with c.self.inside.held c.self.inside.blobs in
     let E : changes.Effects = effects_view c.args.effects in
     let is : held_of S ≡ c.self.inside.held.held = both_held refl c.self.invariant.1 in
-    subst (λ (bs : List Blob). IsHeld (held_with c.self.inside.held.held (made_view c.args.effects.changes bs))) (sym c.deref.ensures.value)
+    subst (λ (bs : List Blob). IsHeld (held_with c.self.inside.held.held (made_view c.args.effects.changes bs c.args.effects.gone))) (sym c.deref.ensures.value)
     (taken S E is (subst (λ (k : WithRoom). IsState (applied k.state E)) (sym c.self.view_is) c.requires.valid))
 
 pub invariant_of-self : goal.invariant_of-self
 invariant_of-self c =
     let S : State = state_with c.self.inside.held c.self.inside.blobs in
     let E : changes.Effects = effects_view c.args.effects in
+    let is : held_of S ≡ c.self.inside.held.held = both_held refl c.self.invariant.1 in
+    let left = c.drop_blobs.ensures.rows ∙ ap (λ (ds : List Digest). without bytes_eq S.blobs (digest_views ds)) c.deref-2.ensures.value in
+    let blobs = c.take_blobs.ensures ∙ ap (λ (bs : List (Bytes × Bytes)). with_blobs bs E.blobs) left in
     let same : state_with c.take_beside.new.self c.take_blobs.new.blobs ≡ applied S E =
-    λ i. record { trusted = ap (λ (H : Held). H.trusted) c.take_beside.ensures.held i; blobs = c.take_blobs.ensures i } in (
+    λ i. record { trusted = ap (λ (H : Held). H.trusted) c.take_beside.ensures.held i; blobs = blobs i } in (
       subst IsState (sym same) (subst (λ (k : WithRoom). IsState (applied k.state E)) (sym c.self.view_is) c.requires.valid),
-      ap lengths_of c.take_blobs.ensures ∙ lengths_with S.blobs E.blobs ∙ ap (λ (l : List (Bytes × ℕ)). with_lengths l E.blobs) c.self.invariant.1
-          ∙ ap (λ (bs : List Blob). with_lengths c.self.inside.held.held.blobs (blob_views bs)) (sym c.deref.ensures.value) ∙ sym (ap (λ (H : Held). H.blobs) c.take_beside.ensures.held),
+      ap lengths_of blobs ∙ ap (λ (H : Held). H.blobs) (held_applied S E) ∙ ap (λ (H : Held). (held_with H E).blobs) is
+          ∙ ap (λ (bs : List Blob). (held_with c.self.inside.held.held (made_view c.args.effects.changes bs c.args.effects.gone)).blobs) (sym c.deref.ensures.value)
+          ∙ sym (ap (λ (H : Held). H.blobs) c.take_beside.ensures.held),
     )

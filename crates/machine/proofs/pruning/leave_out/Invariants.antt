@@ -1,0 +1,18 @@
+use Rattle.std.proofs.Common.{◌≡◌, bytes_eq, length, map}
+use Rattle.metadata.specs.Views.{listing_view}
+use Rattle.delegations.specs.Delegation.{before}
+use Rattle.delegations.specs.Rows.{Rises}
+use Rattle.machine.specs.Effects.{without}
+use Rattle.machine.specs.Views.{length_views}
+use Rattle.machine.specs.steps.Pruning.{digests_of}
+use Rattle.machine.proofs.pruning.leave_out.Given as goal
+
+abbrev pub invariant-listings : goal.invariant-listings
+invariant-listings l = record {
+  order : Rises before (length_views l.left.items);
+  left : without bytes_eq (length_views l.left.items) (digests_of (map listing_view l.rest))
+      ≡ without bytes_eq (length_views l.initial.left.items) (digests_of (map listing_view l.fn.listings));
+}
+
+abbrev pub decreases-listings : goal.decreases-listings
+decreases-listings l = length l.rest
