@@ -10,7 +10,7 @@ use Rattle.clap.specs.declared.builder.action.ArgAction.TheVariants.{Append, Cou
 use Rattle.clap.specs.declared.builder.value_parser.ValueParser.TheVariants.{Unsigned}
 use Rattle.command_line.specs.declared.tasks.Task.{Task}
 use Rattle.command_line.specs.declared.tasks.Subcommand.{Subcommand}
-use Rattle.command_line.specs.declared.tasks.Subcommand.TheVariants.{Canon, Init, Key, Publish, Put, Serve, Sign}
+use Rattle.command_line.specs.declared.tasks.Subcommand.TheVariants.{Canon, Init, Key, Prune, Publish, Put, Serve, Sign}
 
 -- ---- the arguments
 
@@ -96,6 +96,9 @@ with_key_pair a = with_rule (with_rule (with_rule a seed_rule) ots_rule) height_
 abbrev pub key_line : App
 key_line = with_key_pair (begun_line (codes "key"))
 
+abbrev pub prune_line : App
+prune_line = stored_line (codes "prune")
+
 abbrev pub publish_line : App
 publish_line = with_rule (stored_line (codes "publish")) documents_rule
 
@@ -119,8 +122,8 @@ with_version a = record a { top = record a.top { has_version = true } }
 
 -- the whole command line
 abbrev pub release_line : App
-release_line = with_command (with_command (with_command (with_command (with_command (with_command (with_command (needs_subcommand (with_version (new_app (codes "release"))))
-    canon_line) init_line) key_line) publish_line) put_line) serve_line) sign_line
+release_line = with_command (with_command (with_command (with_command (with_command (with_command (with_command (with_command (needs_subcommand (with_version (new_app (codes "release"))))
+    canon_line) init_line) key_line) prune_line) publish_line) put_line) serve_line) sign_line
 
 -- ---- what is found for a subcommand's arguments
 
@@ -156,6 +159,7 @@ abbrev pub name_of : Subcommand → Text
 name_of (Canon file) = codes "canon"
 name_of (Init db root) = codes "init"
 name_of (Key seed params) = codes "key"
+name_of (Prune db) = codes "prune"
 name_of (Publish db documents) = codes "publish"
 name_of (Put db file) = codes "put"
 name_of (Serve db port count) = codes "serve"
@@ -166,6 +170,7 @@ abbrev pub HasArguments : List Row → Subcommand → Type 0
 HasArguments rows (Canon file) = HasText rows (codes "file") file
 HasArguments rows (Init db root) = HasText rows (codes "db") db × HasText rows (codes "root") root
 HasArguments rows (Key seed params) = HasText rows (codes "seed") seed × HasParams rows params
+HasArguments rows (Prune db) = HasText rows (codes "db") db
 HasArguments rows (Publish db documents) = HasText rows (codes "db") db × HasTexts rows (codes "document") most_documents documents.items
 HasArguments rows (Put db file) = HasText rows (codes "db") db × HasText rows (codes "file") file
 HasArguments rows (Serve db port count) = HasText rows (codes "db") db × HasNumber rows (codes "port") 1 last_port port

@@ -2,7 +2,7 @@
 ghost use Rattle.std.specs.Prelude.{◌≡◌, IfOk, codes, false};
 ghost use Rattle.clap.specs.Words.{app_of, rule_of, with_rule};
 ghost use Rattle.clap.specs.declared.builder.command.Command.TheViews.{out-Command};
-ghost use Rattle.command_line.specs.CommandLine.{begun_line, canon_line, count_rule, db_rule, documents_rule, height_rule, init_line, key_line, book_rule, moment_rule, operand_rule, ots_rule, port_rule, publish_line, put_line, seed_rule, serve_line, sign_line, stored_line, verbose_rule, with_key_pair};
+ghost use Rattle.command_line.specs.CommandLine.{begun_line, canon_line, count_rule, db_rule, documents_rule, height_rule, init_line, key_line, book_rule, moment_rule, operand_rule, ots_rule, port_rule, prune_line, publish_line, put_line, seed_rule, serve_line, sign_line, stored_line, verbose_rule, with_key_pair};
 
 use crate::help;
 use clap::{Arg, ArgAction, Command, value_parser};
@@ -40,6 +40,15 @@ pub fn key<'a>(alloc: Global) -> Result<Command<'a>, AllocError>
     let about = "Print the public key object of a seed";
     let command = begun(alloc, "key", about, help::KEY)?;
     with_key(alloc, command)
+}
+
+/// `prune [--at SECONDS] [--verbose] --db FILE`
+pub fn prune<'a>(alloc: Global) -> Result<Command<'a>, AllocError>
+    ensures line { IfOk result (λ c. app_of c ≡ prune_line) }
+    ensures local { IfOk result (λ c. (out-Command c).has_globals ≡ false) }
+{
+    let about = "Remove the documents and target files that the snapshot does not list";
+    stored(alloc, "prune", about, help::PRUNE)
 }
 
 /// `publish [--at SECONDS] [--verbose] --db FILE ROLE:FILE ..`

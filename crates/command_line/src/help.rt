@@ -34,6 +34,9 @@ pub const INIT: &str = behind!("release init --db repository.db root.json");
 /// Behind the help of `key`.
 pub const KEY: &str = behind!("release key --seed root.seed --ots 8 --height 10");
 
+/// Behind the help of `prune`.
+pub const PRUNE: &str = behind!("release prune --db repository.db");
+
 /// Behind the help of `publish`.
 pub const PUBLISH: &str = behind!(
     "release publish --db repository.db timestamp:timestamp.json snapshot:snapshot.json targets:targets.json"

@@ -11,7 +11,7 @@ mod given;
 mod help;
 mod tasks;
 
-use arguments::{canon, init, key, publish, put, serve, sign};
+use arguments::{canon, init, key, prune, publish, put, serve, sign};
 use clap::error::ErrorKind;
 use clap::{ArgMatches, Command};
 use given::{count_of, fault, is_verbose, moment_of, params_of, port_of, text_of, texts_of};
@@ -41,6 +41,7 @@ fn release<'a>(alloc: Global) -> Result<Command<'a>, AllocError>
     let command = with(command, canon(alloc)?)?;
     let command = with(command, init(alloc)?)?;
     let command = with(command, key(alloc)?)?;
+    let command = with(command, prune(alloc)?)?;
     let command = with(command, publish(alloc)?)?;
     let command = with(command, put(alloc)?)?;
     let command = with(command, serve(alloc)?)?;
@@ -94,6 +95,7 @@ fn asked(alloc: Global, name: &str, given: &ArgMatches<'_>) -> Result<Subcommand
         "canon" => canon_asked(alloc, given),
         "init" => init_asked(alloc, given),
         "key" => key_asked(alloc, given),
+        "prune" => prune_asked(alloc, given),
         "publish" => publish_asked(alloc, given),
         "put" => put_asked(alloc, given),
         "serve" => serve_asked(alloc, given),
@@ -123,6 +125,13 @@ fn key_asked(alloc: Global, given: &ArgMatches<'_>) -> Result<Subcommand, Usage>
     let seed = text_of(alloc, given, "seed")?;
     let params = params_of(alloc, given)?;
     Ok(Subcommand::Key { seed, params })
+}
+
+fn prune_asked(alloc: Global, given: &ArgMatches<'_>) -> Result<Subcommand, Usage>
+    ensures { IfOk result (IsAsked (codes "prune") (rows_of (found_of given.now))) }
+{
+    let db = text_of(alloc, given, "db")?;
+    Ok(Subcommand::Prune { db })
 }
 
 fn publish_asked(alloc: Global, given: &ArgMatches<'_>) -> Result<Subcommand, Usage>

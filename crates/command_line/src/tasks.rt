@@ -39,6 +39,10 @@ pub enum Subcommand {
         seed: String,
         params: Params,
     },
+    /// `prune --db FILE`: removes the documents and target files that the snapshot does not list.
+    Prune {
+        db: String,
+    },
     /// `publish --db FILE ROLE:FILE ..`: offers 1 to 160 documents in order, together.
     Publish {
         db: String,

@@ -41,6 +41,12 @@ fn says_a_task(rt: HostRuntime) -> Result<(), Fail> {
             if db.as_str() == "d"
     )
     );
+    let found = asked(rt, &["release", "prune", "--at=5", "--db", "d"])?;
+    assert!(rt;
+        matches!(&found,
+        Ok(Task { at: Some(5), verbose: false, subcommand: Subcommand::Prune { db } }) if db.as_str() == "d"
+    )
+    );
     Ok(())
 }
 
@@ -82,6 +88,7 @@ fn helps(rt: HostRuntime) -> Result<(), Fail> {
     assert!(rt; is_help(rt, &["release", "--help"], "canon")?);
     assert!(rt; is_help(rt, &["release", "serve", "--help"], "--count")?);
     assert!(rt; is_help(rt, &["release", "help", "put"], "Exit status:")?);
+    assert!(rt; is_help(rt, &["release", "help", "prune"], "release prune --db")?);
     assert!(rt; is_help(rt, &["release", "help", "denials"], "51  Incoherent")?);
     assert!(rt; is_help(rt, &["release", "--version"], "release ")?);
     Ok(())
@@ -95,6 +102,7 @@ fn each_argument_has_to_be_there(rt: HostRuntime) -> Result<(), Fail> {
         ["release", "publish", "root:a", "--at=5"],
         ["release", "publish", "--db", "db"],
         ["release", "put", "abc", "--at=5"],
+        ["release", "prune", "--at=5", "-v"],
         ["release", "put", "--db", "db"],
     ] {
         assert!(rt; is_usage(rt, &words, "required")?, "{words:?}");
@@ -108,6 +116,9 @@ fn no_argument_too_many(rt: HostRuntime) -> Result<(), Fail> {
         ["release", "init", "--db=db", "a", "b"],
         ["release", "put", "--db=db", "a", "b"],
         ["release", "put", "--db=db", "--db=other", "a"],
+        ["release", "prune", "--db=db", "a", "b"],
+        ["release", "prune", "--db=db", "--db=other", "-v"],
+        ["release", "prune", "--db=db", "--port=80", "-v"],
         ["release", "put", "--db=db", "--port=80", "a"],
     ] {
         assert!(rt;

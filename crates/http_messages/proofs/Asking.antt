@@ -9,7 +9,7 @@ use Rattle.httparse.specs.declared.spans.RequestSpans.{RequestSpans}
 use Rattle.httparse.proofs.GrammarLemmas.{ReadsRequest-append, request_unique}
 use Rattle.path_patterns.specs.Names.{IsDigest}
 use Rattle.http_messages.specs.declared.routes.Route.{Route}
-use Rattle.http_messages.specs.declared.routes.Route.TheVariants.{Batch, Blob, Metadata, Target}
+use Rattle.http_messages.specs.declared.routes.Route.TheVariants.{Batch, Blob, Metadata, Prune, Target}
 use Rattle.http_messages.specs.Head.{FoundHead, IsInput, left}
 use Rattle.http_messages.specs.Sound.{OnNoMemory}
 use Rattle.http_messages.specs.declared.request.Received.{Received}
@@ -37,6 +37,7 @@ module _ (one_digest : (d e : List ℕ) → IsDigest d → IsDigest e → encode
   one-of-body Batch name body a b x y = one-of-batch body a b x y
   one-of-body Blob name body a b x y = one-of-blob name body a b x y
   one-of-body Metadata name body a b x y = x ∙ sym y
+  one-of-body Prune name body a b x y = x ∙ sym y
   one-of-body Target name body a b x y = x ∙ sym y
 
   one-of-rest : (w : Wanted) (rest : List ℕ) (a b : Request) → OfRest w rest a → OfRest w rest b → a ≡ b
@@ -81,12 +82,14 @@ pub kept-more : (route : Route) (len : ℕ) → IsKept route 0 → IsKept route 
 kept-more Batch len h = absurd (omega (arith, h))
 kept-more Blob len h = absurd (omega (arith, h))
 kept-more Metadata len h = tt
+kept-more Prune len h = absurd (omega (arith, h))
 kept-more Target len h = tt
 
 pub kept-body : (route : Route) (len : ℕ) → 0 < len → IsKept route len
 kept-body Batch len h = h
 kept-body Blob len h = h
 kept-body Metadata len h = tt
+kept-body Prune len h = h
 kept-body Target len h = tt
 
 -- a head that was found asks for what has to be kept

@@ -17,7 +17,7 @@ use Rattle.std.specs.Prelude.{option_map}
 use borrow.Author.Tests.{ltb-true}
 use Rattle.http_messages.specs.steps.Known.{all_routes, row}
 use Rattle.http_messages.specs.declared.routes.Route.{Route}
-use Rattle.http_messages.specs.declared.routes.Route.TheVariants.{Batch, Blob, Metadata, Target}
+use Rattle.http_messages.specs.declared.routes.Route.TheVariants.{Batch, Blob, Metadata, Prune, Target}
 
 -- ---- rows that all begin with bytes
 
@@ -211,7 +211,8 @@ numbered =
     (codes "/batch", 0)
     ∷ (codes "/blobs/" ++ 256 ∷ [], 1)
     ∷ (codes "/metadata/" ++ 256 ∷ [], 2)
-    ∷ (codes "/targets/" ++ 257 ∷ [], 3)
+    ∷ (codes "/prune", 3)
+    ∷ (codes "/targets/" ++ 257 ∷ [], 4)
     ∷ []
 
 -- what is kept at each number
@@ -306,7 +307,8 @@ number_of target =
     either (option_and_then (at_end 0) (after (codes "/batch") target))
     (either (option_and_then (with_name 1) (after (codes "/blobs/") target))
     (either (option_and_then (with_name 2) (after (codes "/metadata/") target))
-    (option_and_then (with_path 3) (after (codes "/targets/") target))))
+    (either (option_and_then (at_end 3) (after (codes "/prune") target))
+    (option_and_then (with_path 4) (after (codes "/targets/") target)))))
 
 cong2 : {a b c d : Option ℕ} → a ≡ b → c ≡ d → either a c ≡ either b d
 cong2 {a} {b} {c} {d} p q = ap (λ x. either x c) p ∙ ap (either b) q
@@ -319,8 +321,10 @@ numbers target t =
     seek-parts target (codes "/blobs/" ++ 256 ∷ []) 1 _ refl
     ∙ cong2 (one-name (codes "/blobs/") 1 target refl t) (
     seek-parts target (codes "/metadata/" ++ 256 ∷ []) 2 _ refl
-    ∙ cong2 (one-name (codes "/metadata/") 2 target refl t)
-    (one-path (codes "/targets/") 3 target refl t)))
+    ∙ cong2 (one-name (codes "/metadata/") 2 target refl t) (
+    seek-parts target (codes "/prune") 3 _ refl
+    ∙ cong2 (one-end (codes "/prune") 3 target refl)
+    (one-path (codes "/targets/") 4 target refl t))))
 
 values : (target : List ℕ) → value_of (number_of target) ≡ route_only (route_of target)
 unfolding number_of route_of kept all_routes
@@ -388,7 +392,8 @@ all-rest target =
     rest-either target _ _ (rest-end target Batch)
     (rest-either target _ _ (rest-name target Blob)
     (rest-either target _ _ (rest-name target Metadata)
-    (rest-path target Target)))
+    (rest-either target _ _ (rest-end target Prune)
+    (rest-path target Target))))
 
 -- a target with a route is the route with what follows its prefix
 pub with-rest : (target : List ℕ) (route : Route) → option_map (λ r. r.0) (route_of target) ≡ Some route

@@ -20,3 +20,7 @@ accepted_text accepted same = codes "{\"accepted\":" ++ decimal accepted ++ code
 abbrev pub stored_text : Bool → List ℕ
 stored_text true = codes "{\"stored\":true}"
 stored_text false = codes "{\"stored\":false}"
+
+-- the body of a prune's reply: how many blobs and how many rows of the shelf were removed
+abbrev pub pruned_text : ℕ → ℕ → List ℕ
+pruned_text blobs rows = codes "{\"blobs\":" ++ decimal blobs ++ codes ",\"rows\":" ++ decimal rows ++ codes "}"

@@ -13,7 +13,7 @@ use Rattle.http_messages.specs.declared.faults.Fault.TheVariants.{Head, Length, 
 use Rattle.http_messages.specs.declared.reply.Method.{Method}
 use Rattle.http_messages.specs.declared.reply.Method.TheVariants.{Get, Put, Post}
 use Rattle.http_messages.specs.declared.routes.Route.{Route}
-use Rattle.http_messages.specs.declared.routes.Route.TheVariants.{Batch, Blob, Metadata, Target}
+use Rattle.http_messages.specs.declared.routes.Route.TheVariants.{Batch, Blob, Metadata, Prune, Target}
 use Rattle.http_messages.specs.Framing.{Document, IsBatch}
 use Rattle.http_messages.specs.Head.{Heads, HasNoHead}
 use Rattle.http_messages.specs.Length.{declared}
@@ -28,6 +28,8 @@ pub data Request : Type 0 where
   batch : List Document → Request
   -- a blob's digest, and its bytes
   put_blob : List ℕ → List ℕ → Request
+  -- that what the snapshot does not list be removed
+  prune : Request
   -- the name of a metadata file
   metadata : List ℕ → Request
   -- the path of a target, perhaps with a digest in it
@@ -47,6 +49,7 @@ abbrev pub method_of : Route → Method
 method_of Batch = Post
 method_of Blob = Put
 method_of Metadata = Get
+method_of Prune = Post
 method_of Target = Get
 
 -- the most bytes of a body
@@ -54,6 +57,7 @@ abbrev pub limit_of : Route → ℕ
 limit_of Batch = 4194304
 limit_of Blob = blob_limit
 limit_of Metadata = 0
+limit_of Prune = 0
 limit_of Target = 0
 
 -- the length of the body: a GET that declares none has none, and a PUT or POST has to declare one
@@ -96,6 +100,7 @@ abbrev pub IsKept : Route → ℕ → Type 0
 IsKept Batch len = 0 < len
 IsKept Blob len = 0 < len
 IsKept Metadata len = ⊤
+IsKept Prune len = 0 < len
 IsKept Target len = ⊤
 
 -- the head alone refuses nothing, and something has to be kept
@@ -123,6 +128,7 @@ abbrev pub OfBody : Route → List ℕ → List ℕ → Request → Type 0
 OfBody Batch name body request = OfBatch body request
 OfBody Blob name body request = OfBlob name body request
 OfBody Metadata name body request = request ≡ metadata name
+OfBody Prune name body request = request ≡ prune
 OfBody Target name body request = request ≡ target name
 
 -- what the head and what follows it ask: the body is the first bytes after the head, as many as it has, or the input ends before

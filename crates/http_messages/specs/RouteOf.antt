@@ -2,7 +2,7 @@
 -- path. Nothing is decoded (RFC 9110, section 7.1, leaves the reading of a target to the server).
 use Rattle.std.specs.Prelude.{ℕ, List, [], ◌∷◌, Option, Some, None, Bool, true, false, cond, ◌==◌, codes, option_and_then}
 use Rattle.http_messages.specs.declared.routes.Route.{Route}
-use Rattle.http_messages.specs.declared.routes.Route.TheVariants.{Batch, Blob, Metadata, Target}
+use Rattle.http_messages.specs.declared.routes.Route.TheVariants.{Batch, Blob, Metadata, Prune, Target}
 
 -- what follows the prefix, if the text begins with it
 abbrev pub after : List ℕ → List ℕ → Option (List ℕ)
@@ -45,4 +45,5 @@ route_of target =
     or_else (option_and_then (at_end Batch) (after (codes "/batch") target))
     (or_else (option_and_then (with_name Blob) (after (codes "/blobs/") target))
     (or_else (option_and_then (with_name Metadata) (after (codes "/metadata/") target))
-    (option_and_then (with_path Target) (after (codes "/targets/") target))))
+    (or_else (option_and_then (at_end Prune) (after (codes "/prune") target))
+    (option_and_then (with_path Target) (after (codes "/targets/") target)))))

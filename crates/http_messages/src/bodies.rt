@@ -4,7 +4,7 @@ ghost use Rattle.std.specs.Prelude.{◌≡◌, Some, None, IfOk, IsTrue, string_
 ghost use Rattle.std.specs.Char.{is_ascii_alphabetic};
 ghost use Rattle.std.specs.List.{list_all};
 ghost use Rattle.serde_json.specs.View.{view};
-ghost use Rattle.http_messages.specs.Bodies.{denial_text, accepted_text, stored_text};
+ghost use Rattle.http_messages.specs.Bodies.{denial_text, accepted_text, stored_text, pruned_text};
 ghost use Rattle.http_messages.specs.steps.Denials.{denied_alone, denied_at};
 
 use crate::reply::{ShortText, push};
@@ -81,4 +81,18 @@ pub fn stored_body(stored: bool) -> &'static [u8]
     } else {
         b"{\"stored\":false}"
     }
+}
+
+/// The body of a prune's reply: how many blobs and how many rows of the shelf were removed. It takes no memory.
+pub fn pruned_body(blobs: usize, rows: usize) -> ShortText
+    ensures { result.items ≡ pruned_text blobs rows }
+{
+    let mut body = ShortText::new();
+    let mut digits = itoa::Buffer::new();
+    push(&mut body, b"{\"blobs\":");
+    push(&mut body, digits.format(blobs).as_bytes());
+    push(&mut body, b",\"rows\":");
+    push(&mut body, digits.format(rows).as_bytes());
+    push(&mut body, b"}");
+    body
 }

@@ -12,7 +12,7 @@ mod reply;
 mod request;
 mod routes;
 
-pub use bodies::{accepted_body, denial_body, stored_body};
+pub use bodies::{accepted_body, denial_body, pruned_body, stored_body};
 pub use body::read_body;
 pub use faults::{Fault, write_fault};
 pub use fields::{Declared, declared_length};

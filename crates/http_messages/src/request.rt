@@ -40,6 +40,8 @@ pub enum Received {
     Batch(Vec<u8>),
     /// A blob's digest, and its bytes.
     PutBlob(Digest, Vec<u8>),
+    /// That what the snapshot does not list be removed.
+    Prune,
     /// The name of a metadata file.
     Metadata(String),
     /// The path of a target, perhaps with a digest in it.
@@ -55,6 +57,8 @@ pub enum Asked<'a> {
     Batch(Vec<(RoleName, &'a [u8])>),
     /// A blob's digest, and its bytes, at most 1,048,576.
     PutBlob(Digest, &'a [u8]),
+    /// That what the snapshot does not list be removed.
+    Prune,
     /// The name of a metadata file.
     Metadata(&'a str),
     /// The path of a target, perhaps with a digest in it.
@@ -76,6 +80,7 @@ impl Route {
             Route::Batch => Method::Post,
             Route::Blob => Method::Put,
             Route::Metadata => Method::Get,
+            Route::Prune => Method::Post,
             Route::Target => Method::Get,
         }
     }
@@ -88,6 +93,7 @@ impl Route {
             Route::Batch => BATCH_LIMIT,
             Route::Blob => BLOB_LIMIT as u64,
             Route::Metadata => 0,
+            Route::Prune => 0,
             Route::Target => 0,
         }
     }
@@ -186,6 +192,7 @@ fn of_body(alloc: Global, route: Route, name: &str, body: Vec<u8>) -> Result<Rec
             let text = String::from_str(alloc, name)?;
             Ok(Received::Metadata(text))
         }
+        Route::Prune => Ok(Received::Prune),
         Route::Target => {
             let text = String::from_str(alloc, name)?;
             Ok(Received::Target(text))
@@ -283,6 +290,7 @@ impl Received {
             Received::Fault(fault) => Ok(Asked::Fault(*fault)),
             Received::Batch(body) => asked_batch(alloc, body),
             Received::PutBlob(digest, bytes) => Ok(Asked::PutBlob(*digest, bytes)),
+            Received::Prune => Ok(Asked::Prune),
             Received::Metadata(name) => Ok(Asked::Metadata(name.as_str())),
             Received::Target(path) => Ok(Asked::Target(path.as_str())),
         }

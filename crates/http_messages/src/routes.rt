@@ -18,6 +18,8 @@ pub enum Route {
     Blob,
     /// `/metadata/{name}`
     Metadata,
+    /// `/prune`
+    Prune,
     /// `/targets/{*path}`
     Target,
 }
@@ -39,6 +41,7 @@ impl Route {
             Route::Batch => "/batch",
             Route::Blob => "/blobs/",
             Route::Metadata => "/metadata/",
+            Route::Prune => "/prune",
             Route::Target => "/targets/",
         }
     }
@@ -62,6 +65,7 @@ impl Routes {
         router.insert("/batch", Route::Batch)?;
         router.insert("/blobs/{digest}", Route::Blob)?;
         router.insert("/metadata/{name}", Route::Metadata)?;
+        router.insert("/prune", Route::Prune)?;
         router.insert("/targets/{*path}", Route::Target)?;
         Ok(Routes { router })
     }

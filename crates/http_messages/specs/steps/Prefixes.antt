@@ -1,7 +1,7 @@
 -- The routes by their prefixes.
 use Rattle.std.specs.Prelude.{ℕ, List, Option, Some, None, codes}
 use Rattle.http_messages.specs.declared.routes.Route.{Route}
-use Rattle.http_messages.specs.declared.routes.Route.TheVariants.{Batch, Blob, Metadata, Target}
+use Rattle.http_messages.specs.declared.routes.Route.TheVariants.{Batch, Blob, Metadata, Prune, Target}
 use Rattle.http_messages.specs.RouteOf.{Routed}
 
 -- the bytes that a route's targets begin with
@@ -9,6 +9,7 @@ abbrev pub prefix_of : Route → List ℕ
 prefix_of Batch = codes "/batch"
 prefix_of Blob = codes "/blobs/"
 prefix_of Metadata = codes "/metadata/"
+prefix_of Prune = codes "/prune"
 prefix_of Target = codes "/targets/"
 
 -- a route with what follows its prefix, if anything was found to

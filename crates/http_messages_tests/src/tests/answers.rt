@@ -14,6 +14,7 @@ fn write_asked(writer: &mut Vec<u8>, asked: Asked<'_>) -> Result<(), Fail> {
             }
         }
         Asked::PutBlob(digest, bytes) => send_both(writer, &digest.digits(), bytes)?,
+        Asked::Prune => send_both(writer, b"prune", b"")?,
         Asked::Metadata(name) => send_both(writer, b"metadata ", name.as_bytes())?,
         Asked::Target(path) => send_both(writer, b"target ", path.as_bytes())?,
     }
@@ -40,6 +41,6 @@ pub fn answer_to(alloc: Global, request: &[u8]) -> Result<Vec<u8>, Fail> {
 pub const NOT_FOUND: &[u8] =
     b"HTTP/1.1 404 Not Found\r\nContent-Type: application/json\r\nContent-Length: 17\r\nConnection: close\r\n\r\n{\"fault\":\"route\"}";
 
-/// What another method than a batch's is answered.
+/// What another method than that of a batch or of a prune is answered.
 pub const NOT_ALLOWED: &[u8] =
     b"HTTP/1.1 405 Method Not Allowed\r\nContent-Type: application/json\r\nContent-Length: 18\r\nAllow: POST\r\nConnection: close\r\n\r\n{\"fault\":\"method\"}";

@@ -4,7 +4,7 @@ use std::alloc::{AllocError, Global};
 use std::test::Fail;
 
 // Requests, and how their answers end.
-const ROWS: [(&str, &str); 48] = [
+const ROWS: [(&str, &str); 47] = [
     ("", "{\"fault\":\"head\"}"),
     ("GET", "{\"fault\":\"head\"}"),
     ("GET /nope HTTP/1.1\r\n", "{\"fault\":\"head\"}"),
@@ -19,10 +19,6 @@ const ROWS: [(&str, &str); 48] = [
     ("GET /metadata/ HTTP/1.1\r\n\r\n", "{\"fault\":\"route\"}"),
     (
         "GET /metadata/a/b HTTP/1.1\r\n\r\n",
-        "{\"fault\":\"route\"}",
-    ),
-    (
-        "POST /prune HTTP/1.1\r\nContent-Length: 0\r\n\r\n",
         "{\"fault\":\"route\"}",
     ),
     ("GET /batch/ HTTP/1.1\r\n\r\n", "{\"fault\":\"route\"}"),
@@ -151,10 +147,72 @@ const ROWS: [(&str, &str); 48] = [
     ),
 ];
 
+// The same about prunes.
+const PRUNES: [(&str, &str); 15] = [
+    (
+        "POST /prune/ HTTP/1.1\r\nContent-Length: 0\r\n\r\n",
+        "{\"fault\":\"route\"}",
+    ),
+    (
+        "POST /prune?x HTTP/1.1\r\nContent-Length: 0\r\n\r\n",
+        "{\"fault\":\"route\"}",
+    ),
+    (
+        "POST /prun HTTP/1.1\r\nContent-Length: 0\r\n\r\n",
+        "{\"fault\":\"route\"}",
+    ),
+    (
+        "POST /PRUNE HTTP/1.1\r\nContent-Length: 0\r\n\r\n",
+        "{\"fault\":\"route\"}",
+    ),
+    (
+        "POST //prune HTTP/1.1\r\nContent-Length: 0\r\n\r\n",
+        "{\"fault\":\"route\"}",
+    ),
+    ("GET /prune HTTP/1.1\r\n\r\n", "{\"fault\":\"method\"}"),
+    (
+        "PUT /prune HTTP/1.1\r\nContent-Length: 1\r\n\r\n",
+        "{\"fault\":\"method\"}",
+    ),
+    ("POST /prune HTTP/1.1\r\n\r\n", "{\"fault\":\"length\"}"),
+    (
+        "POST /prune HTTP/1.1\r\nContent-Length: -0\r\n\r\n",
+        "{\"fault\":\"length\"}",
+    ),
+    (
+        "POST /prune HTTP/1.1\r\nTransfer-Encoding: chunked\r\n\r\n",
+        "{\"fault\":\"length\"}",
+    ),
+    (
+        "POST /prune HTTP/1.1\r\nContent-Length: 1\r\n\r\na",
+        "{\"fault\":\"size\"}",
+    ),
+    (
+        "POST /prune HTTP/1.1\r\nContent-Length: 1\r\n\r\n",
+        "{\"fault\":\"size\"}",
+    ),
+    ("POST /prune HTTP/1.1\r\nContent-Length: 0\r\n\r\n", "prune"),
+    (
+        "POST /prune HTTP/1.0\r\ncontent-length:0000000000\r\n\r\nmore",
+        "prune",
+    ),
+    ("GET /metadata/prune HTTP/1.1\r\n\r\n", "metadata prune"),
+];
+
 #[test]
 fn rows(rt: HostRuntime) -> Result<(), Fail> {
     let alloc = rt.alloc();
     for (request, end) in ROWS {
+        let text = answer_to(alloc, request.as_bytes())?;
+        assert!(rt; text.ends_with(end.as_bytes()), "{request}");
+    }
+    Ok(())
+}
+
+#[test]
+fn rows_of_prunes(rt: HostRuntime) -> Result<(), Fail> {
+    let alloc = rt.alloc();
+    for (request, end) in PRUNES {
         let text = answer_to(alloc, request.as_bytes())?;
         assert!(rt; text.ends_with(end.as_bytes()), "{request}");
     }

@@ -1,7 +1,8 @@
 //! Whole answers, their statuses and their bodies.
 use crate::tests::answers::{NOT_ALLOWED, NOT_FOUND, answer_to};
 use http_messages::{
-    Fault, Kind, Status, accepted_body, denial_body, stored_body, write_fault, write_response,
+    Fault, Kind, Status, accepted_body, denial_body, pruned_body, stored_body, write_fault,
+    write_response,
 };
 use std::test::Fail;
 
@@ -12,6 +13,8 @@ fn whole_answers(rt: HostRuntime) -> Result<(), Fail> {
     assert!(rt; nope.as_slice() == NOT_FOUND && nope.len() == 114);
     let batch = answer_to(alloc, b"GET /batch HTTP/1.1\r\n\r\n")?;
     assert!(rt; batch.as_slice() == NOT_ALLOWED && batch.len() == 137);
+    let prune = answer_to(alloc, b"GET /prune HTTP/1.1\r\n\r\n")?;
+    assert!(rt; prune.as_slice() == NOT_ALLOWED);
     let mut empty = Vec::new(alloc);
     write_response(&mut empty, Status::Ok, Kind::Octets, None, b"")?;
     assert!(rt;
@@ -88,6 +91,10 @@ fn bodies(rt: HostRuntime) -> Result<(), Fail> {
     );
     assert_eq!(rt; version.len(), 48);
     assert!(rt; accepted_body(3, 0).as_slice() == b"{\"accepted\":3,\"same\":0}".as_slice());
+    let pruned = pruned_body(2, 1);
+    assert!(rt; pruned.as_slice() == b"{\"blobs\":2,\"rows\":1}".as_slice());
+    assert_eq!(rt; pruned.len(), 20);
+    assert!(rt; pruned_body(4096, 0).as_slice() == b"{\"blobs\":4096,\"rows\":0}".as_slice());
     assert!(rt; stored_body(true) == b"{\"stored\":true}".as_slice());
     assert!(rt; stored_body(false) == b"{\"stored\":false}".as_slice());
     Ok(())

@@ -16,7 +16,8 @@ invariant_of-result c =
     let b = c.in_ok-insert-2.ensures in
     let d = c.in_ok-insert-3.ensures in
     let e = c.in_ok-insert-4.ensures in
-    record { complete = rw (e.1, d.1, b.1, a.1, c.new-router.ensures) refl }
+    let f = c.in_ok-insert-5.ensures in
+    record { complete = rw (f.1, e.1, d.1, b.1, a.1, c.new-router.ensures) refl }
 
 -- what no route is in the way of is refused for want of memory alone
 for_memory : (p : List ℕ) (rows : RowsOf (RouteOf Route)) (e : InsertError) → nearest p rows ≡ None → Refused p rows e → e ≡ OutOfMemory
@@ -48,4 +49,10 @@ pub returns-in_err-insert-4 : goal.returns-in_err-insert-4
 unfolding matchit_on_literals
 returns-in_err-insert-4 c =
     let p = err_from_is_err_and c.from_residual-in_err-insert-4.result c.from_residual-in_err-insert-4.ensures.1 in
-    rw (p.1, p.2) (for_memory (codes "/targets/" ++ 257 ∷ []) c.insert-3.new.self c.in_err-insert-4.field-0.0 (rw (c.in_ok-insert-3.ensures.1, c.in_ok-insert-2.ensures.1, c.in_ok-insert.ensures.1, c.new-router.ensures) refl) c.in_err-insert-4.ensures.1)
+    rw (p.1, p.2) (for_memory (codes "/prune") c.insert-3.new.self c.in_err-insert-4.field-0.0 (rw (c.in_ok-insert-3.ensures.1, c.in_ok-insert-2.ensures.1, c.in_ok-insert.ensures.1, c.new-router.ensures) refl) c.in_err-insert-4.ensures.1)
+
+pub returns-in_err-insert-5 : goal.returns-in_err-insert-5
+unfolding matchit_on_literals
+returns-in_err-insert-5 c =
+    let p = err_from_is_err_and c.from_residual-in_err-insert-5.result c.from_residual-in_err-insert-5.ensures.1 in
+    rw (p.1, p.2) (for_memory (codes "/targets/" ++ 257 ∷ []) c.insert-4.new.self c.in_err-insert-5.field-0.0 (rw (c.in_ok-insert-4.ensures.1, c.in_ok-insert-3.ensures.1, c.in_ok-insert-2.ensures.1, c.in_ok-insert.ensures.1, c.new-router.ensures) refl) c.in_err-insert-5.ensures.1)
