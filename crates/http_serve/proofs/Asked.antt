@@ -1,12 +1,13 @@
 -- What is known of an input by what it asks.
 use Rattle.std.proofs.Common.{ℕ, List, subst}
-use Rattle.http_messages.specs.Request.{Request, fault, batch, put_blob, metadata, target, Wanted, refused, wanted, IsWanted, HasWanted, of_head, OfRest, Asks, by_head, by_none}
+use Rattle.http_messages.specs.Request.{Request, fault, batch, put_blob, prune, metadata, target, Wanted, refused, wanted, IsWanted, HasWanted, of_head, OfRest, Asks, by_head, by_none}
 
 -- it is a command
 abbrev pub IsSomething : Request → Type 0
 IsSomething (fault why) = ⊥
 IsSomething (batch documents) = Unit {0}
 IsSomething (put_blob digest bytes) = Unit {0}
+IsSomething prune = Unit {0}
 IsSomething (metadata name) = Unit {0}
 IsSomething (target path) = Unit {0}
 

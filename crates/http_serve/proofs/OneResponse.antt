@@ -2,17 +2,17 @@
 use Rattle.std.proofs.Common.{◌≡◌, ◌⊎◌, inl, inr, ℕ, List, [], ◌∷◌, ◌++◌, map, Option, None, Result, Ok, Err, refl, sym, ap, subst, ◌∙◌}
 use Rattle.path_patterns.specs.Names.{Asks as AsksPath}
 use Rattle.machine.specs.State.{State}
-use Rattle.machine.specs.Runs.{Command, Batch, PutBlob, Metadata, Target, Reply, Begun, Offered, BatchDone, Stored, FileBytes, Absent, Refused, Steps, Outcome, Runs, done as ended, next}
-use Rattle.http_messages.specs.Request.{Request, fault, batch, put_blob, metadata, target, Asks}
+use Rattle.machine.specs.Runs.{Command, Batch, PutBlob, Prune, Metadata, Target, Reply, Begun, Offered, BatchDone, Stored, Pruned, FileBytes, Absent, Refused, Steps, Outcome, Runs, done as ended, next}
+use Rattle.http_messages.specs.Request.{Request, fault, batch, put_blob, prune, metadata, target, Asks}
 use Rattle.http_messages.specs.Framing.{Document}
 use Rattle.http_messages.specs.Text.{response}
-use Rattle.http_messages.specs.Bodies.{accepted_text, stored_text}
+use Rattle.http_messages.specs.Bodies.{accepted_text, pruned_text, stored_text}
 use Rattle.http_messages.specs.Faults.{fault_response}
 use Rattle.http_messages.specs.declared.faults.Fault.TheVariants.{Name, Memory, Database}
 use Rattle.http_messages.specs.declared.reply.Kind.{Kind}
 use Rattle.http_messages.specs.declared.reply.Kind.TheVariants.{Json}
 use Rattle.http_messages.specs.declared.reply.Status.TheVariants.{Ok as Fine}
-use Rattle.http_serve.specs.Response.{IsCommand, offers, puts, names, asks, kind_of, denial_response, Says, done, stored, file, absent, denied, Answers, at_fault, by_step, Responds}
+use Rattle.http_serve.specs.Response.{IsCommand, offers, puts, prunes, names, asks, kind_of, denial_response, Says, done, stored, pruned, file, absent, denied, Answers, at_fault, by_step, Responds}
 use Rattle.machine.specs.Commands.{offer_of}
 use Rattle.http_serve.specs.Serving as serving
 use Rattle.http_serve.specs.Serving.{Answered, Made, Ended, Line, Serves}
@@ -28,6 +28,7 @@ text_of k Begun = []
 text_of k (Offered same) = []
 text_of k (BatchDone a s) = response Fine Json None (accepted_text a s)
 text_of k (Stored new) = response Fine Json None (stored_text new)
+text_of k (Pruned blobs rows) = response Fine Json None (pruned_text blobs rows)
 text_of k (FileBytes bytes) = response Fine k None bytes
 text_of k Absent = fault_response Name
 text_of k (Refused d i) = denial_response d i
@@ -35,6 +36,7 @@ text_of k (Refused d i) = denial_response d i
 says-text : (k : Kind) (reply : Reply) (text : List ℕ) → Says k reply text → text ≡ text_of k reply
 says-text k reply text (done a s) = refl
 says-text k reply text (stored n) = refl
+says-text k reply text (pruned b r) = refl
 says-text k reply text (file bytes) = refl
 says-text k reply text absent = refl
 says-text k reply text (denied d i) = refl
@@ -45,12 +47,14 @@ abbrev CommandOf : Request → Command → Type 0
 CommandOf (fault why) c = ⊥
 CommandOf (batch documents) c = c ≡ Batch (map (λ (d : Document). (offer_of d.0, d.1)) documents)
 CommandOf (put_blob digest bytes) c = c ≡ PutBlob digest bytes
+CommandOf prune c = c ≡ Prune
 CommandOf (metadata name) c = c ≡ Metadata name
 CommandOf (target text) c = (path : List ℕ) × (digest : Option (List ℕ)) × AsksPath text path digest × (c ≡ Target path digest)
 
 command-of : (request : Request) (c : Command) → IsCommand request c → CommandOf request c
 command-of request c (offers documents) = refl
 command-of request c (puts digest bytes) = refl
+command-of request c prunes = refl
 command-of request c (names name) = refl
 command-of request c (asks text path digest h) = (path, digest, h, refl)
 
@@ -65,6 +69,7 @@ module _ (one_path : OnePath) (one_step : OneStep) where
   one-command (fault why) c d p q = absurd p
   one-command (batch documents) c d p q = p ∙ sym q
   one-command (put_blob digest bytes) c d p q = p ∙ sym q
+  one-command prune c d p q = p ∙ sym q
   one-command (metadata name) c d p q = p ∙ sym q
   one-command (target text) c d (path, digest, h, p) (path2, digest2, k, q) =
       let (same_path, same_digest) = one_path text path path2 digest digest2 h k in

@@ -3,7 +3,7 @@ use Rattle.std.proofs.Common.{◌≡◌, inl, inr, ℕ, List, Option, None, Some
 use Rattle.std.specs.Prelude.{OnOk, OnErr}
 use Rattle.std.specs.Io.KnownBytes.{Appends}
 use Rattle.machine.specs.State.{State}
-use Rattle.machine.specs.Runs.{Command, Batch, PutBlob, Metadata, Target, Init, OfferOne, Reply, Begun, BatchDone, Offered, Stored, FileBytes, Absent, Refused, Steps, leads, Leads, settled, batch_outcome, Outcome, metadata_reply}
+use Rattle.machine.specs.Runs.{Command, Batch, PutBlob, Prune, Metadata, Target, Init, OfferOne, Reply, Begun, BatchDone, Offered, Stored, Pruned, FileBytes, Absent, Refused, Steps, leads, Leads, settled, batch_outcome, Outcome, metadata_reply}
 use Rattle.denials.specs.Orders as orders
 use Rattle.store.specs.Applies.{Makes, Replies}
 use Rattle.tables.specs.declared.faults.StoreFault.{StoreFault}
@@ -53,6 +53,7 @@ said S T (Init b) now reply served h = absurd served
 said S T (OfferOne o b) now reply served h = absurd served
 said S T (Batch os) now reply served h = let (j, m, e) = invert h in batch-said S j T reply e
 said S T (PutBlob digest b) now reply served h = let (j, m, e) = invert h in settled-said S _ _ j T reply (λ a. tt) tt e
+said S T Prune now reply served h = let (j, m, e) = invert h in settled-said S _ _ j T reply (λ a. tt) tt e
 said S T (Metadata name) now reply served h = subst IsSaid (sym (ap (λ (o : Outcome). o.1) h)) (name-said _)
 said S T (Target path asked) now reply served h = let (j, m, e) = invert h in settled-said S _ _ j T reply (λ a. tt) tt e
 
@@ -72,6 +73,7 @@ keeps S T (Init b) now reply served denial h = absurd served
 keeps S T (OfferOne o b) now reply served denial h = absurd served
 keeps S T (Batch os) now reply served denial h = let (j, m, e) = invert h in batch-keeps S j T reply denial e
 keeps S T (PutBlob digest b) now reply served denial h = let (j, m, e) = invert h in settled-keeps S _ _ j T reply (λ a d. d) denial e
+keeps S T Prune now reply served denial h = let (j, m, e) = invert h in settled-keeps S _ _ j T reply (λ a d. d) denial e
 keeps S T (Metadata name) now reply served denial h = ap (λ (o : Outcome). o.0) h
 keeps S T (Target path asked) now reply served denial h = let (j, m, e) = invert h in settled-keeps S _ _ j T reply (λ a d. d) denial e
 
@@ -82,11 +84,13 @@ said_so trusted S T (Init b) now reply served h = absurd served
 said_so trusted S T (OfferOne o b) now reply served h = absurd served
 said_so trusted S T (Batch os) now reply served h = said S T (Batch os) now reply served h
 said_so trusted S T (PutBlob digest b) now reply served h = said S T (PutBlob digest b) now reply served h
+said_so trusted S T Prune now reply served h = said S T Prune now reply served h
 said_so trusted S T (Metadata name) now reply served h = said S T (Metadata name) now reply served h
 said_so trusted S T (Target path asked) now Begun served h = said S T (Target path asked) now Begun served h
 said_so trusted S T (Target path asked) now (Offered same) served h = said S T (Target path asked) now (Offered same) served h
 said_so trusted S T (Target path asked) now (BatchDone a s) served h = tt
 said_so trusted S T (Target path asked) now (Stored new) served h = tt
+said_so trusted S T (Target path asked) now (Pruned blobs rows) served h = tt
 said_so trusted S T (Target path asked) now (FileBytes bytes) served h = tt
 said_so trusted S T (Target path asked) now Absent served h = tt
 said_so trusted S T (Target path asked) now (Refused d index) served h = tt
@@ -96,11 +100,13 @@ keeps_so trusted S T (Init b) now reply served denial h = absurd served
 keeps_so trusted S T (OfferOne o b) now reply served denial h = absurd served
 keeps_so trusted S T (Batch os) now reply served denial h = keeps S T (Batch os) now reply served denial h
 keeps_so trusted S T (PutBlob digest b) now reply served denial h = keeps S T (PutBlob digest b) now reply served denial h
+keeps_so trusted S T Prune now reply served denial h = keeps S T Prune now reply served denial h
 keeps_so trusted S T (Metadata name) now reply served denial h = keeps S T (Metadata name) now reply served denial h
 keeps_so trusted S T (Target path asked) now Begun served denial h = absurd denial
 keeps_so trusted S T (Target path asked) now (Offered same) served denial h = absurd denial
 keeps_so trusted S T (Target path asked) now (BatchDone a s) served denial h = absurd denial
 keeps_so trusted S T (Target path asked) now (Stored new) served denial h = absurd denial
+keeps_so trusted S T (Target path asked) now (Pruned blobs rows) served denial h = absurd denial
 keeps_so trusted S T (Target path asked) now (FileBytes bytes) served denial h = absurd denial
 keeps_so trusted S T (Target path asked) now Absent served denial h = absurd denial
 keeps_so trusted S T (Target path asked) now (Refused d index) served denial h = keeps S T (Target path asked) now (Refused d index) served denial h

@@ -1,7 +1,7 @@
 -- The bytes that say a reply.
 use Rattle.std.proofs.Common.{◌≡◌, inl, inr, ℕ, List, Option, None, Result, sym, ap, subst, ◌∙◌}
 use Rattle.denials.specs.Orders as orders
-use Rattle.machine.specs.Runs.{Reply, BatchDone, Stored, FileBytes, Refused}
+use Rattle.machine.specs.Runs.{Reply, BatchDone, Stored, Pruned, FileBytes, Refused}
 use Rattle.http_messages.specs.Bodies.{denial_text}
 use Rattle.http_messages.specs.Text.{response}
 use Rattle.http_messages.specs.declared.line.Cut.{Cut}
@@ -9,12 +9,13 @@ use Rattle.http_messages.specs.declared.reply.Kind.{Kind}
 use Rattle.http_messages.specs.declared.reply.Kind.TheVariants.{Json}
 use Rattle.http_messages.specs.declared.reply.Status.{Status}
 use Rattle.http_messages.specs.declared.reply.Status.TheVariants.{Ok as Fine}
-use Rattle.http_serve.specs.Response.{Says, denial_status, done, stored, file, absent, denied}
+use Rattle.http_serve.specs.Response.{Says, denial_status, done, stored, pruned, file, absent, denied}
 use Rattle.http_serve.specs.steps.Views.{IsDenial, Told}
 
 any-kind : (k m : Kind) (reply : Reply) (text : List ℕ) → IsDenial reply → Says k reply text → Says m reply text
 any-kind k m reply text is (done a s) = absurd is
 any-kind k m reply text is (stored n) = absurd is
+any-kind k m reply text is (pruned b r) = absurd is
 any-kind k m reply text is (file bytes) = absurd is
 any-kind k m reply text is absent = absurd is
 any-kind k m reply text is (denied d i) = denied d i
@@ -30,6 +31,9 @@ says-done k a s body text e h = subst (λ b. Says k (BatchDone a s) (response Fi
 
 pub says-stored : (k : Kind) (n : _) (body text : List ℕ) → body ≡ text → Says k (Stored n) (response Fine Json None text) → Says k (Stored n) (response Fine Json None body)
 says-stored k n body text e h = subst (λ b. Says k (Stored n) (response Fine Json None b)) (sym e) h
+
+pub says-pruned : (k : Kind) (b r : ℕ) (body text : List ℕ) → body ≡ text → Says k (Pruned b r) (response Fine Json None text) → Says k (Pruned b r) (response Fine Json None body)
+says-pruned k b r body text e h = subst (λ x. Says k (Pruned b r) (response Fine Json None x)) (sym e) h
 
 pub says-file : (k : Kind) (body bytes : List ℕ) → body ≡ bytes → Says k (FileBytes bytes) (response Fine k None body)
 says-file k body bytes e = subst (λ b. Says k (FileBytes bytes) (response Fine k None b)) (sym e) (file bytes)

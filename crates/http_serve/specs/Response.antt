@@ -4,10 +4,10 @@ use Rattle.denials.specs.Orders as orders
 use Rattle.path_patterns.specs.Names.{Asks as AsksPath}
 use Rattle.machine.specs.State.{State}
 use Rattle.machine.specs.Commands.{offer_of}
-use Rattle.machine.specs.Runs.{Command, Batch, PutBlob, Metadata, Target, Init, OfferOne, Reply, BatchDone, Stored, FileBytes, Absent, Refused, Steps}
-use Rattle.http_messages.specs.Request.{Request, fault, batch, put_blob, metadata, target, Asks}
+use Rattle.machine.specs.Runs.{Command, Batch, PutBlob, Prune, Metadata, Target, Init, OfferOne, Reply, BatchDone, Stored, Pruned, FileBytes, Absent, Refused, Steps}
+use Rattle.http_messages.specs.Request.{Request, fault, batch, put_blob, prune, metadata, target, Asks}
 use Rattle.http_messages.specs.Text.{response}
-use Rattle.http_messages.specs.Bodies.{accepted_text, stored_text, denial_text}
+use Rattle.http_messages.specs.Bodies.{accepted_text, stored_text, pruned_text, denial_text}
 use Rattle.http_messages.specs.Faults.{fault_response}
 use Rattle.http_messages.specs.declared.faults.Fault.{Fault}
 use Rattle.http_messages.specs.declared.faults.Fault.TheVariants.{Name}
@@ -20,6 +20,7 @@ use Rattle.http_messages.specs.declared.reply.Status.TheVariants.{Ok, Forbidden,
 pub data IsCommand : Request → Command → Type 0 where
   offers : (documents : List (List ℕ × List ℕ)) → IsCommand (batch documents) (Batch (map (λ d. (offer_of d.0, d.1)) documents))
   puts : (digest bytes : List ℕ) → IsCommand (put_blob digest bytes) (PutBlob digest bytes)
+  prunes : IsCommand prune Prune
   names : (name : List ℕ) → IsCommand (metadata name) (Metadata name)
   asks : (text path : List ℕ) (digest : Option (List ℕ)) → AsksPath text path digest → IsCommand (target text) (Target path digest)
 
@@ -29,6 +30,7 @@ kind_of (Init b) = Json
 kind_of (Batch os) = Json
 kind_of (OfferOne o b) = Json
 kind_of (PutBlob digest b) = Json
+kind_of Prune = Json
 kind_of (Metadata name) = Json
 kind_of (Target path asked) = Octets
 
@@ -44,6 +46,7 @@ denial_response d index = response (denial_status d) Json None (denial_text (ord
 pub data Says (kind : Kind) : Reply → List ℕ → Type 0 where
   done : (accepted same : ℕ) → Says kind (BatchDone accepted same) (response Ok Json None (accepted_text accepted same))
   stored : (new : _) → Says kind (Stored new) (response Ok Json None (stored_text new))
+  pruned : (blobs rows : ℕ) → Says kind (Pruned blobs rows) (response Ok Json None (pruned_text blobs rows))
   file : (bytes : List ℕ) → Says kind (FileBytes bytes) (response Ok kind None bytes)
   absent : Says kind Absent (fault_response Name)
   denied : (d : orders.Denial) (index : Option ℕ) → Says kind (Refused d index) (denial_response d index)

@@ -10,8 +10,8 @@ ghost use Rattle.http_serve.specs.Serving.{Wrote};
 ghost use Rattle.http_serve.specs.steps.Views.{IsSaid, Told};
 
 use http_messages::{
-    Cut, Fault, Kind, Status, Transmit, accepted_body, denial_body, stored_body, write_fault,
-    write_response,
+    Cut, Fault, Kind, Status, Transmit, accepted_body, denial_body, pruned_body, stored_body,
+    write_fault, write_response,
 };
 use machine::Denial;
 use std::alloc::Global;
@@ -27,6 +27,7 @@ pub fn kind_of(command: &Command<'_>) -> Kind
         | Command::Batch(_)
         | Command::Offer(_, _)
         | Command::PutBlob(_, _)
+        | Command::Prune
         | Command::Metadata(_) => Kind::Json,
     }
 }
@@ -56,6 +57,10 @@ pub fn write_reply<W: Transmit>(
             None,
             stored_body(*new),
         ),
+        Reply::Pruned { blobs, rows } => {
+            let body = pruned_body(*blobs, *rows);
+            write_response(writer, Status::Ok, Kind::Json, None, &body)
+        }
         Reply::Bytes(bytes) => write_response(writer, Status::Ok, kind, None, bytes),
         Reply::Absent => write_fault(writer, Fault::Name),
         Reply::Denied(denial, index) => write_denial(alloc, writer, denial, *index),

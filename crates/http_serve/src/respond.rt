@@ -38,6 +38,7 @@ pub fn respond<W: Transmit, S: Alter>(
         Asked::PutBlob(digest, bytes) => {
             perform(alloc, writer, store, Command::PutBlob(digest, bytes), now)
         }
+        Asked::Prune => perform(alloc, writer, store, Command::Prune, now),
         Asked::Metadata(name) => perform(alloc, writer, store, Command::Metadata(name), now),
         Asked::Target(text) => respond_target(alloc, writer, store, text, now),
     }

@@ -1,6 +1,6 @@
 -- What a call does, from what the machine answers.
 use Rattle.std.proofs.Common.{◌≡◌, ◌⊎◌, inl, inr, ℕ, true, false, List, Option, Some, None, Result, Ok, Err, Bor, refl, sym, ap, subst, ◌∙◌, arith}
-use Rattle.std.specs.Prelude.{IfOk, IsTrue, OnErr, OnOk}
+use Rattle.std.specs.Prelude.{IfOk, IsTrue, OnErr, OnOk, length}
 use Rattle.sqlite.specs.State as database
 use Rattle.sqlite.specs.State.{HasCleanDisk, Survives}
 use Rattle.sqlite_trees.specs.Tree.{Trees}
@@ -10,8 +10,8 @@ use Rattle.denials.specs.Orders.{Order, Same}
 use Rattle.machine.specs.State.{State, IsState, metadata_of}
 use Rattle.machine.specs.Commands as commands
 use Rattle.machine.specs.Effects.{applied, brought, on_state}
-use Rattle.machine.specs.Runs.{Command, Leads, Outcome, Reply, Steps, leads, settled, Init, Batch, OfferOne, PutBlob, Metadata, Target, Begun, BatchDone, Offered, Stored, FileBytes, Absent, Refused}
-use Rattle.machine.specs.Answers.{Answers, changes, unchanged, refused, AnswersBatch, done, denied, Gives, gives, denies}
+use Rattle.machine.specs.Runs.{Command, Leads, Outcome, Reply, Steps, leads, settled, Init, Batch, OfferOne, PutBlob, Prune, Metadata, Target, Begun, BatchDone, Offered, Stored, Pruned, pruned_reply, FileBytes, Absent, Refused}
+use Rattle.machine.specs.Answers.{Answers, CountsGone, changes, unchanged, refused, AnswersBatch, done, denied, Gives, gives, denies}
 use Rattle.denials.specs.Views.{denial_view}
 use Rattle.machine.specs.Views.{effects_view}
 use Rattle.machine.specs.declared.effects.Effects.{Effects}
@@ -62,12 +62,14 @@ step_replies trusted S (Init b) now T reply h = h
 step_replies trusted S (Batch os) now T reply h = h
 step_replies trusted S (OfferOne o b) now T reply h = h
 step_replies trusted S (PutBlob digest b) now T reply h = h
+step_replies trusted S Prune now T reply h = h
 step_replies trusted S (Metadata name) now T reply h = h
 step_replies trusted S (Target path asked) now T (FileBytes b) h = (target_stays S T path asked now (FileBytes b) h, λ sure. h)
 step_replies trusted S (Target path asked) now T Begun h = h
 step_replies trusted S (Target path asked) now T (BatchDone a s) h = h
 step_replies trusted S (Target path asked) now T (Offered s) h = h
 step_replies trusted S (Target path asked) now T (Stored n) h = h
+step_replies trusted S (Target path asked) now T (Pruned b n) h = h
 step_replies trusted S (Target path asked) now T Absent h = h
 step_replies trusted S (Target path asked) now T (Refused d i) h = h
 
@@ -77,12 +79,14 @@ replies_step trusted S (Init b) now T reply sure h = h
 replies_step trusted S (Batch os) now T reply sure h = h
 replies_step trusted S (OfferOne o b) now T reply sure h = h
 replies_step trusted S (PutBlob digest b) now T reply sure h = h
+replies_step trusted S Prune now T reply sure h = h
 replies_step trusted S (Metadata name) now T reply sure h = h
 replies_step trusted S (Target path asked) now T (FileBytes b) sure h = h.1 sure
 replies_step trusted S (Target path asked) now T Begun sure h = h
 replies_step trusted S (Target path asked) now T (BatchDone a s) sure h = h
 replies_step trusted S (Target path asked) now T (Offered s) sure h = h
 replies_step trusted S (Target path asked) now T (Stored n) sure h = h
+replies_step trusted S (Target path asked) now T (Pruned b n) sure h = h
 replies_step trusted S (Target path asked) now T Absent sure h = h
 replies_step trusted S (Target path asked) now T (Refused d i) sure h = h
 
@@ -222,6 +226,21 @@ Answered S c now r = IfOk r (λ reply. Steps S c now (S, reply_view reply))
 
 answered_as : (S : State) (c : Command) (now : ℕ) (r q : Result Answer StoreFault) → r ≡ q → Answered S c now q → Answered S c now r
 answered_as S c now r q is h = subst (Answered S c now) (sym is) h
+
+-- ---- a prune
+
+pub prunes : (S : State) (now : ℕ) (e : Effects) → Answers S (commands.prune S) (Ok (Changed e)) → CountsGone S (Ok (Changed e))
+    → Steps S Prune now (applied S (effects_view e), Pruned (length e.gone.blobs.items) (length e.gone.rows.items))
+prunes S now e (changes h valid) counts =
+    subst (λ (reply : Reply). Steps S Prune now (applied S (effects_view e), reply)) (λ i. Pruned (counts.1 i) (counts.0 i)) (leads (Ok (applied S (effects_view e))) h)
+
+-- it is never without a change
+pub prunes_same : (S : State) (now : ℕ) → Answers S (commands.prune S) (Ok outcomes.Same) → Steps S Prune now (S, Pruned 0 0)
+prunes_same S now (unchanged h) = leads (Err Same) h
+
+pub prune_refused : (S : State) (now : ℕ) (refusal : Refusal) (r : Result Answer StoreFault) → Answers S (commands.prune S) (Err refusal) → IsRefusal refusal r → Answered S Prune now r
+prune_refused S now (refusals.Denied d) r (refused h) is = answered_as S Prune now r _ is (leads (Err (orders.Denied (denial_view d))) h)
+prune_refused S now refusals.OutOfMemory r h is = answered_as S Prune now r _ is tt
 
 -- ---- a blob
 

@@ -58,6 +58,10 @@ pub digest_fits : (m : List ℕ) → IsDigest (sha256 m)
 unfolding sha256
 digest_fits m = (length-sha256 m, are_bytes _ 8)
 
+pub are_digests : (bs : List (Bytes × Bytes)) → All IsBlob bs → AllByRecursion (λ r. IsDigest r.0) bs
+are_digests [] h = tt
+are_digests (b ∷ bs) h = (subst IsDigest (All-head IsBlob b bs h).digest (digest_fits b.1), are_digests bs (All-tail IsBlob b bs h))
+
 -- ---- versions and names
 
 root_fits : (f : File Root) → IsFileOf root_form f → IsVersion f.body.version
@@ -261,13 +265,9 @@ module _ (law : Shapes) (S : State) (s : IsState S) where
     shelf = all_rows IsShelfRow (λ r. IsUtf8 r.0.0 × IsVersion r.0.1) (λ row. (row.0, row.1.bytes))
         (λ row h. (name_fits row.0.0 h.role, subst IsVersion h.version (targets_fits row.1 h.document))) S.trusted.shelf s.trusted.rows;
     one_row = keyed row_cmp row_cmp_total (contents_of S).shelf shelf_rises;
-    blobs = blob_fits S.blobs s.blobs;
+    blobs = are_digests S.blobs s.blobs;
     one_blob = keyed (slice_cmp nat_cmp) nat_list_cmp_total S.blobs blobs_rise;
   }
-    where
-      blob_fits : (bs : List (Bytes × Bytes)) → All IsBlob bs → AllByRecursion (λ r. IsDigest r.0) bs
-      blob_fits [] h = tt
-      blob_fits (b ∷ bs) h = (subst IsDigest (All-head IsBlob b bs h).digest (digest_fits b.1), blob_fits bs (All-tail IsBlob b bs h))
 
 -- a state has one file under a digest
 pub blobs_keyed : (S : State) → IsState S → AreKeyed S.blobs

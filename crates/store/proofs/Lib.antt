@@ -1,5 +1,6 @@
 pub mod Appending
 pub mod SameRows
+pub mod Gone
 pub mod Holding
 pub mod Applying
 pub mod Fitting

@@ -1,5 +1,5 @@
 -- The rows of a state that was changed are those that were there, with the changes.
-use Rattle.std.proofs.Common.{◌≡◌, inl, inr, ℕ, suc, ◌+◌, ◌-◌, Bool, true, false, cond, List, [], ◌∷◌, ◌++◌, map, length, Option, Some, None, refl, sym, ap, ◌∙◌, subst, arith, length-append}
+use Rattle.std.proofs.Common.{bytes_eq, ◌≡◌, inl, inr, ℕ, suc, ◌+◌, ◌-◌, Bool, true, false, cond, List, [], ◌∷◌, ◌++◌, map, length, Option, Some, None, refl, sym, ap, ◌∙◌, subst, arith, length-append}
 use Rattle.std.specs.Prelude.{option_map, unwrap_or}
 use Rattle.std.proofs.lemmas.List.{append-nil, length-map, map-append}
 use Rattle.std.proofs.Math.Seq.{append_snoc}
@@ -8,15 +8,16 @@ use Rattle.sqlite_rules.proofs.ListLemmas.{has_left, has_right, has_either}
 use Rattle.metadata.specs.Documents.{Root}
 use Rattle.metadata.specs.File.{Bytes, File}
 use Rattle.delegations.specs.Delegation.{before}
-use Rattle.delegations.specs.Rows.{Place, Rows, place_before, with_row, with_rows}
+use Rattle.delegations.specs.Rows.{Place, Rows, place_before, same_place, with_row, with_rows}
 use Rattle.machine.specs.State.{State, Trusted, IsState}
-use Rattle.machine.specs.Effects.{Effects, applied, last_or, renewed, with_blobs}
+use Rattle.machine.specs.Effects.{Effects, applied, last_or, renewed, with_blobs, without}
 use Rattle.machine.specs.Contents.{contents_of, numbered, root_rows, shelf_rows}
 use Rattle.tables.specs.Tables.{AreSame}
 use Rattle.contents.specs.Contents.{Contents}
 use Rattle.sql_tables.proofs.RowLemmas.{has_map, map_has}
+use Rattle.store.proofs.Gone.{AreDigests, gone_rows}
 use Rattle.store.specs.StateRows.{rows_of}
-use Rattle.store.specs.steps.Changed.{changed, emptied_if, last_version, more_blobs, more_roots, more_rows, new_roots, new_snapshot, new_timestamp}
+use Rattle.store.specs.steps.Changed.{changed, emptied_if, last_version, more, more_blobs, more_roots, more_rows, new_roots, new_snapshot, new_timestamp}
 
 abbrev pub SameItems : {A : Type 0} → List A → List A → Type 0
 SameItems {A} xs ys = (x : A) → (Has xs x → Has ys x) × (Has ys x → Has xs x)
@@ -112,20 +113,23 @@ kept_rows true rows new = refl
 kept_rows false rows new = sym (map-append (λ row. (row.0, row.1.bytes)) rows new)
 
 -- what is written is what the state then has
-pub changed_is : (S : State) (E : Effects) → IsState S → IsState (applied S E)
+pub changed_is : (S : State) (E : Effects) → AreDigests S.blobs → IsState S → IsState (applied S E)
     → (contents_of (applied S E)).roots ≡ (contents_of S).roots ++ root_rows (applied S E).trusted (length S.trusted.roots) (map (λ r. r.bytes) E.roots)
     → AreSame (changed E (rows_of S)) (rows_of (applied S E))
-changed_is S E s t roots =
-    let shelf = cond E.emptied [] S.trusted.shelf in
+changed_is S E digests s t roots =
+    let rows = without same_place S.trusted.shelf E.gone.rows in
+    let blobs = without bytes_eq S.blobs E.gone.blobs in
+    let shelf = cond E.emptied [] rows in
     subst (λ T. AreSame T (rows_of (applied S E)))
-    (sym (as_fields E.emptied (option_map (numbered (λ b. b.version)) E.timestamp) (option_map (numbered (λ b. b.version)) E.snapshot)
-    (new_roots (last_version E.roots) E.roots) (shelf_rows E.rows) E.blobs (rows_of S)))
+    (sym (ap (more E) (gone_rows S E.gone.rows E.gone.blobs digests)
+    ∙ as_fields E.emptied (option_map (numbered (λ b. b.version)) E.timestamp) (option_map (numbered (λ b. b.version)) E.snapshot)
+    (new_roots (last_version E.roots) E.roots) (shelf_rows E.rows) E.blobs (record (rows_of S) { shelf = shelf_rows rows; blobs = blobs })))
     (record {
       roots = same_refl _ _ (sym (roots ∙ ap (λ l. (contents_of S).roots ++ l) (roots_same S E)));
       timestamp = renewed_rows (numbered (λ b. b.version)) E.emptied S.trusted.timestamp E.timestamp;
       snapshot = renewed_rows (numbered (λ b. b.version)) E.emptied S.trusted.snapshot E.snapshot;
-      shelf = same_then _ _ _ (same_refl _ _ (kept_rows E.emptied S.trusted.shelf E.rows))
+      shelf = same_then _ _ _ (same_refl _ _ (kept_rows E.emptied rows E.rows))
           (same_map (λ row. (row.0, row.1.bytes)) (shelf ++ E.rows) (with_rows shelf E.rows)
           (λ x. let p = puts_same place_before with_rows (λ xs. refl) (λ xs r rs. refl) shelf E.rows x in (p.1, p.0)));
-      blobs = λ x. let p = puts_same before with_blobs (λ xs. refl) (λ xs r rs. refl) S.blobs E.blobs x in (p.1, p.0);
+      blobs = λ x. let p = puts_same before with_blobs (λ xs. refl) (λ xs r rs. refl) blobs E.blobs x in (p.1, p.0);
     })

@@ -6,18 +6,19 @@ ghost use Rattle.sqlite.specs.State.{HasCleanDisk, Survives};
 ghost use Rattle.metadata.specs.FileViews.{root_file, snapshot_file, timestamp_file};
 ghost use Rattle.delegations.specs.Views.{row_views};
 ghost use Rattle.machine.specs.Contents.{numbered, shelf_rows};
-ghost use Rattle.machine.specs.Views.{blob_views, effects_view};
+ghost use Rattle.machine.specs.Views.{blob_views, digest_views, effects_view};
 ghost use Rattle.machine.specs.State as trust;
 ghost use Rattle.machine.specs.State.{IsState};
 ghost use Rattle.machine.specs.Effects.{applied};
 ghost use Rattle.tables.specs.Tables.{HoldsTables, IsStore, after_all};
 ghost use Rattle.contents.specs.Contents.{Contents};
 ghost use Rattle.store.specs.StateRows.{rows_of};
-ghost use Rattle.store.specs.steps.Changed.{changed, emptied_if, last_version, more_blobs, more_roots, more_rows, new_roots, new_snapshot, new_timestamp};
+ghost use Rattle.store.specs.steps.Changed.{blobs_gone, changed, emptied_if, last_version, more_blobs, more_roots, more_rows, new_roots, new_snapshot, new_timestamp, rows_gone};
 
 use delegations::Row;
 use machine::{Blob, Effects, rows_stay};
 use metadata::{File, Root, Snapshot, Timestamp};
+use path_patterns::{Digest, RoleName};
 use sqlite::{Alter, Connection};
 use std::alloc::{AllocError, Global};
 use tables::{Change, StoreFault, write_all};
@@ -28,6 +29,8 @@ pub(crate) fn changes_of(alloc: Global, effects: &Effects) -> Result<Vec<Change<
     ensures { IfOk result (λ changes. (t : Contents) → after_all changes.items t ≡ changed (effects_view effects.now) t) }
 {
     let mut changes = Vec::new(alloc);
+    drop_rows(&mut changes, &effects.gone.rows)?;
+    drop_blobs(&mut changes, &effects.gone.blobs)?;
     put_roots(&mut changes, &effects.changes.roots)?;
     empty_if(&mut changes, effects.changes.emptied)?;
     put_timestamp(&mut changes, &effects.changes.timestamp)?;
@@ -126,6 +129,33 @@ fn put_blobs<'a>(changes: &mut Vec<Change<'a>>, blobs: &'a [Blob]) -> Result<(),
     let mut rest = blobs;
     'blobs: while let Some((blob, later)) = rest.split_first() {
         changes.push(Change::PutBlob(&blob.digest.0, &blob.bytes))?;
+        rest = later;
+    }
+    Ok(())
+}
+
+// The targets documents that go.
+fn drop_rows<'a>(
+    changes: &mut Vec<Change<'a>>,
+    gone: &'a [(RoleName, u32)],
+) -> Result<(), AllocError>
+    ensures { IfOk result (λ _. (t : Contents) → after_all changes.new.items t ≡ rows_gone gone.now (after_all changes.old.items t)) }
+{
+    let mut rest = gone;
+    'rows: while let Some((place, later)) = rest.split_first() {
+        changes.push(Change::RowGone(place.0.as_str(), place.1))?;
+        rest = later;
+    }
+    Ok(())
+}
+
+// The target files that go.
+fn drop_blobs<'a>(changes: &mut Vec<Change<'a>>, gone: &'a [Digest]) -> Result<(), AllocError>
+    ensures { IfOk result (λ _. (t : Contents) → after_all changes.new.items t ≡ blobs_gone (digest_views gone.now) (after_all changes.old.items t)) }
+{
+    let mut rest = gone;
+    'blobs: while let Some((digest, later)) = rest.split_first() {
+        changes.push(Change::BlobGone(&digest.0))?;
         rest = later;
     }
     Ok(())

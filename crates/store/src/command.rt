@@ -13,6 +13,8 @@ pub enum Command<'a> {
     Offer(&'a Offer, &'a [u8]),
     /// Stores a target file under its digest.
     PutBlob(Digest, &'a [u8]),
+    /// Takes away the targets documents at versions that the snapshot does not list, and the target files that no other one lists.
+    Prune,
     /// Asks for a metadata file by its name.
     Metadata(&'a str),
     /// Asks for a target file by its path, and by a digest of its listing where one is given.
@@ -30,6 +32,8 @@ pub enum Reply {
     Offered { same: bool },
     /// The file is stored: newly, or already before.
     Stored(bool),
+    /// How many target files and how many targets documents were taken away.
+    Pruned { blobs: usize, rows: usize },
     /// The bytes of the file that was asked for.
     Bytes(Vec<u8>),
     /// There is no metadata file of this name.

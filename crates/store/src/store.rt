@@ -142,6 +142,7 @@ impl<S: Alter> Store<S> {
             Command::Batch(documents) => self.take_batch(documents, now),
             Command::Offer(offer, bytes) => self.take_offer(offer, bytes, now),
             Command::PutBlob(digest, bytes) => self.put(digest, bytes, now),
+            Command::Prune => self.prune(now),
             Command::Metadata(name) => self.metadata(name, now),
             Command::Target(path, asked) => self.target(path, asked, now),
         }
@@ -211,6 +212,23 @@ impl<S: Alter> Store<S> {
         };
         match self.keep(effects) {
             Ok(()) => Ok(Reply::Stored(true)),
+            Err(fault) => Err(fault),
+        }
+    }
+
+    fn prune(&mut self, now: Moment) -> Result<Reply, StoreFault>
+        ensures { DoesAt self.old.kept self.new.kept (state S.Store self.old.conn) (state S.Store self.new.conn) steps.Prune now result }
+    {
+        self.rests();
+        let effects = match self.held().prune(self.alloc()) {
+            Ok(Outcome::Changed(effects)) => effects,
+            Ok(Outcome::Same) => return Ok(Reply::Pruned { blobs: 0, rows: 0 }),
+            Err(refusal) => return refused(refusal),
+        };
+        let blobs = effects.gone.blobs.len();
+        let rows = effects.gone.rows.len();
+        match self.keep(effects) {
+            Ok(()) => Ok(Reply::Pruned { blobs, rows }),
             Err(fault) => Err(fault),
         }
     }

@@ -1,7 +1,7 @@
 -- What the code's values stand for, and what its parts are asked.
 use Rattle.std.specs.Prelude.{◌≡◌, ◌⊎◌, ℕ, List, Option, Result, Ok, Err, map, ⊤}
 use Rattle.std.specs.Borrow.{Bor}
-use Rattle.machine.specs.Runs.{Command, Init, OfferOne, Batch, PutBlob, Metadata, Target, Reply, Begun, Offered, BatchDone, Stored, FileBytes, Absent, Refused}
+use Rattle.machine.specs.Runs.{Command, Init, OfferOne, Batch, PutBlob, Prune, Metadata, Target, Reply, Begun, Offered, BatchDone, Stored, Pruned, FileBytes, Absent, Refused}
 use Rattle.machine.specs.Commands.{Offer, offer_of}
 use Rattle.http_messages.specs.Faults.{fault_response}
 use Rattle.http_messages.specs.Request.{Request, Asks}
@@ -27,6 +27,7 @@ IsServed (Init b) = ⊥
 IsServed (OfferOne o b) = ⊥
 IsServed (Batch os) = ⊤
 IsServed (PutBlob digest b) = ⊤
+IsServed Prune = ⊤
 IsServed (Metadata name) = ⊤
 IsServed (Target path asked) = ⊤
 
@@ -36,6 +37,7 @@ IsSaid Begun = ⊥
 IsSaid (Offered same) = ⊥
 IsSaid (BatchDone accepted same) = ⊤
 IsSaid (Stored new) = ⊤
+IsSaid (Pruned blobs rows) = ⊤
 IsSaid (FileBytes bytes) = ⊤
 IsSaid Absent = ⊤
 IsSaid (Refused d index) = ⊤
@@ -46,6 +48,7 @@ IsDenial Begun = ⊥
 IsDenial (Offered same) = ⊥
 IsDenial (BatchDone accepted same) = ⊥
 IsDenial (Stored new) = ⊥
+IsDenial (Pruned blobs rows) = ⊥
 IsDenial (FileBytes bytes) = ⊥
 IsDenial Absent = ⊥
 IsDenial (Refused d index) = ⊤

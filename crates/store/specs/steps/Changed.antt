@@ -6,7 +6,7 @@ use Rattle.machine.specs.Contents.{numbered, shelf_rows}
 use Rattle.contents.specs.Contents.{Contents}
 use Rattle.delegations.specs.Rows.{Place}
 use Rattle.machine.specs.Effects.{Effects, last_or}
-use Rattle.tables.specs.Tables.{emptied}
+use Rattle.tables.specs.Tables.{emptied, without_blob, without_row}
 
 -- the rows of new roots: the last has its own version, and they rise by one
 abbrev pub new_roots : ℕ → List (File Root) → List (ℕ × Bytes)
@@ -37,7 +37,20 @@ more_rows new t = record t { shelf = t.shelf ++ new }
 abbrev pub more_blobs : List (Bytes × Bytes) → Contents → Contents
 more_blobs new t = record t { blobs = t.blobs ++ new }
 
-abbrev pub changed : Effects → Contents → Contents
-changed E t =
+-- rows go one after the other
+abbrev pub rows_gone : List Place → Contents → Contents
+rows_gone [] t = t
+rows_gone (place ∷ places) t = rows_gone places (without_row place.0 place.1 t)
+
+abbrev pub blobs_gone : List Bytes → Contents → Contents
+blobs_gone [] t = t
+blobs_gone (digest ∷ digests) t = blobs_gone digests (without_blob digest t)
+
+-- what is put there
+abbrev pub more : Effects → Contents → Contents
+more E t =
     more_blobs E.blobs (more_rows (shelf_rows E.rows) (new_snapshot (option_map (numbered (λ b. b.version)) E.snapshot)
     (new_timestamp (option_map (numbered (λ b. b.version)) E.timestamp) (emptied_if E.emptied (more_roots (new_roots (last_version E.roots) E.roots) t)))))
+
+abbrev pub changed : Effects → Contents → Contents
+changed E t = more E (blobs_gone E.gone.blobs (rows_gone E.gone.rows t))

@@ -1,9 +1,9 @@
 use Rattle.std.proofs.Common.{inl, ◌∙◌}
 use Rattle.denials.specs.Views.{denial_view}
 use Rattle.http_messages.specs.declared.reply.Kind.TheVariants.{Json}
-use Rattle.http_serve.specs.Response.{done, stored, absent}
+use Rattle.http_serve.specs.Response.{absent, done, pruned, stored}
 use Rattle.http_serve.proofs.Standings.{wrote}
-use Rattle.http_serve.proofs.Telling.{denied-told, says-done, says-stored, says-file}
+use Rattle.http_serve.proofs.Telling.{denied-told, says-done, says-file, says-pruned, says-stored}
 use Rattle.http_serve.proofs.replies.write_reply.Goals as goal
 
 pub returns-in-Batch-clause-told : goal.returns-in-Batch-clause-told
@@ -20,6 +20,14 @@ returns-in-Stored-clause-told g c =
       _,
       inl (says-stored c.args.kind c.in-Stored.new c.stored_body.result.now _ c.stored_body.ensures (stored _)),
       wrote _ _ _ _ c.write_response-in-Stored.ensures.ok c.write_response-in-Stored.ensures.err,
+    )
+
+pub returns-in-Pruned-clause-told : goal.returns-in-Pruned-clause-told
+returns-in-Pruned-clause-told g c =
+    rw c.in-Pruned.is (
+      _,
+      inl (says-pruned c.args.kind c.in-Pruned.blobs c.in-Pruned.rows c.deref-in-Pruned.result.now _ (c.deref-in-Pruned.ensures.0 ∙ c.pruned_body-body.ensures) (pruned _ _)),
+      wrote _ _ _ _ c.write_response-in-Pruned.ensures.ok c.write_response-in-Pruned.ensures.err,
     )
 
 pub returns-in-Bytes-clause-told : goal.returns-in-Bytes-clause-told

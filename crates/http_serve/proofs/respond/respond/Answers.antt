@@ -1,5 +1,5 @@
-use Rattle.http_messages.specs.Request.{metadata, put_blob}
-use Rattle.http_serve.specs.Response.{names, puts}
+use Rattle.http_messages.specs.Request.{metadata, prune, put_blob}
+use Rattle.http_serve.specs.Response.{names, prunes, puts}
 use Rattle.http_serve.proofs.Responding.{faulty, served}
 use Rattle.http_serve.proofs.Standings.{wrote}
 use Rattle.http_serve.proofs.respond.respond.Goals as goal
@@ -14,6 +14,10 @@ returns-in-Batch-clause-responded g c = rw c.in-Batch.is c.respond_batch.ensures
 pub returns-in-PutBlob-clause-responded : goal.returns-in-PutBlob-clause-responded
 returns-in-PutBlob-clause-responded g c =
     rw c.in-PutBlob.is (served _ _ (put_blob c.in-PutBlob.digest.0 c.in-PutBlob.bytes.now) _ c.args.now _ _ c.perform.result (puts _ _) c.perform.ensures.performed)
+
+pub returns-in-Prune-clause-responded : goal.returns-in-Prune-clause-responded
+returns-in-Prune-clause-responded g c =
+    rw c.in-Prune.is (served _ _ prune _ c.args.now _ _ c.perform-in-Prune.result prunes c.perform-in-Prune.ensures.performed)
 
 pub returns-in-Metadata-clause-responded : goal.returns-in-Metadata-clause-responded
 returns-in-Metadata-clause-responded g c =

@@ -8,6 +8,7 @@ use Rattle.tables.specs.Tables.{AreSame, IsStore, after_all}
 use Rattle.store.specs.StateRows.{rows_of}
 use Rattle.store.specs.steps.Changed.{changed}
 use Rattle.store.proofs.Holding.{holds_as, store_as}
+use Rattle.store.proofs.Fitting.{are_digests}
 use Rattle.store.proofs.SameRows.{changed_is}
 use Rattle.store.proofs.changes.write.Goals as goal
 
@@ -15,7 +16,7 @@ pub returns-clause-wrote : goal.returns-clause-wrote
 returns-clause-wrote g c clean U valid then is =
     let E = effects_view c.args.effects.now in
     let made : after_all c.deref.result.now (rows_of U) ≡ changed E (rows_of U) = ap (λ l. after_all l (rows_of U)) c.deref.ensures.value ∙ c.in_ok-changes.ensures (rows_of U) in
-    let same = changed_is U E valid then (c.rows_stay.ensures U E valid then) in
+    let same = changed_is U E (are_digests U.blobs valid.blobs) valid then (c.rows_stay.ensures U E valid then) in
     elim c.write_all.result as (λ r. OnOk r (IsStore (state g.S.Store c.write_all.new.conn) (after_all c.deref.result.now (rows_of U))) → OnOk r (IsStore (state g.S.Store c.write_all.new.conn) (rows_of (applied U E)))) [
       | Ok u ↦ λ holds. store_as _ _ _ (subst (λ T. AreSame T (rows_of (applied U E))) (sym made) same) holds
       | Err f ↦ λ holds. tt
@@ -36,5 +37,5 @@ returns-clause-crash g c =
     let E = effects_view c.args.effects.now in
     survives_weaker _ _ _ _ (λ clean db wrote U valid then is.
     let made : after_all c.deref.result.now (rows_of U) ≡ changed E (rows_of U) = ap (λ l. after_all l (rows_of U)) c.deref.ensures.value ∙ c.in_ok-changes.ensures (rows_of U) in
-    let same = changed_is U E valid then (c.rows_stay.ensures U E valid then) in
+    let same = changed_is U E (are_digests U.blobs valid.blobs) valid then (c.rows_stay.ensures U E valid then) in
     holds_as db _ _ (subst (λ T. AreSame T (rows_of (applied U E))) (sym made) same) (wrote (rows_of U) is)) c.write_all.ensures.crash

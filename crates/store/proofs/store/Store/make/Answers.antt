@@ -24,6 +24,11 @@ returns-in-PutBlob g c =
     subst (λ command. DoesAt c.args.self.now.kept c.put.new.self.kept (state g.S.Store c.args.self.now.conn) (state g.S.Store c.put.new.self.conn) (command_view command) c.args.now c.put.result)
     (sym c.in-PutBlob.is) c.put.ensures
 
+pub returns-in-Prune : goal.returns-in-Prune
+returns-in-Prune g c =
+    subst (λ command. DoesAt c.args.self.now.kept c.prune.new.self.kept (state g.S.Store c.args.self.now.conn) (state g.S.Store c.prune.new.self.conn) (command_view command) c.args.now c.prune.result)
+    (sym c.in-Prune.is) c.prune.ensures
+
 pub returns-in-Target : goal.returns-in-Target
 returns-in-Target g c =
     subst (λ command. DoesAt c.args.self.now.kept c.target.new.self.kept (state g.S.Store c.args.self.now.conn) (state g.S.Store c.target.new.self.conn) (command_view command) c.args.now c.target.result)
