@@ -11,6 +11,7 @@ mod key;
 mod lines;
 mod moments;
 mod outgoing;
+mod prune;
 mod publish;
 mod put;
 mod repository;

@@ -2,6 +2,7 @@
 use crate::init::init;
 use crate::key::print_key;
 use crate::moments::moment;
+use crate::prune::prune;
 use crate::publish::publish;
 use crate::put::put;
 use crate::serve::Server;
@@ -52,6 +53,7 @@ fn perform<O: Write, E: Write>(
         Subcommand::Canon { file } => print_canon(rt, file.as_str(), at, out, notes),
         Subcommand::Init { db, root } => init(rt, db.as_str(), root.as_str(), at, out, notes),
         Subcommand::Key { seed, params } => print_key(rt, seed.as_str(), params, at, out, notes),
+        Subcommand::Prune { db } => prune(rt, db.as_str(), at, out, notes),
         Subcommand::Publish { db, documents } => publish(
             rt,
             db.as_str(),

@@ -93,6 +93,11 @@ impl Session {
         self.ask(Command::PutBlob(digest, &bytes))
     }
 
+    /// `prune`.
+    pub fn prune(&mut self) -> Result<String, LineFault> {
+        self.ask(Command::Prune)
+    }
+
     /// `get PATH [DIGEST]`.
     pub fn get(&mut self, text: &str) -> Result<String, LineFault> {
         match text.split_once(' ') {

@@ -42,6 +42,7 @@ fn done_text(alloc: Global, files: &[File], reply: Reply) -> Result<String, Allo
         Reply::Batch { accepted, same } => format!(in alloc; "accepted {accepted} same {same}"),
         Reply::Offered { same } => told(alloc, if same { "same" } else { "taken" }),
         Reply::Stored(new) => told(alloc, if new { "stored" } else { "held" }),
+        Reply::Pruned { blobs, rows } => format!(in alloc; "blobs {blobs} rows {rows}"),
         Reply::Bytes(bytes) => bytes_text(alloc, files, &bytes),
         Reply::Absent => told(alloc, "absent"),
         Reply::Denied(denial, index) => denial_text(alloc, &denial, index),

@@ -138,6 +138,7 @@ fn answer_line(session: &mut Session, line: &str) -> Result<String, LineFault> {
         "offer" => session.offer(rest),
         "batch" => session.batch(rest),
         "put" => session.put(rest),
+        "prune" => session.prune(),
         "get" => session.get(rest),
         "metadata" => session.metadata(rest),
         "http" => session.request(rest),

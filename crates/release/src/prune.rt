@@ -1,0 +1,29 @@
+//! `prune`: takes away what the listed documents do not ask for.
+use crate::moments::moment;
+use crate::repository::applied;
+use commands::{Fault, Notes, print, refused};
+use http_messages::pruned_body;
+use std::io::Write;
+use store::{Command, Reply};
+
+/// Takes away the targets documents at versions that the snapshot does not list, and the target files that no other one lists, and
+/// prints how many of each.
+pub fn prune<O: Write, E: Write>(
+    rt: &HostRuntime,
+    db: &str,
+    at: Option<u64>,
+    out: &mut O,
+    notes: &mut Notes<'_, E>,
+) -> Result<(), Fault> {
+    let now = moment(rt, at)?;
+    match applied(rt, db, Command::Prune, now, notes)? {
+        Reply::Pruned { blobs, rows } => {
+            print(out, &pruned_body(blobs, rows), notes)?;
+            print(out, b"\n", notes)
+        }
+        other => {
+            notes.tell(&db, &"denied");
+            Err(refused(other))
+        }
+    }
+}
