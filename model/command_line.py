@@ -40,6 +40,14 @@ def put(state, text, _now):
     return (DONE, digest.encode() + b"\n", b""), state if after is repository.SAME else after
 
 
+def prune(state):
+    try:
+        after, blobs, rows = repository.prune(state)
+    except Denied as denied:
+        return denied_line(denied), state
+    return (DONE, b'{"blobs":%d,"rows":%d}\n' % (blobs, rows), b""), after
+
+
 def publish(state, arguments, files, now):
     """Every argument is judged before a file is read. `files` has the bytes of each file that is there."""
     offered = []

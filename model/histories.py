@@ -334,6 +334,8 @@ class History:
         elif kind < 0.6:
             blob = random.choice(BLOBS) if self.chance(0.9) else random.randbytes(random.randint(0, 50))
             request = http_requests.put(blob, None if self.chance(0.9) else make.digest(random.choice(BLOBS)))
+        elif kind < 0.615:
+            request = http_requests.prune()
         elif kind < 0.8:
             request = http_requests.get("/targets/" + self.target_path())
         else:
@@ -382,7 +384,7 @@ class History:
         return requests
 
     def go_by_command_line(self):
-        """At times a publish, a put or an init between two servers."""
+        """At times a publish, a put, an init or a prune between two servers."""
         as_wanted = True
         if self.chance(0.5):
             offered = [(role, text if self.chance(0.99) else None) for role, text in self.documents()]
@@ -391,6 +393,8 @@ class History:
             as_wanted &= self.world.command("put", self.now, self.random.choice(BLOBS))
         if self.chance(0.05):
             as_wanted &= self.world.command("init", self.now, self.make_root())
+        if self.chance(0.1):
+            as_wanted &= self.world.prune(self.now)
         return as_wanted
 
     def run(self):

@@ -3,7 +3,7 @@
 They are made by hand, with several faults at once, and by changing good ones at random.
 """
 import http_requests
-from http_requests import get, post, post_frames, put
+from http_requests import get, post, post_frames, prune, put
 from names import asked
 from program import World
 from repository import State
@@ -17,7 +17,7 @@ METHODS = """
     GET POST PUT HEAD OPTIONS get Get DELETE G X!#$%&'*+-.^_`|~9 PATCH G\xc9T POSTX GETX
 """.split() + ["", "GE T"]
 PLACES = f"""
-    /batch /blobs/{ZEROS} /blobs/x /metadata/timestamp.json /metadata/x /targets/y /targets/a?b /prune /nope / * batch
+    /batch /blobs/{ZEROS} /blobs/x /metadata/timestamp.json /metadata/x /targets/y /targets/a?b /prune /prune/ /prune?x /PRUNE //prune /nope / * batch
     http://h/targets/y /batch/ /blobs/ /blobs /blobs/a/b /metadata/ /metadata /metadata/a/b /targets/ /targets
     /targets// //targets/y /Targets/y /targets/a/ /targets/a/../y /targets/%79 /batch?x /batch# /BATCH
     /metadata/timestamp.json? /targets/y/ /targets/./y /targets/{{y}} /{{a}} /blobs/{{digest}} /targets/* /targets/"<>
@@ -144,7 +144,7 @@ def single_bytes(requests):
 
 def lengths(requests):
     lines = ["POST /batch", f"PUT /blobs/{ABC}", "GET /targets/y", "GET /metadata/timestamp.json", "GET /metadata/nope"]
-    lines += ["GET /targets/..", "PUT /blobs/zz", "GET /batch"]
+    lines += ["GET /targets/..", "PUT /blobs/zz", "GET /batch", "POST /prune"]
     for value in LENGTHS:
         names = ["Content-Length"]
         if value in ("0", "1", "4"):
@@ -175,6 +175,7 @@ def bodies(requests):
     for more in (b"", b"extra", b"\r\n", PLAIN.encode(), b"\0" * 5000):
         requests.add("more behind", whole + more)
         requests.add("more behind", PLAIN.encode() + more)
+        requests.add("more behind", prune() + more)
     names = [ABC.upper(), ZEROS[1:], ZEROS + "0", "g" * 64, ZEROS, ABC, "%30" + "0" * 61, ABC + "?", "-" * 64, "   "]
     for name in names:
         for blob in (b"abc", b"", b"abd"):
@@ -215,7 +216,7 @@ def fault_pairs(requests):
     """Two and more checks of a request that fail at once."""
     fields = ["", "a: b\r\n" * 33, "a b\r\n"]
     places = ["/nope", "/batch", "/blobs/zz", f"/blobs/{ABC}", f"/blobs/{ZEROS}", "/blobs/\x80", "/metadata/nope"]
-    places += ["/metadata/timestamp.json", "/targets/..", "/targets/y", "/targets/none", "/targets/\x7f"]
+    places += ["/prune", "/metadata/timestamp.json", "/targets/..", "/targets/y", "/targets/none", "/targets/\x7f"]
     length_fields = ["", "Content-Length: x\r\n", "Content-Length: 3\r\n" * 2]
     length_fields.append("Transfer-Encoding: chunked\r\nContent-Length: 3\r\n")
     length_fields += [f"Content-Length: {length}\r\n" for length in (3, 0, 12, 4194305, 1048577, 1048576)]
@@ -268,7 +269,7 @@ def compare_changed(session, random, count):
     held = [("root", state.roots[-1].bytes), ("timestamp", state.timestamp.bytes)]
     good = [put(b"abc"), put(b"new"), post(*held), post(("timestamp", b"abc"), ("root", b"{}"))]
     good += [get(place) for place in ("/targets/y", "/targets/dir/x.bin", "/metadata/3.root.json")]
-    good.append(get(f"/targets/{EMPTY_DIGEST}.y"))
+    good += [get(f"/targets/{EMPTY_DIGEST}.y"), prune()]
     requests = []
     for _ in range(count):
         request = random.choice(good)

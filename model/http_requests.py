@@ -29,6 +29,10 @@ def put(blob, name=None, length=None):
     return with_body(b"PUT /blobs/" + (digest(blob) if name is None else name).encode(), blob, length)
 
 
+def prune():
+    return with_body(b"POST /prune", b"")
+
+
 CHANGED_TO = b'\r\n\t :/.0129aAzZ\x00\x7f\x80\xff%?{}"<>'
 INSERTED = (
     b"\r\n", b"\n", b" ", b"\t", b":", b"0", b"\r", b"Content-Length: 0\r\n", b"/", b"\r\nX: y", b"a", b"\x80",

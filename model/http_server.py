@@ -70,6 +70,8 @@ def find_route(target):
     """The command, its method, the largest length of its body, and its argument."""
     if target == "/batch":
         return "batch", "POST", MAXIMUM_BATCH, ""
+    if target == "/prune":
+        return "prune", "POST", 0, ""
     for place, method, limit, many in (
         ("blobs", "PUT", repository.MAXIMUM_BLOB_LENGTH, False),
         ("metadata", "GET", 0, False),
@@ -119,6 +121,9 @@ def answer_command(state, command, argument, body, now):
     if command == "batch":
         after, accepted, same = repository.batch(state, read_frames(body), now)
         return reply(200, b'{"accepted":%d,"same":%d}' % (accepted, same)), after
+    if command == "prune":
+        after, blobs, rows = repository.prune(state)
+        return reply(200, b'{"blobs":%d,"rows":%d}' % (blobs, rows)), after
     if command == "metadata":
         held = repository.metadata_file(state, argument)
         if held is None:

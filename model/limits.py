@@ -1,7 +1,7 @@
 """The limits of the state: full lists, last versions, first and last moments, long batches."""
 import signed_documents as make
 from documents import read_document
-from http_requests import get, post, put
+from http_requests import get, post, prune, put
 from names import LARGEST_NUMBER
 from program import World
 from repository import MAXIMUM_BLOB_LENGTH, MAXIMUM_BLOBS, MAXIMUM_ROOTS, MAXIMUM_SHELF
@@ -64,6 +64,8 @@ def compare_blobs(session, _random):
     world.serve(NOW, [("blobs are full", request) for request in requests])
     for blob in (b"more", b"new", bytes(MAXIMUM_BLOB_LENGTH + 1), bytes(MAXIMUM_BLOB_LENGTH)):
         world.command("put", NOW, blob, "blobs are full")
+    requests = [prune(), put(b"more"), prune(), prune()]
+    World(session, world.state).serve(NOW, [("blobs are full", request) for request in requests])
     too_many = world.state.copy()
     too_many.blobs[make.digest(b"one more")] = b"one more"
     is_damaged(session, too_many, "too many blobs")
@@ -82,6 +84,8 @@ def compare_shelf(session, _random):
     batches += [release(5006, EXPIRED, ()), release(5007, listed=5008)]
     requests = [post(*offered) for offered in batches]
     requests += [get("/targets/x"), post(rotation, *second), get("/targets/x")]
+    World(session, state).serve(NOW, [("the shelf is full", request) for request in requests])
+    requests = [prune(), post(*first), post(*second), get("/targets/x"), prune(), get("/targets/x")]
     World(session, state).serve(NOW, [("the shelf is full", request) for request in requests])
 
 

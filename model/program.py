@@ -320,6 +320,10 @@ class World:
         words = [name, "--db", str(self.database), "--at", str(now), str(file)]
         return self.compare_command(f"{name} {label}", now, words, wanted, after, text or b"")
 
+    def prune(self, now, label=""):
+        words = ["prune", "--db", str(self.database), "--at", str(now)]
+        return self.compare_command(f"prune {label}", now, words, *command_line.prune(self.state), b"")
+
     def publish(self, now, arguments, label=""):
         """Each argument is a text, or a role's name with the bytes of a file, or None where there is none."""
         words = []

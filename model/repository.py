@@ -196,6 +196,20 @@ def put_blob(state, digest, text):
     return after
 
 
+def prune(state):
+    """Leaves the files at the versions that the snapshot lists, and the blobs that these list; without a snapshot none.
+
+    Gives the state, and how many blobs and how many rows of the shelf are gone.
+    """
+    deny_unless(state.roots, "NoRoot")
+    listed = {(role, entry.version) for role, entry in state.snapshot.roles.items()} if state.snapshot else set()
+    after = state.copy()
+    after.shelf = {place: held for place, held in state.shelf.items() if place in listed}
+    digests = {digest for held in after.shelf.values() for _, digest in held.listings.values()}
+    after.blobs = {digest: blob for digest, blob in state.blobs.items() if digest in digests}
+    return after, len(state.blobs) - len(after.blobs), len(state.shelf) - len(after.shelf)
+
+
 def target(state, text, now):
     """The bytes of the target that a text asks for (section 5.7)."""
     path, digest_asked = asked(text)

@@ -27,6 +27,8 @@ def compare_arguments(session, _random):
         world.command("put", NOW, blob)
     for text in (None, b"", world.state.roots[-1].bytes, b"{}"):
         world.command("init", NOW, text)
+    world.prune(NOW)
+    world.prune(0)
     begin_from_nothing(session, good, world.state.timestamp.bytes)
 
 
@@ -39,8 +41,10 @@ def begin_from_nothing(session, good, timestamp):
     world.publish(NOW, ["q"])
     world.command("put", NOW, b"x" * 1048577)
     world.command("put", NOW, b"a")
+    world.prune(NOW)
     world.command("init", NOW, simple_root(77, 0))
     world.command("init", NOW, b"")
+    world.prune(NOW)
     world.publish(NOW, [("root", simple_root(78, LIVE))])
 
 
@@ -65,6 +69,8 @@ def compare_fault_order(session, _random):
         (["put", damaged, absent], fault("file")), (["put", damaged, file], fault("damaged")),
         (["put", no_folder, file], fault("database")), (["put", no_folder, absent], fault("file")),
         (["put", folder, file], fault("database")), (["put", damaged, folder], fault("file")),
+        (["prune", damaged], fault("damaged")), (["prune", no_folder], fault("database")),
+        (["prune", folder], fault("database")),
         (["init", damaged, absent], fault("file")), (["init", damaged, file], fault("damaged")),
         (["init", no_folder, file], fault("database")), (["init", damaged, folder], fault("file")),
         (["publish", damaged, "x"], (1, b"", (shape % 0).encode())),
@@ -102,7 +108,9 @@ def compare_usage(session, _random):
     lines += [["serve", *base], ["serve", "--port", "80"], ["serve", *base, "--port", "80", "x"]]
     lines += [["serve", *base, "--port", port] for port in ("0", "65536", "-1")]
     lines += [["serve", *base, "--port", "80", "--count", count] for count in ("0", "4294967296")]
-    lines += [[], ["nope"], ["prune"], ["canon"]]
+    lines += [["prune"], ["prune", "--db"], ["prune", *base, file], ["prune", *base, *base]]
+    lines += [["prune", *base, "--port", "80"], *(["prune", *base, "--at", moment] for moment in ("-1", "x", ""))]
+    lines += [[], ["nope"], ["canon"]]
     for words in lines:
         status, output, text = session.run(*words)
         label = f"usage: {[word for word in words[:6] if word not in (database, file)]}"
@@ -120,4 +128,10 @@ def compare_full_output(session, _random):
     session.check("full output", (FAULT, None, b"fault file\n"), found)
     before = world.state
     world.state = repository.put_blob(world.state, make.digest(b"abc"), b"abc")
+    world.check_rows("full output", before)
+    with open("/dev/full", "wb") as full:
+        found = session.run("prune", "--db", str(world.database), "--at", "1", output=full)
+    session.check("full output", (FAULT, None, b"fault file\n"), found)
+    before = world.state
+    world.state, _, _ = repository.prune(before)
     world.check_rows("full output", before)
