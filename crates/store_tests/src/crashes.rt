@@ -62,12 +62,6 @@ fn holds(store: &mut Store<Disks>, now: Moment) -> Result<bool, StoreFault> {
     Ok(matches!(reply, Reply::Stored(false)))
 }
 
-// Whether another blob is there already.
-fn holds_other(store: &mut Store<Disks>, now: Moment) -> Result<bool, StoreFault> {
-    let reply = store.apply(Command::PutBlob(digest_of(b"xyz"), b"xyz"), now)?;
-    Ok(matches!(reply, Reply::Stored(false)))
-}
-
 // The store of these files, if no call of the disks fails.
 fn opened(alloc: Global, files: Files<Fuse<Memory>>) -> Option<Store<Disks>> {
     if !files.may_be_used() {
@@ -124,52 +118,4 @@ fn a_crash_at_each_call(rt: HostRuntime) -> Result<(), Fail> {
         }
     }
     Err(Fail::from("never stored"))
-}
-
-// How many of the two blobs the next open after a crash finds.
-fn blobs_left(
-    rt: &(impl Abort + AllocGlobal),
-    mut files: Files<Fuse<Memory>>,
-) -> Result<usize, Fail> {
-    files.log.crash();
-    files.db.crash();
-    let now = moment(rt);
-    let mut store = opened(rt.alloc(), files).expect(rt, "a store");
-    let one = holds(&mut store, now)?;
-    let other = holds_other(&mut store, now)?;
-    Ok(if one { 1 } else { 0 } + if other { 1 } else { 0 })
-}
-
-// Whether both blobs are stored before the log fails.
-fn stores_both(store: &mut Store<Disks>, now: Moment) -> bool {
-    holds(store, now).is_ok() && holds_other(store, now).is_ok()
-}
-
-// Whether a prune of two blobs is done before the log fails. The next open finds both or none, and none if it was done.
-fn prunes(rt: &(impl Abort + AllocGlobal), root: &[u8], calls: u64) -> Result<bool, Fail> {
-    let now = moment(rt);
-    let Some(mut store) = begun_over(rt.alloc(), root, calls, now) else {
-        return Ok(false);
-    };
-    if !stores_both(&mut store, now) {
-        return Ok(false);
-    }
-    let (result, files) = apply_and_close(store, Command::Prune, now);
-    let done = matches!(result, Ok(Reply::Pruned { blobs: 2, rows: 0 }));
-    let left = blobs_left(rt, files)?;
-    assert!(rt; left == 0 || (left == 2 && !done), "{calls}: {left}");
-    Ok(done)
-}
-
-// The log fails at each of its calls in turn, until none is left.
-#[test]
-fn a_crash_at_each_call_of_a_prune(rt: HostRuntime) -> Result<(), Fail> {
-    let root = root_file(rt.alloc())?;
-    for calls in 0..1_000u64 {
-        if prunes(&rt, &root, calls)? {
-            assert!(rt; calls > 20, "{calls}");
-            return Ok(());
-        }
-    }
-    Err(Fail::from("never pruned"))
 }
