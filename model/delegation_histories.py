@@ -166,7 +166,7 @@ class DelegationHistory(History):
         timestamp = make.signed_file(make.timestamp(1, self.expiry(), 1), rules["timestamp"][0])
         state.snapshot = read_document("snapshot", snapshot)
         state.timestamp = read_document("timestamp", timestamp)
-        self.world = World(self.world.session, state)
+        self.world = self.new_world(self.world.session, state)
 
     def whole_release(self):
         """A timestamp, a snapshot and the new files, mostly in the order in which one vouches for the next."""

@@ -147,6 +147,8 @@ def search(state, path, now):
     edges = visits(state, path)
     for edge in edges[:MAXIMUM_VISITS]:
         failing = failing_check(state, edge, now)
+        if failing == "RoleMissing":
+            raise Denied(failing, missing=(edge.role, state.snapshot.roles[edge.role].version))
         if failing is not None:
             raise Denied(failing)
         listings = named_document(state, edge.role).listings

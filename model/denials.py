@@ -13,20 +13,22 @@ NAMES = dict(enumerate(
     1,
 ))
 NUMBERS = {name: number for number, name in NAMES.items()}
-# Denials of layouts: no command answers them yet.
-NOT_BUILT = {NAMES[number] for number in range(41, 51)}
 # Denials that only a search over delegations ends with.
 OF_DELEGATIONS = {"TooManyRoles"}
 
 
 class Denied(Exception):
-    """A command that is refused: by which rule, and, in a batch, at which document."""
+    """A command that is refused: by which rule, in a batch at which document, and what is missing, where that is the reason.
 
-    def __init__(self, name, index=None):
+    A file of a role is missing as its role and version, a target file as its path, digest and length.
+    """
+
+    def __init__(self, name, index=None, missing=()):
         super().__init__(name)
         self.name = name
         self.number = NUMBERS[name]
         self.index = index
+        self.missing = missing
 
 
 def deny_unless(condition, name):

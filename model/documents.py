@@ -21,17 +21,19 @@ MAXIMUM_RULE_KEYS = 16
 MAXIMUM_SNAPSHOT_ENTRIES = 128
 MAXIMUM_DELEGATIONS = 64
 MAXIMUM_COVERINGS = 64
+MAXIMUM_LINKS = 64
 MAXIMUM_STEPS = 16
 MAXIMUM_ARTIFACT_RULES = 64
 TOP_LEVEL_ROLES = {"root", "targets", "snapshot", "timestamp"}
+REFERENCE_MEMBERS = {"keyids", "keys", "links", "path", "product", "step", "threshold"}
 
 
 class Document:
     """A file that was read.
 
     Each has `version`, `expires`, `signatures`, `bytes`, `signed_bytes` and `digest`; a root has `keys` and `rules`, a
-    timestamp `snapshot`, a snapshot `roles`, and targets metadata `listings` and `delegations`. A layout has no version, but
-    `expires`, `keys` and `steps`; a link has neither, but `name`, `materials` and `products`.
+    timestamp `snapshot`, a snapshot `roles`, and targets metadata `listings`, `references` and `delegations`. A layout has no
+    version, but `expires`, `keys` and `steps`; a link has neither, but `name`, `materials` and `products`.
     """
 
 
@@ -67,6 +69,17 @@ class Entry:
 
     def names(self, document):
         return self.version == document.version and self.has_length(document) and self.has_digest(document)
+
+
+class LayoutReference:
+    """What refers a target to a layout: the rule of its owners, the paths of its links and its own, and where the target is made."""
+
+    def __init__(self, owners, links, path, product, step):
+        self.owners = owners
+        self.links = links
+        self.path = path
+        self.product = product
+        self.step = step
 
 
 class Step:
@@ -223,12 +236,32 @@ def read_delegations(value):
 
 
 def read_listing(value):
-    """Layouts are not built, and a file with one is of the wrong shape."""
     shape(type(value) is dict and is_whole(value.get("length"), 0, LARGEST_NUMBER))
-    digest = read_digest(value.get("hashes"))
-    if "custom" in value:
-        shape(type(value["custom"]) is dict and "layout" not in value["custom"])
-    return value["length"], digest
+    return value["length"], read_digest(value.get("hashes"))
+
+
+def read_path(value):
+    shape(type(value) is str and is_target_path(value))
+    return value
+
+
+def read_reference(value):
+    """What `custom` has under `layout`. It has no other members, and its links are distinct and none of them the layout."""
+    shape(type(value) is dict and set(value) == REFERENCE_MEMBERS)
+    owners = read_rule(value, read_keys(value["keys"]))
+    shape(type(value["links"]) is list and 1 <= len(value["links"]) <= MAXIMUM_LINKS)
+    links = [read_path(link) for link in value["links"]]
+    path = read_path(value["path"])
+    shape(len({path, *links}) == 1 + len(links))
+    shape(type(value["step"]) is str and is_role_name(value["step"]))
+    return LayoutReference(owners, links, path, read_path(value["product"]), value["step"])
+
+
+def read_references(targets):
+    """What refers targets to layouts, by their paths."""
+    customs = {path: listing["custom"] for path, listing in targets.items() if "custom" in listing}
+    shape(all(type(custom) is dict for custom in customs.values()))
+    return {path: read_reference(custom["layout"]) for path, custom in customs.items() if "layout" in custom}
 
 
 def read_targets(document, signed):
@@ -236,11 +269,13 @@ def read_targets(document, signed):
     targets = signed.get("targets")
     shape(type(targets) is dict and all(map(is_target_path, targets)))
     document.listings = {path: read_listing(listing) for path, listing in targets.items()}
+    document.references = read_references(targets)
     keys, document.delegations = {}, []
     if "delegations" in signed:
         shape(DELEGATIONS_ARE_READ)
         keys, document.delegations = read_delegations(signed["delegations"])
-    judge_ids(keys)
+    for table in (keys, *(reference.owners.keys for reference in document.references.values())):
+        judge_ids(table)
 
 
 def read_artifact_rules(value):

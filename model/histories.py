@@ -43,10 +43,12 @@ def wrong_signature(random, key):
 
 
 class History:
+    new_world = World
+
     def __init__(self, session, seed):
         self.random = Random(seed)
         self.now = make.BEGIN
-        self.world = World(session)
+        self.world = self.new_world(session)
         self.keys = self.random.sample(KEYS, self.random.choice((8, 12, 16)))
         # What was offered before, by role.
         self.past = {}

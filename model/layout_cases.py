@@ -1,4 +1,5 @@
-"""Layouts and links: what is read, beside the program `verdicts`; and by hand whether a layout allows a target."""
+"""Layouts, links and what refers targets to them: what is read, beside the program `verdicts`; and by hand whether a layout allows a
+target."""
 import canonical_json
 import document_shapes
 import layouts
@@ -18,8 +19,12 @@ ANY_SIGNER = [(OWNER.id, "00")]
 STEP_NAMES = ["build", "a", "9_-", "a" * 32, "targets", "root", "-a", "_a", "A", "a.b", "a/b", "é", "", "a" * 33, "a\n", None, 1, []]
 
 
+# Where what refers the target `x` to a layout stands.
+REFERENCE = ("targets", "x", "custom", "layout")
+
+
 class Cases(document_shapes.Cases):
-    """Files of one of the two kinds, with each part changed."""
+    """Layouts, links, or targets metadata with a target that refers to a layout, with each part changed."""
 
     def __init__(self, kind, random):
         super().__init__("targets", random)
@@ -27,6 +32,10 @@ class Cases(document_shapes.Cases):
         if kind == "layout":
             steps = [make.step("build", KEYS[2:4], 2, [["ALLOW", "*"]], rule_cases.MATCHED), make.step("pack", KEYS[4:5], 1)]
             self.signed = make.layout(LIVE, KEYS[2:5], steps)
+        elif kind == "targets":
+            self.signed = make.targets(4, LIVE, {"x": (0, ONE), "y": (1, OTHER)})
+            reference = make.layout_reference(KEYS[2:4], 2, ["links/a", "links/b"], "layout", "dist/x", "pack")
+            self.signed["targets"]["x"]["custom"] = {"layout": reference}
         else:
             self.signed = make.link("build", {"src/a": ONE}, {"a": OTHER, "b": ONE})
         self.good = make.signed_file(self.signed, self.signers)
@@ -69,6 +78,39 @@ class Cases(document_shapes.Cases):
         self.put(("steps", 1), {name if name != "pubkeys" else "keyids": value for name, value in step.items()})
         self.rule_lists()
         self.keys()
+
+    def refer(self, member, value):
+        self.put((*REFERENCE, member), value)
+
+    def targets(self):
+        for path in document_shapes.PATHS:
+            for member in ("path", "product"):
+                self.refer(member, path)
+            self.refer("links", [path])
+            self.refer("links", ["links/a", path, "links/b"])
+        for links in ([], ["layout"], ["a", "layout"], ["a", "a"], ["a", "b", "a"], ["b", "a"], ["dist/x"], ["x"]):
+            self.refer("links", links)
+        for count in (1, 63, 64, 65):
+            links = [f"l{number}" for number in range(count)]
+            for last in ("l", "l0", "layout", "A b"):
+                self.refer("links", links)
+                self.refer("links", [*links[1:], last])
+        for name in STEP_NAMES:
+            self.refer("step", name)
+        reference = self.signed["targets"]["x"]["custom"]["layout"]
+        table = many_keys(20)
+        for count in (0, 1, 2, 15, 16, 17):
+            for threshold in (0, 1, count, count + 1, 16, 17):
+                self.put(REFERENCE, {**reference, "keys": table, "keyids": list(table)[:count], "threshold": threshold})
+        for count in (255, 256, 257):
+            self.refer("keys", {**many_keys(count - 2), **reference["keys"]})
+        misnamed = {**reference, "keys": {**reference["keys"], ZEROS: reference["keys"][BUILDER.id]}}
+        delegating = {**self.signed, "delegations": {"keys": {ZEROS: reference["keys"][BUILDER.id]}, "roles": []}}
+        for further in (reference, misnamed, {**misnamed, "links": []}, {**misnamed, "x": 1}, {}):
+            for signed in (self.signed, delegating, {**delegating, "version": 0}):
+                listed = with_value(signed, ("targets", "y", "custom"), {"layout": further, "a": 1})
+                self.sign("two references", listed)
+                self.sign("two references, the first misnamed", with_value(listed, REFERENCE, misnamed))
 
     def link(self):
         for name in STEP_NAMES:

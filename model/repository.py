@@ -3,6 +3,7 @@ import hashlib
 import re
 
 import delegations
+import layouts
 from denials import Denied, deny_unless
 from documents import is_live, meets, read_document
 from names import asked, is_target_path
@@ -210,17 +211,55 @@ def prune(state):
     return after, len(state.blobs) - len(after.blobs), len(state.shelf) - len(after.shelf)
 
 
+def listed_file(state, path, now):
+    """The bytes of a target, its digest, and what refers it to a layout."""
+    role, (length, digest) = delegations.search(state, path, now)
+    if digest not in state.blobs:
+        raise Denied("BlobMissing", missing=(path, digest, length))
+    deny_unless(len(state.blobs[digest]) == length, "BlobLength")
+    return state.blobs[digest], digest, delegations.named_document(state, role).references.get(path)
+
+
+def supporting_file(state, path, now):
+    """The bytes of a layout or a link, which has no layout of its own."""
+    try:
+        blob, _, reference = listed_file(state, path, now)
+    except Denied as denied:
+        raise denied if denied.name in ("RoleMissing", "BlobMissing") else Denied("SupportDenied") from None
+    deny_unless(reference is None, "LayoutNested")
+    return blob
+
+
+def supporting_document(kind, blob):
+    try:
+        return read_document(kind, blob)
+    except Denied:
+        raise Denied("LayoutShape") from None
+
+
+def judge_layout(state, reference, digest, now):
+    """All files that a target refers to, then their shapes, then whether the layout allows the target."""
+    files = [supporting_file(state, path, now) for path in (reference.path, *reference.links)]
+    layout = supporting_document("layout", files[0])
+    links = [supporting_document("link", blob) for blob in files[1:]]
+    layouts.judge(layout, reference.owners, links, reference.step, reference.product, digest, now)
+
+
 def target(state, text, now):
-    """The bytes of the target that a text asks for (section 5.7)."""
-    path, digest_asked = asked(text)
+    """The bytes of the target that a text asks for, which may say its digest."""
+    return target_at(state, *asked(text), now)
+
+
+def target_at(state, path, digest_asked, now):
+    """The bytes of a target (section 5.7; in-toto 1.0, section 5.2)."""
     deny_unless(is_target_path(path), "BadPath")
     deny_unless(state.roots, "NoRoot")
     live_snapshot(state, now)
-    _, (length, digest) = delegations.search(state, path, now)
-    deny_unless(digest in state.blobs, "BlobMissing")
-    deny_unless(len(state.blobs[digest]) == length, "BlobLength")
+    blob, digest, reference = listed_file(state, path, now)
+    if reference is not None:
+        judge_layout(state, reference, digest, now)
     deny_unless(digest_asked in (None, digest), "DigestMismatch")
-    return state.blobs[digest]
+    return blob
 
 
 def metadata_file(state, name):

@@ -93,6 +93,12 @@ def targets(version, expires, listings, delegating=None):
     return document("targets", version, expires, members)
 
 
+def layout_reference(keys, threshold, links, path, product, step):
+    """What refers a target to a layout, under `layout` of its `custom`."""
+    said = {"links": list(links), "path": path, "product": product, "step": step}
+    return {"keys": key_table(keys), **rule(keys, threshold), **said}
+
+
 def step(name, keys, threshold, materials=(), products=()):
     """A step of a layout: the keys whose links are good for it, and the rules of both sides."""
     return {

@@ -1,11 +1,13 @@
 -- When a rule of MATCH takes a path.
-use Rattle.std.proofs.Common.{◌≡◌, ℕ, List, [], ◌∷◌, ◌++◌, Option, Some, None, Bool, true, false, MatchBool, sym, subst, ap, ◌∙◌}
+use Rattle.std.proofs.Common.{◌≡◌, ℕ, List, [], ◌∷◌, ◌++◌, Option, Some, None, Bool, true, false, MatchBool, refl, sym, subst, ap, ◌∙◌}
+use Rattle.std.specs.Prelude.{IsTrue, ◌↔◌}
+use Rattle.std.proofs.lemmas.Bool.{true≢false}
 use Rattle.path_patterns.specs.Matching.{MatchesFlat}
 use Rattle.metadata.specs.File.{look_up}
 use Rattle.metadata.specs.Links.{Artifacts, HasDigest, Link, side_of}
 use Rattle.metadata.specs.Rules.{Match}
 use Rattle.artifact_rules.specs.Rules.{TakesMatch, link_of, path_in}
-use Rattle.artifact_rules.specs.steps.Taking.{TakesWith}
+use Rattle.artifact_rules.specs.steps.Taking.{Concerns, TakesWith}
 
 behind_once : (folder a b : List ℕ) → folder ++ 47 ∷ a ≡ folder ++ 47 ∷ b → a ≡ b
 behind_once [] a b e = cc
@@ -17,6 +19,12 @@ rest_once (Some folder) a b path p q = behind_once folder a b (sym p ∙ q)
 
 some_once : {A : Type 0} (a b : A) → Some a ≡ Some b → a ≡ b
 some_once a b e = cc
+
+pub concerned : (m : Match) (path rest : List ℕ) → path ≡ path_in m.from rest → (b : Bool) → (IsTrue b) ↔ (MatchesFlat m.pattern rest)
+    → MatchBool b (Concerns m path) (Concerns m path → ⊥)
+concerned m path rest here true h = (rest, here, h.0 refl)
+concerned m path rest here false h = λ t.
+    true≢false (sym (h.1 (subst (λ (r : List ℕ). MatchesFlat m.pattern r) (rest_once m.from t.0 rest path t.1 here) t.2)))
 
 module _ (m : Match) (links : List Link) (path digest rest : List ℕ) (here : path ≡ path_in m.from rest) where
   pub no_match : (MatchesFlat m.pattern rest → ⊥) → TakesWith m links path digest → ⊥

@@ -8,7 +8,7 @@ ghost use Rattle.metadata.specs.RuleViews.{artifacts_view, link_view, match_view
 ghost use Rattle.metadata.specs.declared.links.Link.{Link as LinkHeld};
 ghost use Rattle.artifact_rules.specs.Rules.{Takes, TakesMatch, link_of, path_in};
 ghost use Rattle.artifact_rules.specs.Views.{links_view};
-ghost use Rattle.artifact_rules.specs.steps.Taking.{IsChanged, IsCreated, IsDeleted, TakesWith};
+ghost use Rattle.artifact_rules.specs.steps.Taking.{Concerns, IsChanged, IsCreated, IsDeleted, TakesWith};
 
 use metadata::{Artifacts, Digest, Link, Match, Rule, Side, TargetPath};
 use path_patterns::{matches_flat, matches_flat_text};
@@ -35,9 +35,9 @@ impl<'a> Judged<'a> {
             (Takes (side_view self.now.side) (link_view self.now.link.now) (links_view self.now.links.now) (rule_view rule.now) path.now → ⊥) }
     {
         match rule {
-            Rule::Create(pattern) => is_created(self.link, path) && matches_flat(pattern, path),
-            Rule::Delete(pattern) => is_deleted(self.link, path) && matches_flat(pattern, path),
-            Rule::Modify(pattern) => is_changed(self.link, path) && matches_flat(pattern, path),
+            Rule::Create(pattern) => matches_flat(pattern, path) && is_created(self.link, path),
+            Rule::Delete(pattern) => matches_flat(pattern, path) && is_deleted(self.link, path),
+            Rule::Modify(pattern) => matches_flat(pattern, path) && is_changed(self.link, path),
             Rule::Allow(pattern) => matches_flat(pattern, path),
             Rule::Disallow(_) | Rule::Require(_) => false,
             Rule::Match(rule) => self.takes_match(rule, path),
@@ -49,10 +49,23 @@ impl<'a> Judged<'a> {
         ensures { MatchBool result (TakesMatch (match_view rule.now) (side_of (side_view self.now.side) (link_view self.now.link.now)) (links_view self.now.links.now) path.now)
             (TakesMatch (match_view rule.now) (side_of (side_view self.now.side) (link_view self.now.link.now)) (links_view self.now.links.now) path.now → ⊥) }
     {
+        if !concerns(rule, path) {
+            return false;
+        }
         match self.artifacts().digest_of(path.as_str()) {
             Some(digest) => takes_with(rule, self.links, path, digest),
             None => false,
         }
+    }
+}
+
+// Whether the pattern matches what stands behind the folder in the path.
+fn concerns(rule: &Match, path: &TargetPath) -> bool
+    ensures { MatchBool result (Concerns (match_view rule.now) path.now) (Concerns (match_view rule.now) path.now → ⊥) }
+{
+    match rest_of(rule.from.as_ref(), path.as_str()) {
+        Some(rest) => matches_flat_text(&rule.pattern, rest),
+        None => false,
     }
 }
 

@@ -10,7 +10,7 @@ use Rattle.clap.specs.declared.builder.action.ArgAction.TheVariants.{Append, Cou
 use Rattle.clap.specs.declared.builder.value_parser.ValueParser.TheVariants.{Unsigned}
 use Rattle.command_line.specs.declared.tasks.Task.{Task}
 use Rattle.command_line.specs.declared.tasks.Subcommand.{Subcommand}
-use Rattle.command_line.specs.declared.tasks.Subcommand.TheVariants.{Canon, Init, Key, Prune, Publish, Put, Serve, Sign}
+use Rattle.command_line.specs.declared.tasks.Subcommand.TheVariants.{Canon, Export, Get, Init, Key, Prune, Publish, Put, Serve, Sign, Update}
 
 -- ---- the arguments
 
@@ -75,6 +75,13 @@ port_rule = record (option_rule (codes "port")) { required = true; parser = Some
 abbrev pub count_rule : Rule
 count_rule = record (option_rule (codes "count")) { parser = Some (Unsigned 1 most_connections) }
 
+-- `--out OUT` and `--to FOLDER`, which have to be there
+abbrev pub out_rule : Rule
+out_rule = record (option_rule (codes "out")) { required = true }
+
+abbrev pub folder_rule : Rule
+folder_rule = record (option_rule (codes "to")) { required = true }
+
 -- ---- the subcommands
 
 abbrev pub begun_line : Text → App
@@ -85,6 +92,12 @@ stored_line name = with_rule (begun_line name) db_rule
 
 abbrev pub canon_line : App
 canon_line = with_rule (begun_line (codes "canon")) (operand_rule (codes "file"))
+
+abbrev pub export_line : App
+export_line = with_rule (stored_line (codes "export")) folder_rule
+
+abbrev pub get_line : App
+get_line = with_rule (with_rule (with_rule (stored_line (codes "get")) port_rule) out_rule) (operand_rule (codes "path"))
 
 abbrev pub init_line : App
 init_line = with_rule (stored_line (codes "init")) (operand_rule (codes "root"))
@@ -111,6 +124,9 @@ serve_line = with_rule (with_rule (stored_line (codes "serve")) port_rule) count
 abbrev pub sign_line : App
 sign_line = with_rule (with_key_pair (with_rule (begun_line (codes "sign")) book_rule)) (operand_rule (codes "file"))
 
+abbrev pub update_line : App
+update_line = with_rule (stored_line (codes "update")) port_rule
+
 abbrev pub needs_subcommand : App → App
 needs_subcommand a = record a { top = record a.top { subcommand_required = true } }
 
@@ -122,8 +138,9 @@ with_version a = record a { top = record a.top { has_version = true } }
 
 -- the whole command line
 abbrev pub release_line : App
-release_line = with_command (with_command (with_command (with_command (with_command (with_command (with_command (with_command (needs_subcommand (with_version (new_app (codes "release"))))
-    canon_line) init_line) key_line) prune_line) publish_line) put_line) serve_line) sign_line
+release_line = with_command (with_command (with_command (with_command (with_command (with_command (with_command (with_command (with_command (with_command (with_command
+    (needs_subcommand (with_version (new_app (codes "release"))))
+    canon_line) export_line) get_line) init_line) key_line) prune_line) publish_line) put_line) serve_line) sign_line) update_line
 
 -- ---- what is found for a subcommand's arguments
 
@@ -157,6 +174,8 @@ HasParams rows p = HasNumber rows (codes "ots") 1 8 (width p.ots) × HasNumber r
 
 abbrev pub name_of : Subcommand → Text
 name_of (Canon file) = codes "canon"
+name_of (Export db to) = codes "export"
+name_of (Get db port out path) = codes "get"
 name_of (Init db root) = codes "init"
 name_of (Key seed params) = codes "key"
 name_of (Prune db) = codes "prune"
@@ -164,10 +183,14 @@ name_of (Publish db documents) = codes "publish"
 name_of (Put db file) = codes "put"
 name_of (Serve db port count) = codes "serve"
 name_of (Sign book seed params file) = codes "sign"
+name_of (Update db port) = codes "update"
 
 -- the subcommand has the options and operands that were found
 abbrev pub HasArguments : List Row → Subcommand → Type 0
 HasArguments rows (Canon file) = HasText rows (codes "file") file
+HasArguments rows (Export db to) = HasText rows (codes "db") db × HasText rows (codes "to") to
+HasArguments rows (Get db port out path) = HasText rows (codes "db") db × HasNumber rows (codes "port") 1 last_port port
+    × HasText rows (codes "out") out × HasText rows (codes "path") path
 HasArguments rows (Init db root) = HasText rows (codes "db") db × HasText rows (codes "root") root
 HasArguments rows (Key seed params) = HasText rows (codes "seed") seed × HasParams rows params
 HasArguments rows (Prune db) = HasText rows (codes "db") db
@@ -177,6 +200,7 @@ HasArguments rows (Serve db port count) = HasText rows (codes "db") db × HasNum
     × MayHaveNumber rows (codes "count") 1 most_connections count
 HasArguments rows (Sign book seed params file) = HasText rows (codes "book") book × HasText rows (codes "seed") seed × HasParams rows params
     × HasText rows (codes "file") file
+HasArguments rows (Update db port) = HasText rows (codes "db") db × HasNumber rows (codes "port") 1 last_port port
 
 -- a subcommand of this name with what was found for it
 abbrev pub IsAsked : Text → List Row → Subcommand → Type 0

@@ -2,12 +2,15 @@
 ghost use Rattle.std.specs.Prelude.{◌≡◌, IfOk, codes, false};
 ghost use Rattle.clap.specs.Words.{app_of, rule_of, with_rule};
 ghost use Rattle.clap.specs.declared.builder.command.Command.TheViews.{out-Command};
-ghost use Rattle.command_line.specs.CommandLine.{begun_line, canon_line, count_rule, db_rule, documents_rule, height_rule, init_line, key_line, book_rule, moment_rule, operand_rule, ots_rule, port_rule, prune_line, publish_line, put_line, seed_rule, serve_line, sign_line, stored_line, verbose_rule, with_key_pair};
+ghost use Rattle.command_line.specs.CommandLine.{begun_line, canon_line, count_rule, db_rule, documents_rule, export_line, folder_rule, get_line, height_rule, init_line, key_line, book_rule, moment_rule, operand_rule, ots_rule, out_rule, port_rule, prune_line, publish_line, put_line, seed_rule, serve_line, sign_line, stored_line, update_line, verbose_rule, with_key_pair};
 
 use crate::help;
 use clap::{Arg, ArgAction, Command, value_parser};
 use limits::MOST_DOCUMENTS;
 use std::alloc::{AllocError, Global};
+
+// What the port of a client is.
+const SERVER: &str = "The port that the repository is served at";
 
 /// `canon [--at SECONDS] [--verbose] FILE`
 pub fn canon<'a>(alloc: Global) -> Result<Command<'a>, AllocError>
@@ -17,6 +20,31 @@ pub fn canon<'a>(alloc: Global) -> Result<Command<'a>, AllocError>
     let about = "Print the canonical form of any JSON";
     let command = begun(alloc, "canon", about, help::CANON)?;
     with(command, operand(alloc, "file", "FILE", "The file to read"))
+}
+
+/// `export [--at SECONDS] [--verbose] --db FILE --to FOLDER`
+pub fn export<'a>(alloc: Global) -> Result<Command<'a>, AllocError>
+    ensures line { IfOk result (λ c. app_of c ≡ export_line) }
+    ensures local { IfOk result (λ c. (out-Command c).has_globals ≡ false) }
+{
+    let about = "Write the repository into a folder, as files that any web server can send";
+    let command = stored(alloc, "export", about, help::EXPORT)?;
+    with(command, folder(alloc))
+}
+
+/// `get [--at SECONDS] [--verbose] --db FILE --port P --out OUT PATH`
+pub fn get<'a>(alloc: Global) -> Result<Command<'a>, AllocError>
+    ensures line { IfOk result (λ c. app_of c ≡ get_line) }
+    ensures local { IfOk result (λ c. (out-Command c).has_globals ≡ false) }
+{
+    let about = "Fetch a target from 127.0.0.1, as a client";
+    let command = stored(alloc, "get", about, help::GET)?;
+    let command = with(command, port(alloc, SERVER))?;
+    let command = with(command, out(alloc))?;
+    with(
+        command,
+        operand(alloc, "path", "PATH", "The path of the target"),
+    )
 }
 
 /// `init [--at SECONDS] [--verbose] --db FILE ROOT`
@@ -78,7 +106,7 @@ pub fn serve<'a>(alloc: Global) -> Result<Command<'a>, AllocError>
 {
     let about = "Answer HTTP requests on 127.0.0.1";
     let command = stored(alloc, "serve", about, help::SERVE)?;
-    let command = with(command, port(alloc))?;
+    let command = with(command, port(alloc, "The port to listen on"))?;
     with(command, count(alloc))
 }
 
@@ -95,6 +123,16 @@ pub fn sign<'a>(alloc: Global) -> Result<Command<'a>, AllocError>
         command,
         operand(alloc, "file", "DOC", "The document to sign"),
     )
+}
+
+/// `update [--at SECONDS] [--verbose] --db FILE --port P`
+pub fn update<'a>(alloc: Global) -> Result<Command<'a>, AllocError>
+    ensures line { IfOk result (λ c. app_of c ≡ update_line) }
+    ensures local { IfOk result (λ c. (out-Command c).has_globals ≡ false) }
+{
+    let about = "Bring the trusted metadata up to date from 127.0.0.1, as a client";
+    let command = stored(alloc, "update", about, help::UPDATE)?;
+    with(command, port(alloc, SERVER))
 }
 
 // A subcommand over a database.
@@ -232,17 +270,41 @@ fn height<'a>(alloc: Global) -> Arg<'a>
         .value_parser(value_parser!(u64).range(5..=10))
 }
 
-fn port<'a>(alloc: Global) -> Arg<'a>
+fn port<'a>(alloc: Global, help: &'a str) -> Arg<'a>
     ensures rule { rule_of result ≡ port_rule }
     ensures local { result.global ≡ false }
 {
     Arg::new(alloc, "port")
         .long("port")
         .value_name("P")
-        .help("The port to listen on")
+        .help(help)
         .required(true)
         .action(ArgAction::Set)
         .value_parser(value_parser!(u64).range(1..=65535))
+}
+
+fn out<'a>(alloc: Global) -> Arg<'a>
+    ensures rule { rule_of result ≡ out_rule }
+    ensures local { result.global ≡ false }
+{
+    Arg::new(alloc, "out")
+        .long("out")
+        .value_name("OUT")
+        .help("The file that is written, in place of one that stands there")
+        .required(true)
+        .action(ArgAction::Set)
+}
+
+fn folder<'a>(alloc: Global) -> Arg<'a>
+    ensures rule { rule_of result ≡ folder_rule }
+    ensures local { result.global ≡ false }
+{
+    Arg::new(alloc, "to")
+        .long("to")
+        .value_name("FOLDER")
+        .help("The folder that is written into, made where there is none")
+        .required(true)
+        .action(ArgAction::Set)
 }
 
 fn count<'a>(alloc: Global) -> Arg<'a>

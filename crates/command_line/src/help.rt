@@ -28,6 +28,12 @@ pub const PROGRAM: &str = behind!("release init --db repository.db root.json");
 /// Behind the help of `canon`.
 pub const CANON: &str = behind!("release canon document.json > canonical.json");
 
+/// Behind the help of `export`.
+pub const EXPORT: &str = behind!("release export --db repository.db --to /srv/repository");
+
+/// Behind the help of `get`.
+pub const GET: &str = behind!("release get --db client.db --port 8080 --out hello.txt hello.txt");
+
 /// Behind the help of `init`.
 pub const INIT: &str = behind!("release init --db repository.db root.json");
 
@@ -53,10 +59,13 @@ pub const SIGN: &str = behind!(
     "release sign --book book.db --seed root.seed --ots 8 --height 10 root.json > root.signed.json"
 );
 
+/// Behind the help of `update`.
+pub const UPDATE: &str = behind!("release update --db client.db --port 8080");
+
 // The numbers and names of the denials, each with the first rule that fails.
 const DENIALS: &str = concat!(
     "A denial has the number and the name of the first rule that fails. Of an HTTP request the status is 404 for 33, 35\n",
-    "and 37, and 403 for all others. Those from 41 to 50 cannot occur yet.\n\n",
+    "and 37, and 403 for all others.\n\n",
     " 1  TooLong                The file has over 262,144 bytes\n",
     " 2  NotCanonical           The file is no canonical JSON\n",
     " 3  WrongShape             The members are not those of the kind\n",

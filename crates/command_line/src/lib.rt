@@ -11,7 +11,7 @@ mod given;
 mod help;
 mod tasks;
 
-use arguments::{canon, init, key, prune, publish, put, serve, sign};
+use arguments::{canon, export, get, init, key, prune, publish, put, serve, sign, update};
 use clap::error::ErrorKind;
 use clap::{ArgMatches, Command};
 use given::{count_of, fault, is_verbose, moment_of, params_of, port_of, text_of, texts_of};
@@ -39,13 +39,16 @@ fn release<'a>(alloc: Global) -> Result<Command<'a>, AllocError>
 {
     let command = begun(alloc);
     let command = with(command, canon(alloc)?)?;
+    let command = with(command, export(alloc)?)?;
+    let command = with(command, get(alloc)?)?;
     let command = with(command, init(alloc)?)?;
     let command = with(command, key(alloc)?)?;
     let command = with(command, prune(alloc)?)?;
     let command = with(command, publish(alloc)?)?;
     let command = with(command, put(alloc)?)?;
     let command = with(command, serve(alloc)?)?;
-    with(command, sign(alloc)?)
+    let command = with(command, sign(alloc)?)?;
+    with(command, update(alloc)?)
 }
 
 // The program, before its subcommands.
@@ -93,6 +96,8 @@ fn asked(alloc: Global, name: &str, given: &ArgMatches<'_>) -> Result<Subcommand
 {
     match name {
         "canon" => canon_asked(alloc, given),
+        "export" => export_asked(alloc, given),
+        "get" => get_asked(alloc, given),
         "init" => init_asked(alloc, given),
         "key" => key_asked(alloc, given),
         "prune" => prune_asked(alloc, given),
@@ -100,6 +105,7 @@ fn asked(alloc: Global, name: &str, given: &ArgMatches<'_>) -> Result<Subcommand
         "put" => put_asked(alloc, given),
         "serve" => serve_asked(alloc, given),
         "sign" => sign_asked(alloc, given),
+        "update" => update_asked(alloc, given),
         _ => Err(fault(alloc, "error: no such subcommand\n")),
     }
 }
@@ -109,6 +115,29 @@ fn canon_asked(alloc: Global, given: &ArgMatches<'_>) -> Result<Subcommand, Usag
 {
     let file = text_of(alloc, given, "file")?;
     Ok(Subcommand::Canon { file })
+}
+
+fn export_asked(alloc: Global, given: &ArgMatches<'_>) -> Result<Subcommand, Usage>
+    ensures { IfOk result (IsAsked (codes "export") (rows_of (found_of given.now))) }
+{
+    let db = text_of(alloc, given, "db")?;
+    let to = text_of(alloc, given, "to")?;
+    Ok(Subcommand::Export { db, to })
+}
+
+fn get_asked(alloc: Global, given: &ArgMatches<'_>) -> Result<Subcommand, Usage>
+    ensures { IfOk result (IsAsked (codes "get") (rows_of (found_of given.now))) }
+{
+    let db = text_of(alloc, given, "db")?;
+    let port = port_of(alloc, given)?;
+    let out = text_of(alloc, given, "out")?;
+    let path = text_of(alloc, given, "path")?;
+    Ok(Subcommand::Get {
+        db,
+        port,
+        out,
+        path,
+    })
 }
 
 fn init_asked(alloc: Global, given: &ArgMatches<'_>) -> Result<Subcommand, Usage>
@@ -172,6 +201,14 @@ fn sign_asked(alloc: Global, given: &ArgMatches<'_>) -> Result<Subcommand, Usage
         params,
         file,
     })
+}
+
+fn update_asked(alloc: Global, given: &ArgMatches<'_>) -> Result<Subcommand, Usage>
+    ensures { IfOk result (IsAsked (codes "update") (rows_of (found_of given.now))) }
+{
+    let db = text_of(alloc, given, "db")?;
+    let port = port_of(alloc, given)?;
+    Ok(Subcommand::Update { db, port })
 }
 
 // The text of a fault of the command line.

@@ -29,6 +29,19 @@ pub enum Subcommand {
     Canon {
         file: String,
     },
+    /// `export --db FILE --to FOLDER`: writes the repository into a folder, as files under the names that a client asks for.
+    Export {
+        db: String,
+        to: String,
+    },
+    /// `get --db FILE --port P --out OUT PATH`: fetches a target from 127.0.0.1, and writes the file where the client's own state grants
+    /// it.
+    Get {
+        db: String,
+        port: u16,
+        out: String,
+        path: String,
+    },
     /// `init --db FILE ROOT`: begins the trust with a first root.
     Init {
         db: String,
@@ -65,6 +78,11 @@ pub enum Subcommand {
         seed: String,
         params: Params,
         file: String,
+    },
+    /// `update --db FILE --port P`: brings a client's own state up to date from 127.0.0.1.
+    Update {
+        db: String,
+        port: u16,
     },
 }
 

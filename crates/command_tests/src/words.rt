@@ -51,6 +51,47 @@ fn says_a_task(rt: HostRuntime) -> Result<(), Fail> {
 }
 
 #[test]
+fn says_a_task_of_a_client(rt: HostRuntime) -> Result<(), Fail> {
+    let found = asked(
+        rt,
+        &[
+            "release", "get", "--out", "o", "--db=d", "--port", "65535", "a/b",
+        ],
+    )?;
+    assert!(rt;
+        matches!(&found,
+        Ok(Task { at: None, verbose: false, subcommand: Subcommand::Get { db, port: 65535, out, path } })
+            if db.as_str() == "d" && out.as_str() == "o" && path.as_str() == "a/b"
+    )
+    );
+    let found = asked(
+        rt,
+        &["release", "update", "--at=5", "--db", "d", "--port=1"],
+    )?;
+    assert!(rt;
+        matches!(&found,
+        Ok(Task { at: Some(5), verbose: false, subcommand: Subcommand::Update { db, port: 1 } }) if db.as_str() == "d"
+    )
+    );
+    let found = asked(rt, &["release", "export", "-v", "--to", "f", "--db=d"])?;
+    assert!(rt;
+        matches!(&found,
+        Ok(Task { at: None, verbose: true, subcommand: Subcommand::Export { db, to } })
+            if db.as_str() == "d" && to.as_str() == "f"
+    )
+    );
+    assert!(rt; is_usage(rt, &["release", "update", "--db=d", "--port=0"], "")?);
+    assert!(rt;
+        is_usage(
+            rt,
+            &["release", "get", "--db=d", "--port=80", "a"],
+            "required"
+        )?
+    );
+    Ok(())
+}
+
+#[test]
 fn refuses_other_words(rt: HostRuntime) -> Result<(), Fail> {
     for words in [
         ["release", "canon", "a", "b"],

@@ -7,6 +7,10 @@ use Rattle.command_line.specs.declared.tasks.Usage.{Usage as Usages}
 use Rattle.command_line.specs.declared.tasks.Usage.TheVariants as usages
 use Rattle.canon.specs.declared.CanonFault.{CanonFault}
 use Rattle.canon.specs.declared.CanonFault.TheVariants as canon_faults
+use Rattle.client.specs.declared.fault.ClientFault.{ClientFault}
+use Rattle.client.specs.declared.fault.ClientFault.TheVariants as client_faults
+use Rattle.sources.specs.declared.FetchFault.{FetchFault}
+use Rattle.sources.specs.declared.FetchFault.TheVariants as fetch_faults
 use Rattle.tables.specs.declared.faults.StoreFault.{StoreFault}
 use Rattle.tables.specs.declared.faults.StoreFault.TheVariants as store_faults
 
@@ -23,7 +27,7 @@ status_of Network = 3
 status_of File = 3
 status_of Clock = 3
 
--- what a fault of the command line comes to, one of `canon`, and one of the store
+-- what a fault of the command line comes to, one of `canon`, one of the store, one of a source of files, and one of a client
 abbrev pub fault_of_usage : Usages → Fault
 fault_of_usage (usages.Text text) = Usage text
 fault_of_usage (usages.Help text) = Help text
@@ -37,3 +41,14 @@ abbrev pub fault_of_store : StoreFault → Fault
 fault_of_store store_faults.Damaged = Damaged
 fault_of_store store_faults.Database = Database
 fault_of_store store_faults.OutOfMemory = Memory
+
+abbrev pub fault_of_fetch : FetchFault → Fault
+fault_of_fetch fetch_faults.TooLong = Network
+fault_of_fetch fetch_faults.Broken = Network
+fault_of_fetch fetch_faults.OutOfMemory = Memory
+
+abbrev pub fault_of_client : ClientFault → Fault
+fault_of_client (client_faults.Denied denial) = Denied denial None
+fault_of_client (client_faults.Fetch fault) = fault_of_fetch fault
+fault_of_client client_faults.Database = Database
+fault_of_client client_faults.OutOfMemory = Memory

@@ -4,6 +4,7 @@ ghost use Rattle.denials.specs.declared.denial.Denial.{Denial as Denials};
 ghost use Rattle.commands.specs.Statuses.{status_of};
 
 use canon::CanonFault;
+use client::{ClientFault, FetchFault};
 use command_line::Usage;
 use machine::Denial;
 use std::alloc::{AllocError, AllocFailed};
@@ -142,6 +143,23 @@ impl From<store::StoreFault> for Fault {
             store::StoreFault::Damaged => Fault::Damaged,
             store::StoreFault::Database => Fault::Database,
             store::StoreFault::OutOfMemory => Fault::Memory,
+        }
+    }
+}
+
+impl From<ClientFault> for Fault {
+    ghost use Rattle.std.specs.Prelude.{◌≡◌};
+    ghost use Rattle.commands.specs.Statuses.{fault_of_client};
+
+    ghost from_gives = { λ c f. f ≡ fault_of_client c };
+
+    fn from(fault: ClientFault) -> Fault {
+        match fault {
+            ClientFault::Denied(denial) => Fault::Denied(denial, None),
+            ClientFault::Fetch(FetchFault::OutOfMemory) => Fault::Memory,
+            ClientFault::Fetch(FetchFault::TooLong | FetchFault::Broken) => Fault::Network,
+            ClientFault::Database => Fault::Database,
+            ClientFault::OutOfMemory => Fault::Memory,
         }
     }
 }

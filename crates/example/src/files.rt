@@ -1,4 +1,5 @@
 //! The files of the example.
+use crate::chain::{OWNER, PACKER, STRANGER, WRITER, put_chain};
 use crate::failure::Failure;
 use canonical_json::write;
 use metadata::digest_of;
@@ -16,9 +17,9 @@ pub struct File {
 }
 
 // A target file, which is not empty.
-const HELLO: &[u8] = b"Hello from a signed repository.\n";
+pub const HELLO: &[u8] = b"Hello from a signed repository.\n";
 
-const EXPIRES: &str = "2100-01-01T00:00:00Z";
+pub const EXPIRES: &str = "2100-01-01T00:00:00Z";
 
 // The keys by their test seeds: 1 to 4 for the four roles, and 5 for the next root.
 const ROOT: u8 = 1;
@@ -31,25 +32,29 @@ const TARGETS: u8 = 4;
 
 const NEXT: u8 = 5;
 
-/// All files: a repository of two targets, one of them empty, and three documents behind it that are refused together.
+/// All files: a repository of two targets, one of them empty; three documents behind it that are refused together; and two more that have a
+/// target with a layout, of which the second has a link of the wrong key.
 pub fn files(alloc: Global) -> Result<Vec<File>, Failure> {
     let mut keys = Keys::new(alloc, OtsType::W4);
-    for seed in [ROOT, TIMESTAMP, SNAPSHOT, TARGETS, NEXT] {
+    for seed in [
+        ROOT, TIMESTAMP, SNAPSHOT, TARGETS, NEXT, OWNER, WRITER, PACKER, STRANGER,
+    ] {
         keys.make(seed)?;
     }
     let mut files = Vec::new(alloc);
     put_repository(alloc, &keys, &mut files)?;
     put_refused(alloc, &keys, &mut files)?;
+    put_chain(alloc, &keys, (TIMESTAMP, SNAPSHOT, TARGETS), &mut files)?;
     Ok(files)
 }
 
-fn put(files: &mut Vec<File>, name: &'static str, bytes: Vec<u8>) -> Result<(), AllocError> {
+pub fn put(files: &mut Vec<File>, name: &'static str, bytes: Vec<u8>) -> Result<(), AllocError> {
     files.push(File { name, bytes })?;
     Ok(())
 }
 
-// The file of a signed part, with the signatures of these leaves.
-fn signed_by(
+/// The file of a signed part, with the signatures of these leaves.
+pub fn signed_by(
     alloc: Global,
     keys: &Keys,
     signed: Value,
@@ -60,12 +65,12 @@ fn signed_by(
     Ok(signed_file(alloc, keys, &text, leaves)?)
 }
 
-fn leaf(seed: u8, number: u32) -> Leaf {
+pub fn leaf(seed: u8, number: u32) -> Leaf {
     Leaf { seed, number }
 }
 
-// The rule of one key.
-fn rule(alloc: Global, seed: u8) -> Result<Rule, AllocError> {
+/// The rule of one key.
+pub fn rule(alloc: Global, seed: u8) -> Result<Rule, AllocError> {
     let mut seeds = Vec::new(alloc);
     seeds.push(seed)?;
     Ok(Rule {
@@ -87,8 +92,8 @@ fn root(alloc: Global, keys: &Keys, version: u32, seed: u8) -> Result<Value, Fai
     Ok(root_signed(alloc, keys, &said)?)
 }
 
-// Timestamp or snapshot metadata, which says this of one other role.
-fn meta(
+/// Timestamp or snapshot metadata, which says this of one other role.
+pub fn meta(
     alloc: Global,
     kind: &str,
     version: u32,
@@ -109,10 +114,10 @@ fn version_alone(version: u32) -> Entry {
     }
 }
 
-// Version 1, with the length and the hash of the file.
-fn first_of(bytes: &[u8]) -> Entry {
+/// A version, with the length and the hash of the file.
+pub fn entry_of(version: u32, bytes: &[u8]) -> Entry {
     Entry {
-        version: 1,
+        version,
         length: u32::try_from(bytes.len()).ok(),
         digest: Some(digest_of(bytes)),
     }
@@ -132,6 +137,7 @@ fn targets(alloc: Global, keys: &Keys) -> Result<Value, Failure> {
         version: 1,
         expires: EXPIRES,
         listings: &listings,
+        references: &[],
         delegations: &[],
     };
     Ok(targets_signed(alloc, keys, &said)?)
@@ -142,9 +148,9 @@ fn put_repository(alloc: Global, keys: &Keys, files: &mut Vec<File>) -> Result<(
     let signed = root(alloc, keys, 1, ROOT)?;
     let root = signed_by(alloc, keys, signed, &[leaf(ROOT, 0)])?;
     let targets = signed_by(alloc, keys, targets(alloc, keys)?, &[leaf(TARGETS, 0)])?;
-    let signed = meta(alloc, "snapshot", 1, "targets", first_of(&targets))?;
+    let signed = meta(alloc, "snapshot", 1, "targets", entry_of(1, &targets))?;
     let snapshot = signed_by(alloc, keys, signed, &[leaf(SNAPSHOT, 0)])?;
-    let signed = meta(alloc, "timestamp", 1, "snapshot", first_of(&snapshot))?;
+    let signed = meta(alloc, "timestamp", 1, "snapshot", entry_of(1, &snapshot))?;
     let timestamp = signed_by(alloc, keys, signed, &[leaf(TIMESTAMP, 0)])?;
     put(files, "root.json", root)?;
     put(files, "timestamp.json", timestamp)?;

@@ -3,6 +3,7 @@
 //! `example` prints the SHA-256 and the name of each file. `example FOLDER` writes the files into the folder, too.
 #![tactic(auto)]
 
+mod chain;
 mod failure;
 mod files;
 
@@ -44,7 +45,9 @@ fn print_digest(rt: &(impl Print + AllocGlobal), file: &File) -> Result<(), Fail
 }
 
 fn write_all(rt: &(impl Files + AllocGlobal), folder: &str, files: &[File]) -> Result<(), Failure> {
-    fs::create_dir_all(rt, format!(in rt.alloc(); "{folder}/refused")?)?;
+    for part in ["refused", "chain", "exchanged"] {
+        fs::create_dir_all(rt, format!(in rt.alloc(); "{folder}/{part}")?)?;
+    }
     for file in files {
         let name = file.name;
         fs::write(rt, format!(in rt.alloc(); "{folder}/{name}")?, &file.bytes)?;

@@ -109,7 +109,7 @@ keeps_so trusted S T (Target path asked) now (Stored new) served denial h = absu
 keeps_so trusted S T (Target path asked) now (Pruned blobs rows) served denial h = absurd denial
 keeps_so trusted S T (Target path asked) now (FileBytes bytes) served denial h = absurd denial
 keeps_so trusted S T (Target path asked) now Absent served denial h = absurd denial
-keeps_so trusted S T (Target path asked) now (Refused d index) served denial h = keeps S T (Target path asked) now (Refused d index) served denial h
+keeps_so trusted S T (Target path asked) now (Refused d index) served denial h = h.0
 
 -- the reply to a command can be said
 pub replied : (A B : Standing) (c : Command) (now : ℕ) (reply : Answer) (S : State) → StandsAt A S → IsServed c → Makes A B c now (Ok reply) → IsSaid (reply_view reply)

@@ -1,8 +1,10 @@
 pub mod Counting
+pub mod DefiniteOrders
 pub mod Growing
 pub mod Holding
 pub mod Judged
 pub mod Lists
+pub mod OneVerdict
 pub mod SameLinks
 pub mod Signers
 pub mod StepLinks

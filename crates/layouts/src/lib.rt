@@ -8,10 +8,12 @@ mod agreeing;
 mod checking;
 mod faults;
 mod gathering;
+mod laws;
 mod ruling;
 mod signing;
 mod step_links;
 
 pub use checking::check_layout;
 pub use faults::LayoutFault;
+pub use laws::one_verdict;
 pub use metadata::{Artifacts, Digest, File, KeyTable, Layout, Link, Moment, RoleRule, Step};

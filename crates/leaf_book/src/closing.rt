@@ -1,5 +1,5 @@
 //! The end of a book over two files: what the next open finds in them.
-ghost use Rattle.std.specs.Prelude.{◌≡◌, ◌⊎◌, IfOk, IsTrue, Ok};
+ghost use Rattle.std.specs.Prelude.{◌≡◌, ◌⊎◌, false, IfOk, IsSomeAnd, IsTrue, Ok};
 ghost use Rattle.sqlite.specs.Files.{file_state};
 ghost use Rattle.sqlite_trees.specs.Tree.{Trees};
 ghost use Rattle.sqlite_wal.specs.Files.{outcomes};
@@ -8,16 +8,19 @@ ghost use Rattle.sqlite_wal.specs.Recovery.{Image};
 ghost use Rattle.keys_roles.specs.Views.{id_text};
 ghost use Rattle.sql_tables.specs.Opening.{IsFound};
 ghost use Rattle.leaf_book.specs.Book as plain;
-ghost use Rattle.leaf_book.specs.Calls.{Reserves};
-ghost use Rattle.leaf_book.specs.Rows.{HoldsBook};
+ghost use Rattle.leaf_book.specs.Calls.{Registers, Reserves};
+ghost use Rattle.leaf_book.specs.Rows.{Begins, HoldsBook};
 
 use crate::book::Book;
 use crate::faults::BookFault;
 use crate::leaf::Leaf;
+use crate::opening::Unopened;
 use keys_roles::KeyId;
+use lms::{Params, Seed};
 use sql_tables::close;
-use sqlite::{FileStore, Files};
+use sqlite::{Connection, FileStore, Files};
 use sqlite_disk::Disk;
+use std::alloc::Global;
 
 /// Reserves a leaf, as `Book::reserve` does, and hands back the two files. Whatever a crash leaves of them, inside the call or
 /// after it, the next open finds the rows of the book before the call or of the book after it, and after a leaf was answered those
@@ -38,4 +41,47 @@ pub fn reserve_and_close<D: Disk + Drop>(
     let result = book.reserve(key, message);
     let conn = book.into_connection();
     (result, close(conn))
+}
+
+/// Registers a key, as `Book::register` does, and hands back the two files, of which the same is said as by `reserve_and_close`: the next
+/// open finds the rows of the book before the call or of the book after it, and after an id was answered those of the book that has the
+/// key.
+pub fn register_and_close<D: Disk + Drop>(
+    mut book: Book<FileStore<D>>,
+    seed: &Seed,
+    params: Params,
+) -> (Result<KeyId, BookFault>, Files<D>)
+    ensures before_or_after { AreClean D.Disk result.1.log result.1.db → IsTrue (file_state book.conn).is_open
+        → (left : Image) → outcomes D.Disk result.1.log result.1.db left → (found : Trees) → IsFound left found
+        → ∥ HoldsBook found book.book ⊎ ((r : _) × (c : plain.Book) × Registers book.book seed.now params r c × HoldsBook found c) ∥₁ }
+    ensures after { AreClean D.Disk result.1.log result.1.db
+        → (left : Image) → outcomes D.Disk result.1.log result.1.db left → (found : Trees) → IsFound left found
+        → IfOk result.0 (λ key. ∥ ((c : plain.Book) × Registers book.book seed.now params (Ok (id_text key)) c × HoldsBook found c) ∥₁) }
+{
+    let result = book.register(seed, params);
+    let conn = book.into_connection();
+    (result, close(conn))
+}
+
+/// Opens a book over two files in which no transaction is under way, as `Book::open_over` does, and hands them back. Whatever a crash
+/// leaves of them, inside the opening or after it, the next open finds what stood there before, or the rows of the empty book where there
+/// was no table. Nothing is said where a wrong answer of the disks was taken as true.
+pub fn open_and_close<D: Disk + Drop>(
+    alloc: Global,
+    conn: Connection<FileStore<D>>,
+) -> (Result<(), BookFault>, Option<Files<D>>)
+    ensures crash { conn.in_transaction ≡ false → IsSomeAnd result.1 (λ files. AreClean D.Disk files.log files.db
+        → (left : Image) → outcomes D.Disk files.log files.db left → (found : Trees) → IsFound left found
+        → ∥ (file_state conn).may_leave found ⊎ Begins (file_state conn) found ∥₁) }
+{
+    match Book::open_over(alloc, conn) {
+        Ok(book) => (Ok(()), Some(close(book.into_connection()))),
+        Err(unopened) => {
+            let Unopened { fault, conn } = unopened;
+            match conn {
+                Some(conn) => (Err(fault), Some(close(conn))),
+                None => (Err(fault), None),
+            }
+        }
+    }
 }

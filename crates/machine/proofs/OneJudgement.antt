@@ -1,15 +1,20 @@
 -- Each command has one judgement, and one outcome.
 use Rattle.std.proofs.Common.{ℕ, suc, List, [], ◌∷◌, Some, None, Option, Ok, Err, refl, sym, ◌∙◌, ap}
-use Rattle.metadata.specs.Documents.{Root, Timestamp, Snapshot, Targets, MetaFile, Listing}
-use Rattle.metadata.specs.File.{Bytes, Name, File}
-use Rattle.denials.specs.Orders.{Order, Judged, Denied, Same}
+use Rattle.keys_roles.specs.Plain.{RoleRule, Table}
+use Rattle.metadata.specs.Documents.{Root, Timestamp, Snapshot, Targets, MetaFile, Listing, Layout, LayoutReference}
+use Rattle.metadata.specs.File.{Bytes, Name, File, Form, link_form}
+use Rattle.metadata.specs.Links.{Link}
+use Rattle.metadata.specs.Shaped.{shaped}
+use Rattle.layouts.specs.Layouts.{layout_holds}
+use Rattle.denials.specs.Orders.{Order, Judged, Denied, Same, Plain, RoleMissing, BlobMissing}
 use Rattle.delegations.specs.Delegation.{Edge}
 use Rattle.delegations.specs.Search.{Shelf, Found, visit, find_in, found_or, listing_of, search, shelf_of}
 use Rattle.machine.specs.State.{Trusted, State}
-use Rattle.machine.specs.Commands.{kept, rotated, after_root, live_timestamp, live_snapshot, after_timestamp, after_snapshot, named_snapshot, named_targets, placed, Offer, RootOffer, TimestampOffer, SnapshotOffer, TargetsOffer, init, offer_root, offer_timestamp, offer_snapshot, offer_targets, offer, prune, put_blob, Batched, BatchOrder, Ended, coherent, incoherent, going_on, batch_from, batch, blob_of, grants}
+use Rattle.machine.specs.Commands.{kept, rotated, after_root, live_timestamp, live_snapshot, after_timestamp, after_snapshot, named_snapshot, named_targets, placed, Offer, RootOffer, TimestampOffer, SnapshotOffer, TargetsOffer, init, offer_root, offer_timestamp, offer_snapshot, offer_targets, offer, prune, put_blob, Batched, BatchOrder, Ended, coherent, incoherent, going_on, batch_from, batch, listed, grants}
+use Rattle.machine.specs.Supports.{blob_of, files_hold, layout_answer, read_as, reference_allows, support, support_answer, supporting}
 use Rattle.machine.specs.Runs.{Outcome, Command, Init, Batch, OfferOne, PutBlob, Prune, Metadata, Target, Leads, leads, Steps}
-use Rattle.machine.proofs.DefiniteOrders.{Definite, check-definite, same_if-definite, give-definite, stop-definite, need_or-definite, judged-definite}
-use Rattle.machine.proofs.ShapedOnce.{Shapes, line, shaped-definite, root-tells, timestamp-tells, snapshot-tells, targets-tells}
+use Rattle.layouts.proofs.DefiniteOrders.{Definite, check-definite, same_if-definite, give-definite, stop-definite, need_or-definite, judged-definite, each-definite}
+use Rattle.machine.proofs.ShapedOnce.{Shapes, Tells, line, shaped-definite, root-tells, timestamp-tells, snapshot-tells, targets-tells, layout-tells, link-tells}
 
 after_root-definite : (T : Trusted) (old new : File Root) → Definite (after_root T old new)
 after_root-definite T old new _ _ (kept p) (kept q) = refl
@@ -96,14 +101,64 @@ blob_of-definite : (S : State) (path : Bytes) (l : Listing) → Definite (blob_o
 blob_of-definite S path l =
     line (need_or-definite _ _) (λ blob. line (check-definite _ _) (λ _. give-definite blob))
 
-pub grants-definite : (S : State) (path : Bytes) (asked : Option Bytes) (now : ℕ) → Definite (grants S path asked now)
-grants-definite S path asked now =
+listed-definite : (T : Trusted) (path : Bytes) (now : ℕ) → Definite (listed T path now)
+listed-definite T path now =
     line (check-definite _ _) (λ _.
-    line (need_or-definite _ S.trusted.root) (λ root.
-    line (live_snapshot-definite S.trusted.timestamp S.trusted.snapshot root now) (λ snap.
-    line (search-definite (shelf_of root snap S.trusted.shelf) path now) (λ found.
-    line (blob_of-definite S path found.listing) (λ blob.
-    line (check-definite _ _) (λ _. give-definite blob))))))
+    line (need_or-definite _ T.root) (λ root.
+    line (live_snapshot-definite T.timestamp T.snapshot root now) (λ snap.
+    line (search-definite (shelf_of root snap T.shelf) path now) (λ found. give-definite _))))
+
+-- ---- files that a layout needs
+
+support_answer-definite : {A : Type 0} (j : Judged A) → Definite (support_answer j)
+support_answer-definite (Ok a) = give-definite a
+support_answer-definite (Err Same) = stop-definite _
+support_answer-definite (Err (Denied (Plain n))) = stop-definite _
+support_answer-definite (Err (Denied (RoleMissing role version))) = stop-definite _
+support_answer-definite (Err (Denied (BlobMissing path digest len))) = stop-definite _
+
+supporting-definite : {A : Type 0} (m : Order A) → Definite m → Definite (supporting m)
+supporting-definite m one = judged-definite m support_answer one support_answer-definite
+
+support-definite : (S : State) (V : Shelf) (now : ℕ) (path : Bytes) → Definite (support S V now path)
+support-definite S V now path =
+    line (supporting-definite _ (search-definite V path now)) (λ found.
+    line (supporting-definite _ (blob_of-definite S path found.listing)) (λ blob.
+    line (check-definite _ _) (λ _. give-definite blob)))
+
+layout_answer-definite : {A : Type 0} (j : Judged A) → Definite (layout_answer j)
+layout_answer-definite (Ok a) = give-definite a
+layout_answer-definite (Err s) = stop-definite _
+
+-- a layout and its links have one judgement
+abbrev pub OneVerdict : Type 0
+OneVerdict =
+    (layout : File Layout) (owners : RoleRule) (table : Table) (links : List (File Link)) (step : Name) (product digest : Bytes) (now : ℕ)
+    → Definite (layout_holds layout owners table links step product digest now)
+
+module _ (law : Shapes) (verdict : OneVerdict) where
+  read-definite : {A : Type 0} (form : Form A) → Tells form → (b : Bytes) → Definite (read_as form b)
+  read-definite form tells b = judged-definite (shaped form b) layout_answer (shaped-definite law form tells b) layout_answer-definite
+
+  files-definite : (l : Listing) (reference : LayoutReference) (now : ℕ) (b : Bytes) (bs : List Bytes) → Definite (files_hold l reference now b bs)
+  files-definite l reference now b bs =
+      line (read-definite _ layout-tells b) (λ layout.
+      line (each-definite (read_as link_form) bs (read-definite _ link-tells)) (λ links.
+      verdict layout reference.owners reference.keys links reference.step reference.product l.digest now))
+
+  reference-definite : (S : State) (V : Shelf) (now : ℕ) (l : Listing) (reference : Option LayoutReference) → Definite (reference_allows S V now l reference)
+  reference-definite S V now l None = give-definite tt
+  reference-definite S V now l (Some reference) =
+      line (support-definite S V now reference.path) (λ layout_bytes.
+      line (each-definite (support S V now) reference.links (support-definite S V now)) (λ link_bytes.
+      files-definite l reference now layout_bytes link_bytes))
+
+  pub grants-definite : (S : State) (path : Bytes) (asked : Option Bytes) (now : ℕ) → Definite (grants S path asked now)
+  grants-definite S path asked now =
+      line (listed-definite S.trusted path now) (λ at.
+      line (blob_of-definite S path at.listing) (λ blob.
+      line (reference-definite S at.shelf now at.listing at.listing.layout) (λ _.
+      line (check-definite _ _) (λ _. give-definite blob))))
 
 -- ---- documents
 
@@ -185,12 +240,13 @@ module _ (law : Shapes) where
   pub batch-definite : (T : Trusted) (os : List (Offer × Bytes)) (now : ℕ) → Definite (batch T os now)
   batch-definite T os now = batch-from-definite _ 0 os now
 
+module _ (law : Shapes) (verdict : OneVerdict) where
   -- each command has one outcome
   pub steps-definite : (S : State) (c : Command) (now : ℕ) → Definite (Steps S c now)
   steps-definite S (Init b) now = leads-definite _ _ (init-definite law S b)
-  steps-definite S (Batch os) now = leads-definite _ _ (batch-definite S.trusted os now)
+  steps-definite S (Batch os) now = leads-definite _ _ (batch-definite law S.trusted os now)
   steps-definite S (OfferOne o b) now = leads-definite _ _ (offer-definite law S.trusted o b now)
   steps-definite S (PutBlob digest b) now = leads-definite _ _ (blob-definite S digest b)
   steps-definite S Prune now = leads-definite _ _ (prune-definite S)
   steps-definite S (Metadata name) now = λ r q h k. h ∙ sym k
-  steps-definite S (Target path asked) now = leads-definite _ _ (grants-definite S path asked now)
+  steps-definite S (Target path asked) now = leads-definite _ _ (grants-definite law verdict S path asked now)

@@ -1,22 +1,23 @@
 -- What a prune leaves is a state, and its requests for targets have the same ends.
 use Rattle.std.proofs.Common.{◌≡◌, ℕ, Bool, true, false, cond, ◌&&◌, ◌||◌, List, [], ◌∷◌, map, filter, length, Option, Some, None, option_map, option_and_then, unwrap_or, Ok, Err, refl, sym, ap, ◌∙◌, subst, bytes_eq, nat_eq, arith}
-use Rattle.std.specs.Prelude.{◌≤◌, ◌↔◌, All, IsSome, IsSomeAnd, IsTrue, IfSome, IfNone, IfOk, is_some, find}
+use Rattle.std.specs.Prelude.{◌≤◌, ◌↔◌, All, IsNone, IsSome, IsSomeAnd, IsTrue, IfSome, IfNone, IfOk, is_some, find}
 use Rattle.std.proofs.lemmas.Bool.{true≢false, eq-eqb}
 use Rattle.std.proofs.lemmas.List.Elements.{All-filter}
 use Rattle.std.proofs.lemmas.List.Kept.{AllPairs-filter}
 use Rattle.std.proofs.lemmas.Slice.Eq.{bytes_eq-Decides}
 use Rattle.std.specs.List.{AllByRecursion, list_any}
 use Rattle.keys_roles.specs.Plain.{look_up}
-use Rattle.metadata.specs.Documents.{Listing, MetaFile, Root, Snapshot, Targets, Timestamp}
+use Rattle.metadata.specs.Documents.{LayoutReference, Listing, MetaFile, Root, Snapshot, Targets, Timestamp}
 use Rattle.metadata.specs.File.{Bytes, Name, File}
 use Rattle.denials.specs.Numbers as no
-use Rattle.denials.specs.Orders.{BlobMissing, Judged, Order, pass, decide, holds, fails, given, ◌>>=◌, ◌>>◌, give, check, need_or}
+use Rattle.denials.specs.Orders.{BlobMissing, RoleMissing, Plain, Denied, Same, Judged, Order, pass, decide, holds, fails, given, judges, ◌>>=◌, ◌>>◌, give, check, each, need_or}
 use Rattle.delegations.specs.Delegation.{before}
 use Rattle.delegations.specs.Rows.{Place, Rows, place_before, has_hash, has_length, named_row, row_at, same_place, value_at}
 use Rattle.delegations.specs.Search.{Shelf, Found, IsSoundly, doc, listing_of, search, shelf_of, top_edge}
 use Rattle.delegations.proofs.KeyOrder.{place_one}
 use Rattle.machine.specs.State.{Trusted, State, AreCoherent, IsCoherent, IsHeldUnder, IsShelfRow, IsBlob, IsTrusted, IsState, blob_at, nothing_trusted}
 use Rattle.machine.specs.Commands.{GrantAlike, grants, is_listed, is_wanted, kept_blobs, kept_rows, live_snapshot, prune, pruned}
+use Rattle.machine.specs.Supports.{blob_of, reference_allows, support, support_answer, supporting}
 use Rattle.machine.proofs.LinesGive.{given_by, live_gives}
 use Rattle.machine.proofs.ListedSearches.{AreSame, same_back, search_same, value_kept}
 
@@ -177,10 +178,25 @@ Sound = (V : Shelf) (path : Bytes) (now : ℕ) (found : Found) → search V path
 
 -- ---- requests for targets
 
-abbrev blob_from : Bytes → Listing → Option Bytes → Option Bytes → Order Bytes
-blob_from path l asked o =
-    (need_or (BlobMissing path l.digest l.len) o >>= λ blob. (check no.blob_length (length blob ≡ l.len)) >> give blob)
-    >>= λ blob. (check no.digest_mismatch (IfSome asked (λ digest. l.digest ≡ digest))) >> give blob
+abbrev blob_from : Bytes → Listing → Option Bytes → Order Bytes
+blob_from path l o = need_or (BlobMissing path l.digest l.len) o >>= λ blob. (check no.blob_length (length blob ≡ l.len)) >> give blob
+
+-- a file that a layout needs, where this is its blob
+abbrev support_from : Bytes → Listing → Option Bytes → Order Bytes
+support_from path l o = supporting (blob_from path l o) >>= λ blob. (check no.layout_nested (IsNone l.layout)) >> give blob
+
+supported_is : {A : Type 0} (j : Judged A) (a : A) → support_answer j (Ok a) → j ≡ Ok a
+supported_is (Ok a) _ given = refl
+supported_is (Err Same) a k = elim k [ ]
+supported_is (Err (Denied (Plain n))) a k = elim k [ ]
+supported_is (Err (Denied (RoleMissing role version))) a k = elim k [ ]
+supported_is (Err (Denied (BlobMissing path digest len))) a k = elim k [ ]
+
+each_same : {A B : Type 0} (f g : A → Order B) → ((x : A) (r : Judged B) → f x r → g x r) → (xs : List A) (r : Judged (List B)) → each f xs r → each g xs r
+each_same f g so [] r h = h
+each_same f g so (x ∷ xs) _ (decide h) = decide (so x _ h)
+each_same f g so (x ∷ xs) _ (pass h (decide k)) = pass (so x _ h) (decide (each_same f g so xs _ k))
+each_same f g so (x ∷ xs) _ (pass h (pass k l)) = pass (so x _ h) (pass (each_same f g so xs _ k) l)
 
 -- from one shelf and its blobs to another
 module _ (T : Trusted) (rows more : Rows) (blobs left : List (Bytes × Bytes))
@@ -196,16 +212,54 @@ module _ (T : Trusted) (rows more : Rows) (blobs left : List (Bytes × Bytes))
   held_snapshot : (root : File Root) (snap : File Snapshot) (now : ℕ) → live_snapshot T.timestamp T.snapshot root now (Ok snap) → T.snapshot ≡ Some snap
   held_snapshot root snap now live = given_by (λ (s : File Snapshot). T.snapshot ≡ Some s) _ snap (live_gives T root now) live
 
+  -- by one root and one snapshot
+  module _ (root : File Root) (snap : File Snapshot) (now : ℕ) (held : T.snapshot ≡ Some snap) where
+    abbrev V : Shelf
+    V = shelf_of root snap rows
+
+    abbrev W : Shelf
+    W = shelf_of root snap more
+
+    found_alike : (path : Bytes) (j : Judged Found) → search V path now j → search W path now j
+    found_alike path j h = search_same (top_edge root) snap.body.meta rows more (same snap held) path now j h
+
+    support_alike : (path : Bytes) (r : Judged Bytes) → support S V now path r → support U W now path r
+    support_alike path _ (decide (judges h k)) = decide (judges (found_alike path _ h) k)
+    support_alike path _ (pass {a = found} {r} (judges {j} h k) n) =
+        let is : search V path now (Ok found) = subst (λ (i : Judged Found). search V path now i) (supported_is j found k) h in
+        pass (judges (found_alike path j h) k) (subst (λ (o : Option Bytes). support_from path found.listing o r) (there root snap path now found held is) n)
+
+    reference_alike : (l : Listing) (o : Option LayoutReference) (r : Judged (Unit {0})) → reference_allows S V now l o r → reference_allows U W now l o r
+    reference_alike l None r h = h
+    reference_alike l (Some reference) _ (decide h) = decide (support_alike reference.path _ h)
+    reference_alike l (Some reference) _ (pass h (decide k)) =
+        pass (support_alike reference.path _ h) (decide (each_same (support S V now) (support U W now) support_alike reference.links _ k))
+    reference_alike l (Some reference) _ (pass h (pass k n)) =
+        pass (support_alike reference.path _ h) (pass (each_same (support S V now) (support U W now) support_alike reference.links _ k) n)
+
+    -- what follows a listing that is found
+    abbrev served : State → Shelf → Bytes → Listing → Option Bytes → Order Bytes
+    served X Y path l asked =
+        blob_of X path l >>= λ blob. reference_allows X Y now l l.layout >> (check no.digest_mismatch (IfSome asked (λ digest. l.digest ≡ digest)) >> give blob)
+
+    blob_alike : (path : Bytes) (found : Found) → search V path now (Ok found) → (r : Judged Bytes) → blob_of S path found.listing r → blob_of U path found.listing r
+    blob_alike path found is r h = subst (λ (o : Option Bytes). blob_from path found.listing o r) (there root snap path now found held is) h
+
+    served_alike : (path : Bytes) (found : Found) → search V path now (Ok found) → (asked : Option Bytes) (r : Judged Bytes) → served S V path found.listing asked r → served U W path found.listing asked r
+    served_alike path found is asked _ (decide h) = decide (blob_alike path found is _ h)
+    served_alike path found is asked _ (pass h (decide k)) = pass (blob_alike path found is _ h) (decide (reference_alike found.listing found.listing.layout _ k))
+    served_alike path found is asked _ (pass h (pass k n)) = pass (blob_alike path found is _ h) (pass (reference_alike found.listing found.listing.layout _ k) n)
+
   grants_same : (path : Bytes) (asked : Option Bytes) (now : ℕ) (r : Judged Bytes) → grants S path asked now r → grants U path asked now r
-  grants_same path asked now _ (decide h) = decide h
-  grants_same path asked now _ (pass h (decide k)) = pass h (decide k)
-  grants_same path asked now _ (pass h (pass k (decide l))) = pass h (pass k (decide l))
-  grants_same path asked now _ (pass h (pass {a = root} k (pass {a = snap} l (decide m)))) =
-      pass h (pass k (pass l (decide (search_same (top_edge root) snap.body.meta rows more (same snap (held_snapshot root snap now l)) path now _ m))))
-  grants_same path asked now _ (pass h (pass {a = root} k (pass {a = snap} l (pass {a = found} {r} m n)))) =
+  grants_same path asked now _ (decide (decide h)) = decide (decide h)
+  grants_same path asked now _ (decide (pass h (decide k))) = decide (pass h (decide k))
+  grants_same path asked now _ (decide (pass h (pass k (decide l)))) = decide (pass h (pass k (decide l)))
+  grants_same path asked now _ (decide (pass h (pass {a = root} k (pass {a = snap} l (decide m))))) =
+      decide (pass h (pass k (pass l (decide (found_alike root snap now (held_snapshot root snap now l) path _ m)))))
+  grants_same path asked now _ (decide (pass h (pass k (pass l (pass m n))))) = elim n [ ]
+  grants_same path asked now r (pass (pass h (pass {a = root} k (pass {a = snap} l (pass {a = found} m given)))) n) =
       let held = held_snapshot root snap now l in
-      pass h (pass k (pass l (pass (search_same (top_edge root) snap.body.meta rows more (same snap held) path now (Ok found) m)
-      (subst (λ (o : Option Bytes). blob_from path found.listing asked o r) (there root snap path now found held m) n))))
+      pass (pass h (pass k (pass l (pass (found_alike root snap now held path _ m) given)))) (served_alike root snap now held path found m asked r n)
 
 module _ (law : Sound) where
   found_wanted : (V : Shelf) (path : Bytes) (now : ℕ) (found : Found) → search V path now (Ok found) → is_wanted V.rows found.listing.digest ≡ true

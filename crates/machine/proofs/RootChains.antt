@@ -131,6 +131,30 @@ module _ (law : Shapes) where
   pub chain_tells : (fs : List (File Root)) → All (IsFileOf root_form) fs → (IsChain fs) ↔ (IfSome (last_or None fs) (IsRootChain (bytes_of fs)))
   chain_tells fs read = (chained fs read, unchained fs read)
 
+  -- a list of roots is the chain of one root
+  pub one_chain : (bs : List Bytes) (r q : File Root) → IsRootChain bs r → IsRootChain bs q → r ≡ q
+  one_chain bs r q h k =
+      let (fr, er, dr) = last_of_chain h in
+      let (fq, eq, dq) = last_of_chain k in
+      once r q dr dq (same_end fr fq r.bytes q.bytes (sym er ∙ eq))
+    where
+      last_of_chain : {bs : List Bytes} {root : File Root} → IsRootChain bs root → (front : List Bytes) × (bs ≡ front ++ root.bytes ∷ []) × IsFileOf root_form root
+      last_of_chain (first {b = b} {root = root} doc is meets) = ([], ap (λ (x : Bytes). x ∷ []) (sym is), doc)
+      last_of_chain (then {bs = bs} {old = old} {new = new} chain doc follows) = (bs, refl, doc)
+
+      end : List Bytes → Bytes
+      end [] = []
+      end (x ∷ []) = x
+      end (x ∷ y ∷ ys) = end (y ∷ ys)
+
+      end_of : (xs : List Bytes) (x : Bytes) → end (xs ++ x ∷ []) ≡ x
+      end_of [] x = refl
+      end_of (y ∷ []) x = refl
+      end_of (y ∷ z ∷ ys) x = end_of (z ∷ ys) x
+
+      same_end : (xs ys : List Bytes) (x y : Bytes) → xs ++ x ∷ [] ≡ ys ++ y ∷ [] → x ≡ y
+      same_end xs ys x y e = sym (end_of xs x) ∙ (ap end e ∙ end_of ys y)
+
 pub if_both : {A : Type 0} (P Q : A → Type 0) (o : Option A) → IfSome o P → IfSome o Q → IfSome o (λ x. P x × Q x)
 if_both P Q None h k = tt
 if_both P Q (Some x) h k = (h, k)

@@ -8,24 +8,16 @@ use Rattle.std.specs.List.{AllByRecursion}
 use Rattle.metadata.specs.File.{Bytes}
 use Rattle.denials.specs.Orders.{Order}
 use Rattle.delegations.specs.Rows.{value_at}
-use Rattle.machine.specs.Answers.{Gives, denies as denied, forgoes as forgone}
 use Rattle.machine.specs.Held.{Held, StandsFor, held_of, length_at}
-use Rattle.machine.specs.Serving.{Serves, serves, denies, fails, forgoes}
+use Rattle.machine.specs.Serving.{Serves, serves, fails}
 use Rattle.machine.specs.State.{State, blob_at}
-use Rattle.machine.specs.steps.Permitting.{IsLoaded, IsRefusedSo, bytes_at}
-use Rattle.machine.specs.declared.refusal.Refusal.{Refusal}
-use Rattle.machine.specs.declared.refusal.Refusal.TheVariants as refusals
+use Rattle.machine.specs.steps.Permitting.{IsLoaded, bytes_at}
 use Rattle.machine.specs.declared.serving.Served.{Served}
 use Rattle.machine.specs.declared.serving.LoadFault.TheVariants.{Missing, Database}
 use Rattle.machine.specs.declared.serving.LoadFault.TheVariants as loads
 use Rattle.machine.specs.declared.serving.GetFault.{GetFault}
 use Rattle.machine.specs.declared.serving.GetFault.TheVariants.{Denied, Load, OutOfMemory}
 use Rattle.machine.proofs.HeldStates.{is_there}
-
--- an answer that gives nothing is seen in no way
-pub other_view : {A B C : Type 0} {m : Order C} {v : A → C} {w : B → C} {r : Refusal} → Gives m v (Err r) → Gives m w (Err r)
-other_view (denied g) = denied g
-other_view forgone = forgone
 
 -- what is there under a digest
 some_there : (o : Option Bytes) → IsSome o → o ≡ Some (unwrap_or o [])
@@ -47,25 +39,32 @@ found_so P (row ∷ rows) digest b all e = at (bytes_eq row.0 digest) refl (foun
         (subst (λ (x : Bytes). P row.0 x) (ap (λ (o : Option Bytes). unwrap_or o b) (rw is at e)) all.0)
     at false is later = later (rw is at e)
 
+-- the bytes that stand under a digest are the state's, and are not missing
+pub same_bytes : {Holds : Bytes → Bytes → Type 0} {H : Held} (digest : Bytes) (S : State) → IsSome (length_at H.blobs digest) → StandsFor H Holds S
+    → (x : Bytes) → Holds digest x ↔ x ≡ bytes_at S digest
+same_bytes {Holds} digest S there stands =
+    found_so (λ d b. (x : Bytes) → (Holds d x) ↔ (x ≡ b)) S.blobs digest (bytes_at S digest)
+    (recursion_from_All (λ b. (x : Bytes) → (Holds b.0 x) ↔ (x ≡ b.1)) S.blobs stands.blobs) (bytes_there S digest stands.held there)
+
+pub none_missing : {Holds : Bytes → Bytes → Type 0} {H : Held} (digest : Bytes) (S : State) → IsSome (length_at H.blobs digest) → StandsFor H Holds S
+    → ((bytes : Bytes) → Holds digest bytes → ⊥) → ⊥
+none_missing {Holds} digest S there stands missing = missing (bytes_at S digest) ((same_bytes {Holds = Holds} digest S there stands (bytes_at S digest)).1 refl)
+
+pub loaded_bytes : {honest : Type 0} {Holds : Bytes → Bytes → Type 0} {H : Held} (digest : Bytes) (s : Served) (S : State)
+    → IsLoaded honest Holds digest (Ok s) → IsSome (length_at H.blobs digest) → honest → StandsFor H Holds S → s.bytes.items ≡ bytes_at S digest
+loaded_bytes {Holds = Holds} digest s S loaded there true_so stands = (same_bytes {Holds = Holds} digest S there stands s.bytes.items).0 (loaded.1 true_so)
+
 pub served_so : {honest : Type 0} {Holds : Bytes → Bytes → Type 0} {H : Held} {m : Order Bytes} (digest : Bytes) (r : Result Served GetFault) (S : State)
     → IsLoaded honest Holds digest r → IsSome (length_at H.blobs digest) → honest → StandsFor H Holds S → m (Ok (bytes_at S digest)) → Serves S m r
 served_so {honest} {Holds} {H} {m} digest r S loaded there true_so stands given = by_result r loaded
   where
-    same : (x : Bytes) → (Holds digest x) ↔ (x ≡ bytes_at S digest)
-    same = found_so (λ d b. (x : Bytes) → (Holds d x) ↔ (x ≡ b)) S.blobs digest (bytes_at S digest)
-        (recursion_from_All (λ b. (x : Bytes) → (Holds b.0 x) ↔ (x ≡ b.1)) S.blobs stands.blobs) (bytes_there S digest stands.held there)
-
     by_result : (r : Result Served GetFault) → IsLoaded honest Holds digest r → Serves S m r
     by_result (Ok s) l =
-        let are : s.bytes.items ≡ bytes_at S digest = (same s.bytes.items).0 (l.1 true_so) in
+        let are : s.bytes.items ≡ bytes_at S digest = loaded_bytes {honest = honest} {Holds = Holds} digest s S l there true_so stands in
         serves (subst (λ (b : Bytes). m (Ok b)) (sym are) given)
         (ap (λ (d : Bytes). blob_at S.blobs d) l.0 ∙ bytes_there S digest stands.held there ∙ ap Some (sym are))
-    by_result (Err (Load Missing)) l = absurd (l true_so (bytes_at S digest) ((same (bytes_at S digest)).1 refl))
+    by_result (Err (Load Missing)) l = absurd (none_missing {Holds = Holds} digest S there stands (l true_so))
     by_result (Err (Load Database)) l = fails (λ e. absurd cc)
     by_result (Err (Load loads.OutOfMemory)) l = fails (λ e. absurd cc)
     by_result (Err (Denied d)) l = absurd l
     by_result (Err OutOfMemory) l = absurd l
-
-pub refused_serves : {A : Type 0} {S : State} {m : Order Bytes} {v : A → Bytes} (r : Refusal) (f : GetFault) → IsRefusedSo r f → Gives m v (Err r) → Serves S m (Err f)
-refused_serves {S = S} {m = m} (refusals.Denied d) f is (denied g) = subst (λ (f : GetFault). Serves S m (Err f)) (sym is) (denies g)
-refused_serves {S = S} {m = m} refusals.OutOfMemory f is h = subst (λ (f : GetFault). Serves S m (Err f)) (sym is) forgoes

@@ -3,12 +3,12 @@ use Rattle.std.proofs.Common.{◌≡◌, List, Ok, Err, sym, ap, ◌∙◌, subs
 use Rattle.keys_roles.specs.Plain.{Signature}
 use Rattle.metadata.specs.Documents.{Document}
 use Rattle.metadata.specs.Shape.{IsDocument, IsShapeFault}
-use Rattle.metadata.specs.File.{Bytes, File, Form, IsFileOf, document_of, fault_number, root_form, timestamp_form, snapshot_form, targets_form}
+use Rattle.metadata.specs.File.{Bytes, File, Form, IsFileOf, document_of, fault_number, root_form, timestamp_form, snapshot_form, targets_form, layout_form, link_form}
 use Rattle.denials.specs.Orders.{Denied, Plain, Order, ◌>>=◌}
 use Rattle.metadata.specs.Shaped.{reads, faulty, shaped}
 use Rattle.metadata.specs.declared.documents.Kind.{Kind}
 use Rattle.metadata.specs.declared.documents.ShapeFault.{ShapeFault}
-use Rattle.machine.proofs.DefiniteOrders.{Definite, then-definite}
+use Rattle.layouts.proofs.DefiniteOrders.{Definite, then-definite}
 
 -- a file is one document of a kind at most, or has one fault of shape, and not both
 pub record Shapes : Type 0 where
@@ -31,6 +31,12 @@ snapshot-tells x y e = cc
 
 pub targets-tells : Tells targets_form
 targets-tells x y e = cc
+
+pub layout-tells : Tells layout_form
+layout-tells x y e = cc
+
+pub link-tells : Tells link_form
+link-tells x y e = cc
 
 abbrev make : {A : Type 0} → Bytes → Bytes → List Signature → A → File A
 make bytes signed entries body = record { bytes = bytes; signed = signed; entries = entries; body = body }

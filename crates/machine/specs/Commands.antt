@@ -8,13 +8,14 @@ use Rattle.sha2.specs.Sha256.{sha256}
 use Rattle.path_patterns.specs.Grammar.{IsTargetPath}
 use Rattle.metadata.specs.File.{Bytes, Name, File, root_form, timestamp_form, snapshot_form, targets_form}
 use Rattle.denials.specs.Numbers as no
-use Rattle.denials.specs.Orders.{Denial, Plain, BlobMissing, Denied, Same, Judged, Order, ◌>>=◌, ◌>>◌, give, check, need, need_or, same_if, judged}
+use Rattle.denials.specs.Orders.{Denial, Plain, Denied, Same, Judged, Order, ◌>>=◌, ◌>>◌, give, check, need, same_if, judged}
 use Rattle.metadata.specs.Shaped.{shaped}
 use Rattle.delegations.specs.Delegation.{before}
 use Rattle.delegations.specs.Rows.{Place, Rows, same_place, row_at, with_row, place_before, entry_of, HasLength, HasHash}
 use Rattle.machine.specs.State.{Trusted, State, nothing_trusted, blob_at, NamesSnapshot, MeetsTop, IsCoherent}
+use Rattle.machine.specs.Supports.{blob_of, reference_allows}
 use Rattle.limits.specs.Limits.{most_held, blob_limit}
-use Rattle.delegations.specs.Search.{shelf_of, search, Vouched}
+use Rattle.delegations.specs.Search.{Shelf, shelf_of, search, Vouched}
 
 -- no rotation: timestamp and snapshot role both keep their rules
 abbrev pub KeepsRoles : Root → Root → Type 0
@@ -247,28 +248,28 @@ batch_from B i (o ∷ os) now = judged (offer B.trusted o.0 o.1 now) (going_on B
 abbrev pub batch : Trusted → List (Offer × Bytes) → ℕ → BatchOrder
 batch T os now = batch_from (record { trusted = T; accepted = 0; same = 0 }) 0 os now
 
--- the target's file by its listing
-abbrev pub blob_of : State → Bytes → Listing → Order Bytes
-blob_of S path l = do
-  blob ← need_or (BlobMissing path l.digest l.len) (blob_at S.blobs l.digest)
-  check no.blob_length (length blob ≡ l.len)
-  give blob
+-- a listing, and the shelf on which it was found
+pub record Listed : Type 0 where
+  pub shelf : Shelf
+  pub listing : Listing
 
--- the blob of a listing, where the digest that is asked for, if one is, is that of the listing
-abbrev pub asked_blob_of : State → Bytes → Listing → Option Bytes → Order Bytes
-asked_blob_of S path listing asked = do
-  blob ← blob_of S path listing
-  check no.digest_mismatch (IfSome asked (λ digest. listing.digest ≡ digest))
-  give blob
+-- the listing of a path, where what is trusted is live
+abbrev pub listed : Trusted → Bytes → ℕ → Order Listed
+listed T path now = do
+  check no.bad_path (IsTargetPath path)
+  root ← need no.no_root T.root
+  snap ← live_snapshot T.timestamp T.snapshot root now
+  found ← search (shelf_of root snap T.shelf) path now
+  give (record { shelf = shelf_of root snap T.shelf; listing = found.listing })
 
 -- a target's bytes, or the first denial
 abbrev pub grants : State → Bytes → Option Bytes → ℕ → Order Bytes
 grants S path asked now = do
-  check no.bad_path (IsTargetPath path)
-  root ← need no.no_root S.trusted.root
-  snap ← live_snapshot S.trusted.timestamp S.trusted.snapshot root now
-  found ← search (shelf_of root snap S.trusted.shelf) path now
-  asked_blob_of S path found.listing asked
+  at ← listed S.trusted path now
+  blob ← blob_of S path at.listing
+  reference_allows S at.shelf now at.listing at.listing.layout
+  check no.digest_mismatch (IfSome asked (λ digest. at.listing.digest ≡ digest))
+  give blob
 
 -- each request for a target, of this state and of that, has the same end
 abbrev pub GrantAlike : State → State → Type 0

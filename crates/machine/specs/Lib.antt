@@ -8,5 +8,6 @@ pub mod Knowing
 pub mod Runs
 pub mod Serving
 pub mod State
+pub mod Supports
 pub mod Views
 pub mod steps

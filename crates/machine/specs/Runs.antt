@@ -62,6 +62,12 @@ Steps S Prune now = Leads (prune S) (settled S (λ T. (T, pruned_reply S T)) (Pr
 Steps S (Metadata name) now = λ r. r ≡ (S, metadata_reply (metadata_of S.trusted name))
 Steps S (Target path asked) now = Leads (grants S path asked now) (settled S (λ b. (S, FileBytes b)) Absent)
 
+-- what a request for a target is replied: the bytes that are granted, or the first denial
+abbrev pub IsGranted : State → Bytes → Option Bytes → ℕ → Reply → Type 0
+IsGranted S path asked now (FileBytes b) = grants S path asked now (Ok b)
+IsGranted S path asked now (Refused d None) = grants S path asked now (Err (Denied d))
+IsGranted S path asked now reply = ⊥
+
 -- a run of commands, each at its moment
 pub data Runs : State → List (Command × ℕ) → State → List Reply → Type 0 where
   done : {S : State} → Runs S [] S []

@@ -1,11 +1,14 @@
 -- Bytes by their digests, wherever they are, and what a request for a target answers from them.
-use Rattle.std.specs.Prelude.{◌≡◌, ◌≢◌, ◌++◌, Some, Result, Ok, Err}
+use Rattle.std.specs.Prelude.{◌≡◌, ◌≢◌, ◌++◌, ℕ, Bool, false, ◌&&◌, ◌||◌, ◌==◌, nat_le, Some, Result, Ok, Err, IsSome, IsTrue}
 use Rattle.metadata.specs.File.{Bytes}
+use Rattle.denials.specs.Numbers as no
 use Rattle.denials.specs.Orders as orders
 use Rattle.denials.specs.Orders.{Order}
 use Rattle.denials.specs.Views.{denial_view}
 use Rattle.denials.specs.declared.denial.Denial.{Denial}
-use Rattle.machine.specs.State.{State, blob_at}
+use Rattle.machine.specs.Commands.{Listed, listed}
+use Rattle.machine.specs.Held.{Held, OfEachState}
+use Rattle.machine.specs.State.{Trusted, State, blob_at}
 use Rattle.machine.specs.declared.serving.Served.{Served}
 use Rattle.machine.specs.declared.serving.LoadFault.{LoadFault}
 use Rattle.machine.specs.declared.serving.LoadFault.TheVariants.{Missing}
@@ -26,12 +29,24 @@ pub data Serves (S : State) (m : Order Bytes) : Result Served GetFault → Type 
   fails : {fault : LoadFault} → fault ≢ Missing → Serves S m (Err (Load fault))
   forgoes : Serves S m (Err OutOfMemory)
 
--- the denial in which the order ends
-abbrev pub Refuses : Order Bytes → Result Served GetFault → Type 0
-Refuses m (Err (Denied d)) = m (Err (orders.Denied (denial_view d)))
-Refuses m _ = Unit {0}
+-- what is trusted lists the path with a layout
+pub record HasLayout (T : Trusted) (path : Bytes) (now : ℕ) : Type 0 where
+  pub at : Listed
+  pub lists : listed T path now (Ok at)
+  pub layout : IsSome at.listing.layout
 
--- P, where a rule denies it
-abbrev pub IfDenied : Result Served GetFault → Type 0 → Type 0
-IfDenied (Err (Denied d)) P = P
-IfDenied _ P = Unit {0}
+-- the denials by what a layout and its links are and say, and by the digest that is asked for, which is judged behind these
+abbrev pub is_by_layout : orders.Denial → Bool
+is_by_layout (orders.Plain n) = (n == no.digest_mismatch) || (nat_le no.layout_shape n && nat_le n no.product_mismatch)
+is_by_layout d = false
+
+-- How a denial stands. Either nothing was loaded, and it is the end of the order whatever the bytes of the blobs are; or the target has
+-- a layout, whose bytes were loaded.
+pub data IsRefused (H : Held) (m : State → Order Bytes) (path : Bytes) (now : ℕ) (unloaded loaded : Type 0) (d : Denial) : Type 0 where
+  unread : unloaded → OfEachState H (λ S. m S (Err (orders.Denied (denial_view d)))) → IsRefused H m path now unloaded loaded d
+  by_layout : loaded → HasLayout H.trusted path now → IsTrue (is_by_layout (denial_view d)) → IsRefused H m path now unloaded loaded d
+
+-- the same of an answer, where it is a denial
+abbrev pub Refuses : Held → (State → Order Bytes) → Bytes → ℕ → Type 0 → Type 0 → Result Served GetFault → Type 0
+Refuses H m path now unloaded loaded (Err (Denied d)) = IsRefused H m path now unloaded loaded d
+Refuses H m path now unloaded loaded _ = Unit {0}

@@ -1,43 +1,34 @@
-//! What a target is (TUF 1.0, section 5.7).
-ghost use Rattle.std.specs.Prelude.{◌≡◌, ◌↔◌, ◌⊎◌, ◌-◌, ◌≤◌, ◌<◌, ◌^◌, None, Some, Err, IfOk, IfSome, IsSome, IsTrue, OnOk, length, option_map};
-ghost use Rattle.delegations.specs.Delegation.{before};
-ghost use Rattle.delegations.specs.Rows.{Rises, place_before};
-ghost use Rattle.delegations.specs.Search.{search};
-ghost use Rattle.delegations.specs.Verdicts.{AreFew, AreTrue, Costs, IsComplete};
-ghost use Rattle.delegations.specs.Views as searches;
-ghost use Rattle.metadata.specs.FileViews.{root_file, snapshot_file};
-ghost use Rattle.denials.specs.Orders as orders;
-ghost use Rattle.metadata.specs.Views.{listing_view};
-ghost use Rattle.path_patterns.specs.Grammar.{IsTargetPath};
+//! What a target is (TUF 1.0, section 5.7; in-toto 1.0, section 5.2).
+ghost use Rattle.std.specs.Prelude.{◌≡◌, ◌⊎◌, ◌-◌, ◌≤◌, ◌<◌, ◌^◌, None, Some, Err, IfOk, IsSome, OnOk, option_map};
 ghost use Rattle.machine.specs.Answers.{Gives};
 ghost use Rattle.machine.specs.Commands as commands;
-ghost use Rattle.contents.specs.Contents.{lengths_of};
-ghost use Rattle.machine.specs.Held.{OfEachState, StandsFor, held_of, length_at};
+ghost use Rattle.machine.specs.Held.{StandsFor, held_of, length_at};
 ghost use Rattle.machine.specs.Knowing.{ChecksFew, WantsFew};
-ghost use Rattle.machine.specs.Serving.{IfDenied, Refuses, Serves};
+ghost use Rattle.machine.specs.Serving.{HasLayout, Refuses, Serves};
 ghost use Rattle.machine.specs.State as trust;
 ghost use Rattle.machine.specs.State.{blob_at};
-ghost use Rattle.machine.specs.steps.Permitting.{IsLoaded, IsRefusedSo, bytes_at};
-ghost use Rattle.machine.specs.Views.{length_views, trusted_view};
+ghost use Rattle.machine.specs.steps.Permitting.{IsLentSo, Reads, Stands, bytes_at};
 
-use crate::blobs::{blob_of, length_of};
-use crate::checks::are_same;
+use crate::blobs::blob_of;
 use crate::held::Held;
-use crate::liveness::live_snapshot;
-use crate::parts::{BlobLength, Trusted};
+use crate::listing::{find_listing, is_asked, listed_digest};
 use crate::refusal::Refusal;
-use crate::serving::{Blobs, GetFault, Served};
+use crate::serving::{Blobs, GetFault, Served, load};
 use crate::state::State;
-use delegations::{Found, Rows, SearchDenial, Shelf, Steps, Verdicts, search_with_counted};
+use crate::supporting::judge_layout;
+use delegations::Steps;
 use denials::Denial;
-use metadata::{File, Listing, Moment, Root, Snapshot};
+use metadata::Moment;
 use path_patterns::{Digest, TargetPath};
 use std::alloc::Global;
 
-/// The file of a target at a moment (TUF 1.0, section 5.7): the file that the first role in the order of the search lists.
-/// Root, timestamp and snapshot must be live, and the timestamp must name the snapshot. Denials in their order: no root is
-/// trusted; the root is not live; the timestamp, then the snapshot; what the search denies; the file is not held, or has
-/// another length than the listing says.
+/// The file of a target at a moment (TUF 1.0, section 5.7): the file that the first role in the order of the search lists, where
+/// its layout, if it has one, allows it. Root, timestamp and snapshot must be live, and the timestamp must name the snapshot.
+/// Denials in their order: no root is trusted; the root is not live; the timestamp, then the snapshot; what the search denies;
+/// the file is not held, or has another length than the listing says; those of the layout.
+///
+/// A layout and each of its links are found as the target is, and none may have a layout. What is missing of them is answered as
+/// itself, any other denial as `SupportDenied`; then they are read, and the layout is judged (in-toto 1.0, section 5.2).
 pub fn get<'a>(
     alloc: Global,
     state: &'a State,
@@ -49,8 +40,8 @@ pub fn get<'a>(
     get_counted(alloc, state, path, now, &mut Steps::new())
 }
 
-/// The same, with one tick for each signature that is checked: at most as many as the search meets of which nothing is known, and
-/// none where the pairs that searches may meet are at most 2,048.
+/// The same, with one tick for each signature that is checked in a search. For a target without a layout these are at most as many
+/// as its search meets of which nothing is known, and none where the pairs that searches may meet are at most 2,048.
 pub fn get_counted<'a>(
     alloc: Global,
     state: &'a State,
@@ -61,12 +52,16 @@ pub fn get_counted<'a>(
     requires { checks.old < 2 ^ 63 }
     ensures answer { Gives (commands.grants state.now.state path.now None now) (λ b. b.now) result }
     ensures grows { checks.old ≤ checks.new }
-    ensures few { ChecksFew state.now.state.trusted.root state.now.state.trusted.snapshot state.now.state.trusted.shelf state.now.verdicts path.now now (checks.new - checks.old) }
+    ensures few { (HasLayout state.now.state.trusted path.now now → ⊥)
+        → ChecksFew state.now.state.trusted.root state.now.state.trusted.snapshot state.now.state.trusted.shelf state.now.verdicts path.now now (checks.new - checks.old) }
     ensures free { WantsFew state.now.state.trusted → checks.new ≡ checks.old }
 {
     state.is_valid();
-    let digest = permitted(alloc, state.held(), path, None, now, checks)?;
-    Ok(lent(state, digest))
+    let mut own = state;
+    match permitted(alloc, state.held(), &mut own, path, None, now, checks) {
+        Ok(digest) => Ok(lent(state, digest)),
+        Err(fault) => Err(lent_refusal(fault)),
+    }
 }
 
 /// The file of a target that a text names, at a moment, as `get` finds it; and where a digest is asked for, only the file of a
@@ -82,12 +77,16 @@ pub fn target<'a>(
     ensures { Gives (commands.grants state.now.state path.now (option_map (λ d. d.0) asked) now) (λ b. b.now) result }
 {
     state.is_valid();
-    let digest = permitted_text(alloc, state.held(), path, asked, now)?;
-    Ok(lent(state, digest))
+    let mut own = state;
+    match permitted_text(alloc, state.held(), &mut own, path, asked, now) {
+        Ok(digest) => Ok(lent(state, digest)),
+        Err(fault) => Err(lent_refusal(fault)),
+    }
 }
 
 /// What `get` finds, where the blobs are elsewhere: the file, with its digest. Its rules are judged by digest and length before any
-/// bytes are loaded, so a denial loads nothing.
+/// bytes are loaded. A layout and its links are loaded only where each of them is there and has no layout; any other denial loads
+/// nothing. What was loaded of them is dropped before the file is loaded.
 pub fn get_from<B: Blobs>(
     alloc: Global,
     held: &Held,
@@ -96,8 +95,7 @@ pub fn get_from<B: Blobs>(
     now: Moment,
 ) -> Result<Served, GetFault>
     ensures answer { B.IsHonest blobs.new → (S : trust.State) → StandsFor held.now.held (B.Holds blobs.old) S → Serves S (commands.grants S path.now None now) result }
-    ensures denial { OfEachState held.now.held (λ S. Refuses (commands.grants S path.now None now) result) }
-    ensures unloaded { IfDenied result (blobs.new ≡ blobs.old) }
+    ensures denial { Refuses held.now.held (λ S. commands.grants S path.now None now) path.now now (blobs.new ≡ blobs.old) (B.HasLoaded blobs.new) result }
     ensures becomes { (blobs.new ≡ blobs.old) ⊎ B.MayBecome blobs.old blobs.new }
     ensures loaded { OnOk result (B.HasLoaded blobs.new) }
 {
@@ -115,17 +113,17 @@ pub fn get_from_counted<B: Blobs>(
 ) -> Result<Served, GetFault>
     requires { checks.old < 2 ^ 63 }
     ensures answer { B.IsHonest blobs.new → (S : trust.State) → StandsFor held.now.held (B.Holds blobs.old) S → Serves S (commands.grants S path.now None now) result }
-    ensures denial { OfEachState held.now.held (λ S. Refuses (commands.grants S path.now None now) result) }
-    ensures unloaded { IfDenied result (blobs.new ≡ blobs.old) }
+    ensures denial { Refuses held.now.held (λ S. commands.grants S path.now None now) path.now now (blobs.new ≡ blobs.old) (B.HasLoaded blobs.new) result }
     ensures becomes { (blobs.new ≡ blobs.old) ⊎ B.MayBecome blobs.old blobs.new }
     ensures loaded { OnOk result (B.HasLoaded blobs.new) }
     ensures grows { checks.old ≤ checks.new }
-    ensures few { ChecksFew held.now.held.trusted.root held.now.held.trusted.snapshot held.now.held.trusted.shelf held.now.verdicts path.now now (checks.new - checks.old) }
+    ensures few { (HasLayout held.now.held.trusted path.now now → ⊥)
+        → ChecksFew held.now.held.trusted.root held.now.held.trusted.snapshot held.now.held.trusted.shelf held.now.verdicts path.now now (checks.new - checks.old) }
     ensures free { WantsFew held.now.held.trusted → checks.new ≡ checks.old }
 {
-    match permitted(alloc, held, path, None, now, checks) {
-        Ok(digest) => loaded(alloc, blobs, digest),
-        Err(refusal) => Err(refused(refusal)),
+    match permitted(alloc, held, blobs, path, None, now, checks) {
+        Ok(digest) => load(alloc, blobs, digest),
+        Err(fault) => Err(fault),
     }
 }
 
@@ -140,54 +138,74 @@ pub fn target_from<B: Blobs>(
 ) -> Result<Served, GetFault>
     ensures answer { B.IsHonest blobs.new → (S : trust.State) → StandsFor held.now.held (B.Holds blobs.old) S
         → Serves S (commands.grants S path.now (option_map (λ d. d.0) asked) now) result }
-    ensures denial { OfEachState held.now.held (λ S. Refuses (commands.grants S path.now (option_map (λ d. d.0) asked) now) result) }
-    ensures unloaded { IfDenied result (blobs.new ≡ blobs.old) }
+    ensures denial { Refuses held.now.held (λ S. commands.grants S path.now (option_map (λ d. d.0) asked) now) path.now now (blobs.new ≡ blobs.old) (B.HasLoaded blobs.new) result }
     ensures becomes { (blobs.new ≡ blobs.old) ⊎ B.MayBecome blobs.old blobs.new }
     ensures loaded { OnOk result (B.HasLoaded blobs.new) }
 {
-    match permitted_text(alloc, held, path, asked, now) {
-        Ok(digest) => loaded(alloc, blobs, digest),
-        Err(refusal) => Err(refused(refusal)),
+    match permitted_text(alloc, held, blobs, path, asked, now) {
+        Ok(digest) => load(alloc, blobs, digest),
+        Err(fault) => Err(fault),
     }
 }
 
 // The digest of the file of a target that a text names.
-fn permitted_text(
+fn permitted_text<B: Blobs>(
     alloc: Global,
     held: &Held,
+    blobs: &mut B,
     path: &str,
     asked: Option<Digest>,
     now: Moment,
-) -> Result<Digest, Refusal>
-    ensures answer { OfEachState held.now.held (λ S. Gives (commands.grants S path.now (option_map (λ d. d.0) asked) now) (λ d. bytes_at S d.0) result) }
+) -> Result<Digest, GetFault>
+    ensures stands { Stands held.now.held (B.IsHonest blobs.new) (B.Holds blobs.old) (blobs.new ≡ blobs.old) (B.HasLoaded blobs.new × HasLayout held.now.held.trusted path.now now)
+        (λ S. commands.grants S path.now (option_map (λ d. d.0) asked) now) (λ S d. bytes_at S d.0) result }
+    ensures reads { Reads B.IsHonest B.Holds B.MayBecome blobs.old blobs.new }
     ensures held { IfOk result (λ d. IsSome (length_at held.now.held.blobs d.0)) }
 {
     let Some(path) = TargetPath::read(alloc, path)? else {
-        return Err(Refusal::Denied(Denial::BadPath));
+        return Err(GetFault::Denied(Denial::BadPath));
     };
-    permitted(alloc, held, &path, asked, now, &mut Steps::new())
+    permitted(alloc, held, blobs, &path, asked, now, &mut Steps::new())
 }
 
-// The file of a digest.
-fn loaded<B: Blobs>(alloc: Global, blobs: &mut B, digest: Digest) -> Result<Served, GetFault>
-    ensures loads { IsLoaded (B.IsHonest blobs.new) (B.Holds blobs.old) digest.0 result }
-    ensures becomes { B.MayBecome blobs.old blobs.new }
-    ensures loaded { OnOk result (B.HasLoaded blobs.new) }
+// The digest of the file of a target, which is held with the length that the listing says, which its layout allows, if it has one, and
+// which is that which is asked for, if one is.
+fn permitted<B: Blobs>(
+    alloc: Global,
+    held: &Held,
+    blobs: &mut B,
+    path: &TargetPath,
+    asked: Option<Digest>,
+    now: Moment,
+    checks: &mut Steps,
+) -> Result<Digest, GetFault>
+    requires { checks.old < 2 ^ 63 }
+    ensures stands { Stands held.now.held (B.IsHonest blobs.new) (B.Holds blobs.old) (blobs.new ≡ blobs.old) (B.HasLoaded blobs.new × HasLayout held.now.held.trusted path.now now)
+        (λ S. commands.grants S path.now (option_map (λ d. d.0) asked) now) (λ S d. bytes_at S d.0) result }
+    ensures reads { Reads B.IsHonest B.Holds B.MayBecome blobs.old blobs.new }
+    ensures held { IfOk result (λ d. IsSome (length_at held.now.held.blobs d.0)) }
+    ensures grows { checks.old ≤ checks.new }
+    ensures few { (HasLayout held.now.held.trusted path.now now → ⊥)
+        → ChecksFew held.now.held.trusted.root held.now.held.trusted.snapshot held.now.held.trusted.shelf held.now.verdicts path.now now (checks.new - checks.old) }
+    ensures free { WantsFew held.now.held.trusted → checks.new ≡ checks.old }
 {
-    let mut bytes = Vec::new(alloc);
-    match blobs.load(&digest, &mut bytes) {
-        Ok(()) => Ok(Served { digest, bytes }),
-        Err(fault) => Err(GetFault::Load(fault)),
+    let at = find_listing(alloc, held, path, now, checks)?;
+    let digest = listed_digest(held.lengths(), path, at.listing)?;
+    judge_layout(alloc, held, blobs, &at, now, checks)?;
+    if !is_asked(at.listing, asked) {
+        return Err(GetFault::Denied(Denial::DigestMismatch));
     }
+    Ok(digest)
 }
 
-// The same refusal, of a request that serves nothing.
-fn refused(refusal: Refusal) -> GetFault
-    ensures { IsRefusedSo refusal result }
+// The same refusal, of a state's own bytes. They are there, so they are lent unless memory is refused.
+fn lent_refusal(fault: GetFault) -> Refusal
+    ensures { IsLentSo fault result }
 {
-    match refusal {
-        Refusal::Denied(denial) => GetFault::Denied(denial),
-        Refusal::OutOfMemory => GetFault::OutOfMemory,
+    match fault {
+        GetFault::Denied(denial) => Refusal::Denied(denial),
+        GetFault::Load(_) => Refusal::OutOfMemory,
+        GetFault::OutOfMemory => Refusal::OutOfMemory,
     }
 }
 
@@ -199,173 +217,5 @@ fn lent(state: &State, digest: Digest) -> &[u8]
     match blob_of(state.blobs(), &digest) {
         Some(blob) => &blob.bytes,
         None => unreachable!(),
-    }
-}
-
-// The digest of the file of a target, which is held with the length that the listing says, and is that which is asked for, if one is.
-fn permitted(
-    alloc: Global,
-    held: &Held,
-    path: &TargetPath,
-    asked: Option<Digest>,
-    now: Moment,
-    checks: &mut Steps,
-) -> Result<Digest, Refusal>
-    requires { checks.old < 2 ^ 63 }
-    ensures answer { OfEachState held.now.held (λ S. Gives (commands.grants S path.now (option_map (λ d. d.0) asked) now) (λ d. bytes_at S d.0) result) }
-    ensures held { IfOk result (λ d. IsSome (length_at held.now.held.blobs d.0)) }
-    ensures grows { checks.old ≤ checks.new }
-    ensures few { ChecksFew held.now.held.trusted.root held.now.held.trusted.snapshot held.now.held.trusted.shelf held.now.verdicts path.now now (checks.new - checks.old) }
-    ensures free { WantsFew held.now.held.trusted → checks.new ≡ checks.old }
-{
-    is_path(path);
-    let trusted = held.trusted();
-    let Some(root) = trusted.root.as_ref() else {
-        return Err(Refusal::Denied(Denial::NoRoot));
-    };
-    let snapshot = live_snapshot(
-        trusted.timestamp.as_ref(),
-        trusted.snapshot.as_ref(),
-        root,
-        now,
-    )?;
-    let shelf = Shelf::new(&root.body, &snapshot.body, held_rows(trusted));
-    let found = find(alloc, &shelf, held.verdicts(), path, now, checks)?;
-    asked_digest(held.lengths(), path, found.listing, asked)
-}
-
-// A law, which does nothing: a target's path is one.
-fn is_path(path: &TargetPath)
-    ensures { IsTargetPath path.now }
-{
-    path.as_str();
-}
-
-// What the search finds on the shelf.
-fn find<'a>(
-    alloc: Global,
-    shelf: &Shelf<'a>,
-    known: &Verdicts,
-    path: &TargetPath,
-    now: Moment,
-    checks: &mut Steps,
-) -> Result<Found<'a>, Refusal>
-    requires sound { AreTrue (searches.shelf_view shelf.now).rows known.now }
-    requires room { checks.old < 2 ^ 63 }
-    ensures answer { Gives (search (searches.shelf_view shelf.now) path.now now) searches.found_view result }
-    ensures grows { checks.old ≤ checks.new }
-    ensures costs { Costs (searches.shelf_view shelf.now) known.now path.now now (checks.new - checks.old) }
-    ensures free { AreFew (searches.shelf_view shelf.now) → IsComplete (searches.shelf_view shelf.now) known.now → checks.new ≡ checks.old }
-{
-    match search_with_counted(shelf, known, path, now, checks) {
-        Ok(found) => Ok(found),
-        Err(denial) => Err(search_refusal(alloc, denial)),
-    }
-}
-
-// The rows on the shelf.
-fn held_rows(trusted: &Trusted) -> Rows<'_>
-    requires { Rises place_before (trusted_view trusted.now).shelf }
-    ensures { searches.rows_view result ≡ (trusted_view trusted.now).shelf }
-{
-    Rows {
-        held: &trusted.shelf,
-        added: &[],
-    }
-}
-
-// The search's denial as a refusal.
-fn search_refusal(alloc: Global, denial: SearchDenial<'_>) -> Refusal
-    ensures { Gives {A = Unit {0}} (orders.stop (orders.Denied (searches.denial_view denial.entry))) (λ u. u) (Err result) }
-{
-    match denial {
-        SearchDenial::RoleUnlisted => Refusal::Denied(Denial::RoleUnlisted),
-        SearchDenial::RoleMissing { role, version } => missing_role(alloc, role, version),
-        SearchDenial::RoleLength => Refusal::Denied(Denial::RoleLength),
-        SearchDenial::RoleHash => Refusal::Denied(Denial::RoleHash),
-        SearchDenial::RoleThreshold => Refusal::Denied(Denial::RoleThreshold),
-        SearchDenial::RoleExpired => Refusal::Denied(Denial::RoleExpired),
-        SearchDenial::TooManyRoles => Refusal::Denied(Denial::TooManyRoles),
-        SearchDenial::NotFound => Refusal::Denied(Denial::NotFound),
-    }
-}
-
-// The refusal where a role's document is missing.
-fn missing_role(alloc: Global, role: &str, version: u32) -> Refusal
-    ensures { Gives {A = Unit {0}} (orders.stop (orders.Denied (orders.RoleMissing role.now version))) (λ u. u) (Err result) }
-{
-    match String::from_str(alloc, role) {
-        Ok(role) => Refusal::Denied(Denial::RoleMissing { role, version }),
-        Err(_) => Refusal::OutOfMemory,
-    }
-}
-
-// The digest of a listing, where this is the one that is asked for.
-fn asked_digest(
-    lengths: &[BlobLength],
-    path: &TargetPath,
-    listing: &Listing,
-    asked: Option<Digest>,
-) -> Result<Digest, Refusal>
-    requires { Rises before (length_views lengths.now) }
-    ensures answer { (S : trust.State) → lengths_of S.blobs ≡ length_views lengths.now
-        → Gives (commands.asked_blob_of S path.now (listing_view listing.now) (option_map (λ d. d.0) asked)) (λ d. bytes_at S d.0) result }
-    ensures held { IfOk result (λ d. IsSome (length_at (length_views lengths.now) d.0)) }
-{
-    let digest = listed_digest(lengths, path, listing)?;
-    if !is_asked(listing, asked) {
-        return Err(Refusal::Denied(Denial::DigestMismatch));
-    }
-    Ok(digest)
-}
-
-// Whether the listing has the digest that is asked for, if one is.
-fn is_asked(listing: &Listing, asked: Option<Digest>) -> bool
-    ensures { IsTrue result ↔ IfSome (option_map (λ d. d.0) asked) (λ digest. listing.now.digest.0 ≡ digest) }
-{
-    match asked {
-        Some(digest) => are_same(&listing.digest.0, &digest.0),
-        None => true,
-    }
-}
-
-// The digest of a listing, where the file is held with its length.
-fn listed_digest(
-    lengths: &[BlobLength],
-    path: &TargetPath,
-    listing: &Listing,
-) -> Result<Digest, Refusal>
-    requires { Rises before (length_views lengths.now) }
-    ensures answer { (S : trust.State) → lengths_of S.blobs ≡ length_views lengths.now
-        → Gives (commands.blob_of S path.now (listing_view listing.now)) (λ d. bytes_at S d.0) result }
-    ensures held { IfOk result (λ d. IsSome (length_at (length_views lengths.now) d.0)) }
-{
-    let Some(length) = length_of(lengths, &listing.digest) else {
-        return Err(missing_blob(path, listing));
-    };
-    if !has_listed_length(length, listing) {
-        return Err(Refusal::Denied(Denial::BlobLength));
-    }
-    Ok(listing.digest)
-}
-
-// Whether the length is the one that the listing says.
-fn has_listed_length(length: usize, listing: &Listing) -> bool
-    ensures { IsTrue result ↔ length ≡ listing.now.length }
-{
-    length == listing.length as usize
-}
-
-// The refusal where the file of a listing is missing.
-fn missing_blob(path: &TargetPath, listing: &Listing) -> Refusal
-    ensures { Gives {A = Unit {0}} (orders.stop (orders.Denied (orders.BlobMissing path.now listing.now.digest.0 listing.now.length))) (λ u. u) (Err result) }
-{
-    match path.clone() {
-        Ok(path) => Refusal::Denied(Denial::BlobMissing {
-            path,
-            digest: listing.digest,
-            length: listing.length,
-        }),
-        Err(_) => Refusal::OutOfMemory,
     }
 }

@@ -1,15 +1,24 @@
 //! Laws of the trust machine, in functions that do nothing.
-ghost use Rattle.std.specs.Prelude.{◌≡◌, ◌++◌, ℕ, List, Option, Result, Ok, IsSome, length, map};
-ghost use Rattle.metadata.specs.File.{Bytes};
+ghost use Rattle.std.specs.Prelude.{◌≡◌, ◌≢◌, ◌<◌, ◌≤◌, ◌++◌, ℕ, List, Option, Some, None, Result, Ok, IfSome, IsNone, IsSome, length, map, codes, nat_eq, option_map, option_and_then, if◌then◌else◌};
+ghost use Rattle.limits.specs.Limits.{blob_limit, most_held};
+ghost use Rattle.sha2.specs.Sha256.{sha256};
+ghost use Rattle.metadata.specs.Documents.{MetaFile, Root, Snapshot, Targets, Timestamp};
+ghost use Rattle.metadata.specs.Bodies.{IsListable};
+ghost use Rattle.metadata.specs.File.{Bytes, Name, File, IsFileOf, snapshot_form, targets_form, timestamp_form};
+ghost use Rattle.metadata.specs.Parts.{last_number};
+ghost use Rattle.delegations.specs.Delegation.{before};
+ghost use Rattle.delegations.specs.Rows.{HasHash, HasLength, entry_of, place_before, row_at, value_at, with_row};
+ghost use Rattle.delegations.specs.Search.{Vouched, shelf_of};
 ghost use Rattle.denials.specs.Orders.{Denial, Judged};
-ghost use Rattle.machine.specs.State.{Trusted, State, IsTrusted, IsState, nothing};
-ghost use Rattle.machine.specs.Commands.{GrantAlike, Offer, Batched, init, offer, batch, put_blob, prune, grants};
+ghost use Rattle.machine.specs.State.{Trusted, State, MeetsTop, NamesSnapshot, blob_at, IsRootChain, IsTrusted, IsState, dotted, metadata_of, nothing};
+ghost use Rattle.machine.specs.Commands.{GrantAlike, NoDrop, NoRollback, Offer, SnapshotOffer, TargetsOffer, TimestampOffer, Batched, init, offer, batch, put_blob, prune, grants};
 ghost use Rattle.machine.specs.Contents.{contents_of, root_rows};
 ghost use Rattle.machine.specs.Effects.{Effects, applied};
 ghost use Rattle.machine.specs.Held.{IsHeld, held_of, held_with};
-ghost use Rattle.machine.specs.Runs.{Command, Reply, Outcome, Steps, Runs, StaysCoherent};
+ghost use Rattle.machine.specs.Runs.{Command, Target, Reply, Refused, Outcome, IsGranted, Steps, Runs, StaysCoherent};
 
 use delegations::search_is_sound;
+use layouts::one_verdict;
 use metadata::{one_document, one_shape, snapshot_names};
 
 /// A law, which does nothing: a repository that trusts nothing and holds no blobs is in a valid state.
@@ -45,6 +54,7 @@ pub fn one_judgement()
 {
     one_document();
     one_shape();
+    one_verdict();
 }
 
 /// A law, which does nothing: every command but a single offer leaves a state coherent that was.
@@ -77,3 +87,54 @@ pub fn held_follows()
 {
     stays_valid();
 }
+
+/// A law, which does nothing: a request for a target leaves the state as it is and is replied the bytes that it grants or its first
+/// denial, and no command that is refused leaves another state.
+pub fn replies_tell()
+    ensures targets { (S T : State) (path : Bytes) (asked : Option Bytes) (now : ℕ) (reply : Reply) → Steps S (Target path asked) now (T, reply)
+        → (T ≡ S) × IsGranted S path asked now reply }
+    ensures refusals { (S T : State) (c : Command) (now : ℕ) (d : Denial) (index : Option ℕ) → Steps S c now (T, Refused d index) → T ≡ S }
+{}
+
+/// A law, which does nothing: a list of roots is the chain of one root.
+pub fn one_chain()
+    ensures { (roots : List Bytes) (r q : File Root) → IsRootChain roots r → IsRootChain roots q → r ≡ q }
+{
+    one_document();
+    one_shape();
+}
+
+/// A law, which does nothing: under which names the metadata of a valid state is found, and that no two versions and roles have one
+/// name (TUF 1.0, section 6.2).
+pub fn names_find()
+    ensures once { (n m : ℕ) (a b : Bytes) → n ≤ last_number → m ≤ last_number → dotted n a ≡ dotted m b → (n ≡ m) × (a ≡ b) }
+    ensures timestamps { (T : Trusted) → IsTrusted T → metadata_of T (codes "timestamp.json") ≡ option_map (λ t. t.bytes) T.timestamp }
+    ensures roots { (T : Trusted) (n : ℕ) → IsTrusted T → n ≤ last_number → metadata_of T (dotted n (codes "root")) ≡ value_at nat_eq (root_rows T 0 T.roots) n }
+    ensures snapshots { (T : Trusted) (n : ℕ) → IsTrusted T → n ≤ last_number
+        → metadata_of T (dotted n (codes "snapshot")) ≡ option_and_then (λ s. if nat_eq s.body.version n then Some s.bytes else None) T.snapshot }
+    ensures roles { (T : Trusted) (n : ℕ) (role : Name) → IsTrusted T → n ≤ last_number → IsListable role
+        → metadata_of T (dotted n role) ≡ option_map (λ f. f.bytes) (row_at T.shelf role n) }
+{}
+
+/// A law, which does nothing: which new files a state accepts, and what it is with each: every order of checks, read backwards
+/// (TUF 1.0, sections 5.4 to 5.6).
+pub fn accepts_new()
+    ensures timestamps { (T : Trusted) (root : File Root) (now : ℕ) → T.root ≡ Some root → now < root.body.expires
+        → (new : File Timestamp) → IsFileOf timestamp_form new → MeetsTop root root.body.timestamp new
+        → IfSome T.timestamp (λ old. (old.body.version < new.body.version) × (old.body.snapshot.version ≤ new.body.snapshot.version)) → now < new.body.expires
+        → offer T TimestampOffer new.bytes now (Ok (record T { timestamp = Some new })) }
+    ensures snapshots { (T : Trusted) (root : File Root) (now : ℕ) → T.root ≡ Some root → now < root.body.expires
+        → (stamp : File Timestamp) → T.timestamp ≡ Some stamp → now < stamp.body.expires
+        → (new : File Snapshot) → IsFileOf snapshot_form new → NamesSnapshot stamp new → MeetsTop root root.body.snapshot new
+        → IfSome T.snapshot (λ old. NoRollback old.body new.body × NoDrop old.body new.body) → now < new.body.expires
+        → (option_map (λ old. old.bytes) T.snapshot ≢ Some new.bytes) → offer T SnapshotOffer new.bytes now (Ok (record T { snapshot = Some new })) }
+    ensures targets { (T : Trusted) (root : File Root) (now : ℕ) → T.root ≡ Some root → now < root.body.expires
+        → (stamp : File Timestamp) → T.timestamp ≡ Some stamp → now < stamp.body.expires
+        → (snap : File Snapshot) → T.snapshot ≡ Some snap → NamesSnapshot stamp snap → now < snap.body.expires
+        → (role : Name) (entry : MetaFile) (new : File Targets) → IsFileOf targets_form new → entry_of snap role ≡ Some entry
+        → HasLength entry new.bytes → HasHash entry new.bytes → new.body.version ≡ entry.version → Vouched (shelf_of root snap T.shelf) role new now
+        → now < new.body.expires → IsNone (row_at T.shelf role entry.version) → length T.shelf < most_held
+        → offer T (TargetsOffer role) new.bytes now (Ok (record T { shelf = with_row place_before T.shelf (role, entry.version) new })) }
+    ensures blobs { (S : State) (root : File Root) (b : Bytes) → S.trusted.root ≡ Some root → length b ≤ blob_limit → IsNone (blob_at S.blobs (sha256 b))
+        → length S.blobs < most_held → put_blob S (sha256 b) b (Ok (record S { blobs = with_row before S.blobs (sha256 b) b })) }
+{}

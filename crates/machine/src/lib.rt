@@ -13,6 +13,7 @@ mod getting;
 mod held;
 mod knowing;
 mod laws;
+mod listing;
 mod liveness;
 mod loading;
 mod names;
@@ -25,6 +26,7 @@ mod serving;
 mod snapshots;
 mod state;
 mod stored;
+mod supporting;
 mod taking;
 mod targets_metadata;
 mod timestamps;
@@ -42,8 +44,8 @@ pub use effects::{Blob, Changes, Effects, Gone};
 pub use getting::{get, get_counted, get_from, get_from_counted, target, target_from};
 pub use held::Held;
 pub use laws::{
-    held_follows, nothing_is_valid, one_judgement, prune_keeps_answers, rows_stay, stays_coherent,
-    stays_valid,
+    accepts_new, held_follows, names_find, nothing_is_valid, one_chain, one_judgement,
+    prune_keeps_answers, replies_tell, rows_stay, stays_coherent, stays_valid,
 };
 pub use metadata::{Digest, Timestamp};
 pub use names::metadata_file;

@@ -2,11 +2,15 @@
 ghost use Rattle.std.specs.Prelude.{◌≡◌, ◌↔◌, OnOk};
 ghost use Rattle.metadata.specs.File.{Bytes};
 ghost use Rattle.machine.specs.Serving.{Leaves};
+ghost use Rattle.machine.specs.steps.Permitting.{IsLoaded, Reads};
 
 use crate::blobs::blob_of;
+use crate::refusal::Refusal;
 use crate::state::State;
 use denials::Denial;
+use layouts::LayoutFault;
 use path_patterns::Digest;
+use std::alloc::{AllocError, AllocFailed, Global};
 use thiserror::Error;
 
 /// Why bytes were not loaded.
@@ -31,7 +35,7 @@ pub trait Blobs {
     /// No answer so far was a wrong one.
     ghost IsHonest: { Self → Type 0 };
 
-    /// What one call may make of it.
+    /// What one call, or several, may make of it.
     ghost MayBecome: { Self → Self → Type 0 };
 
     /// What is so of it once bytes were loaded.
@@ -44,11 +48,14 @@ pub trait Blobs {
         ensures was { IsHonest self.new → IsHonest self.old }
         ensures becomes { MayBecome self.old self.new }
         ensures loaded { OnOk result (HasLoaded self.new) };
+
+    ghost becomes_on: { (a b c : Self) → MayBecome a b → MayBecome b c → MayBecome a c };
 }
 
 /// The blobs of a state, which are in memory.
 impl Blobs for &State {
     ghost use Rattle.std.specs.Prelude.{◌≡◌, Some};
+    ghost use Rattle.std.proofs.Common.{◌∙◌};
     ghost use Rattle.machine.specs.State.{blob_at};
 
     ghost Holds = { λ s digest bytes. blob_at s.now.state.blobs digest ≡ Some bytes };
@@ -58,6 +65,8 @@ impl Blobs for &State {
     ghost MayBecome = { λ old new. new ≡ old };
 
     ghost HasLoaded = { λ _. Unit {0} };
+
+    ghost becomes_on = { λ a b c p q. q ∙ p };
 
     fn load(&mut self, digest: &Digest, out: &mut Vec<u8>) -> Result<(), LoadFault> {
         let state: &State = self;
@@ -90,4 +99,78 @@ pub enum GetFault {
     /// Memory was refused. It says nothing of the rules.
     #[error("out of memory")]
     OutOfMemory,
+}
+
+/// The same refusal, of a request that serves nothing.
+impl From<Refusal> for GetFault {
+    ghost use Rattle.machine.specs.steps.Permitting.{IsRefusedSo};
+
+    ghost from_gives = { IsRefusedSo };
+
+    fn from(refusal: Refusal) -> Self {
+        match refusal {
+            Refusal::Denied(denial) => GetFault::Denied(denial),
+            Refusal::OutOfMemory => GetFault::OutOfMemory,
+        }
+    }
+}
+
+/// Refused memory is `OutOfMemory`.
+impl From<AllocError> for GetFault {
+    ghost use Rattle.std.specs.Prelude.{◌≡◌};
+    ghost use Rattle.machine.specs.declared.serving.GetFault.TheVariants.{OutOfMemory};
+
+    ghost from_gives = { λ _ e. e ≡ OutOfMemory };
+
+    fn from(_: AllocError) -> Self {
+        GetFault::OutOfMemory
+    }
+}
+
+impl<T: Drop> From<AllocFailed<T>> for GetFault {
+    ghost use Rattle.std.specs.Prelude.{◌≡◌};
+    ghost use Rattle.machine.specs.declared.serving.GetFault.TheVariants.{OutOfMemory};
+
+    ghost from_gives = { λ _ e. e ≡ OutOfMemory };
+
+    fn from(_: AllocFailed<T>) -> Self {
+        GetFault::OutOfMemory
+    }
+}
+
+/// A layout that does not hold denies its target by the first check that fails.
+impl From<LayoutFault> for GetFault {
+    ghost use Rattle.machine.specs.steps.Permitting.{IsLayoutAnswer};
+
+    ghost from_gives = { IsLayoutAnswer };
+
+    fn from(fault: LayoutFault) -> Self {
+        match fault {
+            LayoutFault::LayoutThreshold => GetFault::Denied(Denial::LayoutThreshold),
+            LayoutFault::LayoutExpired => GetFault::Denied(Denial::LayoutExpired),
+            LayoutFault::StepThreshold => GetFault::Denied(Denial::StepThreshold),
+            LayoutFault::LinksDisagree => GetFault::Denied(Denial::LinksDisagree),
+            LayoutFault::Disallowed => GetFault::Denied(Denial::Disallowed),
+            LayoutFault::Required => GetFault::Denied(Denial::Required),
+            LayoutFault::ProductMismatch => GetFault::Denied(Denial::ProductMismatch),
+            LayoutFault::OutOfMemory => GetFault::OutOfMemory,
+        }
+    }
+}
+
+/// The file of a digest.
+pub(crate) fn load<B: Blobs>(
+    alloc: Global,
+    blobs: &mut B,
+    digest: Digest,
+) -> Result<Served, GetFault>
+    ensures loads { IsLoaded (B.IsHonest blobs.new) (B.Holds blobs.old) digest.0 result }
+    ensures reads { Reads B.IsHonest B.Holds B.MayBecome blobs.old blobs.new }
+    ensures loaded { OnOk result (B.HasLoaded blobs.new) }
+{
+    let mut bytes = Vec::new(alloc);
+    match blobs.load(&digest, &mut bytes) {
+        Ok(()) => Ok(Served { digest, bytes }),
+        Err(fault) => Err(GetFault::Load(fault)),
+    }
 }

@@ -9,7 +9,7 @@ use std::alloc::AllocError;
 use std::{fmt, io};
 
 const USAGE: &str =
-    "usage: measure canon FILE N | measure lms N | measure documents N | measure get N | measure patterns N
+    "usage: measure canon FILE N | measure lms N | measure documents N | measure get N | measure layout N | measure patterns N
     (N from 1 to 4294967295)
   canon FILE N   reads and writes the canonical JSON of FILE, each N times, and prints the bytes per second of
                  each: `read B` and `write B`
@@ -30,6 +30,10 @@ const USAGE: &str =
                  `w4 listings L blobs B delegations D get G search S check C lookups U held H without W share P checks N cold M`
                  and of a search behind that line among 4,096 shelf rows how many are made per second, and how many without the
                  signature checks: `w4 shelf 4096 search S lookups U`
+  layout N       checks a layout of 16 steps with 64 artifacts and rules each, with a link by one functionary for each step, then by four, signed
+                 with W4, then with W8, and serves a target from memory that has this layout, and prints how often per second the
+                 artifact rules alone are checked, the whole layout with its signatures, and the target served:
+                 `w4 steps 16 artifacts 64 links N rules R layout L get G`
   patterns N     holds a usual pattern against a usual path, and `*a*a*a*b` and the pattern of 99 such stars against a path
                  of 200 letters a, each N times, and prints how many times per second: `usual match R`, `three match R`
                  and `most match R`";

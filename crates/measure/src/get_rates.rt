@@ -86,6 +86,14 @@ pub fn measure(rt: &(impl Clock + Print + AllocGlobal), rounds: u32) -> Result<(
     Ok(())
 }
 
+/// A moment before all documents expire.
+pub fn moment() -> Result<Moment, Failure> {
+    match Moment::new(MOMENT) {
+        Some(moment) => Ok(moment),
+        None => Err(Failure::NotServed),
+    }
+}
+
 // Prints the rates of a search behind the line among as many rows as a shelf has at most.
 fn measure_shelf(
     rt: &(impl Clock + Print + AllocGlobal),
@@ -95,9 +103,7 @@ fn measure_shelf(
 ) -> Result<(), Failure> {
     let alloc = rt.alloc();
     let files = Repository::new(alloc, ots, 1, MOST_DELEGATIONS)?;
-    let Some(moment) = Moment::new(MOMENT) else {
-        return Err(Failure::NotServed);
-    };
+    let moment = moment()?;
     let path = path(alloc)?;
     let documents = documents_of(alloc, &files, MOST_ROWS)?;
     let mut searching = Duration::from_secs(0);
@@ -124,9 +130,7 @@ fn measure_state(
 ) -> Result<(), Failure> {
     let alloc = rt.alloc();
     let files = Repository::new(alloc, ots, size.listings, size.delegations)?;
-    let Some(moment) = Moment::new(MOMENT) else {
-        return Err(Failure::NotServed);
-    };
+    let moment = moment()?;
     let state = state_of(alloc, &files, size.blobs, moment)?;
     let times = times_of(rt, alloc, &files, &state, moment, rounds)?;
     let (checks, cold) = checks_of(alloc, &files, &state, moment)?;
@@ -189,8 +193,8 @@ fn times_of(
     Ok(times)
 }
 
-// How long a target takes.
-fn time_of_serving(
+/// How long a target takes.
+pub fn time_of_serving(
     rt: &impl Clock,
     alloc: Global,
     state: &State,
@@ -258,8 +262,8 @@ fn time_of_held(rt: &impl Clock, alloc: Global, state: &State) -> Result<Duratio
     timed(rt, start, is_held)
 }
 
-// The time from a moment, where what was tried since has come about.
-fn timed(rt: &impl Clock, start: Instant, is_done: bool) -> Result<Duration, Failure> {
+/// The time from a moment, where what was tried since has come about.
+pub fn timed(rt: &impl Clock, start: Instant, is_done: bool) -> Result<Duration, Failure> {
     let time = now(rt)?.duration_since(start);
     if is_done {
         Ok(time)

@@ -5,12 +5,14 @@ mod canon;
 mod documents;
 mod failure;
 mod get_rates;
+mod layout_rates;
 mod lms_rates;
 mod pattern_rates;
 mod rate;
 mod repository;
 mod shelves;
 mod states;
+mod supply_chain;
 mod task;
 
 use failure::Failure;
@@ -34,6 +36,7 @@ fn run(rt: &(impl Env + Files + Clock + Print + AllocGlobal)) -> Result<(), Fail
     let words: Vec<String> = env::args(rt)?.collect(rt.alloc())?;
     match Task::parse(&words)? {
         Task::Canon { file, rounds } => canon::measure(rt, file, rounds),
+        Task::Layout { rounds } => layout_rates::measure(rt, rounds),
         Task::Lms { rounds } => lms_rates::measure(rt, rounds),
         Task::Documents { rounds } => documents::measure(rt, rounds),
         Task::Get { rounds } => get_rates::measure(rt, rounds),

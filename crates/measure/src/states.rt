@@ -1,6 +1,7 @@
 //! States that trust what was signed here, and hold the file of each target.
 use crate::failure::Failure;
 use crate::repository::{FILE, PATH, Repository};
+use crate::supply_chain::SupplyChain;
 use machine::{Batched, Offer, Outcome, State, batch, init, put_blob};
 use metadata::{Moment, digest_of};
 use path_patterns::{RoleName, TargetPath};
@@ -27,6 +28,21 @@ pub fn state_of(
     hold(alloc, &mut state, FILE)?;
     for blob in 1..blobs {
         hold(alloc, &mut state, &blob.to_be_bytes())?;
+    }
+    Ok(state)
+}
+
+/// The state that trusts the files of a repository whose one target has a layout, and holds the target and the files of its supply chain.
+pub fn state_of_chain(
+    alloc: Global,
+    files: &Repository,
+    chain: &SupplyChain,
+    moment: Moment,
+) -> Result<State, Failure> {
+    let mut state = state_of(alloc, files, 1, moment)?;
+    hold(alloc, &mut state, &chain.layout)?;
+    for (_, link) in &chain.links {
+        hold(alloc, &mut state, link)?;
     }
     Ok(state)
 }

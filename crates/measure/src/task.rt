@@ -11,6 +11,8 @@ pub enum Task<'a> {
     Documents { rounds: u32 },
     /// `get N`: a target is served from states in memory, so many times from each.
     Get { rounds: u32 },
+    /// `layout N`: a layout of many steps is checked, and a target served that has it, each so many times.
+    Layout { rounds: u32 },
     /// `patterns N`: patterns are held against paths, each so many times.
     Patterns { rounds: u32 },
 }
@@ -30,6 +32,9 @@ impl<'a> Task<'a> {
                 rounds: rounds_of(rounds)?,
             }),
             [_, kind, rounds] if kind.as_str() == "get" => Ok(Task::Get {
+                rounds: rounds_of(rounds)?,
+            }),
+            [_, kind, rounds] if kind.as_str() == "layout" => Ok(Task::Layout {
                 rounds: rounds_of(rounds)?,
             }),
             [_, kind, rounds] if kind.as_str() == "patterns" => Ok(Task::Patterns {

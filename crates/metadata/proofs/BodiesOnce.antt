@@ -1,15 +1,16 @@
 -- The signed part of a document has one body of its kind.
-use Rattle.std.proofs.Common.{◌≡◌, ℕ, List, [], ◌∷◌, ◌++◌, codes, Option, Some, None, refl, sym, ◌∙◌}
+use Rattle.std.proofs.Common.{◌≡◌, ℕ, List, [], ◌∷◌, ◌++◌, codes, Option, refl, sym, ◌∙◌}
 use Rattle.canonical_json.specs.Json.{Json}
 use Rattle.canonical_json.specs.Spelling.{IsProper}
 use Rattle.keys_roles.specs.Plain.{Table, RoleRule}
 use Rattle.metadata.specs.Documents.{MetaFile, Root, Timestamp, Snapshot, LayoutReference, Listing, Delegations, Targets}
 use Rattle.metadata.specs.Members.{Has, IsObject}
 use Rattle.metadata.specs.Parts.{IsLength, IsHashes, IsTable, IsMetaFile}
-use Rattle.metadata.specs.Bodies.{IsRoot, IsTimestamp, IsMetaRow, AreMetaRows, IsSnapshot, HasLayoutReference, IsListing, HasDelegations, IsTargets}
+use Rattle.metadata.specs.Bodies.{IsRoot, IsTimestamp, IsMetaRow, AreMetaRows, IsSnapshot, IsListing, HasDelegations, IsTargets}
 use Rattle.metadata.proofs.Congruence.{same2, same3, same4, same7}
 use Rattle.metadata.proofs.Once.{IsOnce, has-once, may-once, object-once, number-once}
 use Rattle.metadata.proofs.DelegationsOnce.{delegations-once}
+use Rattle.metadata.proofs.ReferencesOnce.{references-once}
 use Rattle.metadata.proofs.PartsOnce.{expires-once, version-once, hashes-once, meta-once, table-once, rule-once, HasSomeRule, pair-is}
 
 -- ---- root, timestamp, snapshot
@@ -84,18 +85,12 @@ snapshot-once v a b p h k =
 
 -- ---- targets
 
-reference-once : IsOnce HasLayoutReference
-reference-once v None None p h k = refl
-reference-once v None (Some b) p h k = absurd k
-reference-once v (Some a) None p h k = absurd h
-reference-once v (Some a) (Some b) p h k = absurd h
-
 pub listing-once : (n : List ℕ) (v : Json) (a b : Listing) → IsProper v → IsListing n v a → IsListing n v b → a ≡ b
 listing-once n v a b p h k =
     same4 make (sym h.0 ∙ k.0)
     (has-once (codes "length") IsLength (number-once 0 4294967295) v a.len b.len p h.2 k.2)
     (has-once (codes "hashes") IsHashes hashes-once v a.digest b.digest p h.3 k.3)
-    (reference-once v a.layout b.layout p h.4 k.4)
+    (references-once v a.layout b.layout p h.4 k.4)
   where
     make : List ℕ → ℕ → List ℕ → Option LayoutReference → Listing
     make path len digest layout = record { path = path; len = len; digest = digest; layout = layout }

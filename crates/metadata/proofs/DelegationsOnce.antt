@@ -14,7 +14,7 @@ use Rattle.metadata.proofs.PartsOnce.{table-once, rule-once}
 pub text-of-once : (Grammar : List ℕ → Type 0) → IsOnce (IsTextOf Grammar)
 text-of-once Grammar v a b p h k = text-once v a b p h.0 k.0
 
-texts-of-once : (Grammar : List ℕ → Type 0) → IsOnce (AreTextsOf Grammar)
+pub texts-of-once : (Grammar : List ℕ → Type 0) → IsOnce (AreTextsOf Grammar)
 texts-of-once Grammar v a b p h k = array-once (IsTextOf Grammar) (text-of-once Grammar) v a b p h.0 k.0
 
 bool-once : IsOnce (λ x b. x ≡ boolean b)

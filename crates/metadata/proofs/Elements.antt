@@ -5,11 +5,11 @@ use Rattle.keys_roles.specs.Rules.{AreDistinct}
 use Rattle.keys_roles.specs.steps.Counting.{IsIn}
 pub use Rattle.keys_roles.proofs.Elements.{contains_in, in_contains}
 
-absent : (xs : List (List ℕ)) (x : List ℕ) → (IsIn xs x → ⊥) → AllByRecursion (λ y. x ≢ y) xs
+pub absent : (xs : List (List ℕ)) (x : List ℕ) → (IsIn xs x → ⊥) → AllByRecursion (λ y. x ≢ y) xs
 absent [] x h = tt
 absent (y ∷ ys) x h = (λ e. h (inl (sym e)), absent ys x (λ k. h (inr k)))
 
-present : (xs : List (List ℕ)) (x : List ℕ) → IsIn xs x → AllByRecursion (λ y. x ≢ y) xs → ⊥
+pub present : (xs : List (List ℕ)) (x : List ℕ) → IsIn xs x → AllByRecursion (λ y. x ≢ y) xs → ⊥
 present [] x h all = absurd h
 present (y ∷ ys) x (inl h) all = all.0 (sym h)
 present (y ∷ ys) x (inr h) all = present ys x h all.1

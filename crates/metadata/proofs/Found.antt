@@ -1,11 +1,13 @@
 -- What the members that are found say of all of their name, and of the whole.
-use Rattle.std.proofs.Common.{◌≡◌, ℕ, List, [], ◌∷◌, Option, Some, None, codes, sym, ap, subst, ◌∙◌}
+use Rattle.std.proofs.Common.{◌≡◌, ℕ, List, [], ◌∷◌, length, Option, Some, None, String, codes, refl, sym, ap, subst, ◌∙◌}
+use Rattle.std.specs.declared.alloc.Global.{Global}
 use Rattle.std.proofs.lemmas.List.{append_cancel_right}
 use Rattle.canonical_json.specs.Json.{Json, object, Items, item, Members, no_members, member, HasMember, EachItem, EachMember, names}
 use Rattle.canonical_json.specs.Spelling.{IsProper, IsSound}
-use Rattle.metadata.specs.Documents.{LayoutReference}
-use Rattle.metadata.specs.Members.{Has, HasJust}
-use Rattle.metadata.specs.Bodies.{IsMetaRow, HasLayoutReference}
+use Rattle.canonical_json.specs.View.{members_view}
+use Rattle.canonical_json.specs.declared.Value.{Value}
+use Rattle.metadata.specs.Members.{Has, MayHave, HasJust}
+use Rattle.metadata.specs.Bodies.{IsMetaRow}
 use Rattle.metadata.proofs.Once.{IsOnceNamed}
 use Rattle.metadata.proofs.PartsOnce.{meta-once, pair-is}
 
@@ -26,6 +28,16 @@ just_one v name h =
 
 -- ---- members one after the other
 
+pub named_first : (ms : Members) (name : List ℕ) (ns : List (List ℕ)) → names ms ≡ name ∷ ns → (x : Json) × (later : Members) × (ms ≡ member name x later)
+named_first no_members name ns h = absurd (cc)
+named_first (member n v ms) name ns h =
+    let same : n ≡ name = cc in
+    (v, ms, ap (λ z. member z v ms) same)
+
+pub no_names : (ms : List (String Global × Value)) → names (members_view ms) ≡ [] → length ms ≡ 0
+no_names [] h = refl
+no_names (m ∷ ms) h = absurd (cc)
+
 -- each is of the grammar, and so the first and those behind it
 pub each_proper : (rest later : Members) (n : List ℕ) (v : Json) → rest ≡ member n v later → EachMember IsSound rest → IsProper v × EachMember IsSound later
 each_proper rest later n v at p = subst (λ (ms : Members). EachMember IsSound ms) at p
@@ -33,12 +45,14 @@ each_proper rest later n v at p = subst (λ (ms : Members). EachMember IsSound m
 pub each_item_proper : (rest later : Items) (v : Json) → rest ≡ item v later → EachItem IsSound rest → IsProper v × EachItem IsSound later
 each_item_proper rest later v at p = subst (λ (vs : Items). EachItem IsSound vs) at p
 
--- ---- rows and listings
+-- ---- rows and members that may be absent
 
 pub meta-row-once : IsOnceNamed IsMetaRow
 meta-row-once n v a b p h k =
     pair-is a b (append_cancel_right a.0 b.0 (codes ".json") (sym h.0 ∙ k.0)) (meta-once v a.1 b.1 p h.2 k.2)
 
-pub no_layout : (v : Json) (l : Option LayoutReference) → HasLayoutReference v l → HasLayoutReference v None
-no_layout v None h = h
-no_layout v (Some l) h = absurd h
+-- where the member is there, what may be there is what it is
+pub held : {A : Type 0} (R : Json → A → Type 0) (name : List ℕ) (v x : Json) → HasMember v name x → ((y : Json) → HasMember v name y → y ≡ x)
+    → (o : Option A) → MayHave v name R o → (a : A) × R x a
+held R name v x there only None h = absurd (h x there)
+held R name v x there only (Some a) h = (a, subst (λ (y : Json). R y a) (only h.0 h.1) h.2)

@@ -21,6 +21,7 @@ pub mod OneDocument
 pub mod PartsOnce
 pub mod Rising
 pub mod RootRoles
+pub mod ReferencesOnce
 pub mod RuleWords
 pub mod OneOfTwo
 pub mod SaidBy

@@ -1,6 +1,6 @@
 -- What the signed part of each kind of document is (TUF 1.0, sections 4.3 to 4.6; in-toto 1.0, sections 4.3 and 4.4; this
 -- project's profile). Members that are not named here may stand beside those that are, except where `HasJust` or an equation
--- says otherwise. No target refers to a layout yet: targets metadata with such a reference is none.
+-- says otherwise.
 use Rattle.std.specs.Prelude.{◌≡◌, ◌≢◌, ℕ, ◌<◌, ◌≤◌, List, [], ◌∷◌, ◌++◌, length, codes, true, Option, Some, None, map, Contains, ◌⊎◌}
 use Rattle.std.specs.List.{AllByRecursion}
 use Rattle.canonical_json.specs.Json.{Json, boolean, array, no_items, HasMember, object, Members}
@@ -85,11 +85,42 @@ pub record IsSnapshot (signed : Json) (s : Snapshot) : Type 0 where
 abbrev pub NoMember : Json → List ℕ → Type 0
 NoMember v name = (x : Json) → HasMember v name x → ⊥
 
--- `custom` is absent, or an object; there a target would refer to a layout
+-- a text of a grammar
+abbrev pub IsTextOf : (List ℕ → Type 0) → Json → List ℕ → Type 0
+IsTextOf Grammar v t = IsText v t × Grammar t
+
+-- the most patterns, or prefixes, of a delegation, and the most links of a target
+abbrev pub max_texts : ℕ
+max_texts = 64
+
+-- a list of such texts, neither empty nor too long
+abbrev pub AreTextsOf : (List ℕ → Type 0) → Json → List (List ℕ) → Type 0
+AreTextsOf Grammar v ts = IsArray (IsTextOf Grammar) v ts × (0 < length ts) × (length ts ≤ max_texts)
+
+-- the members of what refers a target to a layout
+abbrev pub reference_members : List (List ℕ)
+reference_members = codes "keyids" ∷ codes "keys" ∷ codes "links" ∷ codes "path" ∷ codes "product" ∷ codes "step" ∷ codes "threshold" ∷ []
+
+-- what refers a target to a layout: these members and no other, the owners' rule over a table of its own, and links that are
+-- distinct and none of them the layout
+pub record IsLayoutReference (v : Json) (l : LayoutReference) : Type 0 where
+  pub just : HasJust v reference_members
+  pub keys : Has v (codes "keys") (λ x. IsTable x l.keys)
+  pub owners : HasRule (codes "keyids") v l.keys l.owners
+  pub links : Has v (codes "links") (λ x. AreTextsOf IsTargetPath x l.links)
+  pub path : Has v (codes "path") (λ x. IsTextOf IsTargetPath x l.path)
+  pub product : Has v (codes "product") (λ x. IsTextOf IsTargetPath x l.product)
+  pub step : Has v (codes "step") (λ x. IsTextOf IsName x l.step)
+  pub distinct : AreDistinct (l.path ∷ l.links)
+
+-- an object, which may refer to a layout
+abbrev pub IsCustom : Json → Option LayoutReference → Type 0
+IsCustom v o = (ms : Members) × (v ≡ object ms) × MayHave v (codes "layout") IsLayoutReference o
+
+-- `custom` is absent, or an object; there a target may refer to a layout
 abbrev pub HasLayoutReference : Json → Option LayoutReference → Type 0
-HasLayoutReference v None =
-    NoMember v (codes "custom") ⊎ Has v (codes "custom") (λ x. (ms : Members) × (x ≡ object ms) × NoMember x (codes "layout"))
-HasLayoutReference v (Some l) = ⊥
+HasLayoutReference v None = NoMember v (codes "custom") ⊎ Has v (codes "custom") (λ x. IsCustom x None)
+HasLayoutReference v (Some l) = Has v (codes "custom") (λ x. IsCustom x (Some l))
 
 abbrev pub IsListing : List ℕ → Json → Listing → Type 0
 IsListing path v l =
@@ -97,18 +128,6 @@ IsListing path v l =
     × Has v (codes "length") (λ x. IsLength x l.len)
     × Has v (codes "hashes") (λ x. IsHashes x l.digest)
     × HasLayoutReference v l.layout
-
--- a text of a grammar
-abbrev pub IsTextOf : (List ℕ → Type 0) → Json → List ℕ → Type 0
-IsTextOf Grammar v t = IsText v t × Grammar t
-
--- the most patterns, or prefixes, of a delegation
-abbrev pub max_scope : ℕ
-max_scope = 64
-
--- a list of such texts, neither empty nor too long
-abbrev pub AreTextsOf : (List ℕ → Type 0) → Json → List (List ℕ) → Type 0
-AreTextsOf Grammar v ts = IsArray (IsTextOf Grammar) v ts × (0 < length ts) × (length ts ≤ max_scope)
 
 -- what a delegation covers: just one of the two members
 abbrev pub HasScope : Json → Scope → Type 0

@@ -1,5 +1,5 @@
 -- What the code's documents stand for.
-use Rattle.std.specs.Prelude.{map, option_map, None, string_bytes}
+use Rattle.std.specs.Prelude.{map, option_map, string_bytes}
 use Rattle.keys_roles.specs.Views.{table_view, rule_view as role_view, entries_view}
 use Rattle.metadata.specs.Documents as plain
 use Rattle.metadata.specs.RuleViews.{rule_view, link_view}
@@ -7,6 +7,7 @@ use Rattle.metadata.specs.declared.documents.Meta.{Meta}
 use Rattle.metadata.specs.declared.documents.Root.{Root}
 use Rattle.metadata.specs.declared.documents.Timestamp.{Timestamp}
 use Rattle.metadata.specs.declared.documents.Snapshot.{Snapshot}
+use Rattle.metadata.specs.declared.documents.LayoutReference.{LayoutReference}
 use Rattle.metadata.specs.declared.documents.Listing.{Listing}
 use Rattle.metadata.specs.declared.documents.Delegation.{Delegation}
 use Rattle.metadata.specs.declared.documents.Delegations.{Delegations}
@@ -49,8 +50,11 @@ delegation_view d = record { name = d.name; rule = role_view d.rule; terminating
 abbrev pub delegations_view : Delegations → plain.Delegations
 delegations_view d = record { keys = table_view d.keys; roles = map delegation_view d.roles.items }
 
+abbrev pub reference_view : LayoutReference → plain.LayoutReference
+reference_view l = record { owners = role_view l.owners; keys = table_view l.keys; links = l.links.items; path = l.path; product = l.product; step = l.step }
+
 abbrev pub listing_view : Listing → plain.Listing
-listing_view l = record { path = l.path; len = l.length; digest = l.digest.0; layout = None }
+listing_view l = record { path = l.path; len = l.length; digest = l.digest.0; layout = option_map reference_view l.layout }
 
 abbrev pub targets_view : Targets → plain.Targets
 targets_view t = record { version = t.version; expires = t.expires; targets = map listing_view t.targets.items; delegations = option_map delegations_view t.delegations }

@@ -112,12 +112,27 @@ pub struct Snapshot {
     ghost in_order: { AreInOrder (map (λ e. e.0 ++ codes ".json") meta.items) } by { Prim.hlevel props },
 }
 
-/// A target (TUF 1.0, section 4.5, TARGETS): its length in bytes and its digest.
+/// The layout that a target refers to (in-toto 1.0, section 4.3; this project's profile of TUF 1.0, section 4.5, custom): whose
+/// signatures it takes, over keys of its own, the paths of 1 to 64 links and of the layout as targets, and the step among whose
+/// products the target stands, with its path there. No link stands twice, and none is the layout.
+#[derive(Debug, Drop)]
+pub struct LayoutReference {
+    pub owners: RoleRule,
+    pub keys: KeyTable,
+    pub links: Vec<TargetPath>,
+    pub path: TargetPath,
+    pub product: TargetPath,
+    pub step: RoleName,
+}
+
+/// A target (TUF 1.0, section 4.5, TARGETS): its length in bytes, its digest, and the layout that it refers to, if it refers to
+/// one.
 #[derive(Debug, Drop)]
 pub struct Listing {
     pub path: TargetPath,
     pub length: u32,
     pub digest: Digest,
+    pub layout: Option<LayoutReference>,
 }
 
 /// What a delegation covers (TUF 1.0, section 4.5, PATHPATTERN and path_hash_prefixes): paths that one of 1 to 64 patterns

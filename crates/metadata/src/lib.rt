@@ -18,10 +18,12 @@ mod laws;
 mod layout;
 mod link;
 mod links;
+mod listings;
 mod lookups;
 mod members;
 mod moment;
 mod parts;
+mod references;
 mod root;
 mod rule_lists;
 mod rules;
@@ -43,8 +45,8 @@ use canonical_json::one_spelling;
 pub use dates::read_date_time;
 pub use document::read_document;
 pub use documents::{
-    Body, Delegation, Delegations, Document, Kind, Layout, Listing, Meta, Root, Scope, ShapeFault,
-    Snapshot, Step, Targets, Timestamp,
+    Body, Delegation, Delegations, Document, Kind, Layout, LayoutReference, Listing, Meta, Root,
+    Scope, ShapeFault, Snapshot, Step, Targets, Timestamp,
 };
 pub use file::{
     File, read_layout_file, read_link_file, read_root_file, read_snapshot_file, read_targets_file,

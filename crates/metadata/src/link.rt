@@ -15,7 +15,7 @@ use crate::documents::ShapeFault;
 use crate::links::{Artifacts, Link};
 use crate::members::{member_of, members_of};
 use crate::parts::read_hashes;
-use crate::steps::name_of;
+use crate::steps::name_at;
 use canonical_json::Value;
 use keys_roles::Signature;
 use path_patterns::{Digest, TargetPath};
@@ -34,7 +34,7 @@ pub(crate) fn read_link(
     if signatures.len() != 1 {
         return Err(ShapeFault::WrongShape);
     }
-    let name = name_of(alloc, signed)?;
+    let name = name_at(alloc, signed, "name")?;
     let materials = artifacts_at(alloc, signed, "materials")?;
     let products = artifacts_at(alloc, signed, "products")?;
     Ok(Link {

@@ -3,6 +3,7 @@ ghost use Rattle.std.specs.Prelude.{◌≡◌, ◌↔◌, ℕ, Bool, List, Match
 ghost use Rattle.canonical_json.specs.Json.{Json, boolean, array, object, Items, Members, HasMember, member, no_members};
 ghost use Rattle.canonical_json.specs.Spelling.{IsProper};
 ghost use Rattle.canonical_json.specs.View.{view, items_view, members_view};
+ghost use Rattle.metadata.specs.Bodies.{NoMember};
 ghost use Rattle.metadata.specs.Members.{Has, IsText, IsNumber};
 
 use canonical_json::Value;
@@ -18,6 +19,17 @@ pub(crate) fn member_of<'a>(value: &'a Value, name: &str) -> Option<&'a Value>
 {
     let found = first_named(value, name)?;
     Some(found)
+}
+
+/// Whether the value has no member of this name.
+pub(crate) fn lacks(value: &Value, name: &str) -> bool
+    requires { IsProper (view value.now) }
+    ensures { IsTrue result ↔ (NoMember (view value.now) name.now) }
+{
+    match member_of(value, name) {
+        Some(_) => false,
+        None => true,
+    }
 }
 
 // The value of the first member of this name.

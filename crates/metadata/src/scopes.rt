@@ -3,20 +3,19 @@ ghost use Rattle.std.specs.Prelude.{◌↔◌, ◌<◌, ◌≤◌, ℕ, List, co
 ghost use Rattle.canonical_json.specs.Spelling.{IsProper};
 ghost use Rattle.canonical_json.specs.View.{view, items_view};
 ghost use Rattle.path_patterns.specs.Grammar.{IsPattern, IsHashPrefix};
-ghost use Rattle.metadata.specs.Bodies.{NoMember, IsTextOf, AreTextsOf, HasScope, max_scope};
+ghost use Rattle.metadata.specs.Bodies.{NoMember, IsTextOf, AreTextsOf, HasScope, max_texts};
 ghost use Rattle.metadata.specs.Documents as plain;
 ghost use Rattle.metadata.specs.Members.{ItemsAre};
 ghost use Rattle.metadata.specs.steps.Faults.{IsIll};
 ghost use Rattle.metadata.specs.Views.{scope_view};
 
 use crate::documents::{Scope, ShapeFault};
-use crate::members::{items_of, member_of, text_of};
-use crate::targets::lacks;
+use crate::members::{items_of, lacks, member_of, text_of};
 use canonical_json::Value;
 use path_patterns::{Pattern, is_hash_prefix};
 use std::alloc::Global;
 
-// The most patterns, or prefixes, of a delegation.
+// The most patterns, or prefixes, of a delegation, and the most links of a target.
 const MOST_TEXTS: usize = 64;
 
 /// What the delegation that the value is covers.
@@ -49,9 +48,9 @@ fn prefixes_of(alloc: Global, value: &Value) -> Result<Scope, ShapeFault>
     Ok(Scope::Prefixes(prefixes))
 }
 
-// Whether there are as many as a delegation may have.
-fn are_few(items: &[Value]) -> bool
-    ensures { IsTrue result ↔ ((0 < length items.now) × (length items.now ≤ max_scope)) }
+/// Whether there are as many as a delegation may have of patterns or prefixes, and a target of links.
+pub(crate) fn are_few(items: &[Value]) -> bool
+    ensures { IsTrue result ↔ ((0 < length items.now) × (length items.now ≤ max_texts)) }
 {
     !items.is_empty() && items.len() <= MOST_TEXTS
 }

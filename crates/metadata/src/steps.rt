@@ -93,7 +93,7 @@ fn read_step(alloc: Global, value: &Value, keys: &SpelledTable) -> Result<Spelle
     ensures ok { IfOk result (λ s. IsStep (spelled_table keys.now) (view value.now) (spelled_step s)) }
     ensures err { IfErr result (IsIll ((s : plain.Step) × IsStep (spelled_table keys.now) (view value.now) s)) }
 {
-    let name = name_of(alloc, value)?;
+    let name = name_at(alloc, value, "name")?;
     let rule = read_role_rule(alloc, value, "pubkeys", keys)?;
     let materials = rules_at(alloc, value, "expected_materials")?;
     let products = rules_at(alloc, value, "expected_products")?;
@@ -105,13 +105,13 @@ fn read_step(alloc: Global, value: &Value, keys: &SpelledTable) -> Result<Spelle
     })
 }
 
-/// The step's name that the object has under `name`.
-pub(crate) fn name_of(alloc: Global, value: &Value) -> Result<RoleName, ShapeFault>
+/// The name of a step that the object has under this name.
+pub(crate) fn name_at(alloc: Global, value: &Value, name: &str) -> Result<RoleName, ShapeFault>
     requires { IsProper (view value.now) }
-    ensures ok { IfOk result (λ n. Has (view value.now) (codes "name") (λ x. IsTextOf IsName x n)) }
-    ensures err { IfErr result (IsIll ((n : List ℕ) × Has (view value.now) (codes "name") (λ x. IsTextOf IsName x n))) }
+    ensures ok { IfOk result (λ n. Has (view value.now) name.now (λ x. IsTextOf IsName x n)) }
+    ensures err { IfErr result (IsIll ((n : List ℕ) × Has (view value.now) name.now (λ x. IsTextOf IsName x n))) }
 {
-    let Some(found) = member_of(value, "name") else {
+    let Some(found) = member_of(value, name) else {
         return Err(ShapeFault::WrongShape);
     };
     read_name(alloc, found)

@@ -11,6 +11,12 @@ pub const ALL_SECONDS: u64 = 60;
 /// What a peer still sends behind its reply is read away for so many seconds.
 pub const LAST_SECONDS: u64 = 5;
 
+/// A client waits for the next bytes of a reply so many seconds.
+pub const QUIET_SECONDS: u64 = 30;
+
+/// A client gives a file so many seconds in all, since its connection was begun.
+pub const FILE_SECONDS: u64 = 300;
+
 /// A clock that runs since the beginning of what is timed.
 #[derive(Clone, Copy)]
 pub struct Timer<'a> {

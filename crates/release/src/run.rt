@@ -1,4 +1,6 @@
 //! A command from its words to its exit status.
+use crate::export::export;
+use crate::get::{Getting, get};
 use crate::init::init;
 use crate::key::print_key;
 use crate::moments::moment;
@@ -7,6 +9,7 @@ use crate::publish::publish;
 use crate::put::put;
 use crate::serve::Server;
 use crate::sign::{Signing, sign};
+use crate::update::update;
 use canon::canon;
 use command_line::{Subcommand, Task, task};
 use commands::{Fault, Notes, print, read};
@@ -51,6 +54,21 @@ fn perform<O: Write, E: Write>(
     let notes = &mut Notes::new(err, verbose);
     match subcommand {
         Subcommand::Canon { file } => print_canon(rt, file.as_str(), at, out, notes),
+        Subcommand::Export { db, to } => export(rt, db.as_str(), to.as_str(), at, out, notes),
+        Subcommand::Get {
+            db,
+            port,
+            out: to,
+            path,
+        } => {
+            let asked = Getting {
+                db: db.as_str(),
+                port,
+                out: to.as_str(),
+                path: path.as_str(),
+            };
+            get(rt, asked, at, out, notes)
+        }
         Subcommand::Init { db, root } => init(rt, db.as_str(), root.as_str(), at, out, notes),
         Subcommand::Key { seed, params } => print_key(rt, seed.as_str(), params, at, out, notes),
         Subcommand::Prune { db } => prune(rt, db.as_str(), at, out, notes),
@@ -77,6 +95,7 @@ fn perform<O: Write, E: Write>(
             };
             sign(rt, asked, at, out, notes)
         }
+        Subcommand::Update { db, port } => update(rt, db.as_str(), port, at, out, notes),
         Subcommand::Serve { db, port, count } => {
             let server = Server::new(rt, db.as_str(), port, count, at);
             server.run(out, notes)

@@ -43,6 +43,12 @@ fn shut(conn: Option<Connection<MemStore>>) -> Base {
     }
 }
 
+/// Puts each in the place of the other.
+pub fn exchange(first: &mut Base, second: &mut Base) {
+    let held = replace(first, Base::None);
+    *first = replace(second, held);
+}
+
 impl Base {
     /// Puts a new database in the place of this one, and opens a store over it.
     pub fn begin(&mut self, alloc: Global) -> Result<(), StoreFault> {

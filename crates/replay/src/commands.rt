@@ -22,7 +22,12 @@ fn offer_of(alloc: Global, role: &str) -> Result<Offer, LineFault> {
 
 // The kind of the documents of a role.
 fn kind_of(role: &str) -> Kind {
-    Kind::named(role).unwrap_or(Kind::Targets)
+    match Kind::named(role) {
+        Some(Kind::Root) => Kind::Root,
+        Some(Kind::Timestamp) => Kind::Timestamp,
+        Some(Kind::Snapshot) => Kind::Snapshot,
+        _ => Kind::Targets,
+    }
 }
 
 impl Session {
@@ -114,8 +119,8 @@ impl Session {
         self.ask(Command::Metadata(text))
     }
 
-    /// `update`: the trusted root's version, and the snapshot version that is due.
-    pub fn update(&mut self) -> Result<String, LineFault> {
+    /// `due`: the trusted root's version, and the snapshot version that is due.
+    pub fn due(&mut self) -> Result<String, LineFault> {
         let alloc = self.alloc;
         let Some(store) = self.base.store() else {
             return Ok(told(alloc, "shut")?);

@@ -4,11 +4,12 @@
 //! its documents expire in 2031, its timestamp names version 1 of the snapshot, and its snapshot version 1 of `targets`.
 use crate::failure::LineFault;
 use crate::files::{File, find};
+use crate::layout_words::{SaidLink, reference_of, step_of};
 use crate::words::{delegation_of, entry_of, leaf_of, listing_of, number_of, rule_of};
 use canonical_json::write;
 use signed_files::{
-    Delegation, Entry, Keys, Leaf, Listing, Root, Rule, Targets, Value, meta_signed, root_signed,
-    signed_file, targets_signed,
+    Delegation, Entry, Keys, LayoutReference, Leaf, Listing, Root, Rule, Step, Targets, Value,
+    layout_signed, link_signed, meta_signed, root_signed, signed_file, targets_signed,
 };
 use std::alloc::Global;
 
@@ -19,6 +20,8 @@ pub enum Kind {
     Timestamp,
     Snapshot,
     Targets,
+    Layout,
+    Link,
 }
 
 impl Kind {
@@ -29,6 +32,8 @@ impl Kind {
             "timestamp" => Some(Kind::Timestamp),
             "snapshot" => Some(Kind::Snapshot),
             "targets" => Some(Kind::Targets),
+            "layout" => Some(Kind::Layout),
+            "link" => Some(Kind::Link),
             _ => None,
         }
     }
@@ -53,7 +58,10 @@ struct Description {
     rules: Rules,
     entries: Vec<(String, Entry)>,
     listings: Vec<(String, Listing)>,
+    references: Vec<(String, LayoutReference)>,
     delegations: Vec<Delegation>,
+    steps: Vec<Step>,
+    link: SaidLink,
     leaves: Vec<Leaf>,
 }
 
@@ -88,7 +96,10 @@ impl Description {
             rules: usual_rules(alloc)?,
             entries,
             listings: Vec::new(alloc),
+            references: Vec::new(alloc),
             delegations: Vec::new(alloc),
+            steps: Vec::new(alloc),
+            link: SaidLink::new(alloc)?,
             leaves: Vec::new(alloc),
         })
     }
@@ -109,8 +120,10 @@ impl Description {
             Kind::Timestamp | Kind::Snapshot => self.take_entry(files, name, value),
             Kind::Targets => match name.strip_prefix(">") {
                 Some(role) => self.take_delegation(role, value),
-                None => self.take_listing(files, name, value),
+                None => self.take_target(files, name, value),
             },
+            Kind::Layout => self.take_step(name, value),
+            Kind::Link => self.link.take(files, name, value),
         }
     }
 
@@ -121,6 +134,8 @@ impl Description {
             Some(Kind::Timestamp) => self.rules.timestamp = rule,
             Some(Kind::Snapshot) => self.rules.snapshot = rule,
             Some(Kind::Targets) => self.rules.targets = rule,
+            Some(Kind::Layout) => return Err(LineFault::NotUnderstood),
+            Some(Kind::Link) => return Err(LineFault::NotUnderstood),
             None => return Err(LineFault::NotUnderstood),
         }
         Ok(())
@@ -133,6 +148,34 @@ impl Description {
             let entry = entry_of(files, value)?;
             self.entries
                 .push((String::from_str(self.alloc, name)?, entry))?;
+        }
+        Ok(())
+    }
+
+    // A name with `~` behind it is that of a target that refers to a layout.
+    fn take_target(&mut self, files: &[File], name: &str, value: &str) -> Result<(), LineFault> {
+        match name.strip_suffix("~") {
+            Some(path) => self.take_reference(path, value),
+            None => self.take_listing(files, name, value),
+        }
+    }
+
+    fn take_reference(&mut self, path: &str, value: &str) -> Result<(), LineFault> {
+        self.references.retain(|held| held.0.as_str() != path);
+        if value != "-" {
+            let reference = reference_of(self.alloc, value)?;
+            self.references
+                .push((String::from_str(self.alloc, path)?, reference))?;
+        }
+        Ok(())
+    }
+
+    // A dash takes the step away.
+    fn take_step(&mut self, name: &str, value: &str) -> Result<(), LineFault> {
+        self.steps.retain(|held| held.name.as_str() != name);
+        if value != "-" {
+            let step = step_of(self.alloc, name, value)?;
+            self.steps.push(step)?;
         }
         Ok(())
     }
@@ -174,8 +217,16 @@ impl Description {
                 for delegation in &self.delegations {
                     make_rule(keys, &delegation.rule)?;
                 }
+                for (_, reference) in &self.references {
+                    make_rule(keys, &reference.owners)?;
+                }
             }
-            Kind::Timestamp | Kind::Snapshot => {}
+            Kind::Layout => {
+                for step in &self.steps {
+                    make_rule(keys, &step.rule)?;
+                }
+            }
+            Kind::Timestamp | Kind::Snapshot | Kind::Link => {}
         }
         make_signers(keys, &self.leaves)
     }
@@ -184,18 +235,7 @@ impl Description {
     fn signed(&self, keys: &Keys) -> Result<Value, LineFault> {
         let expires = self.expires.as_str();
         Ok(match self.kind {
-            Kind::Root => root_signed(
-                self.alloc,
-                keys,
-                &Root {
-                    version: self.version,
-                    expires,
-                    root: &self.rules.root,
-                    timestamp: &self.rules.timestamp,
-                    snapshot: &self.rules.snapshot,
-                    targets: &self.rules.targets,
-                },
-            )?,
+            Kind::Root => root_signed(self.alloc, keys, &self.root())?,
             Kind::Timestamp => meta_signed(
                 self.alloc,
                 "timestamp",
@@ -206,17 +246,31 @@ impl Description {
             Kind::Snapshot => {
                 meta_signed(self.alloc, "snapshot", self.version, expires, &self.entries)?
             }
-            Kind::Targets => targets_signed(
-                self.alloc,
-                keys,
-                &Targets {
-                    version: self.version,
-                    expires,
-                    listings: &self.listings,
-                    delegations: &self.delegations,
-                },
-            )?,
+            Kind::Targets => targets_signed(self.alloc, keys, &self.targets())?,
+            Kind::Layout => layout_signed(self.alloc, keys, expires, &self.steps)?,
+            Kind::Link => link_signed(self.alloc, &self.link.said())?,
         })
+    }
+
+    fn root(&self) -> Root<'_> {
+        Root {
+            version: self.version,
+            expires: self.expires.as_str(),
+            root: &self.rules.root,
+            timestamp: &self.rules.timestamp,
+            snapshot: &self.rules.snapshot,
+            targets: &self.rules.targets,
+        }
+    }
+
+    fn targets(&self) -> Targets<'_> {
+        Targets {
+            version: self.version,
+            expires: self.expires.as_str(),
+            listings: &self.listings,
+            references: &self.references,
+            delegations: &self.delegations,
+        }
     }
 }
 

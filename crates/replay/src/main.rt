@@ -1,9 +1,11 @@
-//! Replays scripts over a store in memory: cases of commands and requests, each with the reply that it gets, one a line.
+//! Replays scripts over stores in memory, one of a server and one of a client: cases of commands, requests and runs of the client,
+//! each with the reply that it gets.
 //!
 //! The script stands on standard input. `crates/replay/README.md` says what its lines are.
 #![tactic(auto)]
 
 mod base;
+mod client_runs;
 mod cold;
 mod commands;
 mod descriptions;
@@ -11,11 +13,13 @@ mod escapes;
 mod failure;
 mod files;
 mod filling;
+mod layout_words;
 mod replies;
 mod requests;
 mod roots;
 mod script;
 mod session;
+mod source;
 mod words;
 
 use failure::Failure;

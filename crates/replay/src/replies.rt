@@ -59,8 +59,12 @@ pub fn bytes_text(alloc: Global, files: &[File], bytes: &[u8]) -> Result<String,
     format!(in alloc; "{length} bytes {digits}")
 }
 
-// A denial with its number and its name, what it says is missing, and the index of the document.
-fn denial_text(alloc: Global, denial: &Denial, index: Option<usize>) -> Result<String, AllocError> {
+/// A denial with its number and its name, what it says is missing, and the index of the document.
+pub fn denial_text(
+    alloc: Global,
+    denial: &Denial,
+    index: Option<usize>,
+) -> Result<String, AllocError> {
     let number = denial.number();
     let name = denial.name();
     let mut text = format!(in alloc; "denied {number} {name}")?;
@@ -96,8 +100,8 @@ pub fn row_text(alloc: Global, files: &[File], line: &str) -> Result<String, Lin
     Ok(format!(in alloc; "{head} {bytes}")?)
 }
 
-// Where the body of a response begins.
-fn body_of(response: &[u8]) -> usize
+/// Where the body of a response begins.
+pub fn body_of(response: &[u8]) -> usize
     ensures { result ≤ length response.now }
 {
     let mut at = 0usize;

@@ -9,8 +9,8 @@ use sqlite::MemStore;
 use std::alloc::Global;
 use store::Store;
 
-// The response to a request. A writer that is a list takes all but for want of memory, which is not the store's.
-fn response(
+/// The response to a request. A writer that is a list takes all but for want of memory, which is not the store's.
+pub fn response(
     alloc: Global,
     routes: &Routes,
     store: &mut Store<MemStore>,
@@ -25,7 +25,8 @@ fn response(
     }
 }
 
-const NO_MEMORY: &[u8] =
+/// The response where memory was refused.
+pub const NO_MEMORY: &[u8] =
     b"HTTP/1.1 503 Service Unavailable\r\nContent-Type: application/json\r\nContent-Length: 18\r\nConnection: close\r\n\r\n{\"fault\":\"memory\"}";
 
 impl Session {

@@ -133,7 +133,30 @@ fn replayed_in(session: &mut Session, name: &str, round: u32) -> Result<String, 
 fn answer_line(session: &mut Session, line: &str) -> Result<String, LineFault> {
     let (word, rest) = line.split_once(' ').unwrap_or((line, ""));
     match word {
-        "case" => session.begin_case(line),
+        "client" => over_client(session, rest),
+        "update" => session.update(),
+        "fetch" => session.fetch(rest),
+        "case" => {
+            session.forget_client();
+            session.begin_case(line)
+        }
+        _ => over_store(session, line),
+    }
+}
+
+// `client LINE`: the line over the client's database, which is begun where there is none.
+fn over_client(session: &mut Session, line: &str) -> Result<String, LineFault> {
+    session.begin_client()?;
+    session.turn();
+    let reply = over_store(session, line);
+    session.turn();
+    reply
+}
+
+// A line about one database, or about none.
+fn over_store(session: &mut Session, line: &str) -> Result<String, LineFault> {
+    let (word, rest) = line.split_once(' ').unwrap_or((line, ""));
+    match word {
         "init" => session.init(rest),
         "offer" => session.offer(rest),
         "batch" => session.batch(rest),
@@ -142,7 +165,7 @@ fn answer_line(session: &mut Session, line: &str) -> Result<String, LineFault> {
         "get" => session.get(rest),
         "metadata" => session.metadata(rest),
         "http" => session.request(rest),
-        "update" => session.update(),
+        "due" => session.due(),
         "checks" => session.checks(rest),
         "cold" => session.cold(rest),
         "rows" => session.look(),
@@ -160,6 +183,7 @@ fn set(session: &mut Session, word: &str, rest: &str) -> Result<String, LineFaul
     match word {
         "now" => session.set_now(rest)?,
         "file" => session.name_file(rest)?,
+        "source" => session.answer_for(rest)?,
         _ => return Err(LineFault::NotUnderstood),
     }
     Ok(told(session.alloc, "")?)

@@ -1,9 +1,10 @@
 //! What a script works on.
-use crate::base::Base;
+use crate::base::{Base, exchange};
 use crate::descriptions::{Kind, described, leaves_of, signed_by};
 use crate::escapes::{bytes_of_hex, expanded};
 use crate::failure::LineFault;
 use crate::files::{File, find, put};
+use crate::source::{Answer, said_by};
 use crate::words::number_of;
 use http_serve::Routes;
 use metadata::{Moment, read_date_time};
@@ -17,7 +18,8 @@ pub struct Steps {
     pub lines: Vec<String>,
 }
 
-/// What a script works on: the moment, the files that it has named, and the database of the case.
+/// What a script works on: the moment, the files that it has named, the database of the case, that of its client, and what the client's
+/// source answers in place of what the server would.
 #[derive(Drop)]
 pub struct Session {
     pub alloc: Global,
@@ -28,6 +30,8 @@ pub struct Session {
     pub steps: Vec<Steps>,
     pub routes: Routes,
     pub base: Base,
+    pub client: Base,
+    pub answers: Vec<Answer>,
     /// The rows that were looked at last, where nothing was done since.
     pub rows: Option<Vec<String>>,
     /// How often memory was refused within a command or a request.
@@ -52,6 +56,8 @@ impl Session {
             steps: Vec::new(alloc),
             routes: routes(alloc)?,
             base: Base::None,
+            client: Base::None,
+            answers: Vec::new(alloc),
             rows: None,
             refusals: 0,
         })
@@ -67,6 +73,44 @@ impl Session {
         Ok(())
     }
 
+    /// Forgets the client's database, and what its source answers.
+    pub fn forget_client(&mut self) {
+        self.client = Base::None;
+        self.answers.clear();
+    }
+
+    /// Puts the client's database in the place of the server's, and the server's in its own.
+    pub fn turn(&mut self) {
+        exchange(&mut self.base, &mut self.client);
+        self.rows = None;
+    }
+
+    /// Begins the client's database, where there is none.
+    pub fn begin_client(&mut self) -> Result<(), LineFault> {
+        if self.client.is_gone() && self.client.begin(self.alloc).is_err() {
+            return Err(LineFault::OutOfMemory);
+        }
+        Ok(())
+    }
+
+    /// `NAME = ANSWER`: what the source answers for a name with escapes, or for `*`, any other.
+    pub fn answer_for(&mut self, text: &str) -> Result<(), LineFault> {
+        let Some((name, answer)) = text.split_once(" = ") else {
+            return Err(LineFault::NotUnderstood);
+        };
+        let name = expanded(self.alloc, &self.files, name)?;
+        let Ok(name) = str::from_utf8(&name) else {
+            return Err(LineFault::NotUnderstood);
+        };
+        let said = said_by(&self.files, answer)?;
+        self.answers.retain(|held| held.name.as_str() != name);
+        if let Some(said) = said {
+            let name = String::from_str(self.alloc, name)?;
+            self.answers.push(Answer { name, said })?;
+        }
+        Ok(())
+    }
+
     /// Names a file: `NAME = FORM`.
     pub fn name_file(&mut self, text: &str) -> Result<(), LineFault> {
         let Some((name, form)) = text.split_once(" = ") else {
@@ -76,8 +120,8 @@ impl Session {
         put(self.alloc, &mut self.files, name, words, bytes)
     }
 
-    // The words and the bytes of a form: `text TEXT`, `hex DIGITS`, `many N TEXT`, `bytes TEXT`, `signed NAME by LEAF ..`, or the
-    // description of a document.
+    // The words and the bytes of a form: `text TEXT`, `hex DIGITS`, `many N TEXT`, `bytes TEXT`, `cut N NAME`, `signed NAME by LEAF ..`,
+    // or the description of a document.
     fn made(&mut self, form: &str) -> Result<(String, Vec<u8>), LineFault> {
         let (word, rest) = form.split_once(' ').unwrap_or((form, ""));
         let bytes = match word {
@@ -85,6 +129,7 @@ impl Session {
             "hex" => bytes_of_hex(self.alloc, rest)?,
             "bytes" => expanded(self.alloc, &self.files, rest)?,
             "many" => self.many(rest)?,
+            "cut" => self.cut(rest)?,
             "signed" => self.signed(rest)?,
             _ => {
                 return described(
@@ -111,6 +156,17 @@ impl Session {
             bytes.extend_from_slice(&part)?;
         }
         Ok(bytes)
+    }
+
+    // `N NAME`: the first N bytes of a file.
+    fn cut(&self, text: &str) -> Result<Vec<u8>, LineFault> {
+        let Some((count, name)) = text.split_once(' ') else {
+            return Err(LineFault::NotUnderstood);
+        };
+        let bytes = &find(&self.files, name)?.bytes;
+        let count = (number_of(count)? as usize).min(bytes.len());
+        let (front, _) = bytes.split_at(count);
+        Ok(Vec::from_slice(self.alloc, front)?)
     }
 
     // `NAME by LEAF ..`: the file whose signed part is the file of that name.

@@ -123,7 +123,8 @@ pub fn delegation_of(
     })
 }
 
-fn texts_of(alloc: Global, word: &str) -> Result<Vec<String>, LineFault> {
+/// The texts with commas between them.
+pub fn texts_of(alloc: Global, word: &str) -> Result<Vec<String>, LineFault> {
     let mut texts = Vec::new(alloc);
     for text in word.split(',') {
         let text = String::from_str(alloc, text)?;

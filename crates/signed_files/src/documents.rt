@@ -1,7 +1,7 @@
 //! The signed parts of metadata (TUF 1.0, sections 4.3 to 4.6).
 use crate::fault::Fault;
 use crate::keys::Keys;
-use crate::members::{Members, text_value};
+use crate::members::{Members, text_value, texts};
 use canonical_json::Value;
 use path_patterns::Digest;
 use std::alloc::{AllocError, Global};
@@ -41,6 +41,17 @@ pub struct Listing {
     pub digest: Digest,
 }
 
+/// What refers a target to a layout: the owners' rule, the paths of the links and of the layout as targets, the path of the
+/// product, and the step that makes it.
+#[derive(Drop)]
+pub struct LayoutReference {
+    pub owners: Rule,
+    pub links: Vec<String>,
+    pub path: String,
+    pub product: String,
+    pub step: String,
+}
+
 /// What a delegation covers: what one of these patterns matches, or what has a digest that begins with one of these prefixes.
 #[derive(Drop)]
 pub enum Scope {
@@ -58,12 +69,14 @@ pub struct Delegation {
     pub scope: Scope,
 }
 
-/// What targets metadata says: the targets by their paths, and the delegations in their order.
+/// What targets metadata says: the targets by their paths, what refers some of them to layouts, by their paths too, and the
+/// delegations in their order. A reference of a path that no target has is left out.
 #[derive(Clone, Copy)]
 pub struct Targets<'a> {
     pub version: u32,
     pub expires: &'a str,
     pub listings: &'a [(String, Listing)],
+    pub references: &'a [(String, LayoutReference)],
     pub delegations: &'a [Delegation],
 }
 
@@ -85,8 +98,8 @@ fn key_table(alloc: Global, keys: &Keys, said: &Root<'_>) -> Result<Value, Fault
     keys_of(alloc, keys, &seeds)
 }
 
-// Puts the seeds of a rule behind the others, each that is not there yet.
-fn add_seeds(seeds: &mut Vec<u8>, rule: &Rule) -> Result<(), Fault> {
+/// Puts the seeds of a rule behind the others, each that is not there yet.
+pub fn add_seeds(seeds: &mut Vec<u8>, rule: &Rule) -> Result<(), Fault> {
     for seed in &rule.seeds {
         if !seeds.contains(seed) {
             seeds.push(*seed)?;
@@ -95,8 +108,8 @@ fn add_seeds(seeds: &mut Vec<u8>, rule: &Rule) -> Result<(), Fault> {
     Ok(())
 }
 
-// The keys of the seeds by their ids.
-fn keys_of(alloc: Global, keys: &Keys, seeds: &[u8]) -> Result<Value, Fault> {
+/// The keys of the seeds by their ids.
+pub fn keys_of(alloc: Global, keys: &Keys, seeds: &[u8]) -> Result<Value, Fault> {
     let mut table = Members::new(alloc);
     for seed in seeds {
         table.put(keys.id(*seed)?, keys.key_value(*seed)?)?;
@@ -115,17 +128,24 @@ fn roles(alloc: Global, keys: &Keys, said: &Root<'_>) -> Result<Value, Fault> {
 
 fn rule_value(alloc: Global, keys: &Keys, rule: &Rule) -> Result<Value, Fault> {
     let mut members = Members::new(alloc);
-    put_rule(alloc, keys, rule, &mut members)?;
+    put_rule(alloc, keys, "keyids", rule, &mut members)?;
     Ok(members.object())
 }
 
-fn put_rule(alloc: Global, keys: &Keys, rule: &Rule, members: &mut Members) -> Result<(), Fault> {
+/// Puts the rule among the members, its ids under this name.
+pub fn put_rule(
+    alloc: Global,
+    keys: &Keys,
+    name: &str,
+    rule: &Rule,
+    members: &mut Members,
+) -> Result<(), Fault> {
     let mut ids = Vec::new(alloc);
     for seed in &rule.seeds {
         let id = text_value(alloc, keys.id(*seed)?)?;
         ids.push(id)?;
     }
-    members.put("keyids", Value::List(ids))?;
+    members.put(name, Value::List(ids))?;
     members.put_number("threshold", rule.threshold)?;
     Ok(())
 }
@@ -160,7 +180,8 @@ fn entry_value(alloc: Global, entry: &Entry) -> Result<Value, AllocError> {
     Ok(members.object())
 }
 
-fn hashes(alloc: Global, digest: &Digest) -> Result<Value, AllocError> {
+/// `{"sha256":..}`.
+pub fn hashes(alloc: Global, digest: &Digest) -> Result<Value, AllocError> {
     let digits = digest.text(alloc)?;
     let mut members = Members::new(alloc);
     members.put_text("sha256", digits.as_str())?;
@@ -171,7 +192,11 @@ fn hashes(alloc: Global, digest: &Digest) -> Result<Value, AllocError> {
 pub fn targets_signed(alloc: Global, keys: &Keys, said: &Targets<'_>) -> Result<Value, Fault> {
     let mut files = Members::new(alloc);
     for (path, listing) in said.listings {
-        files.put(path.as_str(), listing_value(alloc, listing)?)?;
+        let reference = reference_of(said.references, path.as_str());
+        files.put(
+            path.as_str(),
+            listing_value(alloc, keys, listing, reference)?,
+        )?;
     }
     let mut members = begun(alloc, "targets", said.version, said.expires)?;
     if !said.delegations.is_empty() {
@@ -198,7 +223,7 @@ fn delegations(alloc: Global, keys: &Keys, said: &[Delegation]) -> Result<Value,
 fn delegation_value(alloc: Global, keys: &Keys, said: &Delegation) -> Result<Value, Fault> {
     let mut members = Members::new(alloc);
     members.put_text("name", said.name.as_str())?;
-    put_rule(alloc, keys, &said.rule, &mut members)?;
+    put_rule(alloc, keys, "keyids", &said.rule, &mut members)?;
     members.put("terminating", Value::Bool(said.terminating))?;
     match &said.scope {
         Scope::Patterns(patterns) => members.put("paths", texts(alloc, patterns)?)?,
@@ -207,19 +232,44 @@ fn delegation_value(alloc: Global, keys: &Keys, said: &Delegation) -> Result<Val
     Ok(members.object())
 }
 
-fn texts(alloc: Global, said: &[String]) -> Result<Value, AllocError> {
-    let mut list = Vec::new(alloc);
-    for text in said {
-        let value = text_value(alloc, text.as_str())?;
-        list.push(value).map_err(AllocError::from)?;
+// What refers the target of this path to a layout.
+fn reference_of<'a>(
+    references: &'a [(String, LayoutReference)],
+    path: &str,
+) -> Option<&'a LayoutReference> {
+    for (name, reference) in references {
+        if name.as_str() == path {
+            return Some(reference);
+        }
     }
-    Ok(Value::List(list))
+    None
 }
 
-fn listing_value(alloc: Global, listing: &Listing) -> Result<Value, AllocError> {
+fn listing_value(
+    alloc: Global,
+    keys: &Keys,
+    listing: &Listing,
+    reference: Option<&LayoutReference>,
+) -> Result<Value, Fault> {
     let mut members = Members::new(alloc);
+    if let Some(reference) = reference {
+        let mut custom = Members::new(alloc);
+        custom.put("layout", reference_value(alloc, keys, reference)?)?;
+        members.put("custom", custom.object())?;
+    }
     members.put("hashes", hashes(alloc, &listing.digest)?)?;
     members.put_number("length", listing.length)?;
+    Ok(members.object())
+}
+
+fn reference_value(alloc: Global, keys: &Keys, said: &LayoutReference) -> Result<Value, Fault> {
+    let mut members = Members::new(alloc);
+    put_rule(alloc, keys, "keyids", &said.owners, &mut members)?;
+    members.put("keys", keys_of(alloc, keys, &said.owners.seeds)?)?;
+    members.put("links", texts(alloc, &said.links)?)?;
+    members.put_text("path", said.path.as_str())?;
+    members.put_text("product", said.product.as_str())?;
+    members.put_text("step", said.step.as_str())?;
     Ok(members.object())
 }
 

@@ -64,3 +64,13 @@ impl Members {
 pub fn text_value(alloc: Global, text: &str) -> Result<Value, AllocError> {
     Ok(Value::Text(String::from_str(alloc, text)?))
 }
+
+/// The list of the texts.
+pub fn texts(alloc: Global, said: &[String]) -> Result<Value, AllocError> {
+    let mut list = Vec::new(alloc);
+    for text in said {
+        let value = text_value(alloc, text.as_str())?;
+        list.push(value).map_err(AllocError::from)?;
+    }
+    Ok(Value::List(list))
+}

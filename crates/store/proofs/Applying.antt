@@ -71,7 +71,7 @@ step_replies trusted S (Target path asked) now T (Offered s) h = h
 step_replies trusted S (Target path asked) now T (Stored n) h = h
 step_replies trusted S (Target path asked) now T (Pruned b n) h = h
 step_replies trusted S (Target path asked) now T Absent h = h
-step_replies trusted S (Target path asked) now T (Refused d i) h = h
+step_replies trusted S (Target path asked) now T (Refused d i) h = (target_stays S T path asked now (Refused d i) h, λ sure. h)
 
 -- and a reply is a step where it is to be trusted
 pub replies_step : (trusted : Type 0) (S : State) (c : Command) (now : ℕ) (T : State) (reply : Reply) → trusted → Replies trusted S c now T reply → Steps S c now (T, reply)
@@ -88,7 +88,7 @@ replies_step trusted S (Target path asked) now T (Offered s) sure h = h
 replies_step trusted S (Target path asked) now T (Stored n) sure h = h
 replies_step trusted S (Target path asked) now T (Pruned b n) sure h = h
 replies_step trusted S (Target path asked) now T Absent sure h = h
-replies_step trusted S (Target path asked) now T (Refused d i) sure h = h
+replies_step trusted S (Target path asked) now T (Refused d i) sure h = h.1 (λ by has. sure)
 
 pub replies_if : (trusted : Type 0) (S T : State) (c : Command) (now : ℕ) (r : Result Answer StoreFault) → IfOk r (λ reply. Steps S c now (T, reply_view reply))
     → IfOk r (λ reply. Replies trusted S c now T (reply_view reply))

@@ -4,7 +4,8 @@ use Rattle.sqlite.specs.State as database
 use Rattle.sqlite.specs.State.{HasCleanDisk}
 use Rattle.sqlite_trees.specs.Tree.{Trees}
 use Rattle.machine.specs.State.{State}
-use Rattle.machine.specs.Runs.{Command, Reply, Steps, Target, FileBytes}
+use Rattle.machine.specs.Runs.{Command, Reply, Steps, Target, FileBytes, Refused}
+use Rattle.machine.specs.Serving.{HasLayout, is_by_layout}
 use Rattle.tables.specs.Tables.{HoldsTables}
 use Rattle.store.specs.Standing.{Holds, IsClean, Keeps, Moves, Standing, StandsAt, seen}
 use Rattle.store.specs.StateRows.{Kept, rows_of}
@@ -21,10 +22,12 @@ HoldsStep S command now trees = (U : State) × (reply : Reply) × Steps S comman
 abbrev pub HoldsReply : State → Command → ℕ → Reply → Trees → Type 0
 HoldsReply S command now reply trees = (U : State) × Steps S command now (U, reply) × HoldsTables trees (rows_of U)
 
--- The step of the machine with its reply. The bytes of a target are read when they are asked for, so where the answers of the disk are
--- not to be trusted, it is not known that they are those of the step.
+-- The step of the machine with its reply. The bytes of a target are read when they are asked for, and so are those of its layout and
+-- links, so where the answers of the disk are not to be trusted, it is not known that they are those of the step.
 abbrev pub Replies : Type 0 → State → Command → ℕ → State → Reply → Type 0
 Replies trusted S (Target path asked) now T (FileBytes bytes) = (T ≡ S) × (trusted → Steps S (Target path asked) now (T, FileBytes bytes))
+Replies trusted S (Target path asked) now T (Refused d i) =
+    (T ≡ S) × ((IsTrue (is_by_layout d) → HasLayout S.trusted path now → trusted) → Steps S (Target path asked) now (T, Refused d i))
 Replies trusted S command now T reply = Steps S command now (T, reply)
 
 -- What a command makes of the state: the machine's step, whose reply is answered; and no change where memory was refused or a call of the

@@ -1,5 +1,4 @@
 pub mod Applies
-pub mod Next
 pub mod Standing
 pub mod StateRows
 pub mod Views

@@ -1,7 +1,6 @@
 //! The end of a store over two files: what the next open finds in them.
-ghost use Rattle.std.specs.Prelude.{◌≡◌, ◌⊎◌, false, IfOk, IsTrue};
+ghost use Rattle.std.specs.Prelude.{◌≡◌, ◌⊎◌, false, IfOk, IsSomeAnd, IsTrue};
 ghost use Rattle.sqlite.specs.Files.{file_state};
-ghost use Rattle.sqlite.specs.State.{HasCleanDisk};
 ghost use Rattle.sqlite_trees.specs.Tree.{Trees};
 ghost use Rattle.sqlite_wal.specs.Files.{outcomes};
 ghost use Rattle.sqlite_wal.specs.Reads.{AreClean};
@@ -10,27 +9,19 @@ ghost use Rattle.machine.specs.State.{State};
 ghost use Rattle.tables.specs.Tables.{HoldsTables};
 ghost use Rattle.store.specs.Applies.{HoldsReply, HoldsStep};
 ghost use Rattle.store.specs.Standing.{StandsAt, seen};
-ghost use Rattle.store.specs.StateRows.{rows_of};
-ghost use Rattle.store.specs.Next.{IsFound};
+ghost use Rattle.store.specs.StateRows.{Begins, rows_of};
+ghost use Rattle.sql_tables.specs.Opening.{IsFound};
 ghost use Rattle.store.specs.Views.{command_view, reply_view};
 
 use crate::command::{Command, Reply};
+use crate::opening::Unopened;
 use crate::store::Store;
 use metadata::Moment;
+use sql_tables::close;
 use sqlite::{Connection, FileStore, Files};
 use sqlite_disk::Disk;
+use std::alloc::Global;
 use tables::StoreFault;
-
-// Hands back the files of a connection. What the next open of an image finds that a crash may leave of them is what the
-// connection may leave.
-fn close<D: Disk + Drop>(conn: Connection<FileStore<D>>) -> Files<D>
-    ensures clean { AreClean D.Disk result.log result.db → HasCleanDisk (file_state conn) }
-    ensures left { AreClean D.Disk result.log result.db → (left : Image) → outcomes D.Disk result.log result.db left
-        → (found : Trees) → IsFound left found → ∥ (file_state conn).may_leave found ∥₁ }
-{
-    let store = conn.into_store();
-    store.close()
-}
 
 /// Makes a command at a moment, as `Store::apply` does, and hands back the two files. Whatever a crash leaves of them, inside the
 /// call or after it, the next open finds the rows of the state before the command or of the state after it, and after a reply
@@ -53,4 +44,27 @@ pub fn apply_and_close<D: Disk + Drop>(
     let result = store.apply(command, now);
     let conn = store.into_connection();
     (result, close(conn))
+}
+
+/// Opens a store over two files in which no transaction is under way, as `Store::open_over` does, and hands them back. Whatever a crash
+/// leaves of them, inside the opening or after it, the next open finds what it could have found before, or the rows of the empty state where
+/// the tables stood empty. Nothing is said where a wrong answer of the disks was taken as true.
+pub fn open_and_close<D: Disk + Drop>(
+    alloc: Global,
+    conn: Connection<FileStore<D>>,
+) -> (Result<(), StoreFault>, Option<Files<D>>)
+    ensures crash { conn.in_transaction ≡ false → IsSomeAnd result.1 (λ files. AreClean D.Disk files.log files.db
+        → (left : Image) → outcomes D.Disk files.log files.db left → (found : Trees) → IsFound left found
+        → ∥ (file_state conn).may_leave found ⊎ Begins (file_state conn) found ∥₁) }
+{
+    match Store::open_over(alloc, conn) {
+        Ok(store) => (Ok(()), Some(close(store.into_connection()))),
+        Err(unopened) => {
+            let Unopened { fault, conn } = unopened;
+            match conn {
+                Some(conn) => (Err(fault), Some(close(conn))),
+                None => (Err(fault), None),
+            }
+        }
+    }
 }

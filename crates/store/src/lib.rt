@@ -9,7 +9,7 @@ mod opening;
 mod store;
 mod stored_rows;
 
-pub use closing::apply_and_close;
+pub use closing::{apply_and_close, open_and_close};
 pub use command::{Command, Reply};
 pub use laws::stands;
 pub use machine::{

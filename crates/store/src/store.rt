@@ -12,7 +12,7 @@ ghost use Rattle.machine.specs.Knowing.{IsKnown, WantsFew};
 ghost use Rattle.machine.specs.Views.{documents_view, effects_view, offer_view};
 ghost use Rattle.machine.specs.Runs as steps;
 ghost use Rattle.machine.specs.Commands as commands;
-ghost use Rattle.machine.specs.Serving.{IfDenied, Refuses, Serves};
+ghost use Rattle.machine.specs.Serving.{Refuses, Serves};
 ghost use Rattle.store.specs.Applies.{Applies};
 ghost use Rattle.store.specs.Standing.{IsStateOf, Keeps, StandsAt, seen};
 ghost use Rattle.store.specs.steps.Doing.{DoesAt};
@@ -117,7 +117,8 @@ impl<S: Alter> Store<S> {
     ) -> Result<Served, GetFault>
         requires { checks.old < 2 ^ 63 }
         ensures keeps { Keeps (seen self.old.kept (state S.Store self.old.conn)) (seen self.new.kept (state S.Store self.new.conn)) }
-        ensures denial { (U : trust.State) → IsStateOf self.old.kept U → Refuses (commands.grants U path.now None now) result }
+        ensures denial { Refuses self.old.kept (λ U. commands.grants U path.now None now) path.now now (IsTrue (state S.Store self.old.conn).is_open → IsTrue (state S.Store self.new.conn).is_open)
+            (HasCleanDisk (state S.Store self.new.conn) → IsTrue (state S.Store self.new.conn).is_open) result }
         ensures answer { HasCleanDisk (state S.Store self.new.conn) → IsTrue (state S.Store self.new.conn).is_open → (U : trust.State) → StandsAt (seen self.old.kept (state S.Store self.old.conn)) U
             → Serves U (commands.grants U path.now None now) result }
         ensures grows { checks.old ≤ checks.new }
@@ -267,8 +268,8 @@ impl<S: Alter> Store<S> {
     ) -> Result<Served, GetFault>
         ensures same { self.new.kept ≡ self.old.kept }
         ensures reads { ReadsOnly (state S.Store self.old.conn) (state S.Store self.new.conn) }
-        ensures denial { (U : trust.State) → IsStateOf self.old.kept U → Refuses (commands.grants U path.now (option_map (λ d. d.0) asked) now) result }
-        ensures unloaded { IsTrue (state S.Store self.old.conn).is_open → IfDenied result (IsTrue (state S.Store self.new.conn).is_open) }
+        ensures denial { Refuses self.old.kept (λ U. commands.grants U path.now (option_map (λ d. d.0) asked) now) path.now now
+            (IsTrue (state S.Store self.old.conn).is_open → IsTrue (state S.Store self.new.conn).is_open) (HasCleanDisk (state S.Store self.new.conn) → IsTrue (state S.Store self.new.conn).is_open) result }
         ensures there { HasCleanDisk (state S.Store self.new.conn) → OnOk result (IsTrue (state S.Store self.new.conn).is_open) }
         ensures answer { HasCleanDisk (state S.Store self.new.conn) → IsTrue (state S.Store self.new.conn).is_open → (U : trust.State) → StandsAt (seen self.old.kept (state S.Store self.old.conn)) U
             → Serves U (commands.grants U path.now (option_map (λ d. d.0) asked) now) result }

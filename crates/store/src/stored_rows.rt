@@ -97,7 +97,7 @@ impl<S: Alter> Blobs for StoredRows<S> {
     ghost use Rattle.std.specs.Prelude.{◌≡◌, IsTrue};
     ghost use Rattle.sqlite.specs.Held.{state};
     ghost use Rattle.sqlite.specs.State.{HasCleanDisk};
-    ghost use Rattle.store.specs.steps.Loading.{HasFile, ReadsOnly};
+    ghost use Rattle.store.specs.steps.Loading.{HasFile, ReadsOnly, reads_on};
 
     ghost Holds = { λ s digest bytes. HasFile (state S.Store s) digest bytes };
 
@@ -106,6 +106,8 @@ impl<S: Alter> Blobs for StoredRows<S> {
     ghost MayBecome = { λ old new. ReadsOnly (state S.Store old) (state S.Store new) };
 
     ghost HasLoaded = { λ s. HasCleanDisk (state S.Store s) → IsTrue (state S.Store s).is_open };
+
+    ghost becomes_on = { λ a b c p q. reads_on _ _ _ p q };
 
     fn load(&mut self, digest: &Digest, out: &mut Vec<u8>) -> Result<(), LoadFault> {
         match load_blob(&mut self.conn, &digest.0, out) {

@@ -79,8 +79,7 @@ fn shelf_rows<S: Alter>(
     )?)
 }
 
-// Digest and length of the target files, by digest. No more than one of them is held at a time, or so many as have 256 KiB
-// together.
+// Digest and length of the target files, by digest. They are read by a cursor; how many rows are held at a time is as `each_row` says.
 fn blob_rows<S: Alter>(
     alloc: Global,
     conn: &mut Connection<S>,

@@ -2,4 +2,8 @@
 #![tactic(auto)]
 
 #[cfg(test)]
-mod tests;
+mod found;
+#[cfg(test)]
+mod openings;
+#[cfg(test)]
+mod rows;

@@ -15,6 +15,10 @@ IsDeleted link path = Lists link.materials path × (Lists link.products path →
 abbrev pub IsChanged : Link → List ℕ → Type 0
 IsChanged link path = (d : List ℕ) × (e : List ℕ) × HasDigest link.materials path d × HasDigest link.products path e × (d ≢ e)
 
+-- the pattern matches what stands behind the folder in the path
+abbrev pub Concerns : Match → List ℕ → Type 0
+Concerns m path = (rest : List ℕ) × (path ≡ path_in m.from rest) × MatchesFlat m.pattern rest
+
 -- a path of this digest is taken
 pub record TakesWith (m : Match) (links : List Link) (path digest : List ℕ) : Type 0 where
   pub rest : List ℕ

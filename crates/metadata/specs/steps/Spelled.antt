@@ -1,5 +1,5 @@
 -- Tables and rules as a file spells them: their ids are texts of any form.
-use Rattle.std.specs.Prelude.{ℕ, List, map, String, string_bytes}
+use Rattle.std.specs.Prelude.{ℕ, List, map, option_map, String, string_bytes}
 use Rattle.std.specs.List.{AllByRecursion}
 use Rattle.std.specs.declared.alloc.Global.{Global}
 use Rattle.keys_roles.specs.Plain as plain
@@ -9,6 +9,8 @@ use Rattle.metadata.specs.declared.keys.SpelledTable.{SpelledTable}
 use Rattle.metadata.specs.declared.keys.SpelledRule.{SpelledRule}
 use Rattle.metadata.specs.declared.delegations.SpelledDelegation.{SpelledDelegation}
 use Rattle.metadata.specs.declared.delegations.SpelledDelegations.{SpelledDelegations}
+use Rattle.metadata.specs.declared.listings.SpelledListing.{SpelledListing}
+use Rattle.metadata.specs.declared.references.SpelledReference.{SpelledReference}
 use Rattle.metadata.specs.declared.steps.SpelledStep.{SpelledStep}
 use Rattle.metadata.specs.declared.root.SpelledRoles.{SpelledRoles}
 use Rattle.metadata.specs.declared.root.Keyed.{Keyed}
@@ -58,6 +60,22 @@ spelled_steps ss = map spelled_step ss
 
 abbrev pub step_names : List documents.Step → List (List ℕ)
 step_names ss = map (λ s. s.name) ss
+
+abbrev pub spelled_reference : SpelledReference → documents.LayoutReference
+spelled_reference l = record {
+  owners = spelled_rule l.owners;
+  keys = spelled_table l.keys;
+  links = l.links.items;
+  path = l.path;
+  product = l.product;
+  step = l.step;
+}
+
+abbrev pub spelled_listing : SpelledListing → documents.Listing
+spelled_listing l = record { path = l.path; len = l.length; digest = l.digest.0; layout = option_map spelled_reference l.layout }
+
+abbrev pub spelled_listings : List SpelledListing → List documents.Listing
+spelled_listings ls = map spelled_listing ls
 
 -- the keys and the roles of a root
 abbrev pub keyed_view : Keyed → plain.Table × bodies.Roles

@@ -1,19 +1,19 @@
 use Rattle.std.proofs.Common.{[], Ok, Option, None, ap, sym, subst}
-use Rattle.std.proofs.lemmas.Result.{err_from_is_err_and}
 use Rattle.std.specs.Prelude.{unwrap_or}
 use Rattle.metadata.specs.File.{Bytes}
 use Rattle.machine.specs.Answers.{gives}
 use Rattle.machine.specs.Commands.{grants}
-use Rattle.machine.proofs.OrderSteps.{given_by}
-use Rattle.machine.proofs.ServedFrom.{other_view}
+use Rattle.machine.proofs.GrantedFrom.{own_view}
+use Rattle.machine.proofs.LoadedFiles.{found_by, lent_gives, stands_so}
 use Rattle.machine.proofs.getting.get_counted.Goals as goal
 
-pub returns-clause-answer : goal.returns-clause-answer
-returns-clause-answer c =
-    gives (subst (λ (b : Bytes). grants c.args.state.now.state c.args.path.now None c.args.now (Ok b)) (ap (λ (o : Option Bytes). unwrap_or o []) c.lent.ensures)
-    (given_by (c.in_ok-digest.ensures.answer c.args.state.now.state c.is_valid.ensures (sym c.held.ensures.held))))
+pub returns-in-Ok-clause-answer : goal.returns-in-Ok-clause-answer
+returns-in-Ok-clause-answer c =
+    let S = c.args.state.now.state in
+    gives (subst (λ (b : Bytes). grants S c.args.path.now None c.args.now (Ok b)) (ap (λ (o : Option Bytes). unwrap_or o []) c.lent.ensures)
+    (found_by (stands_so S c.in-Ok.ensures.stands tt (own_view S c.is_valid.ensures (sym c.held.ensures.held)))))
 
-pub returns-in_err-digest-clause-answer : goal.returns-in_err-digest-clause-answer
-returns-in_err-digest-clause-answer c =
-    let p = err_from_is_err_and c.from_residual.result c.from_residual.ensures.1 in
-    rw (p.1, p.2) (other_view (c.in_err-digest.ensures.answer c.args.state.now.state c.is_valid.ensures (sym c.held.ensures.held)))
+pub returns-in-Err-clause-answer : goal.returns-in-Err-clause-answer
+returns-in-Err-clause-answer c =
+    let S = c.args.state.now.state in
+    lent_gives c.in-Err.fault c.lent_refusal.result c.lent_refusal.ensures (stands_so S c.in-Err.ensures.stands tt (own_view S c.is_valid.ensures (sym c.held.ensures.held)))

@@ -1,108 +1,112 @@
-use Rattle.std.proofs.Common.{◌≡◌, ◌∙◌, Ok, Err, Some, sym, ap, subst, arith}
+use Rattle.std.proofs.Common.{◌≡◌, ◌∙◌, ◌-◌, ℕ, Ok, Err, ap, arith, refl, subst, sym}
 use Rattle.std.proofs.lemmas.Result.{err_from_is_err_and}
 use Rattle.std.specs.Prelude.{option_map}
-use Rattle.metadata.specs.FileViews.{root_file, timestamp_file, snapshot_file}
-use Rattle.denials.specs.Orders.{pass, decide, holds}
-use Rattle.delegations.specs.Rows.{Rows}
-use Rattle.delegations.specs.Search.{Shelf, search, shelf_of}
-use Rattle.delegations.specs.Views.{found_view, shelf_view}
-use Rattle.path_patterns.specs.declared.Digest.{Digest}
-use Rattle.denials.specs.declared.denial.Denial.TheVariants.{NoRoot}
-use Rattle.machine.specs.declared.refusal.Refusal.TheVariants.{Denied}
-use Rattle.machine.specs.Answers.{Gives, denies}
-use Rattle.machine.specs.Commands.{grants}
+use Rattle.metadata.specs.Views.{listing_view}
+use Rattle.denials.specs.Orders.{decide, fails as failing, given, holds, pass}
+use Rattle.machine.specs.Commands.{listed}
+use Rattle.machine.specs.Held.{Held, held_of}
+use Rattle.machine.specs.Knowing.{ChecksFew}
+use Rattle.machine.specs.Serving.{HasLayout}
 use Rattle.machine.specs.State.{State, Trusted}
-use Rattle.machine.specs.Views.{trusted_view}
-use Rattle.machine.specs.steps.Permitting.{bytes_at}
-use Rattle.machine.proofs.HeldStates.{lengths_are, same_trusted_held, seen_so}
-use Rattle.machine.proofs.OrderSteps.{needed, lacking, given_by, denied_in, denied_behind}
-use Rattle.machine.proofs.ShelfPlaces.{live_as}
-use Rattle.machine.proofs.Carrying.{found_checks, found_free, no_checks}
-use Rattle.machine.proofs.TargetFiles.{denied_by_search, found_by_search, seen}
+use Rattle.machine.specs.steps.Permitting.{at_once, bytes_at, denies, finds, listed_view}
+use Rattle.machine.proofs.HeldStates.{lengths_are}
+use Rattle.machine.proofs.LoadedFiles.{finds_behind, finds_in, found_by, reads_none, refused_in, stands_by, told_err}
+use Rattle.machine.proofs.OrderSteps.{given_by, no, yes}
+use Rattle.machine.proofs.TargetFiles.{lists_at, no_layout_there, refuses_at, some_layout}
 use Rattle.machine.proofs.getting.permitted.Goals as goal
 
-pub returns-in_default-clause-answer : goal.returns-in_default-clause-answer
-returns-in_default-clause-answer c S valid is =
-    subst (λ (W : State). Gives (grants W c.args.path.now (option_map (λ d. d.0) c.args.asked) c.args.now) (λ (d : Digest). bytes_at W d.0) (Err (Denied NoRoot))) (seen_so S (same_trusted_held S is c.trusted-trusted.ensures.view))
-    (denies (pass (holds c.is_path.ensures) (decide (lacking _ _ (ap (option_map root_file) (sym c.in_default.ensures.value))))))
-
-pub returns-in_err-snapshot-clause-answer : goal.returns-in_err-snapshot-clause-answer
-returns-in_err-snapshot-clause-answer c S valid is =
+pub returns-in_err-at-clause-stands : goal.returns-in_err-at-clause-stands
+returns-in_err-at-clause-stands g c =
     let p = err_from_is_err_and c.from_residual.result c.from_residual.ensures.1 in
-    rw (p.1, p.2) (subst (λ (W : State). Gives (grants W c.args.path.now (option_map (λ d. d.0) c.args.asked) c.args.now) (λ (d : Digest). bytes_at W d.0) (Err c.in_err-snapshot.field-0.0)) (seen_so S (same_trusted_held S is c.trusted-trusted.ensures.view))
-    (denied_behind _ (holds c.is_path.ensures) (denied_behind _ (needed _ _ (root_file c.in-Some.root.now) (ap (option_map root_file) (sym c.in-Some.ensures.value)))
-    (denied_in (live_as (root_file c.in-Some.root.now) (seen timestamp_file _ _ c.as_ref-2.ensures.value) (seen snapshot_file _ _ c.as_ref-3.ensures.value) c.in_err-snapshot.ensures.answer)))))
+    rw (p.1) (at_once refl (λ S valid is. (refused_in c.in_err-at.field-0.0 _ p.2 (refuses_at S is c.in_err-at.ensures.answer))))
 
-pub returns-in_err-found-clause-answer : goal.returns-in_err-found-clause-answer
-returns-in_err-found-clause-answer c S valid is =
-    let p = err_from_is_err_and c.from_residual-in_err-found.result c.from_residual-in_err-found.ensures.1 in
-    rw (p.1, p.2) (subst (λ (W : State). Gives (grants W c.args.path.now (option_map (λ d. d.0) c.args.asked) c.args.now) (λ (d : Digest). bytes_at W d.0) (Err c.in_err-found.field-0.0)) (seen_so S (same_trusted_held S is c.trusted-trusted.ensures.view))
-    (denied_by_search (record { trusted = trusted_view c.trusted-trusted.result.now; blobs = S.blobs }) c.args.path.now (option_map (λ d. d.0) c.args.asked) c.args.now (root_file c.in-Some.root.now) (snapshot_file c.in_ok-snapshot.snapshot.now)
-    c.is_path.ensures (ap (option_map root_file) (sym c.in-Some.ensures.value))
-    (given_by (live_as (root_file c.in-Some.root.now) (seen timestamp_file _ _ c.as_ref-2.ensures.value) (seen snapshot_file _ _ c.as_ref-3.ensures.value) c.in_ok-snapshot.ensures.answer))
-    (subst (λ (V : Shelf). Gives (search V c.args.path.now c.args.now) found_view (Err c.in_err-found.field-0.0))
-    (c.new-shelf.ensures.shelf ∙ ap (λ (r : Rows). shelf_of (root_file c.in-Some.root.now) (snapshot_file c.in_ok-snapshot.snapshot.now) r) c.held_rows.ensures) c.in_err-found.ensures.answer)))
+pub returns-in_err-at-clause-reads : goal.returns-in_err-at-clause-reads
+returns-in_err-at-clause-reads g c = reads_none _
 
-pub returns-clause-answer : goal.returns-clause-answer
-returns-clause-answer c S valid is =
-    subst (λ (W : State). Gives (grants W c.args.path.now (option_map (λ d. d.0) c.args.asked) c.args.now) (λ (d : Digest). bytes_at W d.0) (c.asked_digest.result)) (seen_so S (same_trusted_held S is c.trusted-trusted.ensures.view))
-    (found_by_search (record { trusted = trusted_view c.trusted-trusted.result.now; blobs = S.blobs }) c.args.path.now (option_map (λ d. d.0) c.args.asked) c.args.now (root_file c.in-Some.root.now) (snapshot_file c.in_ok-snapshot.snapshot.now)
-    (found_view c.in_ok-found.found) c.is_path.ensures (ap (option_map root_file) (sym c.in-Some.ensures.value))
-    (given_by (live_as (root_file c.in-Some.root.now) (seen timestamp_file _ _ c.as_ref-2.ensures.value) (seen snapshot_file _ _ c.as_ref-3.ensures.value) c.in_ok-snapshot.ensures.answer))
-    (given_by (subst (λ (V : Shelf). Gives (search V c.args.path.now c.args.now) found_view (Ok c.in_ok-found.found))
-    (c.new-shelf.ensures.shelf ∙ ap (λ (r : Rows). shelf_of (root_file c.in-Some.root.now) (snapshot_file c.in_ok-snapshot.snapshot.now) r) c.held_rows.ensures) c.in_ok-found.ensures.answer))
-    (c.asked_digest.ensures.answer (record { trusted = trusted_view c.trusted-trusted.result.now; blobs = S.blobs }) (lengths_are S is c.lengths.ensures.view)))
+pub returns-in_err-digest-clause-stands : goal.returns-in_err-digest-clause-stands
+returns-in_err-digest-clause-stands g c =
+    let p = err_from_is_err_and c.from_residual-in_err-digest.result c.from_residual-in_err-digest.ensures.1 in
+    rw (p.1) (at_once refl (λ S valid is.
+    finds_behind (listed_view c.in_ok-at.at) (lists_at S is (given_by c.in_ok-at.ensures.answer))
+    (refused_in c.in_err-digest.field-0.0 _ p.2 (c.in_err-digest.ensures.answer S (lengths_are S is c.lengths.ensures.view)))))
 
-pub returns-in_default-clause-few : goal.returns-in_default-clause-few
-returns-in_default-clause-few c = no_checks _ _ _ _ _ _ _ (omega arith)
+pub returns-in_err-digest-clause-reads : goal.returns-in_err-digest-clause-reads
+returns-in_err-digest-clause-reads g c = reads_none _
 
-pub returns-in_err-snapshot-clause-few : goal.returns-in_err-snapshot-clause-few
-returns-in_err-snapshot-clause-few c = no_checks _ _ _ _ _ _ _ (omega arith)
+pub returns-in_err-judge_layout-clause-stands : goal.returns-in_err-judge_layout-clause-stands
+returns-in_err-judge_layout-clause-stands g c =
+    let p = err_from_is_err_and c.from_residual-in_err-judge_layout.result c.from_residual-in_err-judge_layout.ensures.1 in
+    let lists = given_by c.in_ok-at.ensures.answer in
+    rw (p.1, p.2) (stands_by (Err c.in_err-judge_layout.field-0.0) (Err c.in_err-judge_layout.field-0.0)
+    (told_err c.in_err-judge_layout.field-0.0 (λ l. (l.0, record { at = listed_view c.in_ok-at.at; lists = lists; layout = some_layout _ c.in_ok-at.at.listing.now.layout l.1 })))
+    (λ S valid is h.
+    finds_behind (listed_view c.in_ok-at.at) (lists_at S is lists)
+    (finds_behind (bytes_at S c.in_ok-digest.digest.0) (given_by (c.in_ok-digest.ensures.answer S (lengths_are S is c.lengths.ensures.view))) (finds_in h)))
+    c.in_err-judge_layout.ensures.stands)
 
-pub returns-in_err-found-clause-few : goal.returns-in_err-found-clause-few
-returns-in_err-found-clause-few c =
+pub returns-then-not-is_asked-clause-stands : goal.returns-then-not-is_asked-clause-stands
+returns-then-not-is_asked-clause-stands g c =
+    let lists = given_by c.in_ok-at.ensures.answer in
+    stands_by (Ok c.in_ok-judge_layout.field-0) _
+    (λ l. ((l.0, record { at = listed_view c.in_ok-at.at; lists = lists; layout = some_layout _ c.in_ok-at.at.listing.now.layout l.1 }), refl))
+    (λ S valid is h.
+    finds_behind (listed_view c.in_ok-at.at) (lists_at S is lists)
+    (finds_behind (bytes_at S c.in_ok-digest.digest.0) (given_by (c.in_ok-digest.ensures.answer S (lengths_are S is c.lengths.ensures.view)))
+    (denies (pass (found_by h) (decide (failing (no c.if-not-is_asked.ensures)))))))
+    c.in_ok-judge_layout.ensures.stands
+
+pub returns-clause-stands : goal.returns-clause-stands
+returns-clause-stands g c =
+    let lists = given_by c.in_ok-at.ensures.answer in
+    stands_by (Ok c.in_ok-judge_layout.field-0) _
+    (λ l. (l.0, record { at = listed_view c.in_ok-at.at; lists = lists; layout = some_layout _ c.in_ok-at.at.listing.now.layout l.1 }))
+    (λ S valid is h.
+    finds_behind (listed_view c.in_ok-at.at) (lists_at S is lists)
+    (finds_behind (bytes_at S c.in_ok-digest.digest.0) (given_by (c.in_ok-digest.ensures.answer S (lengths_are S is c.lengths.ensures.view)))
+    (finds (pass (found_by h) (pass (holds (yes c.if-not-is_asked.ensures)) given)))))
+    c.in_ok-judge_layout.ensures.stands
+
+pub returns-in_err-judge_layout-clause-few : goal.returns-in_err-judge_layout-clause-few
+returns-in_err-judge_layout-clause-few g c none =
     let T : Trusted = c.args.held.now.held.trusted in
-    let root = root_file c.in-Some.root.now in
-    let snap = snapshot_file c.in_ok-snapshot.snapshot.now in
-    let same = c.trusted-trusted.ensures.view in
-    let rooted : T.root ≡ Some root = ap (λ (P : Trusted). P.root) (sym same) ∙ ap (option_map root_file) (sym c.in-Some.ensures.value) in
-    let held : T.snapshot ≡ Some snap =
-    ap (λ (P : Trusted). P.snapshot) (sym same) ∙ sym (seen snapshot_file _ _ c.as_ref-3.ensures.value) ∙ ap (option_map (λ f. snapshot_file f.now)) c.in_ok-snapshot.ensures.held in
-    found_checks T root snap (shelf_view c.new-shelf.result) _ _ c.args.path.now c.args.now _ rooted held
-    (c.new-shelf.ensures.shelf ∙ ap (λ (r : Rows). shelf_of root snap r) (c.held_rows.ensures ∙ ap (λ (P : Trusted). P.shelf) same)) c.verdicts.ensures.view c.in_err-found.ensures.costs
+    let lists = given_by c.in_ok-at.ensures.answer in
+    let plain = no_layout_there c.in_ok-at.at.listing.now.layout (λ there. none (record { at = listed_view c.in_ok-at.at; lists = lists; layout = some_layout _ c.in_ok-at.at.listing.now.layout there })) in
+    subst (λ (n : ℕ). ChecksFew T.root T.snapshot T.shelf c.args.held.now.verdicts c.args.path.now c.args.now (n - c.args.checks.now)) (sym (c.judge_layout.ensures.unticked plain)) c.find_listing.ensures.few
+
+pub returns-in_err-judge_layout-clause-free : goal.returns-in_err-judge_layout-clause-free
+returns-in_err-judge_layout-clause-free g c wants =
+    let w = c.in_ok-at.ensures.wanted wants in
+    c.judge_layout.ensures.free w.0 w.1 ∙ c.find_listing.ensures.free wants
+
+pub returns-in_err-judge_layout-clause-reads : goal.returns-in_err-judge_layout-clause-reads
+returns-in_err-judge_layout-clause-reads g c = c.judge_layout.ensures.reads
+
+pub returns-then-not-is_asked-clause-few : goal.returns-then-not-is_asked-clause-few
+returns-then-not-is_asked-clause-few g c none =
+    let T : Trusted = c.args.held.now.held.trusted in
+    let lists = given_by c.in_ok-at.ensures.answer in
+    let plain = no_layout_there c.in_ok-at.at.listing.now.layout (λ there. none (record { at = listed_view c.in_ok-at.at; lists = lists; layout = some_layout _ c.in_ok-at.at.listing.now.layout there })) in
+    subst (λ (n : ℕ). ChecksFew T.root T.snapshot T.shelf c.args.held.now.verdicts c.args.path.now c.args.now (n - c.args.checks.now)) (sym (c.judge_layout.ensures.unticked plain)) c.find_listing.ensures.few
+
+pub returns-then-not-is_asked-clause-free : goal.returns-then-not-is_asked-clause-free
+returns-then-not-is_asked-clause-free g c wants =
+    let w = c.in_ok-at.ensures.wanted wants in
+    c.judge_layout.ensures.free w.0 w.1 ∙ c.find_listing.ensures.free wants
+
+pub returns-then-not-is_asked-clause-reads : goal.returns-then-not-is_asked-clause-reads
+returns-then-not-is_asked-clause-reads g c = c.judge_layout.ensures.reads
 
 pub returns-clause-few : goal.returns-clause-few
-returns-clause-few c =
+returns-clause-few g c none =
     let T : Trusted = c.args.held.now.held.trusted in
-    let root = root_file c.in-Some.root.now in
-    let snap = snapshot_file c.in_ok-snapshot.snapshot.now in
-    let same = c.trusted-trusted.ensures.view in
-    let rooted : T.root ≡ Some root = ap (λ (P : Trusted). P.root) (sym same) ∙ ap (option_map root_file) (sym c.in-Some.ensures.value) in
-    let held : T.snapshot ≡ Some snap =
-    ap (λ (P : Trusted). P.snapshot) (sym same) ∙ sym (seen snapshot_file _ _ c.as_ref-3.ensures.value) ∙ ap (option_map (λ f. snapshot_file f.now)) c.in_ok-snapshot.ensures.held in
-    found_checks T root snap (shelf_view c.new-shelf.result) _ _ c.args.path.now c.args.now _ rooted held
-    (c.new-shelf.ensures.shelf ∙ ap (λ (r : Rows). shelf_of root snap r) (c.held_rows.ensures ∙ ap (λ (P : Trusted). P.shelf) same)) c.verdicts.ensures.view c.in_ok-found.ensures.costs
-
-pub returns-in_err-found-clause-free : goal.returns-in_err-found-clause-free
-returns-in_err-found-clause-free c few =
-    let T : Trusted = c.args.held.now.held.trusted in
-    let root = root_file c.in-Some.root.now in
-    let snap = snapshot_file c.in_ok-snapshot.snapshot.now in
-    let same = c.trusted-trusted.ensures.view in
-    let rooted : T.root ≡ Some root = ap (λ (P : Trusted). P.root) (sym same) ∙ ap (option_map root_file) (sym c.in-Some.ensures.value) in
-    let held : T.snapshot ≡ Some snap =
-    ap (λ (P : Trusted). P.snapshot) (sym same) ∙ sym (seen snapshot_file _ _ c.as_ref-3.ensures.value) ∙ ap (option_map (λ f. snapshot_file f.now)) c.in_ok-snapshot.ensures.held in
-    found_free T root snap (shelf_view c.new-shelf.result) _ _ _ rooted held
-    (c.new-shelf.ensures.shelf ∙ ap (λ (r : Rows). shelf_of root snap r) (c.held_rows.ensures ∙ ap (λ (P : Trusted). P.shelf) same)) c.verdicts.ensures.view c.verdicts.ensures.known c.in_err-found.ensures.free few
+    let lists = given_by c.in_ok-at.ensures.answer in
+    let plain = no_layout_there c.in_ok-at.at.listing.now.layout (λ there. none (record { at = listed_view c.in_ok-at.at; lists = lists; layout = some_layout _ c.in_ok-at.at.listing.now.layout there })) in
+    subst (λ (n : ℕ). ChecksFew T.root T.snapshot T.shelf c.args.held.now.verdicts c.args.path.now c.args.now (n - c.args.checks.now)) (sym (c.judge_layout.ensures.unticked plain)) c.find_listing.ensures.few
 
 pub returns-clause-free : goal.returns-clause-free
-returns-clause-free c few =
-    let T : Trusted = c.args.held.now.held.trusted in
-    let root = root_file c.in-Some.root.now in
-    let snap = snapshot_file c.in_ok-snapshot.snapshot.now in
-    let same = c.trusted-trusted.ensures.view in
-    let rooted : T.root ≡ Some root = ap (λ (P : Trusted). P.root) (sym same) ∙ ap (option_map root_file) (sym c.in-Some.ensures.value) in
-    let held : T.snapshot ≡ Some snap =
-    ap (λ (P : Trusted). P.snapshot) (sym same) ∙ sym (seen snapshot_file _ _ c.as_ref-3.ensures.value) ∙ ap (option_map (λ f. snapshot_file f.now)) c.in_ok-snapshot.ensures.held in
-    found_free T root snap (shelf_view c.new-shelf.result) _ _ _ rooted held
-    (c.new-shelf.ensures.shelf ∙ ap (λ (r : Rows). shelf_of root snap r) (c.held_rows.ensures ∙ ap (λ (P : Trusted). P.shelf) same)) c.verdicts.ensures.view c.verdicts.ensures.known c.in_ok-found.ensures.free few
+returns-clause-free g c wants =
+    let w = c.in_ok-at.ensures.wanted wants in
+    c.judge_layout.ensures.free w.0 w.1 ∙ c.find_listing.ensures.free wants
+
+pub returns-clause-reads : goal.returns-clause-reads
+returns-clause-reads g c = c.judge_layout.ensures.reads

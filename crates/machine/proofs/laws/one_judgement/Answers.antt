@@ -2,7 +2,7 @@ use Rattle.machine.proofs.OneJudgement.{init-definite, offer-definite, batch-def
 use Rattle.machine.proofs.ShapedOnce.{Shapes}
 use Rattle.machine.proofs.laws.one_judgement.Goals as goal
 
-shapes : (c : goal.After-one_shape) → Shapes
+shapes : (c : goal.After-one_verdict) → Shapes
 shapes c = record { document = c.one_document.ensures; none = c.one_shape.ensures.none; one = c.one_shape.ensures.one }
 
 pub returns-clause-begins : goal.returns-clause-begins
@@ -21,7 +21,7 @@ pub returns-clause-prunes : goal.returns-clause-prunes
 returns-clause-prunes c = prune-definite
 
 pub returns-clause-targets : goal.returns-clause-targets
-returns-clause-targets c = grants-definite
+returns-clause-targets c = grants-definite (shapes c) c.one_verdict.ensures
 
 pub returns-clause-steps : goal.returns-clause-steps
-returns-clause-steps c = steps-definite (shapes c)
+returns-clause-steps c = steps-definite (shapes c) c.one_verdict.ensures

@@ -1,11 +1,17 @@
 use Rattle.std.proofs.Common.{◌≡◌, ◌⊎◌, inl, inr, arith, sym, subst}
+use Rattle.std.specs.Prelude.{IsTrue, None, option_map}
 use Rattle.sqlite.specs.Held.{state}
+use Rattle.sqlite.specs.State.{HasCleanDisk}
+use Rattle.machine.specs.Commands.{grants}
+use Rattle.machine.specs.Serving.{Refuses}
+use Rattle.machine.specs.State.{State}
 use Rattle.store.specs.Standing.{StandsAt, seen}
 use Rattle.store.specs.StateRows.{rows_of}
 use Rattle.store.specs.steps.Loading.{ReadsOnly}
 use Rattle.store.proofs.Fitting.{blobs_keyed}
 use Rattle.store.proofs.Loads.{holds_blobs}
 use Rattle.store.proofs.Standings.{reads_if, store_at}
+use Rattle.store.proofs.Targets.{refuses_map}
 use Rattle.store.proofs.store.Store.load_target.Goals as goal
 
 pub invariant_of-self : goal.invariant_of-self
@@ -28,3 +34,9 @@ returns-clause-answer g c clean there U at =
       held = within.state.held;
       blobs = holds_blobs (state g.S.Store inside.rows) U at.state.valid (blobs_keyed U at.state.valid) is;
     })
+
+pub returns-clause-denial : goal.returns-clause-denial
+returns-clause-denial g c =
+    let new = state g.S.Store c.target_from.new.blobs in
+    subst (λ s. Refuses s.kept (λ (U : State). grants U c.args.path.now (option_map (λ d. d.0) c.args.asked) c.args.now) c.args.path.now c.args.now (IsTrue (state g.S.Store s.conn).is_open → IsTrue new.is_open) (HasCleanDisk new → IsTrue new.is_open) c.target_from.result) c.self.view_is
+    (refuses_map _ _ _ _ _ _ _ _ c.target_from.result (λ same was. subst (λ k. IsTrue (state g.S.Store k).is_open) (sym same) was) (λ l. l) c.target_from.ensures.denial)

@@ -12,5 +12,5 @@ returns-in-Ok g c =
 pub returns-in-Err : goal.returns-in-Err
 returns-in-Err g c =
     let asked = option_map (λ d. d.0) c.args.asked in
-    unserved c.args.self.now.kept c.load_target.new.self.kept (state g.S.Store c.args.self.now.conn) (state g.S.Store c.load_target.new.self.conn) c.args.path.now asked c.args.now c.in-Err.fault
-    c.unserved.result c.rests.ensures.left c.load_target.ensures.same c.load_target.ensures.reads c.in-Err.ensures.unloaded c.in-Err.ensures.denial c.unserved.ensures
+    unserved c.args.self.now.kept (state g.S.Store c.args.self.now.conn) (state g.S.Store c.load_target.new.self.conn) c.args.path.now asked c.args.now c.load_target.new.self.kept c.in-Err.fault
+    c.unserved.result c.rests.ensures.left c.load_target.ensures.same c.load_target.ensures.reads c.in-Err.ensures.denial c.in-Err.ensures.answer c.unserved.ensures

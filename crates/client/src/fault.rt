@@ -1,0 +1,61 @@
+//! Why a call of a client ends without what was wanted.
+ghost use Rattle.std.specs.Prelude.{◌≡◌, ◌≢◌};
+ghost use Rattle.tables.specs.declared.faults.StoreFault.TheVariants.{Damaged};
+ghost use Rattle.client.specs.Session.{IsUnmade};
+ghost use Rattle.client.specs.Views.{fault_view};
+
+use sources::FetchFault;
+use std::alloc::AllocError;
+use store::{Denial, StoreFault};
+use thiserror::Error;
+
+/// Why a call of a client ends without what was wanted. What was accepted before stays.
+#[derive(Debug, Drop, Error)]
+pub enum ClientFault {
+    /// A rule denies the target, or a file that the source gave.
+    #[error("denied")]
+    Denied(Denial),
+    /// The source answered a fault, or a file over its limit.
+    #[error("the source failed")]
+    Fetch(FetchFault),
+    /// A call of the database answered a fault.
+    #[error("database")]
+    Database,
+    /// Memory was refused.
+    #[error("out of memory")]
+    OutOfMemory,
+}
+
+impl From<FetchFault> for ClientFault {
+    ghost use Rattle.std.specs.Prelude.{◌≡◌};
+    ghost use Rattle.client.specs.declared.fault.ClientFault.TheVariants.{Fetch};
+
+    ghost from_gives = { λ fault e. e ≡ Fetch fault };
+
+    fn from(fault: FetchFault) -> Self {
+        ClientFault::Fetch(fault)
+    }
+}
+
+impl From<AllocError> for ClientFault {
+    ghost use Rattle.std.specs.Prelude.{◌≡◌};
+    ghost use Rattle.client.specs.declared.fault.ClientFault.TheVariants.{OutOfMemory};
+
+    ghost from_gives = { λ _ e. e ≡ OutOfMemory };
+
+    fn from(_: AllocError) -> Self {
+        ClientFault::OutOfMemory
+    }
+}
+
+// A command was not made.
+pub(crate) fn unmade(fault: StoreFault) -> ClientFault
+    requires { fault ≢ Damaged }
+    ensures { IsUnmade (fault_view result) }
+{
+    match fault {
+        StoreFault::OutOfMemory => ClientFault::OutOfMemory,
+        StoreFault::Database => ClientFault::Database,
+        StoreFault::Damaged => unreachable!(),
+    }
+}

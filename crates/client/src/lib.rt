@@ -1,0 +1,16 @@
+//! A client of a release repository: it brings its own trusted state up to date from a source that nobody has to trust, and fetches
+//! targets (TUF 1.0, section 5).
+#![tactic(auto)]
+
+mod fault;
+mod fetching;
+mod missing;
+mod taking;
+mod updating;
+mod wanted;
+
+pub use fault::ClientFault;
+pub use fetching::fetch_target;
+pub use sources::{FetchFault, Source};
+pub use store::{Denial, Moment, Store, TargetPath};
+pub use updating::update;

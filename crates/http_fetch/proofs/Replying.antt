@@ -1,0 +1,111 @@
+-- Laws of replies.
+use Rattle.std.proofs.Common.{◌≡◌, ℕ, ◌≤◌, ◌<◌, List, [], ◌++◌, length, take, drop, Bool, true, Option, Some, None, Ok, Err, Vec, Global, refl, sym, subst, ap, ◌∙◌, arith, append_assoc, append-nil, take-append-drop, inl, inr, length-append}
+use lib.Seq.{take-append-le, take-append_seam}
+use Rattle.std.specs.Io.KnownBytes.{Consumes, IsAtEnd}
+use Rattle.httparse.specs.Grammar.{ResponseHead, print_response, HasNoResponse}
+use Rattle.httparse.specs.Spans.{ResponseOverflows}
+use Rattle.httparse.specs.declared.spans.ResponseSpans.{ResponseSpans}
+use Rattle.http_messages.specs.Head.{IsInput, left}
+use Rattle.sources.specs.Source.{Answer}
+use Rattle.sources.specs.declared.FetchFault.{FetchFault}
+use Rattle.sources.specs.declared.FetchFault.TheVariants.{TooLong, Broken, OutOfMemory}
+use Rattle.http_fetch.specs.Reply as replies
+use Rattle.http_fetch.specs.Reply.{Answers, Fetched, Heads, HasNoHead, headless, replied}
+use Rattle.http_fetch.specs.steps.Found.{IsFound, ReadsBody, ReadsRest, found, passes, absent, other, cut, wanting}
+
+-- a text that is `p` and then something, of which `front` is a front long enough, has `p` at the front
+front_has : (front more p rest : List ℕ) → length p ≤ length front → front ++ more ≡ p ++ rest → front ≡ p ++ drop (length p) front
+front_has front more p rest fits e =
+    let whole : take (length p) front ≡ p = sym (take-append-le (length p) front more fits) ∙ ap (take (length p)) e ∙ take-append_seam p rest in
+    sym (take-append-drop (length p) front) ∙ ap (λ l. l ++ drop (length p) front) whole
+
+-- a head that fits the buffer stands in a full buffer, or nowhere
+pub none_in_full : (buf more : List ℕ) → length buf ≡ 8192 → HasNoResponse buf → HasNoHead (buf ++ more)
+none_in_full buf more full none h body heads =
+    none h (drop (length (print_response h)) buf) (heads.reads.0, front_has buf more (print_response h) body (omega (arith, heads.bytes, full)) heads.reads.1)
+
+-- the input has ended
+pub none_at_end : (buf more : List ℕ) → more ≡ [] → HasNoResponse buf → HasNoHead (buf ++ more)
+none_at_end buf more ended none h body heads =
+    none h body (heads.reads.0, sym (ap (λ l. buf ++ l) ended ∙ append-nil buf) ∙ heads.reads.1)
+
+-- there is no room for its fields
+pub none_overflows : (buf more : List ℕ) → ResponseOverflows 32 buf → HasNoHead (buf ++ more)
+none_overflows buf more over h body heads = absurd (omega (arith, over more h body heads.reads, heads.fields))
+
+-- a head in the front of an input is that of the whole
+pub heads_more : (front more body : List ℕ) (h : ResponseHead) → Heads front h body → Heads (front ++ more) h (body ++ more)
+heads_more front more body h heads = record {
+  reads = (heads.reads.0, ap (λ l. l ++ more) heads.reads.1 ∙ append_assoc (print_response h) body more);
+  bytes = heads.bytes;
+  fields = heads.fields;
+}
+
+-- ---- what a reader had
+
+left_none : (o : Option (List ℕ)) → IsAtEnd o → left o ≡ []
+left_none None ended = refl
+left_none (Some xs) ended = ended
+
+is_left : (o : Option (List ℕ)) → IsInput o (left o)
+is_left None = tt
+is_left (Some xs) = refl
+
+input_then : (old new : Option (List ℕ)) (got more : List ℕ) → Consumes old new got → IsInput new more → IsInput old (got ++ more)
+input_then None new got more h is = tt
+input_then (Some x) None got more h is = absurd h
+input_then (Some x) (Some y) got more h is = ap (λ l. got ++ l) is ∙ sym h
+
+-- ---- a body
+
+pub body_found : (old new : Option (List ℕ)) (before : Bool) (code : ℕ) (front : List ℕ) (limit : ℕ) (body : Vec ℕ Global)
+    → code ≡ 200 → ReadsRest old new before front limit (Ok body) → ReadsBody old before code front limit (Ok (Some body.items))
+body_found old new before code front limit body is (gave, read, ended, same, few) =
+    let more = gave ++ left new in
+    let whole : front ++ more ≡ front ++ gave = ap (λ l. front ++ (gave ++ l)) (left_none new ended) ∙ ap (λ l. front ++ l) (append-nil gave) in
+    subst (λ l. ReadsBody old before code front limit (Ok (Some l))) (whole ∙ sym same)
+    (found _ is (input_then old new gave (left new) read.consumes (is_left new)) (subst (λ l. length l ≤ limit) (sym whole) few))
+
+pub body_not : (old new : Option (List ℕ)) (before : Bool) (code : ℕ) (front : List ℕ) (limit : ℕ) (fault : FetchFault)
+    → code ≡ 200 → ReadsRest old new before front limit (Err fault) → ReadsBody old before code front limit (Err fault)
+body_not old new before code front limit TooLong is (gave, read, long) =
+    passes _ is (input_then old new gave (left new) read.consumes (is_left new))
+    (omega (arith, long, length-append front gave, length-append front (gave ++ left new), length-append gave (left new)))
+body_not old new before code front limit Broken is (gave, read, unsound) = cut unsound
+body_not old new before code front limit OutOfMemory is h = wanting
+
+-- ---- a reply
+
+pub replied_by : (old new : Option (List ℕ)) (was is : Bool) (got : List ℕ) (spans : ResponseSpans) (front : List ℕ) (limit : ℕ) (answer : Answer)
+    → Consumes old new got → ((h : ResponseHead) × IsFound got spans h) → front ≡ drop spans.len got → (was ≡ true → is ≡ true)
+    → ReadsBody new is spans.code front limit answer → Fetched old (was ≡ true) limit answer
+replied_by old new was is got spans front limit _ read (h, at) e stays (found more code input few) =
+    replied (input_then old new got more read input)
+    (subst (λ l. Answers (got ++ more) limit (Ok (Some (l ++ more)))) (sym e)
+    (replies.found (heads_more got more (drop spans.len got) h at.heads) (at.code ∙ code) (subst (λ l. length (l ++ more) ≤ limit) e few)))
+replied_by old new was is got spans front limit _ read (h, at) e stays (passes more code input long) =
+    replied (input_then old new got more read input)
+    (replies.passes (heads_more got more (drop spans.len got) h at.heads) (at.code ∙ code) (subst (λ l. limit < length (l ++ more)) e long))
+replied_by old new was is got spans front limit _ read (h, at) e stays (absent (inl code)) =
+    replied (input_then old new got (left new) read (is_left new)) (replies.absent (heads_more got (left new) (drop spans.len got) h at.heads) (inl (at.code ∙ code)))
+replied_by old new was is got spans front limit _ read (h, at) e stays (absent (inr code)) =
+    replied (input_then old new got (left new) read (is_left new)) (replies.absent (heads_more got (left new) (drop spans.len got) h at.heads) (inr (at.code ∙ code)))
+replied_by old new was is got spans front limit _ read (h, at) e stays (other a b c) =
+    replied (input_then old new got (left new) read (is_left new))
+    (replies.other (heads_more got (left new) (drop spans.len got) h at.heads) (λ k. a (sym at.code ∙ k)) (λ k. b (sym at.code ∙ k)) (λ k. c (sym at.code ∙ k)))
+replied_by old new was is got spans front limit _ read (h, at) e stays (cut unsound) = replies.cut (λ k. unsound (stays k))
+replied_by old new was is got spans front limit _ read (h, at) e stays wanting = replies.wanting
+
+pub without_head : (old new : Option (List ℕ)) (sound : Type 0) (got : List ℕ) (limit : ℕ) → Consumes old new got → HasNoHead (got ++ left new) → Fetched old sound limit (Err Broken)
+without_head old new sound got limit read none = replied (input_then old new got (left new) read (is_left new)) (headless none)
+
+-- with a writer besides
+pub and_written : (old : Option (List ℕ)) (reads writes : Type 0) (limit : ℕ) (answer : Answer) → Fetched old reads limit answer → Fetched old (reads × writes) limit answer
+and_written old reads writes limit _ (replied input answers) = replied input answers
+and_written old reads writes limit _ (replies.cut unsound) = replies.cut (λ h. unsound h.0)
+and_written old reads writes limit _ replies.wanting = replies.wanting
+
+-- ---- a request
+
+pub in_five : (t u v w x a b c d e : List ℕ) → t ≡ a → u ≡ t ++ b → v ≡ u ++ c → w ≡ v ++ d → x ≡ w ++ e → x ≡ a ++ (b ++ (c ++ (d ++ e)))
+in_five t u v w x a b c d e ht hu hv hw hx = simp (hx, hw, hv, hu, ht, append_assoc)

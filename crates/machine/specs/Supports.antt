@@ -1,0 +1,63 @@
+-- What a target with a layout is judged by: the layout and its links are targets themselves, none of which has a layout
+-- (in-toto 1.0, section 5.2; this project's profile).
+use Rattle.std.specs.Prelude.{◌≡◌, ℕ, length, List, Option, Some, None, Ok, Err, IsNone}
+use Rattle.metadata.specs.Documents.{Listing, LayoutReference}
+use Rattle.metadata.specs.File.{Bytes, File, Form, layout_form, link_form}
+use Rattle.metadata.specs.Shaped.{shaped}
+use Rattle.denials.specs.Numbers as no
+use Rattle.denials.specs.Orders.{BlobMissing, Denied, Judged, Order, Plain, ◌>>=◌, ◌>>◌, give, stop, denied, check, need_or, each, judged}
+use Rattle.delegations.specs.Search.{Shelf, search}
+use Rattle.layouts.specs.Layouts.{layout_holds}
+use Rattle.machine.specs.State.{State, blob_at}
+
+-- the target's file by its listing
+abbrev pub blob_of : State → Bytes → Listing → Order Bytes
+blob_of S path l = do
+  blob ← need_or (BlobMissing path l.digest l.len) (blob_at S.blobs l.digest)
+  check no.blob_length (length blob ≡ l.len)
+  give blob
+
+-- a file that a layout needs: what is missing is answered as itself, any other denial as one of support
+abbrev pub support_answer : {A : Type 0} → Judged A → Order A
+support_answer (Ok a) = give a
+support_answer (Err (Denied (Plain n))) = denied no.support_denied
+support_answer (Err s) = stop s
+
+abbrev pub supporting : {A : Type 0} → Order A → Order A
+supporting m = judged m support_answer
+
+-- a layout or link of another shape is one denial
+abbrev pub layout_answer : {A : Type 0} → Judged A → Order A
+layout_answer (Ok a) = give a
+layout_answer (Err s) = denied no.layout_shape
+
+abbrev pub read_as : {A : Type 0} → Form A → Bytes → Order (File A)
+read_as form b = judged (shaped form b) layout_answer
+
+-- what the layout and its links are, and what they say
+abbrev pub files_hold : Listing → LayoutReference → ℕ → Bytes → List Bytes → Order (Unit {0})
+files_hold listing reference now layout_bytes link_bytes = do
+  layout ← read_as layout_form layout_bytes
+  links ← each (read_as link_form) link_bytes
+  layout_holds layout reference.owners reference.keys links reference.step reference.product listing.digest now
+
+module _ (S : State) (V : Shelf) (now : ℕ) where
+  -- a file that a layout needs, which has no layout of its own
+  abbrev pub support : Bytes → Order Bytes
+  support path = do
+    found ← supporting (search V path now)
+    blob ← supporting (blob_of S path found.listing)
+    check no.layout_nested (IsNone found.listing.layout)
+    give blob
+
+  -- the layout, then its links in the order in which they are listed
+  abbrev pub reference_holds : Listing → LayoutReference → Order (Unit {0})
+  reference_holds listing reference = do
+    layout_bytes ← support reference.path
+    link_bytes ← each support reference.links
+    files_hold listing reference now layout_bytes link_bytes
+
+  -- a listing without a layout allows its file
+  abbrev pub reference_allows : Listing → Option LayoutReference → Order (Unit {0})
+  reference_allows listing None = give tt
+  reference_allows listing (Some reference) = reference_holds listing reference

@@ -1,0 +1,325 @@
+//! The files that a target's layout needs, and whether the layout allows the target (in-toto 1.0, section 5.2).
+ghost use Rattle.std.specs.Prelude.{◌≡◌, ◌↔◌, ◌≤◌, map, nat_lt, unwrap_or, IfOk, IsNone, IsSome, IsTrue, OnOk};
+ghost use Rattle.std.specs.List.{AllByRecursion};
+ghost use Rattle.contents.specs.Contents.{lengths_of};
+ghost use Rattle.delegations.specs.Delegation.{before};
+ghost use Rattle.delegations.specs.Rows.{Rises};
+ghost use Rattle.delegations.specs.Search.{search};
+ghost use Rattle.delegations.specs.Verdicts.{AreFew, AreTrue, IsComplete};
+ghost use Rattle.delegations.specs.Views.{found_view, shelf_view};
+ghost use Rattle.denials.specs.Orders.{each};
+ghost use Rattle.denials.specs.Views.{denial_view};
+ghost use Rattle.metadata.specs.File.{layout_form, link_form};
+ghost use Rattle.metadata.specs.FileViews.{layout_file, link_file};
+ghost use Rattle.metadata.specs.Shape.{max_file};
+ghost use Rattle.metadata.specs.Views.{listing_view, reference_view};
+ghost use Rattle.machine.specs.Answers.{Gives};
+ghost use Rattle.machine.specs.Held.{OfEachState, StandsFor, length_at};
+ghost use Rattle.machine.specs.State as trust;
+ghost use Rattle.machine.specs.Supports as supports;
+ghost use Rattle.machine.specs.Views.{length_views};
+ghost use Rattle.machine.specs.steps.Permitting.{Finds, IsShapeAnswer, IsSupportOf, Reads, Stands, Told, all_bytes_at, bytes_at, names_missing};
+
+use crate::blobs::length_of;
+use crate::held::Held;
+use crate::listing::{Listed, find, listed_digest};
+use crate::parts::BlobLength;
+use crate::refusal::Refusal;
+use crate::serving::{Blobs, GetFault, load};
+use delegations::{Found, Shelf, Steps};
+use denials::Denial;
+use layouts::check_layout;
+use metadata::{
+    File, Layout, LayoutReference, Link, Listing, Moment, ShapeFault, read_layout_file,
+    read_link_file,
+};
+use path_patterns::{Digest, TargetPath};
+use std::alloc::Global;
+
+// The most bytes of a document.
+const MOST: usize = 262_144;
+
+/// Whether the layout of a listing, if it has one, allows the file. Its bytes and those of its links are loaded once all of them are
+/// found and none has a layout, and are dropped when it is judged.
+pub(crate) fn judge_layout<B: Blobs>(
+    alloc: Global,
+    held: &Held,
+    blobs: &mut B,
+    at: &Listed<'_>,
+    now: Moment,
+    checks: &mut Steps,
+) -> Result<(), GetFault>
+    requires { AreTrue (shelf_view at.now.shelf).rows held.now.verdicts }
+    ensures stands { Stands held.now.held (B.IsHonest blobs.new) (B.Holds blobs.old) (blobs.new ≡ blobs.old) (B.HasLoaded blobs.new × IsSome at.now.listing.now.layout)
+        (λ S. supports.reference_allows S (shelf_view at.now.shelf) now (listing_view at.now.listing.now) (listing_view at.now.listing.now).layout) (λ S u. u) result }
+    ensures reads { Reads B.IsHonest B.Holds B.MayBecome blobs.old blobs.new }
+    ensures plain { IsNone at.now.listing.now.layout → blobs.new ≡ blobs.old }
+    ensures unticked { IsNone at.now.listing.now.layout → checks.new ≡ checks.old }
+    ensures grows { checks.old ≤ checks.new }
+    ensures free { AreFew (shelf_view at.now.shelf) → IsComplete (shelf_view at.now.shelf) held.now.verdicts → checks.new ≡ checks.old }
+{
+    let Some(reference) = &at.listing.layout else {
+        return Ok(());
+    };
+    let layout = support(alloc, held, &at.shelf, &reference.path, now, checks)?;
+    let links = supports(alloc, held, &at.shelf, &reference.links, now, checks)?;
+    judge_files(
+        alloc,
+        held,
+        blobs,
+        at.listing,
+        reference,
+        (layout, &links),
+        now,
+    )
+}
+
+// The digest of a file that a layout needs, which has no layout of its own.
+fn support(
+    alloc: Global,
+    held: &Held,
+    shelf: &Shelf<'_>,
+    path: &TargetPath,
+    now: Moment,
+    checks: &mut Steps,
+) -> Result<Digest, Refusal>
+    requires { AreTrue (shelf_view shelf.now).rows held.now.verdicts }
+    ensures answer { OfEachState held.now.held (λ S. Gives (supports.support S (shelf_view shelf.now) now path.now) (λ d. bytes_at S d.0) result) }
+    ensures held { IfOk result (λ d. IsSome (length_at held.now.held.blobs d.0)) }
+    ensures grows { checks.old ≤ checks.new }
+    ensures free { AreFew (shelf_view shelf.now) → IsComplete (shelf_view shelf.now) held.now.verdicts → checks.new ≡ checks.old }
+{
+    let found = find_support(alloc, held, shelf, path, now, checks)?;
+    let digest = support_digest(held.lengths(), path, found.listing)?;
+    if !is_plain(found.listing) {
+        return Err(Refusal::Denied(Denial::LayoutNested));
+    }
+    Ok(digest)
+}
+
+// What the search for a file that a layout needs finds.
+fn find_support<'a>(
+    alloc: Global,
+    held: &Held,
+    shelf: &Shelf<'a>,
+    path: &TargetPath,
+    now: Moment,
+    checks: &mut Steps,
+) -> Result<Found<'a>, Refusal>
+    requires { AreTrue (shelf_view shelf.now).rows held.now.verdicts }
+    ensures answer { Gives (supports.supporting (search (shelf_view shelf.now) path.now now)) found_view result }
+    ensures grows { checks.old ≤ checks.new }
+    ensures free { AreFew (shelf_view shelf.now) → IsComplete (shelf_view shelf.now) held.now.verdicts → checks.new ≡ checks.old }
+{
+    let mut made = Steps::new();
+    let result = find(alloc, shelf, held.verdicts(), path, now, &mut made);
+    add_ticks(checks, made.count());
+    match result {
+        Ok(found) => Ok(found),
+        Err(refusal) => Err(supporting(refusal)),
+    }
+}
+
+// The digest of a listing of a file that a layout needs, where the file is held with its length.
+fn support_digest(
+    lengths: &[BlobLength],
+    path: &TargetPath,
+    listing: &Listing,
+) -> Result<Digest, Refusal>
+    requires { Rises before (length_views lengths.now) }
+    ensures answer { (S : trust.State) → lengths_of S.blobs ≡ length_views lengths.now
+        → Gives (supports.supporting (supports.blob_of S path.now (listing_view listing.now))) (λ d. bytes_at S d.0) result }
+    ensures held { IfOk result (λ d. IsSome (length_at (length_views lengths.now) d.0)) }
+{
+    match listed_digest(lengths, path, listing) {
+        Ok(digest) => Ok(digest),
+        Err(refusal) => Err(supporting(refusal)),
+    }
+}
+
+// Whether the listing has no layout.
+fn is_plain(listing: &Listing) -> bool
+    ensures { IsTrue result ↔ IsNone (listing_view listing.now).layout }
+{
+    listing.layout.is_none()
+}
+
+// The digests of the links that a layout needs, each of a file that has no layout of its own.
+fn supports(
+    alloc: Global,
+    held: &Held,
+    shelf: &Shelf<'_>,
+    paths: &[TargetPath],
+    now: Moment,
+    checks: &mut Steps,
+) -> Result<Vec<Digest>, Refusal>
+    requires { AreTrue (shelf_view shelf.now).rows held.now.verdicts }
+    ensures answer { OfEachState held.now.held (λ S. Gives (each (supports.support S (shelf_view shelf.now) now) paths.now) (λ ds. all_bytes_at S ds.items) result) }
+    ensures held { IfOk result (λ ds. AllByRecursion (λ d. IsSome (length_at held.now.held.blobs d.0)) ds.items) }
+    ensures grows { checks.old ≤ checks.new }
+    ensures free { AreFew (shelf_view shelf.now) → IsComplete (shelf_view shelf.now) held.now.verdicts → checks.new ≡ checks.old }
+{
+    let mut found = Vec::new(alloc);
+    let mut rest = paths;
+    'paths: while let Some((path, later)) = rest.split_first() {
+        let digest = support(alloc, held, shelf, path, now, checks)?;
+        found.push(digest)?;
+        rest = later;
+    }
+    Ok(found)
+}
+
+// So many ticks more, as far as a counter counts.
+fn add_ticks(checks: &mut Steps, count: u64)
+    ensures grows { checks.old ≤ checks.new }
+    ensures none { count ≡ 0 → checks.new ≡ checks.old }
+{
+    for _ in 0..count {
+        if checks.count() < u64::MAX {
+            checks.tick();
+        }
+    }
+}
+
+// The refusal of a file that a layout needs: what is missing is answered as itself.
+fn supporting(refusal: Refusal) -> Refusal
+    ensures { IsSupportOf refusal result }
+{
+    match refusal {
+        Refusal::Denied(denial) if names_missing(&denial) => Refusal::Denied(denial),
+        Refusal::Denied(_) => Refusal::Denied(Denial::SupportDenied),
+        Refusal::OutOfMemory => Refusal::OutOfMemory,
+    }
+}
+
+// Whether the denial names what is missing.
+fn names_missing(denial: &Denial) -> bool
+    ensures { result ≡ names_missing (denial_view denial.now) }
+{
+    match denial {
+        Denial::RoleMissing { .. } => true,
+        Denial::BlobMissing { .. } => true,
+        _ => false,
+    }
+}
+
+// Whether a layout and its links, which have these digests, allow the file of a listing.
+fn judge_files<B: Blobs>(
+    alloc: Global,
+    held: &Held,
+    blobs: &mut B,
+    listing: &Listing,
+    reference: &LayoutReference,
+    files: (Digest, &[Digest]),
+    now: Moment,
+) -> Result<(), GetFault>
+    requires layout { IsSome (length_at held.now.held.blobs files.0.0) }
+    requires links { AllByRecursion (λ d. IsSome (length_at held.now.held.blobs d.0)) files.1.now }
+    ensures stands { Stands held.now.held (B.IsHonest blobs.new) (B.Holds blobs.old) (blobs.new ≡ blobs.old) (B.HasLoaded blobs.new)
+        (λ S. supports.files_hold (listing_view listing.now) (reference_view reference.now) now (bytes_at S files.entry.0.0) (all_bytes_at S files.entry.1.now)) (λ S u. u) result }
+    ensures reads { Reads B.IsHonest B.Holds B.MayBecome blobs.old blobs.new }
+{
+    let (layout, links) = files;
+    let layout = read_layout(alloc, held, blobs, layout)?;
+    let links = read_links(alloc, held, blobs, links)?;
+    check_layout(
+        alloc,
+        &layout,
+        (&reference.owners, &reference.keys),
+        &links,
+        &reference.step,
+        &reference.product,
+        &listing.digest,
+        now,
+    )?;
+    Ok(())
+}
+
+// The layout with this digest.
+fn read_layout<B: Blobs>(
+    alloc: Global,
+    held: &Held,
+    blobs: &mut B,
+    digest: Digest,
+) -> Result<File<Layout>, GetFault>
+    requires { IsSome (length_at held.now.held.blobs digest.0) }
+    ensures stands { Stands held.now.held (B.IsHonest blobs.new) (B.Holds blobs.old) (blobs.new ≡ blobs.old) (B.HasLoaded blobs.new)
+        (λ S. supports.read_as layout_form (bytes_at S digest.0)) (λ S f. layout_file f) result }
+    ensures reads { Reads B.IsHonest B.Holds B.MayBecome blobs.old blobs.new }
+    ensures loaded { OnOk result (B.HasLoaded blobs.new) }
+{
+    if is_too_long(held, digest) {
+        return Err(GetFault::Denied(Denial::LayoutShape));
+    }
+    let file = load(alloc, blobs, digest)?;
+    match read_layout_file(alloc, &file.bytes) {
+        Ok(layout) => Ok(layout),
+        Err(fault) => Err(shape_answer(fault)),
+    }
+}
+
+// The links with these digests.
+fn read_links<B: Blobs>(
+    alloc: Global,
+    held: &Held,
+    blobs: &mut B,
+    digests: &[Digest],
+) -> Result<Vec<File<Link>>, GetFault>
+    requires { AllByRecursion (λ d. IsSome (length_at held.now.held.blobs d.0)) digests.now }
+    ensures finds { B.IsHonest blobs.new → (S : trust.State) → StandsFor held.now.held (B.Holds blobs.old) S
+        → Finds (each (supports.read_as link_form) (all_bytes_at S digests.now)) (λ ls. map link_file ls.items) result }
+    ensures reads { Reads B.IsHonest B.Holds B.MayBecome blobs.old blobs.new }
+    ensures told { B.HasLoaded blobs.old → Told (B.HasLoaded blobs.new) result }
+{
+    let mut links = Vec::new(alloc);
+    let mut rest = digests;
+    'digests: while let Some((digest, later)) = rest.split_first() {
+        let link = read_link(alloc, held, blobs, *digest)?;
+        links.push(link)?;
+        rest = later;
+    }
+    Ok(links)
+}
+
+// The link with this digest.
+fn read_link<B: Blobs>(
+    alloc: Global,
+    held: &Held,
+    blobs: &mut B,
+    digest: Digest,
+) -> Result<File<Link>, GetFault>
+    requires { IsSome (length_at held.now.held.blobs digest.0) }
+    ensures finds { B.IsHonest blobs.new → (S : trust.State) → StandsFor held.now.held (B.Holds blobs.old) S
+        → Finds (supports.read_as link_form (bytes_at S digest.0)) link_file result }
+    ensures reads { Reads B.IsHonest B.Holds B.MayBecome blobs.old blobs.new }
+    ensures told { B.HasLoaded blobs.old → Told (B.HasLoaded blobs.new) result }
+{
+    if is_too_long(held, digest) {
+        return Err(GetFault::Denied(Denial::LayoutShape));
+    }
+    let file = load(alloc, blobs, digest)?;
+    match read_link_file(alloc, &file.bytes) {
+        Ok(link) => Ok(link),
+        Err(fault) => Err(shape_answer(fault)),
+    }
+}
+
+// Whether the file with this digest is too long for a document.
+fn is_too_long(held: &Held, digest: Digest) -> bool
+    ensures { result ≡ nat_lt max_file (unwrap_or (length_at held.now.held.blobs digest.0) 0) }
+{
+    match length_of(held.lengths(), &digest) {
+        Some(length) => length > MOST,
+        None => false,
+    }
+}
+
+// The answer for a layout or a link of another shape.
+fn shape_answer(fault: ShapeFault) -> GetFault
+    ensures { IsShapeAnswer fault result }
+{
+    match fault {
+        ShapeFault::OutOfMemory => GetFault::OutOfMemory,
+        _ => GetFault::Denied(Denial::LayoutShape),
+    }
+}

@@ -1,0 +1,138 @@
+// The listings of targets metadata as a file spells them (TUF 1.0, section 4.5, TARGETS).
+ghost use Rattle.std.specs.Prelude.{◌≡◌, List, option_map, map, IfOk, IfErr};
+ghost use Rattle.std.specs.List.{AllByRecursion};
+ghost use Rattle.canonical_json.specs.Json.{EachMember};
+ghost use Rattle.canonical_json.specs.Spelling.{IsProper, IsSound};
+ghost use Rattle.canonical_json.specs.View.{view, members_view};
+ghost use Rattle.metadata.specs.Bodies.{IsListing};
+ghost use Rattle.metadata.specs.Documents as plain;
+ghost use Rattle.metadata.specs.Members.{IsObject, MembersAre};
+ghost use Rattle.metadata.specs.Views.{listing_view, reference_view};
+ghost use Rattle.metadata.specs.steps.Entries.{HasIds, IsOwned};
+ghost use Rattle.metadata.specs.steps.Faults.{IsIll, IsMisnamed};
+ghost use Rattle.metadata.specs.steps.Spelled.{spelled_reference, spelled_listing, spelled_listings};
+
+use crate::documents::{LayoutReference, Listing, ShapeFault};
+use crate::members::members_of;
+use crate::parts::{hashes_of, length_of};
+use crate::references::{SpelledReference, name_reference, reference_of};
+use canonical_json::Value;
+use path_patterns::{Digest, TargetPath};
+use std::alloc::Global;
+
+/// A target with what is said of it, where the names of keys need not be ids.
+#[derive(Drop)]
+pub(crate) struct SpelledListing {
+    pub path: TargetPath,
+    pub length: u32,
+    pub digest: Digest,
+    pub layout: Option<SpelledReference>,
+}
+
+/// The listings that the value is, whatever the names in their key tables.
+pub(crate) fn read_table(alloc: Global, value: &Value) -> Result<Vec<SpelledListing>, ShapeFault>
+    requires { IsProper (view value.now) }
+    ensures ok { IfOk result (λ listings. IsObject IsListing (view value.now) (spelled_listings listings.items)) }
+    ensures err { IfErr result (IsIll ((listings : List plain.Listing) × IsObject IsListing (view value.now) listings)) }
+{
+    let Some(members) = members_of(value) else {
+        return Err(ShapeFault::WrongShape);
+    };
+    read_listings(alloc, members)
+}
+
+fn read_listings(
+    alloc: Global,
+    members: &[(String, Value)],
+) -> Result<Vec<SpelledListing>, ShapeFault>
+    requires { EachMember IsSound (members_view members.now) }
+    ensures ok { IfOk result (λ listings. MembersAre IsListing (members_view members.now) (spelled_listings listings.items)) }
+    ensures err { IfErr result (IsIll ((listings : List plain.Listing) × MembersAre IsListing (members_view members.now) listings)) }
+{
+    let mut listings = Vec::new(alloc);
+    let mut rest = members;
+    'members: while let Some((member, later)) = rest.split_first() {
+        let listing = read_listing(alloc, member.0.as_str(), &member.1)?;
+        listings.push(listing)?;
+        rest = later;
+    }
+    Ok(listings)
+}
+
+// The target of this path, with what the value says of it.
+fn read_listing(alloc: Global, path: &str, value: &Value) -> Result<SpelledListing, ShapeFault>
+    requires { IsProper (view value.now) }
+    ensures ok { IfOk result (λ l. IsListing path.now (view value.now) (spelled_listing l)) }
+    ensures err { IfErr result (IsIll ((l : plain.Listing) × IsListing path.now (view value.now) l)) }
+{
+    let Some(length) = length_of(value) else {
+        return Err(ShapeFault::WrongShape);
+    };
+    let Some(digest) = hashes_of(value) else {
+        return Err(ShapeFault::WrongShape);
+    };
+    let layout = reference_of(alloc, value)?;
+    let Some(path) = TargetPath::read(alloc, path)? else {
+        return Err(ShapeFault::WrongShape);
+    };
+    Ok(SpelledListing {
+        path,
+        length,
+        digest,
+        layout,
+    })
+}
+
+/// The listings, each key named by its id.
+pub(crate) fn name_listings(
+    alloc: Global,
+    spelled: Vec<SpelledListing>,
+) -> Result<Vec<Listing>, ShapeFault>
+    requires { AllByRecursion (λ l. IsOwned l.layout) (spelled_listings spelled.items) }
+    ensures ok { IfOk result (λ ls. (map listing_view ls.items ≡ spelled_listings spelled.items)
+        × AllByRecursion (λ l. HasIds l.layout) (spelled_listings spelled.items)) }
+    ensures err { IfErr result (IsMisnamed (AllByRecursion (λ l. HasIds l.layout) (spelled_listings spelled.items))) }
+{
+    let mut listings = Vec::new(alloc);
+    for listing in spelled {
+        let named = name_listing(alloc, listing)?;
+        listings.push(named)?;
+    }
+    Ok(listings)
+}
+
+fn name_listing(alloc: Global, spelled: SpelledListing) -> Result<Listing, ShapeFault>
+    requires { IsOwned (spelled_listing spelled).layout }
+    ensures ok { IfOk result (λ l. (listing_view l ≡ spelled_listing spelled) × HasIds (spelled_listing spelled).layout) }
+    ensures err { IfErr result (IsMisnamed (HasIds (spelled_listing spelled).layout)) }
+{
+    let SpelledListing {
+        path,
+        length,
+        digest,
+        layout,
+    } = spelled;
+    let layout = name_layout(alloc, layout)?;
+    Ok(Listing {
+        path,
+        length,
+        digest,
+        layout,
+    })
+}
+
+// What refers the target to a layout, if anything does, each key named by its id.
+fn name_layout(
+    alloc: Global,
+    spelled: Option<SpelledReference>,
+) -> Result<Option<LayoutReference>, ShapeFault>
+    requires { IsOwned (option_map spelled_reference spelled) }
+    ensures ok { IfOk result (λ o. (option_map reference_view o ≡ option_map spelled_reference spelled) × HasIds (option_map spelled_reference spelled)) }
+    ensures err { IfErr result (IsMisnamed (HasIds (option_map spelled_reference spelled))) }
+{
+    let Some(spelled) = spelled else {
+        return Ok(None);
+    };
+    let reference = name_reference(alloc, spelled)?;
+    Ok(Some(reference))
+}

@@ -1,0 +1,288 @@
+// What refers a target to a layout, as a file spells it (in-toto 1.0, section 4.3; TUF 1.0, section 4.5, custom).
+ghost use Rattle.std.specs.Prelude.{◌≡◌, ◌↔◌, ◌∷◌, ◌++◌, ℕ, List, Option, codes, option_map, IsTrue, IfOk, IfErr, MatchOption};
+ghost use Rattle.canonical_json.specs.Json.{names};
+ghost use Rattle.canonical_json.specs.Spelling.{IsProper};
+ghost use Rattle.canonical_json.specs.View.{view, items_view, members_view};
+ghost use Rattle.keys_roles.specs.Rules.{AreDistinct};
+ghost use Rattle.keys_roles.specs.steps.Counting.{IsIn};
+ghost use Rattle.path_patterns.specs.Grammar.{IsTargetPath};
+ghost use Rattle.metadata.specs.Bodies.{IsTextOf, AreTextsOf, IsLayoutReference, IsCustom, HasLayoutReference, reference_members};
+ghost use Rattle.metadata.specs.Documents as plain;
+ghost use Rattle.metadata.specs.Members.{Has, HasJust, ItemsAre};
+ghost use Rattle.metadata.specs.Parts.{IsRuleOver, NamesAreIds};
+ghost use Rattle.metadata.specs.Views.{reference_view};
+ghost use Rattle.metadata.specs.steps.Entries.{first_members, last_members};
+ghost use Rattle.metadata.specs.steps.Faults.{IsIll, IsMisnamed};
+ghost use Rattle.metadata.specs.steps.Spelled.{spelled_reference, spelled_rule, spelled_table};
+
+use crate::documents::{LayoutReference, ShapeFault};
+use crate::keys::{SpelledRule, SpelledTable, name_rule, name_table, read_role_rule};
+use crate::members::{items_of, member_of, members_of, next_member, text_of};
+use crate::root::keys_of;
+use crate::scopes::are_few;
+use crate::steps::name_at;
+use canonical_json::Value;
+use path_patterns::{RoleName, TargetPath};
+use std::alloc::Global;
+
+/// What refers a target to a layout: neither the names in its table nor its rule's ids need be ids of keys.
+#[derive(Drop)]
+pub(crate) struct SpelledReference {
+    pub owners: SpelledRule,
+    pub keys: SpelledTable,
+    pub links: Vec<TargetPath>,
+    pub path: TargetPath,
+    pub product: TargetPath,
+    pub step: RoleName,
+}
+
+/// The layout that the object of a target refers to, if it refers to one, whatever the names in its key table.
+pub(crate) fn reference_of(
+    alloc: Global,
+    value: &Value,
+) -> Result<Option<SpelledReference>, ShapeFault>
+    requires { IsProper (view value.now) }
+    ensures ok { IfOk result (λ o. HasLayoutReference (view value.now) (option_map spelled_reference o)) }
+    ensures err { IfErr result (IsIll ((o : Option plain.LayoutReference) × HasLayoutReference (view value.now) o)) }
+{
+    let Some(custom) = member_of(value, "custom") else {
+        return Ok(None);
+    };
+    let reference = reference_in(alloc, custom)?;
+    Ok(reference)
+}
+
+// The layout that `custom` refers to, if it refers to one.
+fn reference_in(alloc: Global, custom: &Value) -> Result<Option<SpelledReference>, ShapeFault>
+    requires { IsProper (view custom.now) }
+    ensures ok { IfOk result (λ o. IsCustom (view custom.now) (option_map spelled_reference o)) }
+    ensures err { IfErr result (IsIll ((o : Option plain.LayoutReference) × IsCustom (view custom.now) o)) }
+{
+    let Some(_) = members_of(custom) else {
+        return Err(ShapeFault::WrongShape);
+    };
+    let Some(found) = member_of(custom, "layout") else {
+        return Ok(None);
+    };
+    let reference = read_reference(alloc, found)?;
+    Ok(Some(reference))
+}
+
+// The reference to a layout that the value is.
+fn read_reference(alloc: Global, value: &Value) -> Result<SpelledReference, ShapeFault>
+    requires { IsProper (view value.now) }
+    ensures ok { IfOk result (λ l. IsLayoutReference (view value.now) (spelled_reference l)) }
+    ensures err { IfErr result (IsIll ((l : plain.LayoutReference) × IsLayoutReference (view value.now) l)) }
+{
+    if !has_just_those(value) {
+        return Err(ShapeFault::WrongShape);
+    }
+    let keys = keys_of(alloc, value)?;
+    let owners = read_role_rule(alloc, value, "keyids", &keys)?;
+    let links = links_of(alloc, value)?;
+    let path = path_at(alloc, value, "path")?;
+    if !are_apart(&path, &links) {
+        return Err(ShapeFault::WrongShape);
+    }
+    let product = path_at(alloc, value, "product")?;
+    let step = name_at(alloc, value, "step")?;
+    Ok(SpelledReference {
+        owners,
+        keys,
+        links,
+        path,
+        product,
+        step,
+    })
+}
+
+// Whether the value is an object with the members of a reference, and no other.
+fn has_just_those(value: &Value) -> bool
+    ensures { IsTrue result ↔ (HasJust (view value.now) reference_members) }
+{
+    match members_of(value) {
+        Some(members) => are_those(members),
+        None => false,
+    }
+}
+
+// Whether these are the members of a reference, in canonical order.
+fn are_those(members: &[(String, Value)]) -> bool
+    ensures { IsTrue result ↔ (names (members_view members.now) ≡ reference_members) }
+{
+    let Some(rest) = behind_four(members) else {
+        return false;
+    };
+    let Some(rest) = behind_three(rest) else {
+        return false;
+    };
+    rest.is_empty()
+}
+
+// What stands behind the first four of them.
+fn behind_four(members: &[(String, Value)]) -> Option<&[(String, Value)]>
+    ensures { MatchOption result ((ns : List (List ℕ)) → names (members_view members.now) ≡ first_members ++ ns → ⊥)
+        (λ rest. names (members_view members.now) ≡ first_members ++ names (members_view rest.now)) }
+{
+    let rest = behind(members, "keyids")?;
+    let rest = behind(rest, "keys")?;
+    let rest = behind(rest, "links")?;
+    let rest = behind(rest, "path")?;
+    Some(rest)
+}
+
+// What stands behind the last three of them.
+fn behind_three(members: &[(String, Value)]) -> Option<&[(String, Value)]>
+    ensures { MatchOption result ((ns : List (List ℕ)) → names (members_view members.now) ≡ last_members ++ ns → ⊥)
+        (λ rest. names (members_view members.now) ≡ last_members ++ names (members_view rest.now)) }
+{
+    let rest = behind(members, "product")?;
+    let rest = behind(rest, "step")?;
+    let Some(rest) = behind(rest, "threshold") else {
+        return None;
+    };
+    Some(rest)
+}
+
+// What stands behind the first of the members, which has this name.
+fn behind<'a>(members: &'a [(String, Value)], name: &str) -> Option<&'a [(String, Value)]>
+    ensures { MatchOption result ((ns : List (List ℕ)) → names (members_view members.now) ≡ name.now ∷ ns → ⊥)
+        (λ rest. names (members_view members.now) ≡ name.now ∷ names (members_view rest.now)) }
+{
+    let Some((_, rest)) = next_member(members, name) else {
+        return None;
+    };
+    Some(rest)
+}
+
+// The paths that the object has under `links`.
+fn links_of(alloc: Global, value: &Value) -> Result<Vec<TargetPath>, ShapeFault>
+    requires { IsProper (view value.now) }
+    ensures ok { IfOk result (λ ps. Has (view value.now) (codes "links") (λ x. AreTextsOf IsTargetPath x ps.items)) }
+    ensures err { IfErr result (IsIll ((ps : List (List ℕ)) × Has (view value.now) (codes "links") (λ x. AreTextsOf IsTargetPath x ps))) }
+{
+    let Some(found) = member_of(value, "links") else {
+        return Err(ShapeFault::WrongShape);
+    };
+    read_paths(alloc, found)
+}
+
+// The paths that the value is.
+fn read_paths(alloc: Global, value: &Value) -> Result<Vec<TargetPath>, ShapeFault>
+    ensures ok { IfOk result (λ ps. AreTextsOf IsTargetPath (view value.now) ps.items) }
+    ensures err { IfErr result (IsIll ((ps : List (List ℕ)) × AreTextsOf IsTargetPath (view value.now) ps)) }
+{
+    let Some(items) = items_of(value) else {
+        return Err(ShapeFault::WrongShape);
+    };
+    if !are_few(items) {
+        return Err(ShapeFault::WrongShape);
+    }
+    let paths = paths_of(alloc, items)?;
+    Ok(paths)
+}
+
+fn paths_of(alloc: Global, items: &[Value]) -> Result<Vec<TargetPath>, ShapeFault>
+    ensures ok { IfOk result (λ ps. ItemsAre (IsTextOf IsTargetPath) (items_view items.now) ps.items) }
+    ensures err { IfErr result (IsIll ((ps : List (List ℕ)) × ItemsAre (IsTextOf IsTargetPath) (items_view items.now) ps)) }
+{
+    let mut paths = Vec::new(alloc);
+    let mut rest = items;
+    'items: while let Some((item, later)) = rest.split_first() {
+        let path = read_path(alloc, item)?;
+        paths.push(path)?;
+        rest = later;
+    }
+    Ok(paths)
+}
+
+// The path that the object has under the name.
+fn path_at(alloc: Global, value: &Value, name: &str) -> Result<TargetPath, ShapeFault>
+    requires { IsProper (view value.now) }
+    ensures ok { IfOk result (λ p. Has (view value.now) name.now (λ x. IsTextOf IsTargetPath x p)) }
+    ensures err { IfErr result (IsIll ((p : List ℕ) × Has (view value.now) name.now (λ x. IsTextOf IsTargetPath x p))) }
+{
+    let Some(found) = member_of(value, name) else {
+        return Err(ShapeFault::WrongShape);
+    };
+    read_path(alloc, found)
+}
+
+// The path that the value is.
+fn read_path(alloc: Global, value: &Value) -> Result<TargetPath, ShapeFault>
+    ensures ok { IfOk result (λ p. IsTextOf IsTargetPath (view value.now) p) }
+    ensures err { IfErr result (IsIll ((p : List ℕ) × IsTextOf IsTargetPath (view value.now) p)) }
+{
+    let Some(text) = text_of(value) else {
+        return Err(ShapeFault::WrongShape);
+    };
+    let Some(path) = TargetPath::read(alloc, text)? else {
+        return Err(ShapeFault::WrongShape);
+    };
+    Ok(path)
+}
+
+// Whether no link stands twice, and none is the layout.
+#[tactic(auto, using(crate::proofs::Elements::absent))]
+fn are_apart(path: &TargetPath, links: &[TargetPath]) -> bool
+    ensures { IsTrue result ↔ (AreDistinct (path.now ∷ links.now)) }
+{
+    !is_among(links, path.as_str()) && are_distinct(links)
+}
+
+// Whether no path stands twice.
+fn are_distinct(paths: &[TargetPath]) -> bool
+    ensures { IsTrue result ↔ (AreDistinct paths.now) }
+{
+    let mut rest = paths;
+    'paths: while let Some((path, later)) = rest.split_first() {
+        if is_among(later, path.as_str()) {
+            return false;
+        }
+        rest = later;
+    }
+    true
+}
+
+// Whether the path is among them.
+fn is_among(paths: &[TargetPath], path: &str) -> bool
+    ensures { IsTrue result ↔ (IsIn paths.now path.now) }
+{
+    let mut rest = paths;
+    'paths: while let Some((first, later)) = rest.split_first() {
+        if first.as_str() == path {
+            return true;
+        }
+        rest = later;
+    }
+    false
+}
+
+/// The reference, each key named by its id.
+pub(crate) fn name_reference(
+    alloc: Global,
+    spelled: SpelledReference,
+) -> Result<LayoutReference, ShapeFault>
+    requires { IsRuleOver (spelled_table spelled.keys) (spelled_rule spelled.owners) }
+    ensures ok { IfOk result (λ l. (reference_view l ≡ spelled_reference spelled) × NamesAreIds (spelled_table spelled.keys)) }
+    ensures err { IfErr result (IsMisnamed (NamesAreIds (spelled_table spelled.keys))) }
+{
+    let SpelledReference {
+        owners,
+        keys,
+        links,
+        path,
+        product,
+        step,
+    } = spelled;
+    let table = name_table(alloc, &keys)?;
+    let owners = name_rule(alloc, &owners)?;
+    Ok(LayoutReference {
+        owners,
+        keys: table,
+        links,
+        path,
+        product,
+        step,
+    })
+}

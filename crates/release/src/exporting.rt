@@ -1,0 +1,261 @@
+//! The files of a repository in a folder, under the names that clients ask for.
+use crate::placing::put_in_place;
+use commands::{DOCUMENT_LIMIT, Denial, Fault, Notes, file_fault};
+use metadata::{Body, Kind, Listing, Moment, ShapeFault, Snapshot, Targets, read_document};
+use path_patterns::consistent_name;
+use sqlite::Alter;
+use std::alloc::Global;
+use std::fs::{self, File};
+use std::io::{self, Read, Write};
+use store::{Command, Reply, Store};
+
+/// A repository that is written into a folder. What is told of it has the name of its database file.
+#[derive(Drop)]
+pub struct Exporting<'a, S: Alter> {
+    rt: &'a HostRuntime,
+    repository: &'a mut Store<S>,
+    db: &'a str,
+    folder: &'a str,
+    now: Moment,
+    written: u64,
+}
+
+impl<'a, S: Alter> Exporting<'a, S> {
+    pub fn new(
+        rt: &'a HostRuntime,
+        repository: &'a mut Store<S>,
+        db: &'a str,
+        folder: &'a str,
+        now: Moment,
+    ) -> Exporting<'a, S> {
+        Exporting {
+            rt,
+            repository,
+            db,
+            folder,
+            now,
+            written: 0,
+        }
+    }
+
+    /// Writes what is not there already, and answers how many files that were: target files, targets metadata, the snapshot, the roots
+    /// from the last to the first, and the timestamp, so that whoever reads meanwhile finds what a file names.
+    pub fn export<E: Write>(&mut self, notes: &mut Notes<'_, E>) -> Result<u64, Fault> {
+        let Some(root) = self.repository.root_version() else {
+            notes.tell(&self.db, &"denied");
+            return Err(Fault::Denied(Denial::NoRoot, None));
+        };
+        let timestamp = self.file("timestamp.json", notes)?;
+        if let Some(bytes) = &timestamp {
+            self.write_named_snapshot(bytes, notes)?;
+        }
+        self.write_roots(root, notes)?;
+        if let Some(bytes) = &timestamp {
+            self.write_metadata("timestamp.json", bytes, notes)?;
+        }
+        Ok(self.written)
+    }
+
+    fn alloc(&self) -> Global {
+        self.rt.alloc()
+    }
+
+    // The snapshot that the timestamp names, where it is held, behind what it lists.
+    fn write_named_snapshot<E: Write>(
+        &mut self,
+        timestamp: &[u8],
+        notes: &mut Notes<'_, E>,
+    ) -> Result<(), Fault> {
+        let body = self.body(Kind::Timestamp, timestamp)?;
+        let Some(Body::Timestamp(timestamp)) = &body else {
+            return Ok(());
+        };
+        let version = timestamp.snapshot.version;
+        let name = format!(in self.alloc(); "{version}.snapshot.json")?;
+        let Some(bytes) = self.file(name.as_str(), notes)? else {
+            return Ok(());
+        };
+        if let Some(Body::Snapshot(snapshot)) = self.body(Kind::Snapshot, &bytes)? {
+            self.write_listed(&snapshot, notes)?;
+        }
+        self.write_metadata(name.as_str(), &bytes, notes)
+    }
+
+    // The targets metadata that a snapshot lists, as far as they are held.
+    fn write_listed<E: Write>(
+        &mut self,
+        snapshot: &Snapshot,
+        notes: &mut Notes<'_, E>,
+    ) -> Result<(), Fault> {
+        for (role, meta) in &snapshot.meta {
+            let version = meta.version;
+            let role = role.as_str();
+            let name = format!(in self.alloc(); "{version}.{role}.json")?;
+            if let Some(bytes) = self.file(name.as_str(), notes)? {
+                self.write_targets(name.as_str(), &bytes, notes)?;
+            }
+        }
+        Ok(())
+    }
+
+    // Targets metadata, behind the files that they list.
+    fn write_targets<E: Write>(
+        &mut self,
+        name: &str,
+        bytes: &[u8],
+        notes: &mut Notes<'_, E>,
+    ) -> Result<(), Fault> {
+        if let Some(Body::Targets(targets)) = self.body(Kind::Targets, bytes)? {
+            self.write_target_files(&targets, notes)?;
+        }
+        self.write_metadata(name, bytes, notes)
+    }
+
+    fn write_target_files<E: Write>(
+        &mut self,
+        targets: &Targets,
+        notes: &mut Notes<'_, E>,
+    ) -> Result<(), Fault> {
+        for listing in &targets.targets {
+            self.write_target_file(listing, notes)?;
+        }
+        Ok(())
+    }
+
+    // The file of a target, where the repository grants it. One of its length that stands there already is not written again.
+    fn write_target_file<E: Write>(
+        &mut self,
+        listing: &Listing,
+        notes: &mut Notes<'_, E>,
+    ) -> Result<(), Fault> {
+        let name = consistent_name(self.alloc(), &listing.path, &listing.digest)?;
+        let name = name.as_str();
+        let folder = self.folder;
+        let place = format!(in self.alloc(); "{folder}/targets/{name}")?;
+        if has_length(self.rt, place.as_str(), u64::from(listing.length)) {
+            return Ok(());
+        }
+        let command = Command::Target(listing.path.as_str(), Some(listing.digest));
+        match self.asked(command, notes)? {
+            Reply::Bytes(bytes) => self.write(place.as_str(), &bytes, notes),
+            Reply::Denied(denial, _) => {
+                notes.tell(&listing.path.as_str(), &denial.name());
+                Ok(())
+            }
+            _ => Ok(()),
+        }
+    }
+
+    // The roots that are held, from the last to the first, so that whoever follows them finds all of them or none.
+    fn write_roots<E: Write>(&mut self, last: u32, notes: &mut Notes<'_, E>) -> Result<(), Fault> {
+        for version in (1..=last).rev() {
+            let name = format!(in self.alloc(); "{version}.root.json")?;
+            let Some(bytes) = self.file(name.as_str(), notes)? else {
+                return Ok(());
+            };
+            self.write_metadata(name.as_str(), &bytes, notes)?;
+        }
+        Ok(())
+    }
+
+    // A metadata file that is not there already with these bytes.
+    fn write_metadata<E: Write>(
+        &mut self,
+        name: &str,
+        bytes: &[u8],
+        notes: &mut Notes<'_, E>,
+    ) -> Result<(), Fault> {
+        let folder = self.folder;
+        let place = format!(in self.alloc(); "{folder}/metadata/{name}")?;
+        if has_bytes(self.rt, place.as_str(), bytes) {
+            return Ok(());
+        }
+        self.write(place.as_str(), bytes, notes)
+    }
+
+    // A file in its place, whose folder is made where there is none.
+    fn write<E: Write>(
+        &mut self,
+        place: &str,
+        bytes: &[u8],
+        notes: &mut Notes<'_, E>,
+    ) -> Result<(), Fault> {
+        match put_in_folder(self.rt, place, bytes) {
+            Ok(()) => {
+                self.written = self.written.saturating_add(1);
+                Ok(())
+            }
+            Err(error) => {
+                notes.tell(&place, &error);
+                Err(file_fault(&error))
+            }
+        }
+    }
+
+    // The bytes of a metadata file, if it is held.
+    fn file<E: Write>(
+        &mut self,
+        name: &str,
+        notes: &mut Notes<'_, E>,
+    ) -> Result<Option<Vec<u8>>, Fault> {
+        match self.asked(Command::Metadata(name), notes)? {
+            Reply::Bytes(bytes) => Ok(Some(bytes)),
+            _ => Ok(None),
+        }
+    }
+
+    fn asked<E: Write>(
+        &mut self,
+        command: Command<'_>,
+        notes: &mut Notes<'_, E>,
+    ) -> Result<Reply, Fault> {
+        match self.repository.apply(command, self.now) {
+            Ok(reply) => Ok(reply),
+            Err(fault) => {
+                notes.tell(&self.db, &fault);
+                Err(Fault::from(fault))
+            }
+        }
+    }
+
+    // What a held document says.
+    fn body(&self, kind: Kind, bytes: &[u8]) -> Result<Option<Body>, Fault> {
+        match read_document(self.alloc(), kind, bytes) {
+            Ok(document) => Ok(Some(document.body)),
+            Err(ShapeFault::OutOfMemory) => Err(Fault::Memory),
+            Err(_) => Ok(None),
+        }
+    }
+}
+
+// Whether a file of this length stands there.
+fn has_length(rt: &HostRuntime, place: &str, length: u64) -> bool {
+    match fs::symlink_metadata(rt, place) {
+        Ok(found) => found.is_file() && found.len() == length,
+        Err(_) => false,
+    }
+}
+
+// Whether a file of these bytes stands there.
+fn has_bytes(rt: &HostRuntime, place: &str, bytes: &[u8]) -> bool {
+    match beginning(rt, place) {
+        Ok(found) => found.as_slice() == bytes,
+        Err(_) => false,
+    }
+}
+
+// The bytes of a metadata file, and of a longer file a beginning that is too long for one.
+fn beginning(rt: &HostRuntime, place: &str) -> io::Result<Vec<u8>> {
+    let file = File::open(rt, place)?;
+    let mut bytes = Vec::new(rt.alloc());
+    file.take(DOCUMENT_LIMIT as u64 + 1)
+        .read_to_end(&mut bytes)?;
+    Ok(bytes)
+}
+
+fn put_in_folder(rt: &HostRuntime, place: &str, bytes: &[u8]) -> io::Result<()> {
+    if let Some((folder, _)) = place.rsplit_once('/') {
+        fs::create_dir_all(rt, folder)?;
+    }
+    put_in_place(rt, place, bytes)
+}

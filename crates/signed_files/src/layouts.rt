@@ -1,0 +1,93 @@
+//! The signed parts of layouts and links (in-toto 1.0, sections 4.3 and 4.4).
+use crate::documents::{Rule, add_seeds, hashes, keys_of, put_rule};
+use crate::fault::Fault;
+use crate::keys::Keys;
+use crate::members::{Members, text_value};
+use canonical_json::Value;
+use path_patterns::Digest;
+use std::alloc::{AllocError, Global};
+
+/// A step of a layout: its name, the rule of its functionaries' keys, and its artifact rules, each its words with spaces between.
+#[derive(Drop)]
+pub struct Step {
+    pub name: String,
+    pub rule: Rule,
+    pub materials: Vec<String>,
+    pub products: Vec<String>,
+}
+
+/// What a link says: the step, and what it took and what it made, paths with digests.
+#[derive(Clone, Copy)]
+pub struct Link<'a> {
+    pub name: &'a str,
+    pub materials: &'a [(String, Digest)],
+    pub products: &'a [(String, Digest)],
+}
+
+/// The signed part of a layout with these steps. Its key table has the keys of all of them.
+pub fn layout_signed(
+    alloc: Global,
+    keys: &Keys,
+    expires: &str,
+    steps: &[Step],
+) -> Result<Value, Fault> {
+    let mut seeds = Vec::new(alloc);
+    let mut list = Vec::new(alloc);
+    for step in steps {
+        add_seeds(&mut seeds, &step.rule)?;
+        let value = step_value(alloc, keys, step)?;
+        list.push(value)?;
+    }
+    let mut members = Members::new(alloc);
+    members.put_text("_type", "layout")?;
+    members.put_text("expires", expires)?;
+    members.put("inspect", Value::List(Vec::new(alloc)))?;
+    members.put("keys", keys_of(alloc, keys, &seeds)?)?;
+    members.put("steps", Value::List(list))?;
+    Ok(members.object())
+}
+
+fn step_value(alloc: Global, keys: &Keys, step: &Step) -> Result<Value, Fault> {
+    let mut members = Members::new(alloc);
+    members.put("expected_materials", rule_list(alloc, &step.materials)?)?;
+    members.put("expected_products", rule_list(alloc, &step.products)?)?;
+    members.put_text("name", step.name.as_str())?;
+    put_rule(alloc, keys, "pubkeys", &step.rule, &mut members)?;
+    Ok(members.object())
+}
+
+fn rule_list(alloc: Global, rules: &[String]) -> Result<Value, AllocError> {
+    let mut list = Vec::new(alloc);
+    for rule in rules {
+        let words = words_value(alloc, rule.as_str())?;
+        list.push(words).map_err(AllocError::from)?;
+    }
+    Ok(Value::List(list))
+}
+
+fn words_value(alloc: Global, rule: &str) -> Result<Value, AllocError> {
+    let mut words = Vec::new(alloc);
+    for word in rule.split_whitespace() {
+        let value = text_value(alloc, word)?;
+        words.push(value).map_err(AllocError::from)?;
+    }
+    Ok(Value::List(words))
+}
+
+/// The signed part of a link.
+pub fn link_signed(alloc: Global, said: &Link<'_>) -> Result<Value, AllocError> {
+    let mut members = Members::new(alloc);
+    members.put_text("_type", "link")?;
+    members.put("materials", artifacts(alloc, said.materials)?)?;
+    members.put_text("name", said.name)?;
+    members.put("products", artifacts(alloc, said.products)?)?;
+    Ok(members.object())
+}
+
+fn artifacts(alloc: Global, said: &[(String, Digest)]) -> Result<Value, AllocError> {
+    let mut members = Members::new(alloc);
+    for (path, digest) in said {
+        members.put(path.as_str(), hashes(alloc, digest)?)?;
+    }
+    Ok(members.object())
+}
