@@ -22,6 +22,19 @@ pub const PACKER: u8 = 8;
 
 pub const STRANGER: u8 = 9;
 
+// The names of each version's targets, snapshot and timestamp.
+const CHAIN: [&str; 3] = [
+    "chain/targets.json",
+    "chain/snapshot.json",
+    "chain/timestamp.json",
+];
+
+const EXCHANGED: [&str; 3] = [
+    "exchanged/targets.json",
+    "exchanged/snapshot.json",
+    "exchanged/timestamp.json",
+];
+
 /// The repository's next documents, which list a target with a layout, and the three files that the layout needs; then those behind them, in
 /// which somebody else has signed the link of the second step.
 pub fn put_chain(
@@ -30,37 +43,17 @@ pub fn put_chain(
     roles: (u8, u8, u8),
     files: &mut Vec<File>,
 ) -> Result<(), Failure> {
-    let layout = signed_by(
-        alloc,
-        keys,
-        layout_signed(alloc, keys, EXPIRES, &steps(alloc)?)?,
-        &[leaf(OWNER, 0)],
-    )?;
+    let steps = layout_signed(alloc, keys, EXPIRES, &steps(alloc)?)?;
+    let layout = signed_by(alloc, keys, steps, &[leaf(OWNER, 0)])?;
     let write = signed_by(alloc, keys, write_link(alloc)?, &[leaf(WRITER, 0)])?;
     let pack = signed_by(alloc, keys, pack_link(alloc)?, &[leaf(PACKER, 0)])?;
     let exchanged = signed_by(alloc, keys, pack_link(alloc)?, &[leaf(STRANGER, 0)])?;
     let needed = [&layout[..], &write[..], &pack[..]];
     let documents = documents(alloc, keys, roles, (2, 1), &needed)?;
-    put_documents(
-        files,
-        documents,
-        [
-            "chain/targets.json",
-            "chain/snapshot.json",
-            "chain/timestamp.json",
-        ],
-    )?;
+    put_documents(files, documents, CHAIN)?;
     let needed = [&layout[..], &write[..], &exchanged[..]];
     let documents = self::documents(alloc, keys, roles, (3, 2), &needed)?;
-    put_documents(
-        files,
-        documents,
-        [
-            "exchanged/targets.json",
-            "exchanged/snapshot.json",
-            "exchanged/timestamp.json",
-        ],
-    )?;
+    put_documents(files, documents, EXCHANGED)?;
     put(files, "chain/layout.json", layout)?;
     put(files, "chain/write.json", write)?;
     put(files, "chain/pack.json", pack)?;

@@ -21,6 +21,17 @@ pub struct Getting<'a> {
     pub path: &'a str,
 }
 
+impl<'a> Getting<'a> {
+    pub fn new(db: &'a str, port: u16, out: &'a str, path: &'a str) -> Getting<'a> {
+        Getting {
+            db,
+            port,
+            out,
+            path,
+        }
+    }
+}
+
 /// Fetches what the client's own state misses for the target, and writes the target's file where that state grants it. Prints
 /// `written`.
 pub fn get<O: Write, E: Write>(

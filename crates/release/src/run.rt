@@ -11,7 +11,7 @@ use crate::serve::Server;
 use crate::sign::{Signing, sign};
 use crate::update::update;
 use canon::canon;
-use command_line::{Subcommand, Task, task};
+use command_line::{Subcommand, task};
 use commands::{Fault, Notes, print, read};
 use std::io::Write;
 
@@ -46,59 +46,35 @@ fn perform<O: Write, E: Write>(
     out: &mut O,
     err: &mut E,
 ) -> Result<(), Fault> {
-    let Task {
-        at,
-        verbose,
-        subcommand,
-    } = task(rt.alloc(), words)?;
-    let notes = &mut Notes::new(err, verbose);
-    match subcommand {
-        Subcommand::Canon { file } => print_canon(rt, file.as_str(), at, out, notes),
-        Subcommand::Export { db, to } => export(rt, db.as_str(), to.as_str(), at, out, notes),
+    let task = task(rt.alloc(), words)?;
+    let at = task.at;
+    let notes = &mut Notes::new(err, task.verbose);
+    match task.subcommand {
+        Subcommand::Canon { file } => print_canon(rt, &file, at, out, notes),
+        Subcommand::Export { db, to } => export(rt, &db, &to, at, out, notes),
         Subcommand::Get {
             db,
             port,
             out: to,
             path,
-        } => {
-            let asked = Getting {
-                db: db.as_str(),
-                port,
-                out: to.as_str(),
-                path: path.as_str(),
-            };
-            get(rt, asked, at, out, notes)
-        }
-        Subcommand::Init { db, root } => init(rt, db.as_str(), root.as_str(), at, out, notes),
-        Subcommand::Key { seed, params } => print_key(rt, seed.as_str(), params, at, out, notes),
-        Subcommand::Prune { db } => prune(rt, db.as_str(), at, out, notes),
-        Subcommand::Publish { db, documents } => publish(
-            rt,
-            db.as_str(),
-            &documents,
-            at,
-            out,
-            notes,
-        ),
-        Subcommand::Put { db, file } => put(rt, db.as_str(), file.as_str(), at, out, notes),
+        } => get(rt, Getting::new(&db, port, &to, &path), at, out, notes),
+        Subcommand::Init { db, root } => init(rt, &db, &root, at, out, notes),
+        Subcommand::Key { seed, params } => print_key(rt, &seed, params, at, out, notes),
+        Subcommand::Prune { db } => prune(rt, &db, at, out, notes),
+        Subcommand::Publish { db, documents } => publish(rt, &db, &documents, at, out, notes),
+        Subcommand::Put { db, file } => put(rt, &db, &file, at, out, notes),
         Subcommand::Sign {
             book,
             seed,
             params,
             file,
         } => {
-            let asked = Signing {
-                book: book.as_str(),
-                seed: seed.as_str(),
-                params,
-                file: file.as_str(),
-            };
+            let asked = Signing::new(&book, &seed, params, &file);
             sign(rt, asked, at, out, notes)
         }
-        Subcommand::Update { db, port } => update(rt, db.as_str(), port, at, out, notes),
+        Subcommand::Update { db, port } => update(rt, &db, port, at, out, notes),
         Subcommand::Serve { db, port, count } => {
-            let server = Server::new(rt, db.as_str(), port, count, at);
-            server.run(out, notes)
+            Server::new(rt, &db, port, count, at).run(out, notes)
         }
     }
 }

@@ -20,6 +20,17 @@ pub struct Signing<'a> {
     pub file: &'a str,
 }
 
+impl<'a> Signing<'a> {
+    pub fn new(book: &'a str, seed: &'a str, params: Params, file: &'a str) -> Signing<'a> {
+        Signing {
+            book,
+            seed,
+            params,
+            file,
+        }
+    }
+}
+
 /// Prints the document with a signature of the seed's key. The leaf is reserved in the book, which is made where there is none, before
 /// anything is signed; the same document gets the same leaf again.
 pub fn sign<O: Write, E: Write>(
