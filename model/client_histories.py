@@ -8,8 +8,9 @@ import http_server
 import signed_documents as make
 from client import Client, SourceFault, consistent_name
 from denials import Denied
-from histories import GROUPS, LONG, PATHS, changed_byte
+from histories import GROUPS
 from layout_histories import LayoutHistory, chain_state
+from offers import LONG, PATHS, changed_byte
 from replay import Script
 from repository import State
 from scenes import NOW

@@ -9,7 +9,8 @@ import http_requests
 import signed_documents as make
 from delegation_rows import PATH, SEARCHES, VOUCHERS, graph_state, keys_of, parts_of, random_graph, read_whole
 from documents import is_document, read_document
-from histories import BLOBS, PATHS, History, version_of
+from histories import History, version_of
+from offers import BLOBS, PATHS
 from program import World
 from repository import State
 from scenes import LIVE, NOW

@@ -7,8 +7,10 @@ import subprocess
 import canonical_json
 import document_shapes
 import signed_documents as make
+from changes import VALUES
 from denials import Denied
-from documents import judge_ids, key_id, read_checked, read_delegations
+from document_parts import judge_ids, key_id
+from documents import read_checked, read_delegations
 from pattern_cases import VERDICTS
 from scenes import LIVE, ZEROS
 from test_keys import KEYS
@@ -133,7 +135,7 @@ class Cases(document_shapes.Cases):
         if place[0] != "delegations":
             return []
         is_repeated = place[1:2] == ("keys",) and place[2:3] != (KEYS[12].id,)
-        return self.random.sample(document_shapes.VALUES, 8) if is_repeated else document_shapes.VALUES
+        return self.random.sample(VALUES, 8) if is_repeated else VALUES
 
     def all(self):
         self.add("unchanged", self.good)

@@ -5,10 +5,11 @@ import document_shapes
 import layouts
 import rule_cases
 import signed_documents as make
+from changes import PATHS, VALUES, with_value
 from delegation_shapes import many_keys
 from denials import Denied
-from documents import Rule, read_checked, read_document
-from document_shapes import VALUES, with_value
+from document_parts import Rule
+from documents import read_checked, read_document
 from rule_cases import ONE, OTHER
 from scenes import EXPIRED, LIVE, NOW, ZEROS
 from test_keys import KEYS
@@ -83,7 +84,7 @@ class Cases(document_shapes.Cases):
         self.put((*REFERENCE, member), value)
 
     def targets(self):
-        for path in document_shapes.PATHS:
+        for path in PATHS:
             for member in ("path", "product"):
                 self.refer(member, path)
             self.refer("links", [path])
@@ -115,7 +116,7 @@ class Cases(document_shapes.Cases):
     def link(self):
         for name in STEP_NAMES:
             self.put(("name",), name)
-        for path in document_shapes.PATHS:
+        for path in PATHS:
             for side in ("materials", "products"):
                 self.put((side,), {path: {"sha256": ONE}})
                 self.put((side, path), {"sha256": ONE})

@@ -2,7 +2,7 @@
 import http_requests
 import signed_documents as make
 from delegation_histories import DelegationHistory
-from histories import BLOBS, PATHS
+from offers import BLOBS, PATHS
 from program import World
 from scenes import LIVE, NOW, signed_document, simple_state
 from supply_chains import Chain

@@ -2,7 +2,8 @@
 import canonical_json
 from command_line import DENIED, DONE, denied_line
 from denials import Denied
-from documents import MAXIMUM_LENGTH, MAXIMUM_SIGNATURES, read_envelope
+from document_parts import MAXIMUM_SIGNATURES
+from documents import MAXIMUM_LENGTH, read_envelope
 
 
 class Book:

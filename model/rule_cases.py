@@ -146,7 +146,7 @@ def is_case(value):
 
 def compare_shapes(session, random):
     """A case changed at every place: it is still one, or the line is not understood."""
-    from document_shapes import VALUES, changed_bytes, places, with_member, with_value, without
+    from changes import VALUES, changed_bytes, places, with_member, with_value, without
 
     links = {"s": {"materials": {"a": ONE}, "products": {}}, "t": {"materials": {}, "products": {"b": ONE}}}
     good = value_of([["ALLOW", "*"], ["REQUIRE", "a"]], "materials", links, "s")

@@ -3,7 +3,7 @@ import importlib.util
 from pathlib import Path
 
 import canonical_json
-import documents
+import document_parts
 import lms
 import signed_documents as make
 from documents import read_document
@@ -115,7 +115,7 @@ def compare_odd_keys(session, _random):
     good = key.sign(canonical_json.write(timestamp))
     for tree_type, one_time_type in ((5, 0), (5, 5), (4, 3), (10, 3), (0, 0), (6, 3), (5, 4), (9, 4), (7, 1)):
         public = lms.u32(tree_type) + lms.u32(one_time_type) + key.public[8:]
-        keyid = documents.key_id(public.hex())
+        keyid = document_parts.key_id(public.hex())
         state = one_key_state({keyid: make.key_object(public.hex())}, keyid, KEYS[0:1])
         requests = []
         for signature in (good, replaced(good, 4, lms.u32(one_time_type)), b""):

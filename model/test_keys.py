@@ -6,7 +6,7 @@ compares the two.
 """
 import hashlib
 
-import documents
+import document_parts
 import lms
 from lms import sha256, u16, u32
 
@@ -27,7 +27,7 @@ class Key:
         self.elements = lms.ONE_TIME_TYPES[self.one_time_type][1]
         self.tree = self.make_tree()
         self.public = u32(self.tree_type) + u32(self.one_time_type) + self.identifier + self.tree[1]
-        self.id = documents.key_id(self.public.hex())
+        self.id = document_parts.key_id(self.public.hex())
         self.next_leaf = 0
         self.signatures = {}
 
