@@ -116,10 +116,7 @@ fn enter<'a>(
         return Err(SearchDenial::TooManyRoles);
     }
     visited.add(edge.role);
-    let file = match visit(shelf, &edge, query.known, query.moment, checks) {
-        Ok(file) => file,
-        Err(denial) => return Err(denial),
-    };
+    let file = visit(shelf, &edge, query.known, query.moment, checks)?;
     if let Some(listing) = file.body.listing(query.path.as_str()) {
         return Ok(Some(Found {
             role: edge.role,
