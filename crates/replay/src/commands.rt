@@ -1,6 +1,6 @@
 //! Commands over the store, each answered by one line.
 use crate::cold::cold_search;
-use crate::descriptions::Kind;
+use crate::descriptions::kind_named;
 use crate::escapes::with_literals;
 use crate::failure::LineFault;
 use crate::files::find;
@@ -8,6 +8,7 @@ use crate::replies::{fault_text, reply_text, row_text, told};
 use crate::session::Session;
 use crate::words::{byte_of, digest_word};
 use machine::{Offer, Steps, TargetPath};
+use metadata::Kind;
 use path_patterns::RoleName;
 use std::alloc::Global;
 use store::{Command, Reply, StoreFault};
@@ -22,7 +23,7 @@ fn offer_of(alloc: Global, role: &str) -> Result<Offer, LineFault> {
 
 // The kind of the documents of a role.
 fn kind_of(role: &str) -> Kind {
-    match Kind::named(role) {
+    match kind_named(role) {
         Some(Kind::Root) => Kind::Root,
         Some(Kind::Timestamp) => Kind::Timestamp,
         Some(Kind::Snapshot) => Kind::Snapshot,

@@ -7,35 +7,23 @@ use crate::files::{File, find};
 use crate::layout_words::{SaidLink, reference_of, step_of};
 use crate::words::{delegation_of, entry_of, leaf_of, listing_of, number_of, rule_of};
 use canonical_json::write;
+use metadata::Kind;
 use signed_files::{
     Delegation, Entry, Keys, LayoutReference, Leaf, Listing, Root, Rule, Step, Targets, Value,
     layout_signed, link_signed, meta_signed, root_signed, signed_file, targets_signed,
 };
 use std::alloc::Global;
 
-/// A kind of documents.
-#[derive(Debug, Clone, Copy, PartialEq, Eq)]
-pub enum Kind {
-    Root,
-    Timestamp,
-    Snapshot,
-    Targets,
-    Layout,
-    Link,
-}
-
-impl Kind {
-    /// The kind that a word names.
-    pub fn named(word: &str) -> Option<Kind> {
-        match word {
-            "root" => Some(Kind::Root),
-            "timestamp" => Some(Kind::Timestamp),
-            "snapshot" => Some(Kind::Snapshot),
-            "targets" => Some(Kind::Targets),
-            "layout" => Some(Kind::Layout),
-            "link" => Some(Kind::Link),
-            _ => None,
-        }
+/// The kind of documents that a word names.
+pub fn kind_named(word: &str) -> Option<Kind> {
+    match word {
+        "root" => Some(Kind::Root),
+        "timestamp" => Some(Kind::Timestamp),
+        "snapshot" => Some(Kind::Snapshot),
+        "targets" => Some(Kind::Targets),
+        "layout" => Some(Kind::Layout),
+        "link" => Some(Kind::Link),
+        _ => None,
     }
 }
 
@@ -129,7 +117,7 @@ impl Description {
 
     fn take_rule(&mut self, name: &str, value: &str) -> Result<(), LineFault> {
         let rule = rule_of(self.alloc, value)?;
-        match Kind::named(name) {
+        match kind_named(name) {
             Some(Kind::Root) => self.rules.root = rule,
             Some(Kind::Timestamp) => self.rules.timestamp = rule,
             Some(Kind::Snapshot) => self.rules.snapshot = rule,
@@ -329,7 +317,7 @@ fn description_of(
     words: &str,
 ) -> Result<Description, LineFault> {
     let (kind, rest) = match words.split_once(' ') {
-        Some((first, rest)) => match Kind::named(first) {
+        Some((first, rest)) => match kind_named(first) {
             Some(kind) => (kind, rest),
             None => (usual, words),
         },

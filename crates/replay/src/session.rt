@@ -1,13 +1,13 @@
 //! What a script works on.
 use crate::base::{Base, exchange};
-use crate::descriptions::{Kind, described, leaves_of, signed_by};
+use crate::descriptions::{described, leaves_of, signed_by};
 use crate::escapes::{bytes_of_hex, expanded};
 use crate::failure::LineFault;
 use crate::files::{File, find, put};
 use crate::source::{Answer, said_by};
 use crate::words::number_of;
 use http_serve::Routes;
-use metadata::{Moment, read_date_time};
+use metadata::{Kind, Moment, read_date_time};
 use signed_files::{Keys, OtsType};
 use std::alloc::{AllocError, Global};
 
