@@ -23,6 +23,24 @@ databases_that_are_none() {
     wants 3 '' 'fault database\n' put --at=$at --db "$folder/root.db" "$example/root.json"
 }
 
+# Tables, indexes and views behind the five are let be. A foreign key onto one of the five is refused.
+what_stands_behind_is_let_be() {
+    local digest
+    digest=$(sha256sum "$example/hello.txt" | cut -c1-64)
+    dump "$folder/begun.db" "$folder/dump"
+    sqlite3 "$folder/further.db" <"$folder/dump"
+    sqlite3 "$folder/further.db" 'CREATE TABLE further(a PRIMARY KEY, b REFERENCES further(a)); INSERT INTO further VALUES (1, 1);
+        CREATE INDEX by_bytes ON blob(bytes); CREATE VIEW digests AS SELECT digest FROM blob'
+    sqlite3 "$folder/onto.db" <"$folder/dump"
+    sqlite3 "$folder/onto.db" 'CREATE TABLE further(a REFERENCES blob(digest))'
+    for _ in 1 2; do
+        wants 0 "$digest\n" '' put --at=$at --db "$folder/further.db" "$example/hello.txt"
+        rows "$folder/further.db" 'SELECT a, b, digest FROM further, digests' "1|1|$digest\n"
+        rows "$folder/further.db" 'PRAGMA integrity_check' 'ok\n'
+    done
+    wants 3 '' 'fault database\n' put --at=$at --db "$folder/onto.db" "$example/hello.txt"
+}
+
 # What was done stays done where it cannot be said.
 outputs_that_fail() {
     ends 3 '' 'fault file\n' with_no_output --help

@@ -48,7 +48,7 @@ document() {
     printf '],"signed":%s}' "$2"
 }
 
-# The four parts share these variables: the book, the seed and the words that name both, and a document before and behind a signing.
+# The five parts share these variables: the book, the seed and the words that name both, and a document before and behind a signing.
 documents_are_signed() {
     local book=$folder/book seed=$folder/signing.seed signed=$folder/signed unsigned=$folder/unsigned
     local words=(--book "$book" --seed "$seed" --ots 8 --height 5)
@@ -56,6 +56,7 @@ documents_are_signed() {
     a_document_is_signed
     documents_at_the_limits
     faults_of_signing
+    a_book_with_a_further_table
     leaves_are_spent
 }
 
@@ -100,6 +101,16 @@ faults_of_signing() {
     wants 3 '' 'fault database\n' sign --book "$folder/none/book" --seed "$seed" --ots 8 --height 5 "$signed"
     sqlite3 "$folder/other" 'CREATE TABLE x(y)'
     wants 3 '' 'fault database\n' sign --book "$folder/other" --seed "$seed" --ots 8 --height 5 "$signed"
+}
+
+# A table behind the two of a book is let be.
+a_book_with_a_further_table() {
+    dump "$book" "$folder/dump"
+    sqlite3 "$folder/further" <"$folder/dump"
+    sqlite3 "$folder/further" 'CREATE TABLE further(a); INSERT INTO further VALUES (1)'
+    "$release" sign --book "$folder/further" --seed "$seed" --ots 8 --height 5 "$signed" >"$folder/again"
+    same "signed again with a further table" "$signed" "$folder/again"
+    rows "$folder/further" 'SELECT a FROM further' '1\n'
 }
 
 # Three of 32 leaves are taken so far. When all are, a document that has one is signed again, and no other.

@@ -204,7 +204,12 @@ OTHER_STATEMENTS = {
 }
 FURTHER = [
     "CREATE TABLE further(a)", "CREATE INDEX further ON blob(digest)", "CREATE VIEW further AS SELECT 1",
-    "CREATE TRIGGER further AFTER INSERT ON blob BEGIN SELECT 1; END", "ANALYZE",
+    "CREATE VIEW further AS SELECT digest FROM blob", "CREATE UNIQUE INDEX further ON blob(digest, bytes)",
+    "CREATE TABLE further(a PRIMARY KEY, b REFERENCES further(a))",
+]
+REFUSED_FURTHER = [
+    "CREATE TABLE further(a REFERENCES blob(digest))", "CREATE TABLE further(a, b, FOREIGN KEY (b) REFERENCES Root(version))",
+    "CREATE TRIGGER further AFTER INSERT ON blob BEGIN SELECT 1; END",
 ]
 HARMLESS_AFTER = ["VACUUM", "PRAGMA user_version = 7", "PRAGMA application_id = 7"]
 HARMLESS_BEFORE = [
@@ -218,9 +223,14 @@ def compare_forms(session, _random):
     listed = list(tables.TABLES)
     for order in (listed[::-1], ["schema", *listed[:-1]]):
         session.check(f"order {order}", REFUSED, put_blob(session, build(session, order, rows)))
-    for statement in FURTHER:
+    for statement in REFUSED_FURTHER:
         database = build(session, listed, rows, after=[statement])
         session.check(f"further {statement}", REFUSED, put_blob(session, database))
+    for statement in FURTHER:
+        database = build(session, listed, rows, after=[statement])
+        session.check(f"further {statement}", STORED, put_blob(session, database))
+        session.check(f"further {statement}, again", STORED, put_blob(session, database))
+        session.check(f"before {statement}", REFUSED, put_blob(session, build(session, listed, rows, before=[statement])))
     for statement in HARMLESS_AFTER:
         session.check(statement, STORED, put_blob(session, build(session, listed, rows, after=[statement])))
     for statement in HARMLESS_BEFORE:

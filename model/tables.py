@@ -88,5 +88,5 @@ def stand_for_a_state(rows):
 
 
 def are_opened(tables):
-    """Only a beginning of the five tables is opened (docs/DECISIONS.md, "Which databases are opened")."""
-    return list(tables) == list(TABLES)[:len(tables)]
+    """A beginning of the five tables, or all with others behind them (docs/DECISIONS.md, "Which databases are opened")."""
+    return list(tables)[:len(TABLES)] == list(TABLES)[:len(tables)]

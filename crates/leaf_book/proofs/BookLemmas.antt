@@ -7,7 +7,8 @@ use Rattle.sql_tables.specs.Loading.{AreLoaded}
 use Rattle.sqlite.specs.Effect.{Database}
 use Rattle.sqlite.specs.State.{State, Shows}
 use Rattle.sql_tables.specs.Making.{IsMade}
-use Rattle.leaf_book.specs.Schema.{the_schema}
+use Rattle.sql_tables.proofs.Shapes.{has_all_alone}
+use Rattle.leaf_book.specs.Schema.{HasBoth, the_schema, two}
 use Rattle.leaf_book.specs.steps.Loading.{AreLeaves, AreSigners, three_cells}
 use Rattle.leaf_book.specs.steps.Making.{nowhere}
 use Rattle.leaf_book.specs.Book.{AreSame, Book, IsBook, Kept, Signer, no_book}
@@ -73,7 +74,7 @@ pub committed : (tx end : State) → IsMade nowhere the_schema tx → Shows tx e
 committed tx end is shows = record {
   is_open = shows.is_open;
   autocommit = shows.mode;
-  schema = ap (λ (d : Database). d.schema) shows.now_is ∙ is.schema_is;
+  schema = subst HasBoth (sym (ap (λ (d : Database). d.schema) shows.now_is ∙ is.schema_is)) (has_all_alone two);
   settled = shows.now_is ∙ sym shows.committed_is;
   holds = subst (λ (d : Database). HoldsBook d.trees no_book) (sym shows.now_is) (made_book tx is);
 }

@@ -1,5 +1,5 @@
 -- What one INSERT outside a transaction does to the book, and one look at it.
-use Rattle.std.proofs.Common.{◌≡◌, ◌⊎◌, inl, inr, ℕ, pos, List, [], ◌∷◌, ◌++◌, true, cond, None, Ok, Err, IsTrue, refl, sym, ap, subst, ◌∙◌}
+use Rattle.std.proofs.Common.{◌≡◌, ◌⊎◌, inl, inr, ℕ, pos, List, [], ◌∷◌, ◌++◌, true, cond, None, Ok, Err, IsTrue, refl, sym, ap, subst, ◌∙◌, arith}
 use Rattle.sqlite.specs.declared.types.Value.TheVariants.{Null, Int, Text, Blob}
 use Rattle.sqlite.specs.Order.{Row}
 use Rattle.sqlite_rules.specs.Edit.{edit_of, next_rowid, put_all, are_fresh}
@@ -13,18 +13,20 @@ use Rattle.sqlite_trees.specs.Tree.{Trees}
 use Rattle.sqlite.specs.Does.{Tally, Does}
 use Rattle.sqlite.specs.Effect.{Database}
 use Rattle.sqlite.specs.State.{State, Executes, CommitsBy, IsUnchanged, IsRolledBack}
+use Rattle.sqlite.specs.Schema.{Schema}
 use Rattle.sqlite.specs.Listing.{understood}
 use Rattle.sqlite.proofs.Callers.{statement_of, runs_as}
-use Rattle.sql_tables.specs.Described.{table_of}
+use Rattle.sql_tables.specs.Described.{followed, table_of}
 use Rattle.sql_tables.proofs.Insert.{inserts_by, enforced}
+use Rattle.sql_tables.proofs.References.{unreferenced}
 use Rattle.sql_tables.proofs.Statements.{cast_int, cast_null}
 use Rattle.lms.specs.declared.Params.{Params}
 use Rattle.lms.specs.Parameters.{height, ots_code, signing_type}
 use Rattle.leaf_book.specs.Book.{Book, Kept, Signer, with_leaf, with_signer}
 use Rattle.leaf_book.specs.Rows.{AreRowsOf, HoldsBook, IsLeafFrom, IsRecorded, IsSignerFrom}
-use Rattle.leaf_book.specs.Schema.{leaf_table, signer_table, the_schema}
+use Rattle.leaf_book.specs.Schema.{HasBoth, leaf_table, signer_table, two}
 use Rattle.leaf_book.proofs.Autocommit.{commits_as, left_by_error}
-use Rattle.leaf_book.proofs.Texts.{insert_leaf, insert_leaf_is, insert_leaf_plain, insert_signer, insert_signer_is, insert_signer_plain, three_values}
+use Rattle.leaf_book.proofs.Texts.{insert_leaf, insert_leaf_means, insert_signer, insert_signer_means, three_values}
 
 -- ---- a row more
 
@@ -51,16 +53,17 @@ leaf_params key leaf message = Text key ∷ Int (pos leaf) ∷ Blob message ∷ 
 abbrev pub signer_params : List ℕ → Params → Row
 signer_params key params = Text key ∷ Int (pos (ots_code params.ots)) ∷ Int (pos (height (signing_type params.height))) ∷ []
 
-abbrev leaf_text : List ℕ
-leaf_text = statement_of insert_leaf (understood the_schema insert_leaf)
+abbrev leaf_text : Schema → List ℕ
+leaf_text further = statement_of insert_leaf (understood (followed two further) insert_leaf)
 
-abbrev signer_text : List ℕ
-signer_text = statement_of insert_signer (understood the_schema insert_signer)
+abbrev signer_text : Schema → List ℕ
+signer_text further = statement_of insert_signer (understood (followed two further) insert_signer)
 
-puts_leaf : (limit : _) (before after : Database) (key : List ℕ) (leaf : ℕ) (message : List ℕ) (t : List ℕ) (tally : Tally) (b : Book) → before.schema ≡ the_schema → HoldsBook before.trees b
-    → Does limit enforced (leaf_params key leaf message) before t None (Insert 1 (Values three_values 4)) (Ok (tally, after)) → HoldsBook after.trees (with_leaf key leaf message b) × (after.schema ≡ the_schema)
+puts_leaf : (limit : _) (before after : Database) (key : List ℕ) (leaf : ℕ) (message : List ℕ) (t : List ℕ) (tally : Tally) (b : Book) → HasBoth before.schema → HoldsBook before.trees b
+    → Does limit enforced (leaf_params key leaf message) before t None (Insert 1 (Values three_values 4)) (Ok (tally, after)) → HoldsBook after.trees (with_leaf key leaf message b) × HasBoth after.schema
 puts_leaf limit before after key leaf message t tally b has holds does =
-    let a = inserts_by the_schema 1 _ _ _ _ _ 2 refl (λ _ _. refl) limit before after (leaf_params key leaf message) three_values 4 t tally has does in
+    let free = unreferenced two has.0 1 (omega arith) has.2 in
+    let a = inserts_by (followed two has.0) 1 _ _ _ _ _ 2 refl free limit before after (leaf_params key leaf message) three_values 4 t tally has.1 does in
     let db = before.trees in
     let e : Kept = record { key = key; leaf = leaf; message = message } in
     let row : Row = Int (next_rowid (db 2)) ∷ leaf_params key leaf message in
@@ -73,13 +76,14 @@ puts_leaf limit before after key leaf message t tally b has holds does =
         signers = subst (λ r. AreRowsOf (IsSignerFrom 1) r b.signers) (sym other) holds.signers;
         leaves = subst (λ r. AreRowsOf (IsLeafFrom 1) r (b.leaves ++ e ∷ [])) (sym rows) (one_more (IsLeafFrom 1) (db 2) b.leaves holds.leaves row e (refl, refl, refl) fresh);
       },
-      a.1,
+      (has.0, a.1, has.2),
     )
 
-puts_signer : (limit : _) (before after : Database) (key : List ℕ) (params : Params) (t : List ℕ) (tally : Tally) (b : Book) → before.schema ≡ the_schema → HoldsBook before.trees b
-    → Does limit enforced (signer_params key params) before t None (Insert 0 (Values three_values 4)) (Ok (tally, after)) → HoldsBook after.trees (with_signer key params b) × (after.schema ≡ the_schema)
+puts_signer : (limit : _) (before after : Database) (key : List ℕ) (params : Params) (t : List ℕ) (tally : Tally) (b : Book) → HasBoth before.schema → HoldsBook before.trees b
+    → Does limit enforced (signer_params key params) before t None (Insert 0 (Values three_values 4)) (Ok (tally, after)) → HoldsBook after.trees (with_signer key params b) × HasBoth after.schema
 puts_signer limit before after key params t tally b has holds does =
-    let a = inserts_by the_schema 0 _ _ _ _ _ 0 refl (λ _ _. refl) limit before after (signer_params key params) three_values 4 t tally has does in
+    let free = unreferenced two has.0 0 (omega arith) has.2 in
+    let a = inserts_by (followed two has.0) 0 _ _ _ _ _ 0 refl free limit before after (signer_params key params) three_values 4 t tally has.1 does in
     let db = before.trees in
     let s : Signer = record { key = key; params = params } in
     let row : Row = Int (next_rowid (db 0)) ∷ signer_params key params in
@@ -92,13 +96,14 @@ puts_signer limit before after key params t tally b has holds does =
         signers = subst (λ r. AreRowsOf (IsSignerFrom 1) r (b.signers ++ s ∷ [])) (sym rows) (one_more (IsSignerFrom 1) (db 0) b.signers holds.signers row s (refl, refl, refl) fresh);
         leaves = subst (λ r. AreRowsOf (IsLeafFrom 1) r b.leaves) (sym other) holds.leaves;
       },
-      a.1,
+      (has.0, a.1, has.2),
     )
 
 pub leaf_kept : (old new : State) (key : List ℕ) (leaf : ℕ) (message : List ℕ) (count : ℕ) (b : Book) → IsRecorded old b → Executes insert_leaf (leaf_params key leaf message) old new (Ok count) → IsRecorded new (with_leaf key leaf message b)
 leaf_kept old new key leaf message count b is h =
-    let w = runs_as insert_leaf (leaf_params key leaf message) old new the_schema is.schema (Insert 1 (Values three_values 4)) insert_leaf_is insert_leaf_plain count h in
-    let a = puts_leaf old.step_limit old.now new.now key leaf message leaf_text w.tally b is.schema is.holds w.changed in
+    let further = is.schema.0 in
+    let w = runs_as insert_leaf (leaf_params key leaf message) old new (followed two further) is.schema.1 (Insert 1 (Values three_values 4)) (insert_leaf_means further).0 (insert_leaf_means further).1 count h in
+    let a = puts_leaf old.step_limit old.now new.now key leaf message (leaf_text further) w.tally b is.schema is.holds w.changed in
     record {
       is_open = w.shown.is_open;
       autocommit = w.shown.mode ∙ is.autocommit;
@@ -109,8 +114,9 @@ leaf_kept old new key leaf message count b is h =
 
 pub signer_kept : (old new : State) (key : List ℕ) (params : Params) (count : ℕ) (b : Book) → IsRecorded old b → Executes insert_signer (signer_params key params) old new (Ok count) → IsRecorded new (with_signer key params b)
 signer_kept old new key params count b is h =
-    let w = runs_as insert_signer (signer_params key params) old new the_schema is.schema (Insert 0 (Values three_values 4)) insert_signer_is insert_signer_plain count h in
-    let a = puts_signer old.step_limit old.now new.now key params signer_text w.tally b is.schema is.holds w.changed in
+    let further = is.schema.0 in
+    let w = runs_as insert_signer (signer_params key params) old new (followed two further) is.schema.1 (Insert 0 (Values three_values 4)) (insert_signer_means further).0 (insert_signer_means further).1 count h in
+    let a = puts_signer old.step_limit old.now new.now key params (signer_text further) w.tally b is.schema is.holds w.changed in
     record {
       is_open = w.shown.is_open;
       autocommit = w.shown.mode ∙ is.autocommit;
@@ -120,15 +126,15 @@ signer_kept old new key params count b is h =
     }
 
 pub may_keep_leaf : (old : State) (key : List ℕ) (leaf : ℕ) (message : List ℕ) (b : Book) (db : Trees) → CommitsBy insert_leaf (leaf_params key leaf message) old db → IsRecorded old b → HoldsBook db (with_leaf key leaf message b)
-may_keep_leaf old key leaf message b db h is = elim (commits_as insert_leaf (leaf_params key leaf message) old the_schema is.schema (Insert 1 (Values three_values 4)) insert_leaf_is insert_leaf_plain db h) [
+may_keep_leaf old key leaf message b db h is = elim (commits_as insert_leaf (leaf_params key leaf message) old (followed two is.schema.0) is.schema.1 (Insert 1 (Values three_values 4)) (insert_leaf_means is.schema.0).0 (insert_leaf_means is.schema.0).1 db h) [
   | inl other ↦ absurd (elim other.0 [ inl c ↦ cc | inr r ↦ let e = r.2 in cc ])
-  | inr write ↦ subst (λ (d : Trees). HoldsBook d (with_leaf key leaf message b)) (sym write.5) (puts_leaf old.step_limit old.now write.2 key leaf message leaf_text write.1 b is.schema is.holds write.3).0
+  | inr write ↦ subst (λ (d : Trees). HoldsBook d (with_leaf key leaf message b)) (sym write.5) (puts_leaf old.step_limit old.now write.2 key leaf message (leaf_text is.schema.0) write.1 b is.schema is.holds write.3).0
 ]
 
 pub may_keep_signer : (old : State) (key : List ℕ) (params : Params) (b : Book) (db : Trees) → CommitsBy insert_signer (signer_params key params) old db → IsRecorded old b → HoldsBook db (with_signer key params b)
-may_keep_signer old key params b db h is = elim (commits_as insert_signer (signer_params key params) old the_schema is.schema (Insert 0 (Values three_values 4)) insert_signer_is insert_signer_plain db h) [
+may_keep_signer old key params b db h is = elim (commits_as insert_signer (signer_params key params) old (followed two is.schema.0) is.schema.1 (Insert 0 (Values three_values 4)) (insert_signer_means is.schema.0).0 (insert_signer_means is.schema.0).1 db h) [
   | inl other ↦ absurd (elim other.0 [ inl c ↦ cc | inr r ↦ let e = r.2 in cc ])
-  | inr write ↦ subst (λ (d : Trees). HoldsBook d (with_signer key params b)) (sym write.5) (puts_signer old.step_limit old.now write.2 key params signer_text write.1 b is.schema is.holds write.3).0
+  | inr write ↦ subst (λ (d : Trees). HoldsBook d (with_signer key params b)) (sym write.5) (puts_signer old.step_limit old.now write.2 key params (signer_text is.schema.0) write.1 b is.schema is.holds write.3).0
 ]
 
 -- ---- where nothing was written
@@ -137,7 +143,7 @@ pub recorded_same : (old new : State) (b : Book) → IsUnchanged old new → IsR
 recorded_same old new b same is = record {
   is_open = same.0.is_open;
   autocommit = same.0.mode ∙ is.autocommit;
-  schema = ap (λ (d : Database). d.schema) same.0.now_is ∙ is.schema;
+  schema = subst (λ (d : Database). HasBoth d.schema) (sym same.0.now_is) is.schema;
   settled = same.0.now_is ∙ is.settled ∙ sym same.0.committed_is;
   holds = subst (λ (d : Database). HoldsBook d.trees b) (sym same.0.now_is) is.holds;
 }
@@ -149,7 +155,7 @@ recorded_back old new b stays back is =
     record {
       is_open = stays;
       autocommit = back.autocommit;
-      schema = ap (λ (d : Database). d.schema) now ∙ is.schema;
+      schema = subst (λ (d : Database). HasBoth d.schema) (sym now) is.schema;
       settled = both.0 ∙ sym both.1;
       holds = subst (λ (d : Database). HoldsBook d.trees b) (sym now) is.holds;
     }

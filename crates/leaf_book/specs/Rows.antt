@@ -9,7 +9,7 @@ use Rattle.sqlite_rules.specs.Lists.{Has}
 pub use Rattle.sql_tables.specs.Opening.{IsSettled}
 use Rattle.lms.specs.Parameters.{height, ots_code, signing_type}
 use Rattle.leaf_book.specs.Book.{Book, IsBook, Kept, Signer, no_book}
-use Rattle.leaf_book.specs.Schema.{no_schema, the_schema}
+use Rattle.leaf_book.specs.Schema.{HasBoth, no_schema}
 
 -- the cells of a row from column `n` on: the key id, the number of the LM-OTS type (RFC 8554, section 4.1), the height of the tree
 abbrev pub IsSignerFrom : ℕ → Row → Signer → Type 0
@@ -29,17 +29,17 @@ pub record HoldsBook (trees : Trees) (b : Book) : Type 0 where
   pub signers : AreRowsOf (IsSignerFrom 1) (trees 0) b.signers
   pub leaves : AreRowsOf (IsLeafFrom 1) (trees 2) b.leaves
 
--- between two statements: the connection is open and in no transaction, its tables are the two, and hold the rows of the book
+-- between two statements: the connection is open and in no transaction, both tables are there, and hold the rows of the book
 pub record IsRecorded (s : State) (b : Book) : Type 0 where
   pub is_open : IsTrue s.is_open
   pub autocommit : s.in_transaction ≡ false
-  pub schema : s.now.schema ≡ the_schema
+  pub schema : HasBoth s.now.schema
   pub settled : s.now ≡ s.committed
   pub holds : HoldsBook s.now.trees b
 
 -- What a database stands for: the rows of a book in its two tables, or no table at all, which is the empty book.
 abbrev pub Stands : Database → Book → Type 0
-Stands db b = ((db.schema ≡ the_schema) × HoldsBook db.trees b) ⊎ ((db.schema ≡ no_schema) × (b ≡ no_book))
+Stands db b = (HasBoth db.schema × HoldsBook db.trees b) ⊎ ((db.schema ≡ no_schema) × (b ≡ no_book))
 
 -- the same of trees, whose schema is read from them
 abbrev pub TreesStand : Trees → Book → Type 0
@@ -47,7 +47,7 @@ TreesStand trees b = (db : Database) × (db.trees ≡ trees) × IsDatabase db ×
 
 -- the database of these trees has the two tables, and their rows are those of no book that is in order
 abbrev pub HoldsNoBook : Trees → Type 0
-HoldsNoBook trees = (db : Database) × (db.trees ≡ trees) × IsDatabase db × (db.schema ≡ the_schema) × ((b : Book) → IsBook b → HoldsBook db.trees b → ⊥)
+HoldsNoBook trees = (db : Database) × (db.trees ≡ trees) × IsDatabase db × HasBoth db.schema × ((b : Book) → IsBook b → HoldsBook db.trees b → ⊥)
 
 -- What an opening writes: where there was no table, the rows of the empty book.
 abbrev pub Begins : State → Trees → Type 0

@@ -1,8 +1,8 @@
--- The two tables of the book as data, and the schema that they are.
+-- The two tables of the book as data, and the schemas that have them.
 use Rattle.std.specs.Prelude.{[], ◌∷◌, codes, List}
 use Rattle.sqlite.specs.Schema.{Schema}
 use Rattle.sqlite.specs.Kind.TheVariants.{Integer, Text, Any}
-use Rattle.sql_tables.specs.Described.{Description, schema_of}
+use Rattle.sql_tables.specs.Described.{Description, HasAll, schema_of}
 use Rattle.sql_tables.specs.declared.described.Key.TheVariants.{FirstUnique, Absent}
 
 abbrev pub signer_table : Description
@@ -29,8 +29,14 @@ leaf_table = record {
 abbrev pub two : List Description
 two = signer_table ∷ leaf_table ∷ []
 
+-- the two tables alone, as they are made
 abbrev pub the_schema : Schema
 the_schema = schema_of two
+
+-- Both tables are there, first and in their order. Behind them may stand further tables, indexes and views, if no foreign key is onto
+-- one of the two.
+abbrev pub HasBoth : Schema → Type 0
+HasBoth schema = HasAll two schema
 
 abbrev pub no_schema : Schema
 no_schema = record { tables = []; indexes = []; views = [] }

@@ -1,6 +1,6 @@
 //! The two tables as data.
-ghost use Rattle.std.specs.Prelude.{◌≡◌, ◌≤◌, map, MatchOption};
-ghost use Rattle.sql_tables.specs.Described.{IsBeginning, beginning, described_view};
+ghost use Rattle.std.specs.Prelude.{◌≡◌, map, MatchOption};
+ghost use Rattle.sql_tables.specs.Described.{HasFirst, IsBeginning, described_view};
 ghost use Rattle.leaf_book.specs.Schema.{two};
 
 use sql_tables::{Described, Key};
@@ -49,9 +49,10 @@ pub(crate) fn two_tables() -> [Described<'static>; 2]
     ]
 }
 
-/// How many of the two tables there are, where they are the first in their order, and nothing else.
+/// How many of the two tables there are, where they are the first in their order, and nothing else, or both. Behind both may stand
+/// further tables, indexes and views, if no foreign key is onto one of the two.
 pub(crate) fn beginning_of(schema: &Schema) -> Option<usize>
-    ensures { MatchOption result (IsBeginning two schema.now → ⊥) (λ count. (schema.now ≡ beginning two count) × (count ≤ 2)) }
+    ensures { MatchOption result (IsBeginning two schema.now → ⊥) (λ count. HasFirst two count schema.now) }
 {
     sql_tables::beginning_of(&two_tables(), schema)
 }

@@ -18,7 +18,7 @@ pub enum BookFault {
     /// The key is registered with other parameters; at the opening, the rows are those of no book.
     #[error("damaged")]
     Damaged,
-    /// A call of the database answered a fault other than want of memory; at the opening, also where it has other tables.
+    /// A call of the database answered a fault other than want of memory; at the opening, also where its tables are not those of a book.
     #[error("database")]
     Database,
     /// Memory was refused, in the database or beside it.

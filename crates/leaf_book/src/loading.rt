@@ -6,7 +6,7 @@ ghost use Rattle.sql_tables.specs.Loading.{AreLoaded};
 ghost use Rattle.leaf_book.specs.Book.{Book, IsBook};
 ghost use Rattle.leaf_book.specs.Faults.{IsOutside};
 ghost use Rattle.leaf_book.specs.Rows.{HoldsBook};
-ghost use Rattle.leaf_book.specs.Schema.{the_schema};
+ghost use Rattle.leaf_book.specs.Schema.{HasBoth};
 ghost use Rattle.leaf_book.specs.Views.{book_view};
 ghost use Rattle.leaf_book.specs.steps.Loading.{AreAnswers, three_cells};
 
@@ -18,8 +18,8 @@ use std::alloc::Global;
 
 // The rows of `signer`.
 fn signer_rows<S: Alter>(conn: &mut Connection<S>) -> Result<Vec<Row>, BookFault>
-    ensures rows { HasCleanDisk (state S.Store conn.new) → (state S.Store conn.old).now.schema ≡ the_schema → IfOk result (λ rows. AreLoaded three_cells [] ((state S.Store conn.old).now.trees 0) rows.items) }
-    ensures unchanged { HasCleanDisk (state S.Store conn.new) → (state S.Store conn.old).now.schema ≡ the_schema → OnOk result (IsUnchanged (state S.Store conn.old) (state S.Store conn.new)) }
+    ensures rows { HasCleanDisk (state S.Store conn.new) → HasBoth (state S.Store conn.old).now.schema → IfOk result (λ rows. AreLoaded three_cells [] ((state S.Store conn.old).now.trees 0) rows.items) }
+    ensures unchanged { HasCleanDisk (state S.Store conn.new) → HasBoth (state S.Store conn.old).now.schema → OnOk result (IsUnchanged (state S.Store conn.old) (state S.Store conn.new)) }
     ensures fault { IfErr result IsOutside }
     ensures mode { conn.old.in_transaction ≡ false → conn.new.in_transaction ≡ false }
     ensures survives { Survives (state S.Store conn.old) (state S.Store conn.new) (λ _. ⊥) }
@@ -29,8 +29,8 @@ fn signer_rows<S: Alter>(conn: &mut Connection<S>) -> Result<Vec<Row>, BookFault
 
 // The rows of `leaf`.
 fn leaf_rows<S: Alter>(conn: &mut Connection<S>) -> Result<Vec<Row>, BookFault>
-    ensures rows { HasCleanDisk (state S.Store conn.new) → (state S.Store conn.old).now.schema ≡ the_schema → IfOk result (λ rows. AreLoaded three_cells [] ((state S.Store conn.old).now.trees 2) rows.items) }
-    ensures unchanged { HasCleanDisk (state S.Store conn.new) → (state S.Store conn.old).now.schema ≡ the_schema → OnOk result (IsUnchanged (state S.Store conn.old) (state S.Store conn.new)) }
+    ensures rows { HasCleanDisk (state S.Store conn.new) → HasBoth (state S.Store conn.old).now.schema → IfOk result (λ rows. AreLoaded three_cells [] ((state S.Store conn.old).now.trees 2) rows.items) }
+    ensures unchanged { HasCleanDisk (state S.Store conn.new) → HasBoth (state S.Store conn.old).now.schema → OnOk result (IsUnchanged (state S.Store conn.old) (state S.Store conn.new)) }
     ensures fault { IfErr result IsOutside }
     ensures mode { conn.old.in_transaction ≡ false → conn.new.in_transaction ≡ false }
     ensures survives { Survives (state S.Store conn.old) (state S.Store conn.new) (λ _. ⊥) }
@@ -47,8 +47,8 @@ pub(crate) struct Answers {
 
 // Asks for the rows of both tables.
 pub(crate) fn ask<S: Alter>(conn: &mut Connection<S>) -> Result<Answers, BookFault>
-    ensures rows { HasCleanDisk (state S.Store conn.new) → (state S.Store conn.old).now.schema ≡ the_schema → IfOk result (AreAnswers (state S.Store conn.old).now.trees) }
-    ensures unchanged { HasCleanDisk (state S.Store conn.new) → (state S.Store conn.old).now.schema ≡ the_schema → OnOk result (IsUnchanged (state S.Store conn.old) (state S.Store conn.new)) }
+    ensures rows { HasCleanDisk (state S.Store conn.new) → HasBoth (state S.Store conn.old).now.schema → IfOk result (AreAnswers (state S.Store conn.old).now.trees) }
+    ensures unchanged { HasCleanDisk (state S.Store conn.new) → HasBoth (state S.Store conn.old).now.schema → OnOk result (IsUnchanged (state S.Store conn.old) (state S.Store conn.new)) }
     ensures fault { IfErr result IsOutside }
     ensures mode { conn.old.in_transaction ≡ false → conn.new.in_transaction ≡ false }
     ensures survives { Survives (state S.Store conn.old) (state S.Store conn.new) (λ _. ⊥) }

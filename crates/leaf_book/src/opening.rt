@@ -5,7 +5,7 @@ ghost use Rattle.sqlite.specs.State.{HasCleanDisk, IsLive, Survives};
 ghost use Rattle.leaf_book.specs.Book as plain;
 ghost use Rattle.leaf_book.specs.Book.{IsBook, no_book};
 ghost use Rattle.leaf_book.specs.Rows.{Begins, HoldsBook, HoldsNoBook, IsRecorded, IsSettled, Stands, TreesStand};
-ghost use Rattle.leaf_book.specs.Schema.{no_schema, the_schema};
+ghost use Rattle.leaf_book.specs.Schema.{HasBoth, no_schema};
 ghost use Rattle.leaf_book.specs.Views.{book_view};
 
 use crate::book::Book;
@@ -26,13 +26,14 @@ pub struct Unopened<S: Alter> {
 
 impl<S: Alter + Drop> Book<S> {
     /// Opens a book over a connection: what it holds is read from its tables, and where there is no table, both are made, in one
-    /// transaction. What was not committed over the connection is undone; where there was such a thing, its clock and step limit
-    /// are lost.
+    /// transaction. Behind the two may stand further tables, indexes and views. What was not committed over the connection is undone;
+    /// where there was such a thing, its clock and step limit are lost.
     ///
     /// - `Damaged`: the tables are those of a book, and their rows are those of none: a key that is not 64 hex digits of lower case,
     ///   a type code outside 1 to 4, a height other than 5 or 10, a leaf of an unknown key or one that its tree does not have, or a
     ///   value of another type than its column's.
-    /// - `Database`: a call of the database answered a fault, or it has other tables than the two of a book.
+    /// - `Database`: a call of the database answered a fault, or it has tables, and the two of a book do not come first, in their
+    ///   order, or a further one has a foreign key onto one of them.
     /// - `OutOfMemory`: memory was refused.
     pub fn open(alloc: Global, conn: Connection<S>) -> Result<Book<S>, BookFault>
         ensures opened { IfOk result (λ b. HasCleanDisk (state S.Store b.conn) → TreesStand (state S.Store conn).committed.trees b.book) }
@@ -83,9 +84,9 @@ fn load<S: Alter>(
 ) -> Result<(Vec<Signer>, Vec<Kept>), BookFault>
     ensures mode { conn.old.in_transaction ≡ false → conn.new.in_transaction ≡ false }
     ensures right { IfOk result (λ p. IsBook (book_view p.0.items p.1.items)) }
-    ensures loaded { HasCleanDisk (state S.Store conn.new) → conn.old.in_transaction ≡ false → IsSettled (state S.Store conn.old) → (state S.Store conn.old).now.schema ≡ the_schema
+    ensures loaded { HasCleanDisk (state S.Store conn.new) → conn.old.in_transaction ≡ false → IsSettled (state S.Store conn.old) → HasBoth (state S.Store conn.old).now.schema
         → IfOk result (λ p. IsTrue (state S.Store conn.old).is_open × HoldsBook (state S.Store conn.old).now.trees (book_view p.0.items p.1.items) × IsRecorded (state S.Store conn.new) (book_view p.0.items p.1.items)) }
-    ensures damaged { HasCleanDisk (state S.Store conn.new) → (state S.Store conn.old).now.schema ≡ the_schema → result ≡ Err BookFault.Damaged
+    ensures damaged { HasCleanDisk (state S.Store conn.new) → HasBoth (state S.Store conn.old).now.schema → result ≡ Err BookFault.Damaged
         → IsTrue (state S.Store conn.old).is_open × ((b : plain.Book) → IsBook b → HoldsBook (state S.Store conn.old).now.trees b → ⊥) }
     ensures fault { IfErr result (λ f. (f ≡ BookFault.Damaged) ⊎ ((f ≡ BookFault.Database) ⊎ (f ≡ BookFault.OutOfMemory))) }
     ensures survives { Survives (state S.Store conn.old) (state S.Store conn.new) (λ _. ⊥) }
@@ -109,7 +110,7 @@ fn prepare<S: Alter>(
     ensures found { HasCleanDisk (state S.Store conn.new) → IsSettled (state S.Store conn.old)
         → IfOk result (λ p. IsTrue (state S.Store conn.old).is_open × Stands (state S.Store conn.old).now (book_view p.0.items p.1.items) × IsRecorded (state S.Store conn.new) (book_view p.0.items p.1.items)) }
     ensures damaged { HasCleanDisk (state S.Store conn.new) → result ≡ Err BookFault.Damaged
-        → IsTrue (state S.Store conn.old).is_open × ((state S.Store conn.old).now.schema ≡ the_schema) × ((b : plain.Book) → IsBook b → HoldsBook (state S.Store conn.old).now.trees b → ⊥) }
+        → IsTrue (state S.Store conn.old).is_open × HasBoth (state S.Store conn.old).now.schema × ((b : plain.Book) → IsBook b → HoldsBook (state S.Store conn.old).now.trees b → ⊥) }
     ensures fault { IfErr result (λ f. (f ≡ BookFault.Damaged) ⊎ ((f ≡ BookFault.Database) ⊎ (f ≡ BookFault.OutOfMemory))) }
     ensures crash { Survives (state S.Store conn.old) (state S.Store conn.new) (λ trees. IsTrue (state S.Store conn.old).is_open → ((state S.Store conn.old).now.schema ≡ no_schema) × HoldsBook trees no_book) }
 {

@@ -12,4 +12,5 @@ pub mod MakingLemmas
 pub mod Calls
 pub mod Shapes
 pub mod Beginnings
+pub mod References
 pub mod Editing

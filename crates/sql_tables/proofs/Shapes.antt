@@ -1,12 +1,12 @@
--- When a schema is the beginning of a list.
-use Rattle.std.proofs.Common.{◌≡◌, ◌<◌, ◌≤◌, ◌+◌, ◌-◌, ◌++◌, ℕ, zero, suc, List, [], ◌∷◌, map, length, take, drop, refl, sym, ap, ◌∙◌, arith, slice_index_or}
-use Rattle.std.proofs.lemmas.List.{length-map, length-take}
+-- When a schema is the beginning of a list, or has all of it.
+use Rattle.std.proofs.Common.{◌≡◌, ◌<◌, ◌≤◌, ◌+◌, ◌-◌, ◌++◌, ℕ, zero, suc, List, [], ◌∷◌, map, length, take, drop, refl, sym, ap, ◌∙◌, arith, slice_index_or, Option, None, Some, MatchOption}
+use Rattle.std.proofs.lemmas.List.{append-nil, length-append, length-map, length-take}
 use Rattle.std.proofs.Math.Seq.{take-length}
 use Rattle.sql_tables.specs.declared.described.Described.{Described}
 use Rattle.sql_tables.specs.declared.described.Key.TheVariants.{Rowid}
 use Rattle.std.specs.List.{AllByRecursion}
 use Rattle.sqlite_trees.specs.Tree.{Trees}
-use Rattle.sql_tables.specs.Described.{at_place, described_view, tree_from, Description, indexes_at, indexes_from, tables_from, past_all, past_table, schema_of, beginning, IsBeginning}
+use Rattle.sql_tables.specs.Described.{at_place, described_view, tree_from, Description, indexes_at, indexes_from, tables_from, past_all, past_table, schema_of, beginning, followed, HasAll}
 use Rattle.sqlite.specs.Table.{Table}
 use Rattle.sqlite.specs.Schema.{Schema}
 
@@ -32,15 +32,38 @@ mapped_take f (suc n) (x ∷ xs) = ap (λ ys. f x ∷ ys) (mapped_take f n xs)
 pub beginning_count : (ds : List Description) (n : ℕ) (schema : Schema) → schema ≡ beginning ds n → length schema.tables ≡ length (take n ds)
 beginning_count ds n schema is = ap (λ (s : Schema). length s.tables) is ∙ tables_count 0 (take n ds)
 
-pub as_counted_by : (ds : List Description) (schema : Schema) → IsBeginning ds schema → schema ≡ beginning ds (length schema.tables)
-as_counted_by ds schema b = b.1 ∙ ap schema_of (sym (taken_again b.0 ds)) ∙ ap (beginning ds) (sym (beginning_count ds b.0 schema b.1))
+-- where not all are there, the tables say how many
+pub counted_by : (ds : List Description) (n : ℕ) (schema : Schema) → n < length ds → schema ≡ beginning ds n → length schema.tables ≡ n
+counted_by ds n schema few is = omega (arith, few, beginning_count ds n schema is, length-take n ds)
 
-pub fits_in : (ds : List Description) (schema : Schema) → IsBeginning ds schema → length schema.tables ≤ length ds
-fits_in ds schema b = omega (arith, taken_few b.0 ds, beginning_count ds b.0 schema b.1)
+-- all are at least as many
+pub all_count : (ds : List Description) (schema : Schema) → HasAll ds schema → length ds ≤ length schema.tables
+all_count ds schema has = omega (arith, ap (λ (s : Schema). length s.tables) has.1, length-append (tables_from 0 ds) has.0.tables, tables_count 0 ds)
+
+-- nothing stands behind them
+abbrev pub none_behind : Schema
+none_behind = record { tables = []; indexes = []; views = [] }
+
+pub followed_by_none : (ds : List Description) → followed ds none_behind ≡ schema_of ds
+followed_by_none ds = rw (append-nil (tables_from 0 ds), append-nil (indexes_from 0 ds)) refl
+
+pub has_all_alone : (ds : List Description) → HasAll ds (schema_of ds)
+has_all_alone ds = (none_behind, sym (followed_by_none ds), tt)
 
 -- all tables are a beginning
 pub whole_beginning : (ds : List Description) (n : ℕ) → n ≡ length ds → beginning ds n ≡ schema_of ds
 whole_beginning ds n all = ap (beginning ds) all ∙ ap schema_of (take-length ds)
+
+-- what is said of each of a list, of its first and of the rest
+pub all_split : {X : Type 0} (P : X → Type 0) (xs : List X) (d : X) → 1 ≤ length xs → AllByRecursion P xs ≡ (P (slice_index_or xs 0 d) × AllByRecursion P (take (length xs - 1) (drop 1 xs)))
+all_split P [] d some = absurd (omega (arith, some))
+all_split P (x ∷ xs) d some =
+    let less : length (x ∷ xs) - 1 ≡ length xs = omega arith in
+    ap (λ rest. P x × AllByRecursion P rest) (sym (ap (λ n. take n xs) less ∙ take-length xs))
+
+pub matched : {A : Type 0} {P P' : Type 0} {Q Q' : A → Type 0} (r : Option A) → MatchOption r P Q → (P → P') → ((a : A) → Q a → Q' a) → MatchOption r P' Q'
+matched None p none some = none p
+matched (Some a) q none some = some a q
 
 -- ---- trees
 

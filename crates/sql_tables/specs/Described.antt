@@ -1,11 +1,13 @@
 -- Tables as data: a list of descriptions is a schema.
-use Rattle.std.specs.Prelude.{◌≡◌, ◌+◌, ◌<◌, ◌≤◌, ℕ, zero, suc, List, [], ◌∷◌, ◌++◌, Option, None, Some, map, length, take, slice_index_or}
+use Rattle.std.specs.Prelude.{◌≡◌, ◌⊎◌, ◌+◌, ◌<◌, ◌≤◌, ℕ, zero, suc, List, [], ◌∷◌, ◌++◌, Option, None, Some, false, map, length, take, slice_index_or}
 use Rattle.std.specs.List.{AllByRecursion}
 use Rattle.sqlite.specs.Kind.{Kind}
 use Rattle.sqlite.specs.Table.{Table}
 use Rattle.sqlite.specs.Schema.{Schema}
 use Rattle.sqlite_schema.specs.declared.schema.Column.{Column}
+use Rattle.sqlite_schema.specs.Names.{same_name}
 use Rattle.sqlite_schema.specs.declared.schema.Index.{Index}
+use Rattle.sqlite_schema.specs.declared.schema.Reference.{Reference}
 use Rattle.sqlite_trees.specs.Tree.{Trees}
 use Rattle.sqlite_catalog.specs.Change.{next_tree}
 use Rattle.sql_tables.specs.declared.described.Described.{Described}
@@ -88,9 +90,30 @@ past_all tree (d ∷ ds) = past_all (past_table d tree) ds
 abbrev pub beginning : List Description → ℕ → Schema
 beginning ds count = schema_of (take count ds)
 
--- The tables are the first in the order in which they are made: none, some or all, and nothing else.
+-- the tables of a list with their indexes, and what stands behind them
+abbrev pub followed : List Description → Schema → Schema
+followed ds further = record { tables = tables_from 0 ds ++ further.tables; indexes = indexes_from 0 ds ++ further.indexes; views = further.views }
+
+-- No foreign key of the table is onto one of the list: none of them has the name of its parent.
+abbrev pub RefersToNone : List Description → Table → Type 0
+RefersToNone ds t = AllByRecursion (λ (r : Reference). AllByRecursion (λ (d : Description). same_name d.name r.parent ≡ false) ds) t.references
+
+-- a table that may stand behind those of a list: it has none of their trees, and refers to none of them
+pub record IsFurther (ds : List Description) (t : Table) : Type 0 where
+  pub behind : past_all 0 ds ≤ t.tree
+  pub apart : RefersToNone ds t
+
+-- All tables of the list are there, first and in their order. Further tables, indexes and views may stand behind them.
+abbrev pub HasAll : List Description → Schema → Type 0
+HasAll ds schema = (further : Schema) × (schema ≡ followed ds further) × AllByRecursion (IsFurther ds) further.tables
+
+-- So many of the tables are there, the first in the order in which they are made: not all and nothing else, or all.
+abbrev pub HasFirst : List Description → ℕ → Schema → Type 0
+HasFirst ds count schema = ((count < length ds) × (schema ≡ beginning ds count)) ⊎ ((count ≡ length ds) × HasAll ds schema)
+
+-- none, some or all
 abbrev pub IsBeginning : List Description → Schema → Type 0
-IsBeginning ds schema = (count : ℕ) × (schema ≡ beginning ds count)
+IsBeginning ds schema = (count : ℕ) × HasFirst ds count schema
 
 -- no row in any table
 abbrev pub AreEmpty : Schema → Trees → Type 0

@@ -6,7 +6,7 @@ use Rattle.sqlite.specs.State.{State}
 use Rattle.sql_tables.specs.Rows.{AreRows}
 use Rattle.sql_tables.specs.declared.described.Key.{Key}
 use Rattle.sql_tables.specs.declared.described.Key.TheVariants.{Rowid, FirstUnique, Absent}
-use Rattle.sql_tables.specs.Described.{Description, at_place, schema_of, tree_from}
+use Rattle.sql_tables.specs.Described.{Description, HasAll, at_place, tree_from}
 
 abbrev pub columns_from : ℕ → List (List ℕ × Kind) → Row → Row
 columns_from n [] r = []
@@ -35,5 +35,5 @@ put_at (suc n) rows (c ∷ cs) = c ∷ put_at n rows cs
 pub record IsInside (ds : List Description) (s : State) (cells : List (List Row)) : Type 0 where
   pub is_open : IsTrue s.is_open
   pub inside : IsTrue s.in_transaction
-  pub schema : s.now.schema ≡ schema_of ds
+  pub schema : HasAll ds s.now.schema
   pub holds : (n : ℕ) → n < length ds → AreRows (shown_of (at_place ds n)) (s.now.trees (tree_from 0 ds n)) (cells_at cells n)

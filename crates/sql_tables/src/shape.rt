@@ -1,13 +1,19 @@
 // Whether the tables of a schema are the first of a list.
-ghost use Rattle.std.specs.Prelude.{◌≡◌, ◌≤◌, ◌<◌, ◌+◌, ◌++◌, ◌^◌, IsTrue, List, MatchOption, length, map};
+ghost use Rattle.std.specs.Prelude.{◌≡◌, ◌<◌, ◌+◌, ◌++◌, ◌^◌, [], false, IsTrue, List, MatchOption, length, map};
+ghost use Rattle.std.specs.List.{AllByRecursion};
+ghost use Rattle.sqlite_schema.specs.Names.{same_name};
 ghost use Rattle.sqlite_schema.specs.declared.schema.Index.{Index as PlainIndex};
+ghost use Rattle.sqlite_schema.specs.declared.schema.Reference.{Reference as PlainReference};
+ghost use Rattle.sqlite_schema.specs.declared.schema.Schema.{Schema as PlainSchema};
+ghost use Rattle.sqlite_schema.specs.declared.schema.Table.{Table as PlainTable};
 ghost use Rattle.sqlite_value.specs.Keys.{plain};
 ghost use Rattle.sql_tables.specs.Schema.{required, table, no_stamps, HasNoRule, unique_index};
-ghost use Rattle.sql_tables.specs.Described.{beginning, columns_of, described_view, indexes_at, indexes_from, IsBeginning, past_all, past_table, places_of, primary_of, rowid_of, schema_of, table_of, tables_from};
+ghost use Rattle.sql_tables.specs.Described.{columns_of, described_view, Description, followed, HasAll, HasFirst, indexes_at, indexes_from, IsBeginning, IsFurther, past_all, past_table, places_of, primary_of, rowid_of, schema_of, table_of, tables_from};
 
 use crate::described::{Described, Key};
 use sqlite_items::Items;
-use sqlite_schema::schema::{Column, Index, Kind, Schema, Stamps, Table};
+use sqlite_schema::names::same_name;
+use sqlite_schema::schema::{Column, Index, Kind, Reference, Schema, Stamps, Table, View};
 use sqlite_value::keys::{Collation, Order};
 use sqlite_value::value::Value;
 
@@ -165,21 +171,26 @@ fn past(described: &Described<'_>, tree: u32) -> u32
     tree + 1 + described.uniques.len() as u32
 }
 
-// Whether the tables are those described, from this tree on.
-fn are_tables(tables: &[Table], described: &[Described<'_>], tree: u32) -> bool
+// What follows the tables described, from this tree on, if these come first.
+fn after_tables<'a>(
+    tables: &'a [Table],
+    described: &[Described<'_>],
+    tree: u32,
+) -> Option<&'a [Table]>
     requires { past_all tree (map described_view described.now) < 2 ^ 32 }
-    ensures same { IsTrue result → tables.now ≡ tables_from tree (map described_view described.now) }
-    ensures other { tables.now ≡ tables_from tree (map described_view described.now) → IsTrue result }
+    ensures { MatchOption result ((rest : List PlainTable) → tables.now ≡ tables_from tree (map described_view described.now) ++ rest → ⊥)
+        (λ rest. tables.now ≡ tables_from tree (map described_view described.now) ++ rest.now) }
 {
-    match described {
-        [] => tables.is_empty(),
-        [first, described @ ..] => match tables {
-            [] => false,
-            [of, tables @ ..] => {
-                is_described(of, first, tree) && are_tables(tables, described, past(first, tree))
-            }
-        },
+    let [first, described @ ..] = described else {
+        return Some(tables);
+    };
+    let [of, tables @ ..] = tables else {
+        return None;
+    };
+    if !is_described(of, first, tree) {
+        return None;
     }
+    after_tables(tables, described, past(first, tree))
 }
 
 // What follows the indexes of the UNIQUE constraints of the table at the tree `on`, if these come first. Theirs are the trees from
@@ -206,40 +217,135 @@ fn after_indexes<'a>(
     after_indexes(indexes, on, uniques, tree + 1)
 }
 
-// Whether the indexes are those of the tables described, from this tree on.
-fn are_indexes(indexes: &[Index], described: &[Described<'_>], tree: u32) -> bool
+// What follows the indexes of the tables described, from this tree on, if these come first.
+fn after_all_indexes<'a>(
+    indexes: &'a [Index],
+    described: &[Described<'_>],
+    tree: u32,
+) -> Option<&'a [Index]>
     requires { past_all tree (map described_view described.now) < 2 ^ 32 }
-    ensures same { IsTrue result → indexes.now ≡ indexes_from tree (map described_view described.now) }
-    ensures other { indexes.now ≡ indexes_from tree (map described_view described.now) → IsTrue result }
+    ensures { MatchOption result ((rest : List PlainIndex) → indexes.now ≡ indexes_from tree (map described_view described.now) ++ rest → ⊥)
+        (λ rest. indexes.now ≡ indexes_from tree (map described_view described.now) ++ rest.now) }
 {
-    match described {
-        [] => indexes.is_empty(),
-        [first, described @ ..] => match after_indexes(indexes, tree, first.uniques, tree + 1) {
-            None => false,
-            Some(rest) => are_indexes(rest, described, past(first, tree)),
-        },
+    let [first, described @ ..] = described else {
+        return Some(indexes);
+    };
+    match after_indexes(indexes, tree, first.uniques, tree + 1) {
+        None => None,
+        Some(rest) => after_all_indexes(rest, described, past(first, tree)),
     }
 }
 
-// Whether the schema is that of the tables described.
+// The tree behind those of all tables described.
+fn past_last(described: &[Described<'_>], tree: u32) -> u32
+    requires { past_all tree (map described_view described.now) < 2 ^ 32 }
+    ensures { result ≡ past_all tree (map described_view described.now) }
+{
+    match described {
+        [] => tree,
+        [first, described @ ..] => past_last(described, past(first, tree)),
+    }
+}
+
+// Whether none of the tables described has this name.
+fn lack_name(described: &[Described<'_>], name: &[u8]) -> bool
+    ensures same { IsTrue result → AllByRecursion (λ (d : Description). same_name d.name name.now ≡ false) (map described_view described.now) }
+    ensures other { AllByRecursion (λ (d : Description). same_name d.name name.now ≡ false) (map described_view described.now) → IsTrue result }
+{
+    match described {
+        [] => true,
+        [first, described @ ..] => !same_name(first.name, name) && lack_name(described, name),
+    }
+}
+
+// Whether none of the references is to a table described.
+fn are_apart(references: &[Reference], described: &[Described<'_>]) -> bool
+    ensures same { IsTrue result → AllByRecursion (λ (r : PlainReference). AllByRecursion (λ (d : Description). same_name d.name r.parent ≡ false) (map described_view described.now)) references.now }
+    ensures other { AllByRecursion (λ (r : PlainReference). AllByRecursion (λ (d : Description). same_name d.name r.parent ≡ false) (map described_view described.now)) references.now → IsTrue result }
+{
+    match references {
+        [] => true,
+        [first, references @ ..] => {
+            lack_name(described, first.parent.as_slice()) && are_apart(references, described)
+        }
+    }
+}
+
+// Whether the tables may stand behind those described, whose trees are below this one.
+fn are_further(tables: &[Table], described: &[Described<'_>], past: u32) -> bool
+    requires { past ≡ past_all 0 (map described_view described.now) }
+    ensures same { IsTrue result → AllByRecursion (IsFurther (map described_view described.now)) tables.now }
+    ensures other { AllByRecursion (IsFurther (map described_view described.now)) tables.now → IsTrue result }
+{
+    match tables {
+        [] => true,
+        [of, tables @ ..] => {
+            past <= of.tree
+                && are_apart(of.references.as_slice(), described)
+                && are_further(tables, described, past)
+        }
+    }
+}
+
+// What stands behind the tables described and their indexes, if these come first.
+fn further<'a>(
+    described: &[Described<'_>],
+    schema: &'a Schema,
+) -> Option<(&'a [Table], &'a [Index])>
+    requires { past_all 0 (map described_view described.now) < 2 ^ 32 }
+    ensures { MatchOption result ((rest : PlainSchema) → schema.now ≡ followed (map described_view described.now) rest → ⊥)
+        (λ rest. schema.now ≡ followed (map described_view described.now) (record { tables = rest.0.now; indexes = rest.1.now; views = schema.now.views })) }
+{
+    let tables = after_tables(schema.tables.as_slice(), described, 0)?;
+    let indexes = after_all_indexes(schema.indexes.as_slice(), described, 0)?;
+    Some((tables, indexes))
+}
+
+// Whether there is nothing of all this.
+fn are_none(tables: &[Table], indexes: &[Index], views: &[View]) -> bool
+    ensures same { IsTrue result → (tables.now ≡ []) × (indexes.now ≡ []) × (views.now ≡ []) }
+    ensures other { (tables.now ≡ []) × (indexes.now ≡ []) × (views.now ≡ []) → IsTrue result }
+{
+    tables.is_empty() && indexes.is_empty() && views.is_empty()
+}
+
+// Whether the schema is that of the tables described, and nothing else.
 fn is_schema(described: &[Described<'_>], schema: &Schema) -> bool
     requires { past_all 0 (map described_view described.now) < 2 ^ 32 }
     ensures same { IsTrue result → schema.now ≡ schema_of (map described_view described.now) }
     ensures other { schema.now ≡ schema_of (map described_view described.now) → IsTrue result }
 {
-    schema.views.is_empty()
-        && are_tables(schema.tables.as_slice(), described, 0)
-        && are_indexes(schema.indexes.as_slice(), described, 0)
+    match further(described, schema) {
+        Some((tables, indexes)) => are_none(tables, indexes, schema.views.as_slice()),
+        None => false,
+    }
 }
 
-/// How many of the tables there are, where they are the first of those described, in their order, and nothing else.
+// Whether all tables described are there.
+fn has_all(described: &[Described<'_>], schema: &Schema) -> bool
+    requires { past_all 0 (map described_view described.now) < 2 ^ 32 }
+    ensures same { IsTrue result → HasAll (map described_view described.now) schema.now }
+    ensures other { HasAll (map described_view described.now) schema.now → IsTrue result }
+{
+    match further(described, schema) {
+        Some((tables, _)) => are_further(tables, described, past_last(described, 0)),
+        None => false,
+    }
+}
+
+/// How many of the tables there are, where they are the first of those described, in their order, and nothing else, or all of
+/// them. Behind all of them may stand further tables, indexes and views, if no foreign key is onto one of those described.
 pub fn beginning_of(described: &[Described<'_>], schema: &Schema) -> Option<usize>
     requires { past_all 0 (map described_view described.now) < 2 ^ 32 }
-    ensures { MatchOption result (IsBeginning (map described_view described.now) schema.now → ⊥) (λ count. (schema.now ≡ beginning (map described_view described.now) count) × (count ≤ length described.now)) }
+    ensures { MatchOption result (IsBeginning (map described_view described.now) schema.now → ⊥) (λ count. HasFirst (map described_view described.now) count schema.now) }
 {
     let count = schema.tables.len();
-    if count > described.len() {
-        return None;
+    if count >= described.len() {
+        return if has_all(described, schema) {
+            Some(described.len())
+        } else {
+            None
+        };
     }
     if !is_schema(&described[..count], schema) {
         return None;

@@ -32,9 +32,10 @@ impl<S: Alter + Drop> Store<S> {
     /// there was such a thing, its clock and step limit are lost.
     ///
     /// - `Damaged`: the tables are those of a store, or the first of them, and their rows are those of no state.
-    /// - `Database`: a call of the database answered a fault, or its tables are other than the first of the five of a store, or
-    ///   all, in the order in which they are made, or the rowids that it answered are not integers that come once, which by its
-    ///   own laws they are.
+    /// - `Database`: a call of the database answered a fault, or its tables are other than the first of the five of a store and
+    ///   nothing else, or all five, in the order in which they are made, or the rowids that it answered are not integers that
+    ///   come once, which by its own laws they are. Behind all five may stand further tables, indexes and views, if no foreign
+    ///   key is onto one of the five.
     /// - `OutOfMemory`: memory was refused.
     pub fn open(alloc: Global, conn: Connection<S>) -> Result<Store<S>, StoreFault>
         ensures opened { IfOk result (λ s. Opens (state S.Store conn) (seen s.kept (state S.Store s.conn))) }

@@ -1,19 +1,22 @@
 -- What a change makes of the cells of the tables.
-use Rattle.std.proofs.Common.{◌≡◌, ℕ, List, [], ◌∷◌, ◌++◌, false, Some, None, Option, map, refl, sym, ap, subst, ◌∙◌, codes, ◌<◌, zero, suc, IsTrue, length, arith}
+use Rattle.std.proofs.Common.{◌≡◌, ℕ, List, [], ◌∷◌, ◌++◌, false, Some, None, Option, map, refl, sym, ap, subst, ◌∙◌, codes, ◌<◌, zero, suc, inl, inr, Result, Ok, Err, IfErr, OnErr, IsTrue, length, arith, true≢false}
 use Rattle.std.proofs.lemmas.List.{map-append}
 use Rattle.sqlite_rules.specs.Lists.{Has}
 use Rattle.sqlite.specs.Order.{Row}
 use Rattle.sqlite.specs.Effect.{Database}
-use Rattle.sqlite.specs.State.{State, Shows}
+use Rattle.sqlite.specs.Steps.{FailsToCommit}
+use Rattle.sqlite.specs.declared.error.Error.{Error}
+use Rattle.sqlite.specs.State.{IsRolledBack, KeepsCommit, State, Shows}
 use Rattle.tables.specs.declared.change.Change.{Change}
 use Rattle.contents.specs.Contents.{Contents}
 use Rattle.sql_tables.proofs.Editing.{same_inside}
 use Rattle.sql_tables.specs.Inside.{shown_of, cells_at}
 use Rattle.sql_tables.specs.Rows.{AreRows}
 use Rattle.sql_tables.specs.Described.{at_place, tree_from}
-use Rattle.tables.specs.Schema.{five, the_schema}
+use Rattle.tables.specs.Schema.{HasFive, five}
 use Rattle.tables.specs.steps.Writing.{listed, Cells, IsInside, cells_of}
 use Rattle.tables.specs.Tables.{HoldsTables, IsStore, root_row, slot_row, slot_rows, current_rows, shelf_row, blob_row, with_root, with_row, with_blob, with_timestamp, with_snapshot, after, after_all}
+use Rattle.tables.proofs.Beginnings.{five_after}
 use Rattle.sql_tables.specs.Writing.{without_text}
 use Rattle.sql_tables.proofs.Statements.{text_test, turned, turned_back}
 
@@ -47,7 +50,7 @@ without_snapshot None (Some y) = rw (text_test snapshot_slot snapshot_slot) refl
 without_snapshot (Some x) (Some y) = rw (text_test timestamp_slot snapshot_slot, text_test snapshot_slot snapshot_slot) refl
 
 with_current : (s : State) (c : Cells) (rows : List Row) → IsInside s c → ((x : Row) → Has c.current x → Has rows x) → ((x : Row) → Has rows x → Has c.current x) → IsInside s (record c { current = rows })
-with_current s c rows is there back = same_inside five 1 (omega arith) (λ _ _. refl) s (listed c) rows is (omega arith) there back
+with_current s c rows is there back = same_inside five 1 (omega arith) s (listed c) rows is (omega arith) there back
 
 pub new_timestamp : (s : State) (t : Contents) (r : ℕ × List ℕ)
     → IsInside s (record (cells_of t) { current = without_text timestamp_slot (current_rows t.timestamp t.snapshot) ++ slot_row timestamp_slot r ∷ [] }) → IsInside s (cells_of (with_timestamp r t))
@@ -75,7 +78,7 @@ to_tables is = record {
   version = is.holds 4 (omega arith);
 }
 
-pub inside : (s : State) (t : Contents) → IsTrue s.is_open → IsTrue s.in_transaction → s.now.schema ≡ the_schema → HoldsTables s.now.trees t → IsInside s (cells_of t)
+pub inside : (s : State) (t : Contents) → IsTrue s.is_open → IsTrue s.in_transaction → HasFive s.now.schema → HoldsTables s.now.trees t → IsInside s (cells_of t)
 inside s t is_open within schema holds = record { is_open = is_open; inside = within; schema = schema; holds = each }
   where
     each : (n : ℕ) → n < length five → AreRows (shown_of (at_place five n)) (s.now.trees (tree_from 0 five n)) (cells_at (listed (cells_of t)) n)
@@ -89,7 +92,32 @@ inside s t is_open within schema holds = record { is_open = is_open; inside = wi
 pub committed : (tx end : State) (t : Contents) → IsInside tx (cells_of t) → Shows tx end tx.now tx.now false → IsStore end t
 committed tx end t is shows = record {
   is_open = shows.is_open;
-  schema = ap (λ (d : Database). d.schema) shows.now_is ∙ is.schema;
+  schema = five_after shows.now_is is.schema;
   settled = shows.now_is ∙ sym shows.committed_is;
   holds = subst (λ (d : Database). HoldsTables d.trees t) (sym shows.now_is) (to_tables is);
 }
+
+-- a transaction that is undone leaves the rows that were there before it
+pub kept_back : (old tx end : State) (t : Contents) → IsTrue end.is_open → KeepsCommit old tx → IsRolledBack tx end → IsStore old t → IsStore end t
+kept_back old tx end t stays kept back is =
+    let both = back.undone stays in
+    let now : end.now ≡ old.now = both.0 ∙ kept.committed (back.was_open stays) ∙ sym is.settled in
+    record {
+      is_open = stays;
+      schema = five_after now is.schema;
+      settled = both.0 ∙ sym both.1;
+      holds = subst (λ (d : Database). HoldsTables d.trees t) (sym now) is.holds;
+    }
+
+-- a commit that fails, inside a transaction, has undone it
+pub fails_back : (tx end : State) (e : Error) → IsTrue tx.in_transaction → FailsToCommit tx end e → IsRolledBack tx end
+fails_back tx end e within (inl fails) = fails.3
+fails_back tx end e within (inr none) = absurd (true≢false (sym within ∙ none.1))
+
+pub on_err : {A E Q : Type 0} (r : Result A E) → Q → OnErr r Q
+on_err (Ok a) q = tt
+on_err (Err e) q = q
+
+pub err_then : {A E Q : Type 0} {P : E → Type 0} (r : Result A E) → IfErr r P → ((e : E) → P e → Q) → OnErr r Q
+err_then (Ok a) p f = tt
+err_then (Err e) p f = f e p

@@ -4,14 +4,15 @@ use Rattle.sqlite.specs.Effect.{Database}
 use Rattle.sqlite.specs.State.{State, HasCleanDisk, IsUnchanged, IsRolledBack, Survives}
 use Rattle.sqlite.proofs.StateLemmas.{survives_then}
 use Rattle.sqlite_trees.specs.Tree.{Trees}
-use Rattle.tables.specs.Schema.{the_schema}
+use Rattle.tables.specs.Schema.{HasFive}
+use Rattle.tables.proofs.Beginnings.{five_after}
 use Rattle.contents.specs.Contents.{Contents, no_rows}
 use Rattle.tables.specs.Tables.{AreBare, HoldsTables, IsStore}
 
-pub loaded_store : (old new : State) (t : Contents) → IsUnchanged old new → old.now ≡ old.committed → old.now.schema ≡ the_schema → HoldsTables old.now.trees t → IsStore new t
+pub loaded_store : (old new : State) (t : Contents) → IsUnchanged old new → old.now ≡ old.committed → HasFive old.now.schema → HoldsTables old.now.trees t → IsStore new t
 loaded_store old new t same settled schema holds = record {
   is_open = same.0.is_open;
-  schema = ap (λ (d : Database). d.schema) same.0.now_is ∙ schema;
+  schema = five_after same.0.now_is schema;
   settled = same.0.now_is ∙ settled ∙ sym same.0.committed_is;
   holds = subst (λ (d : Database). HoldsTables d.trees t) (sym same.0.now_is) holds;
 }
@@ -19,7 +20,7 @@ loaded_store old new t same settled schema holds = record {
 store_same : (old new : State) (t : Contents) → IsUnchanged old new → IsStore old t → IsStore new t
 store_same old new t same is = record {
   is_open = same.0.is_open;
-  schema = ap (λ (d : Database). d.schema) same.0.now_is ∙ is.schema;
+  schema = five_after same.0.now_is is.schema;
   settled = same.0.now_is ∙ is.settled ∙ sym same.0.committed_is;
   holds = subst (λ (d : Database). HoldsTables d.trees t) (sym same.0.now_is) is.holds;
 }
@@ -30,7 +31,7 @@ store_back old new t stays back is =
     let now : new.now ≡ old.now = both.0 ∙ sym is.settled in
     record {
       is_open = stays;
-      schema = ap (λ (d : Database). d.schema) now ∙ is.schema;
+      schema = five_after now is.schema;
       settled = both.0 ∙ sym both.1;
       holds = subst (λ (d : Database). HoldsTables d.trees t) (sym now) is.holds;
     }
@@ -50,17 +51,17 @@ both_ok P H Q (Err e) p q = tt
 -- ---- the row of `schema` is put behind a look at the tables
 
 abbrev pub Begins : State → Trees → Type 0
-Begins s trees = IsTrue s.is_open → s.now.schema ≡ the_schema → AreBare s.now.trees × HoldsTables trees no_rows
+Begins s trees = IsTrue s.is_open → HasFive s.now.schema → AreBare s.now.trees × HoldsTables trees no_rows
 
-pub began : (old mid end : State) (is_bare : Bool) → (HasCleanDisk mid → old.now.schema ≡ the_schema → IsUnchanged old mid) → (HasCleanDisk mid → old.now.schema ≡ the_schema → is_bare ≡ true → AreBare old.now.trees)
-    → Survives old mid (λ _. ⊥) → Survives mid end (λ trees. IsTrue mid.is_open → mid.now.schema ≡ the_schema → (is_bare ≡ true) × (AreBare mid.now.trees → HoldsTables trees no_rows)) → Survives old end (Begins old)
+pub began : (old mid end : State) (is_bare : Bool) → (HasCleanDisk mid → HasFive old.now.schema → IsUnchanged old mid) → (HasCleanDisk mid → HasFive old.now.schema → is_bare ≡ true → AreBare old.now.trees)
+    → Survives old mid (λ _. ⊥) → Survives mid end (λ trees. IsTrue mid.is_open → HasFive mid.now.schema → (is_bare ≡ true) × (AreBare mid.now.trees → HoldsTables trees no_rows)) → Survives old end (Begins old)
 began old mid end is_bare unchanged empty quiet writes =
-    let Q = λ (trees : Trees). IsTrue mid.is_open → mid.now.schema ≡ the_schema → (is_bare ≡ true) × (AreBare mid.now.trees → HoldsTables trees no_rows) in
+    let Q = λ (trees : Trees). IsTrue mid.is_open → HasFive mid.now.schema → (is_bare ≡ true) × (AreBare mid.now.trees → HoldsTables trees no_rows) in
     survives_then old mid end (λ _. ⊥) Q (Begins old) (λ _ db none. absurd none)
     (λ clean db h is_open schema.
     let early : HasCleanDisk mid = omega (arith, clean, writes.clean) in
     let same : IsUnchanged old mid = unchanged early schema in
-    let done = h same.0.is_open (ap (λ (d : Database). d.schema) same.0.now_is ∙ schema) in
+    let done = h same.0.is_open (five_after same.0.now_is schema) in
     let bare = empty early schema done.0 in
     (bare, done.1 (subst (λ (d : Database). AreBare d.trees) (sym same.0.now_is) bare)))
     quiet writes

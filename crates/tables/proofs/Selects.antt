@@ -1,19 +1,21 @@
--- The five queries of the tables: the facts of each text.
+-- The five queries of the tables: the facts of each text, whatever stands behind the tables.
 use Rattle.std.proofs.Common.{List, ℕ, [], ◌∷◌, codes, refl}
 use Rattle.sqlite_tied.specs.Compute.{everything}
 use Rattle.sqlite.specs.Listing.{understood}
 use Rattle.sqlite.specs.Term.{col}
 use Rattle.sql_tables.specs.Loading.{rises, with_rowid}
 use Rattle.sql_tables.proofs.Queries.{Reads}
-use Rattle.tables.specs.Schema.{the_schema}
+use Rattle.sqlite.specs.Schema.{Schema}
+use Rattle.sql_tables.specs.Described.{followed}
+use Rattle.tables.specs.Schema.{five}
 use Rattle.tables.specs.Rows.{root_cells, current_cells, shelf_cells, blob_cells, version_cells}
 
 abbrev pub select_root : List ℕ
 select_root = codes "SELECT version, bytes FROM root ORDER BY version"
 
-pub reads_root : Reads the_schema select_root 0 root_cells (rises ∷ [])
+pub reads_root : (further : Schema) → Reads (followed five further) select_root 0 root_cells (rises ∷ [])
 unfolding understood everything
-reads_root = record {
+reads_root further = record {
   terms = col 1 0 ∷ col 1 2 ∷ [];
   order = (col 1 0, rises) ∷ [];
   names = codes "version" ∷ codes "bytes" ∷ [];
@@ -28,9 +30,9 @@ reads_root = record {
 abbrev pub select_current : List ℕ
 select_current = codes "SELECT slot, version, bytes, rowid FROM current"
 
-pub reads_current : Reads the_schema select_current 1 (with_rowid current_cells) []
+pub reads_current : (further : Schema) → Reads (followed five further) select_current 1 (with_rowid current_cells) []
 unfolding understood everything
-reads_current = record {
+reads_current further = record {
   terms = col 1 1 ∷ col 1 2 ∷ col 1 3 ∷ col 1 0 ∷ [];
   order = [];
   names = codes "slot" ∷ codes "version" ∷ codes "bytes" ∷ codes "rowid" ∷ [];
@@ -45,9 +47,9 @@ reads_current = record {
 abbrev pub select_shelf : List ℕ
 select_shelf = codes "SELECT role, version, bytes, rowid FROM shelf ORDER BY role, version"
 
-pub reads_shelf : Reads the_schema select_shelf 3 (with_rowid shelf_cells) (rises ∷ rises ∷ [])
+pub reads_shelf : (further : Schema) → Reads (followed five further) select_shelf 3 (with_rowid shelf_cells) (rises ∷ rises ∷ [])
 unfolding understood everything
-reads_shelf = record {
+reads_shelf further = record {
   terms = col 1 1 ∷ col 1 2 ∷ col 1 3 ∷ col 1 0 ∷ [];
   order = (col 1 1, rises) ∷ (col 1 2, rises) ∷ [];
   names = codes "role" ∷ codes "version" ∷ codes "bytes" ∷ codes "rowid" ∷ [];
@@ -62,9 +64,9 @@ reads_shelf = record {
 abbrev pub select_blob : List ℕ
 select_blob = codes "SELECT digest, bytes, rowid FROM blob ORDER BY digest"
 
-pub reads_blob : Reads the_schema select_blob 5 (with_rowid blob_cells) (rises ∷ [])
+pub reads_blob : (further : Schema) → Reads (followed five further) select_blob 5 (with_rowid blob_cells) (rises ∷ [])
 unfolding understood everything
-reads_blob = record {
+reads_blob further = record {
   terms = col 1 1 ∷ col 1 2 ∷ col 1 0 ∷ [];
   order = (col 1 1, rises) ∷ [];
   names = codes "digest" ∷ codes "bytes" ∷ codes "rowid" ∷ [];
@@ -79,9 +81,9 @@ reads_blob = record {
 abbrev pub select_version : List ℕ
 select_version = codes "SELECT version FROM schema"
 
-pub reads_version : Reads the_schema select_version 7 version_cells []
+pub reads_version : (further : Schema) → Reads (followed five further) select_version 7 version_cells []
 unfolding understood everything
-reads_version = record {
+reads_version further = record {
   terms = col 1 0 ∷ [];
   order = [];
   names = codes "version" ∷ [];

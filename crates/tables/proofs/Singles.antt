@@ -19,11 +19,12 @@ use Rattle.sqlite_value.specs.declared.keys.Collation.TheVariants.{Binary}
 use Rattle.sqlite_trees.specs.Tree.{Trees, rowid}
 use Rattle.sqlite_rules.specs.Lists.{Has}
 use Rattle.sqlite_rules.proofs.ListLemmas.{all_has, some_from}
-use Rattle.sql_tables.specs.Described.{table_of}
+use Rattle.sql_tables.specs.Described.{followed, table_of}
 use Rattle.sql_tables.specs.Loading.{AreLoaded, with_rowid}
 use Rattle.sql_tables.proofs.NumberLemmas.{IsNumbered}
 use Rattle.sql_tables.proofs.Statements.{true_if}
-use Rattle.tables.specs.Schema.{blob_table, the_schema}
+use Rattle.sqlite.specs.Schema.{Schema}
+use Rattle.tables.specs.Schema.{HasFive, blob_table, five}
 use Rattle.tables.specs.Rows.{blob_cells}
 use Rattle.tables.specs.steps.Loading.{AreSingle}
 
@@ -49,18 +50,18 @@ module _ (rows : List Row) (ids : IsNumbered rows) where
       let one : n.0 ≡ m.0 = same_numbers n.0 m.0 (subst₂ (λ v w. differ v w ≡ false) n.1 m.1 is) in
       ids.keyed x y in_x in_y (n.1 ∙ ap Int one ∙ sym m.1)
 
-unclashed : (db : Trees) (y : Row) → passes Unique the_schema db (table_of blob_table 5) y ≡ true → clashes plain (1 ∷ []) (db 5) y ≡ false
-unclashed db y h = not-true _ (and_parts _ _ h).0
+unclashed : (further : Schema) (db : Trees) (y : Row) → passes Unique (followed five further) db (table_of blob_table 5) y ≡ true → clashes plain (1 ∷ []) (db 5) y ≡ false
+unclashed further db y h = not-true _ (and_parts _ _ h).0
 
-pub stored_single : (db : Database) → IsDatabase db → db.schema ≡ the_schema → IsNumbered (db.trees 5) → (x y : Row) (d : List ℕ) → Has (db.trees 5) x → Has (db.trees 5) y → column x 1 ≡ Text d → column y 1 ≡ Text d → x ≡ y
+pub stored_single : (db : Database) → IsDatabase db → HasFive db.schema → IsNumbered (db.trees 5) → (x y : Row) (d : List ℕ) → Has (db.trees 5) x → Has (db.trees 5) y → column x 1 ≡ Text d → column y 1 ≡ Text d → x ≡ y
 unfolding first_key
 stored_single db is schema ids x y d in_x in_y one two =
-    let keeps : Keeps Unique the_schema db.trees = subst (λ s. Keeps Unique s db.trees) schema (is.obeys.rules Unique) in
-    let row = all_has (λ row. passes Unique the_schema db.trees (table_of blob_table 5) row ≡ true) (db.trees 5) y keeps.1.1.1.0 in_y in
+    let keeps : Keeps Unique (followed five schema.0) db.trees = subst (λ s. Keeps Unique s db.trees) schema.1 (is.obeys.rules Unique) in
+    let row = all_has (λ row. passes Unique (followed five schema.0) db.trees (table_of blob_table 5) row ≡ true) (db.trees 5) y keeps.1.1.1.0 in_y in
     let same : equal Binary (column x 1) (column y 1) ≡ true = subst₂ (λ v w. equal Binary v w ≡ true) (sym one) (sym two) (same_texts d) in
-    apart (db.trees 5) ids x y in_x in_y (unclashed db.trees y row) (and_from _ _ same refl) (differ (rowid x) (rowid y)) refl
+    apart (db.trees 5) ids x y in_x in_y (unclashed schema.0 db.trees y row) (and_from _ _ same refl) (differ (rowid x) (rowid y)) refl
 
-pub read_single : (db : Database) (keys : List Key) (rows : List Row) → IsDatabase db → db.schema ≡ the_schema → IsNumbered (db.trees 5) → AreLoaded (with_rowid blob_cells) keys (db.trees 5) rows → AreSingle rows
+pub read_single : (db : Database) (keys : List Key) (rows : List Row) → IsDatabase db → HasFive db.schema → IsNumbered (db.trees 5) → AreLoaded (with_rowid blob_cells) keys (db.trees 5) rows → AreSingle rows
 read_single db keys rows is schema ids loaded x y d in_x in_y one two =
     let s = loaded.from x in_x in
     let t = loaded.from y in_y in

@@ -1,7 +1,10 @@
--- What the texts mean.
+-- What the texts mean, whatever stands behind the five tables.
 use Rattle.std.proofs.Common.{◌≡◌, List, ℕ, [], ◌∷◌, codes, refl, false}
 use Rattle.sqlite_tied.specs.Compute.{everything}
-use Rattle.tables.specs.Schema.{the_schema}
+use Rattle.sqlite.specs.Schema.{Schema}
+use Rattle.sql_tables.specs.Described.{followed}
+use Rattle.sql_tables.proofs.Editing.{Means}
+use Rattle.tables.specs.Schema.{five}
 use Rattle.sqlite.specs.Term.{Term, lit, col, op1, op2}
 use Rattle.sqlite_sql.specs.declared.ops.UnaryOp.TheVariants.{ToNumeric}
 use Rattle.sqlite_sql.specs.declared.ops.BinaryOp.TheVariants.{Compare}
@@ -13,7 +16,6 @@ use Rattle.sqlite.specs.declared.types.Value.TheVariants.{Null}
 use Rattle.sqlite.specs.Listing.{understood, reads_listing}
 use Rattle.sqlite_resolve.specs.Compile.{first}
 use Rattle.sql_tables.specs.Asking.{IsQuiet}
-use Rattle.sqlite.proofs.Callers.{IsPlain, command_of}
 use Rattle.sql_tables.proofs.AnswerLemmas.{plain_query}
 
 -- ---- INSERT
@@ -30,46 +32,30 @@ three_values = lit Null ∷ col 0 0 ∷ col 0 1 ∷ col 0 2 ∷ []
 abbrev pub insert_root : List ℕ
 insert_root = codes "INSERT INTO root (version, bytes) VALUES (?1, ?2)"
 
-pub insert_root_is : command_of (understood the_schema insert_root) ≡ Insert 0 (Values key_values 3)
+pub insert_root_is : Means five insert_root (Insert 0 (Values key_values 3))
 unfolding understood everything
-insert_root_is = refl
-
-pub insert_root_plain : IsPlain (understood the_schema insert_root)
-unfolding understood everything
-insert_root_plain = (refl, refl)
+insert_root_is further = (refl, (refl, refl))
 
 abbrev pub insert_slot : List ℕ
 insert_slot = codes "INSERT INTO current (slot, version, bytes) VALUES (?1, ?2, ?3)"
 
-pub insert_slot_is : command_of (understood the_schema insert_slot) ≡ Insert 1 (Values three_values 4)
+pub insert_slot_is : Means five insert_slot (Insert 1 (Values three_values 4))
 unfolding understood everything
-insert_slot_is = refl
-
-pub insert_slot_plain : IsPlain (understood the_schema insert_slot)
-unfolding understood everything
-insert_slot_plain = (refl, refl)
+insert_slot_is further = (refl, (refl, refl))
 
 abbrev pub insert_row : List ℕ
 insert_row = codes "INSERT INTO shelf (role, version, bytes) VALUES (?1, ?2, ?3)"
 
-pub insert_row_is : command_of (understood the_schema insert_row) ≡ Insert 2 (Values three_values 4)
+pub insert_row_is : Means five insert_row (Insert 2 (Values three_values 4))
 unfolding understood everything
-insert_row_is = refl
-
-pub insert_row_plain : IsPlain (understood the_schema insert_row)
-unfolding understood everything
-insert_row_plain = (refl, refl)
+insert_row_is further = (refl, (refl, refl))
 
 abbrev pub insert_blob : List ℕ
 insert_blob = codes "INSERT INTO blob (digest, bytes) VALUES (?1, ?2)"
 
-pub insert_blob_is : command_of (understood the_schema insert_blob) ≡ Insert 3 (Values two_values 3)
+pub insert_blob_is : Means five insert_blob (Insert 3 (Values two_values 3))
 unfolding understood everything
-insert_blob_is = refl
-
-pub insert_blob_plain : IsPlain (understood the_schema insert_blob)
-unfolding understood everything
-insert_blob_plain = (refl, refl)
+insert_blob_is further = (refl, (refl, refl))
 
 -- ---- DELETE
 
@@ -80,13 +66,9 @@ by_text = op2 (Compare Eq Binary) (col 1 1) (col 0 0) ∷ []
 abbrev pub delete_slot : List ℕ
 delete_slot = codes "DELETE FROM current WHERE slot = ?1"
 
-pub delete_slot_is : command_of (understood the_schema delete_slot) ≡ Delete 1 (record { lets = []; body = plain_query 1 by_text (col 1 0 ∷ []) [] })
+pub delete_slot_is : Means five delete_slot (Delete 1 (record { lets = []; body = plain_query 1 by_text (col 1 0 ∷ []) [] }))
 unfolding understood everything
-delete_slot_is = refl
-
-pub delete_slot_plain : IsPlain (understood the_schema delete_slot)
-unfolding understood everything
-delete_slot_plain = (refl, refl)
+delete_slot_is further = (refl, (refl, refl))
 
 -- the first two columns are the parameters, the second of which is read as a number where it is a text
 abbrev pub by_text_and_number : List Term
@@ -95,63 +77,43 @@ by_text_and_number = op2 (Compare Eq Binary) (col 1 1) (col 0 0) ∷ op2 (Compar
 abbrev pub delete_row : List ℕ
 delete_row = codes "DELETE FROM shelf WHERE role = ?1 AND version = ?2"
 
-pub delete_row_is : command_of (understood the_schema delete_row) ≡ Delete 2 (record { lets = []; body = plain_query 3 by_text_and_number (col 1 0 ∷ []) [] })
+pub delete_row_is : Means five delete_row (Delete 2 (record { lets = []; body = plain_query 3 by_text_and_number (col 1 0 ∷ []) [] }))
 unfolding understood everything
-delete_row_is = refl
-
-pub delete_row_plain : IsPlain (understood the_schema delete_row)
-unfolding understood everything
-delete_row_plain = (refl, refl)
+delete_row_is further = (refl, (refl, refl))
 
 abbrev pub delete_blob : List ℕ
 delete_blob = codes "DELETE FROM blob WHERE digest = ?1"
 
-pub delete_blob_is : command_of (understood the_schema delete_blob) ≡ Delete 3 (record { lets = []; body = plain_query 5 by_text (col 1 0 ∷ []) [] })
+pub delete_blob_is : Means five delete_blob (Delete 3 (record { lets = []; body = plain_query 5 by_text (col 1 0 ∷ []) [] }))
 unfolding understood everything
-delete_blob_is = refl
-
-pub delete_blob_plain : IsPlain (understood the_schema delete_blob)
-unfolding understood everything
-delete_blob_plain = (refl, refl)
+delete_blob_is further = (refl, (refl, refl))
 
 abbrev pub delete_current : List ℕ
 delete_current = codes "DELETE FROM current"
 
-pub delete_current_is : command_of (understood the_schema delete_current) ≡ Delete 1 (record { lets = []; body = plain_query 1 [] (col 1 0 ∷ []) [] })
+pub delete_current_is : Means five delete_current (Delete 1 (record { lets = []; body = plain_query 1 [] (col 1 0 ∷ []) [] }))
 unfolding understood everything
-delete_current_is = refl
-
-pub delete_current_plain : IsPlain (understood the_schema delete_current)
-unfolding understood everything
-delete_current_plain = (refl, refl)
+delete_current_is further = (refl, (refl, refl))
 
 abbrev pub delete_shelf : List ℕ
 delete_shelf = codes "DELETE FROM shelf"
 
-pub delete_shelf_is : command_of (understood the_schema delete_shelf) ≡ Delete 2 (record { lets = []; body = plain_query 3 [] (col 1 0 ∷ []) [] })
+pub delete_shelf_is : Means five delete_shelf (Delete 2 (record { lets = []; body = plain_query 3 [] (col 1 0 ∷ []) [] }))
 unfolding understood everything
-delete_shelf_is = refl
-
-pub delete_shelf_plain : IsPlain (understood the_schema delete_shelf)
-unfolding understood everything
-delete_shelf_plain = (refl, refl)
+delete_shelf_is further = (refl, (refl, refl))
 
 -- ---- SELECT by a key
 
 abbrev pub select_one : List ℕ
 select_one = codes "SELECT bytes FROM blob WHERE digest = ?1"
 
-pub select_one_is : command_of (understood the_schema select_one) ≡ Select (record { lets = []; body = plain_query 5 by_text (col 1 2 ∷ []) [] }) (codes "bytes" ∷ [])
+pub select_one_is : Means five select_one (Select (record { lets = []; body = plain_query 5 by_text (col 1 2 ∷ []) [] }) (codes "bytes" ∷ []))
 unfolding understood everything
-select_one_is = refl
+select_one_is further = (refl, (refl, refl))
 
-pub select_one_plain : IsPlain (understood the_schema select_one)
+pub select_one_unlisted : (further : Schema) → reads_listing (followed five further) select_one ≡ false
 unfolding understood everything
-select_one_plain = (refl, refl)
-
-pub select_one_unlisted : reads_listing the_schema select_one ≡ false
-unfolding understood everything
-select_one_unlisted = refl
+select_one_unlisted further = refl
 
 pub select_one_quiet : IsQuiet (first select_one)
 unfolding understood everything

@@ -2,7 +2,7 @@
 use Rattle.std.specs.Prelude.{◌≡◌, [], ◌∷◌, codes, take, List, ℕ}
 use Rattle.sqlite.specs.Schema.{Schema}
 use Rattle.sqlite.specs.Kind.TheVariants.{Integer, Text, Any}
-use Rattle.sql_tables.specs.Described.{Description, schema_of}
+use Rattle.sql_tables.specs.Described.{Description, HasAll, IsBeginning as BeginsWith, schema_of}
 use Rattle.sql_tables.specs.declared.described.Key.TheVariants.{Rowid, FirstUnique}
 
 abbrev pub root_table : Description
@@ -66,6 +66,10 @@ the_schema = schema_of five
 abbrev pub beginning : ℕ → Schema
 beginning count = schema_of (take count five)
 
--- The tables are the first of the five in the order in which they are made: none, some or all, and nothing else.
+-- The five are there, in their order. Further tables, indexes and views may stand behind them, if none refers to one of the five.
+abbrev pub HasFive : Schema → Type 0
+HasFive = HasAll five
+
+-- The tables are the first of the five in the order in which they are made: none or some, and nothing else, or all.
 abbrev pub IsBeginning : Schema → Type 0
-IsBeginning schema = (count : ℕ) × (schema ≡ beginning count)
+IsBeginning = BeginsWith five

@@ -18,7 +18,7 @@ use Rattle.tables.specs.declared.change.Change.TheVariants.{PutRoot, Emptied, Pu
 use Rattle.contents.specs.Contents.{Contents, no_rows}
 pub use Rattle.sql_tables.specs.Cells.{IsDigest}
 use Rattle.sql_tables.specs.Described.{AreEmpty}
-use Rattle.tables.specs.Schema.{the_schema, IsBeginning}
+use Rattle.tables.specs.Schema.{the_schema, HasFive, IsBeginning}
 use Rattle.tables.specs.Rows.{root_cells, current_cells, shelf_cells, blob_cells, version_cells}
 use Rattle.sql_tables.specs.Rows.{AreRows, AreKeyed}
 use Rattle.sql_tables.specs.Schema.{counted}
@@ -58,10 +58,10 @@ pub record HoldsTables (trees : Trees) (t : Contents) : Type 0 where
   pub blob : AreRows blob_cells (trees 5) (map blob_row t.blobs)
   pub version : AreRows version_cells (trees 7) (version_row ∷ [])
 
--- between two transactions: the connection is open, its tables are the five, and hold these rows
+-- between two transactions: the connection is open, the five tables are there, and hold these rows
 pub record IsStore (s : State) (t : Contents) : Type 0 where
   pub is_open : IsTrue s.is_open
-  pub schema : s.now.schema ≡ the_schema
+  pub schema : HasFive s.now.schema
   pub settled : s.now ≡ s.committed
   pub holds : HoldsTables s.now.trees t
 
@@ -73,7 +73,7 @@ AreBare = AreEmpty the_schema
 abbrev pub StandsFor : Trees → Contents → Type 0
 StandsFor trees t = HoldsTables trees t ⊎ (AreBare trees × (t ≡ no_rows))
 
--- What a database stands for: its tables are the first of the five, or all, and hold the rows, and the absent ones count as empty.
+-- What a database stands for: it has the first of the five tables, or all, and they hold the rows, and the absent ones count as empty.
 abbrev pub Stands : Database → Contents → Type 0
 Stands db t = IsBeginning db.schema × StandsFor (counted db.schema db.trees) t
 

@@ -6,7 +6,7 @@ ghost use Rattle.sqlite.specs.Order.{Row};
 ghost use Rattle.sqlite.specs.State.{HasCleanDisk, IsUnchanged, Survives};
 ghost use Rattle.sqlite.specs.Held.{state};
 ghost use Rattle.contents.specs.Contents.{slot_view};
-ghost use Rattle.tables.specs.Schema.{the_schema};
+ghost use Rattle.tables.specs.Schema.{HasFive};
 ghost use Rattle.tables.specs.Rows.{root_cells, current_cells, shelf_cells, blob_cells, version_cells};
 ghost use Rattle.tables.specs.Tables.{row_cmp};
 ghost use Rattle.tables.specs.steps.Loading.{AllComeOnce, Answers, AreAnswers, AreDamaged, AreItems, AreSorted, AreTaken, AreVersions, FitsLength, FitsRoot, FitsShelf, HaveSlots, IsGathered, IsLengthRow, IsOne, IsRootRow, IsShelfRow, document_shows, length_shows, root_shows};
@@ -27,8 +27,8 @@ fn root_rows<S: Alter>(
     conn: &mut Connection<S>,
 ) -> Result<(Option<Vec<(u32, Vec<u8>)>>, bool), StoreFault>
     ensures rows { IfOk result (λ p. (rows : List Row) × (IsTrue p.1 → ComeOnce 0 rows) × IsGathered nat_cmp IsRootRow FitsRoot root_shows rows p.0
-        × (HasCleanDisk (state S.Store conn.new) → (state S.Store conn.old).now.schema ≡ the_schema → AreLoaded root_cells (rises ∷ []) ((state S.Store conn.old).now.trees 0) rows)) }
-    ensures unchanged { HasCleanDisk (state S.Store conn.new) → (state S.Store conn.old).now.schema ≡ the_schema → OnOk result (IsUnchanged (state S.Store conn.old) (state S.Store conn.new)) }
+        × (HasCleanDisk (state S.Store conn.new) → HasFive (state S.Store conn.old).now.schema → AreLoaded root_cells (rises ∷ []) ((state S.Store conn.old).now.trees 0) rows)) }
+    ensures unchanged { HasCleanDisk (state S.Store conn.new) → HasFive (state S.Store conn.old).now.schema → OnOk result (IsUnchanged (state S.Store conn.old) (state S.Store conn.new)) }
     ensures fault { result ≢ Err StoreFault.Damaged }
     ensures mode { conn.old.in_transaction ≡ false → conn.new.in_transaction ≡ false }
     ensures survives { Survives (state S.Store conn.old) (state S.Store conn.new) (λ _. ⊥) }
@@ -46,8 +46,8 @@ fn current_rows<S: Alter>(
     conn: &mut Connection<S>,
 ) -> Result<(Current, bool), StoreFault>
     ensures rows { IfOk result (λ p. (rows : List Row) × (IsTrue p.1 → ComeOnce 3 rows) × HaveSlots rows (slot_view p.0.timestamp) (slot_view p.0.snapshot) p.0.is_spoiled
-        × (HasCleanDisk (state S.Store conn.new) → (state S.Store conn.old).now.schema ≡ the_schema → AreLoaded (with_rowid current_cells) [] ((state S.Store conn.old).now.trees 1) rows)) }
-    ensures unchanged { HasCleanDisk (state S.Store conn.new) → (state S.Store conn.old).now.schema ≡ the_schema → OnOk result (IsUnchanged (state S.Store conn.old) (state S.Store conn.new)) }
+        × (HasCleanDisk (state S.Store conn.new) → HasFive (state S.Store conn.old).now.schema → AreLoaded (with_rowid current_cells) [] ((state S.Store conn.old).now.trees 1) rows)) }
+    ensures unchanged { HasCleanDisk (state S.Store conn.new) → HasFive (state S.Store conn.old).now.schema → OnOk result (IsUnchanged (state S.Store conn.old) (state S.Store conn.new)) }
     ensures fault { result ≢ Err StoreFault.Damaged }
     ensures mode { conn.old.in_transaction ≡ false → conn.new.in_transaction ≡ false }
     ensures survives { Survives (state S.Store conn.old) (state S.Store conn.new) (λ _. ⊥) }
@@ -66,8 +66,8 @@ fn shelf_rows<S: Alter>(
     conn: &mut Connection<S>,
 ) -> Result<(Option<Vec<(String, u32, Vec<u8>)>>, bool), StoreFault>
     ensures rows { IfOk result (λ p. (rows : List Row) × (IsTrue p.1 → ComeOnce 3 rows) × IsGathered row_cmp IsShelfRow FitsShelf document_shows rows p.0
-        × (HasCleanDisk (state S.Store conn.new) → (state S.Store conn.old).now.schema ≡ the_schema → AreLoaded (with_rowid shelf_cells) (rises ∷ rises ∷ []) ((state S.Store conn.old).now.trees 3) rows)) }
-    ensures unchanged { HasCleanDisk (state S.Store conn.new) → (state S.Store conn.old).now.schema ≡ the_schema → OnOk result (IsUnchanged (state S.Store conn.old) (state S.Store conn.new)) }
+        × (HasCleanDisk (state S.Store conn.new) → HasFive (state S.Store conn.old).now.schema → AreLoaded (with_rowid shelf_cells) (rises ∷ rises ∷ []) ((state S.Store conn.old).now.trees 3) rows)) }
+    ensures unchanged { HasCleanDisk (state S.Store conn.new) → HasFive (state S.Store conn.old).now.schema → OnOk result (IsUnchanged (state S.Store conn.old) (state S.Store conn.new)) }
     ensures fault { result ≢ Err StoreFault.Damaged }
     ensures mode { conn.old.in_transaction ≡ false → conn.new.in_transaction ≡ false }
     ensures survives { Survives (state S.Store conn.old) (state S.Store conn.new) (λ _. ⊥) }
@@ -85,8 +85,8 @@ fn blob_rows<S: Alter>(
     conn: &mut Connection<S>,
 ) -> Result<(Option<Vec<([u8; 32], usize)>>, bool), StoreFault>
     ensures rows { IfOk result (λ p. (rows : List Row) × (IsTrue p.1 → ComeOnce 2 rows) × IsGathered (slice_cmp nat_cmp) IsLengthRow FitsLength length_shows rows p.0
-        × (HasCleanDisk (state S.Store conn.new) → (state S.Store conn.old).now.schema ≡ the_schema → AreLoaded (with_rowid blob_cells) (rises ∷ []) ((state S.Store conn.old).now.trees 5) rows)) }
-    ensures unchanged { HasCleanDisk (state S.Store conn.new) → (state S.Store conn.old).now.schema ≡ the_schema → OnOk result (IsUnchanged (state S.Store conn.old) (state S.Store conn.new)) }
+        × (HasCleanDisk (state S.Store conn.new) → HasFive (state S.Store conn.old).now.schema → AreLoaded (with_rowid blob_cells) (rises ∷ []) ((state S.Store conn.old).now.trees 5) rows)) }
+    ensures unchanged { HasCleanDisk (state S.Store conn.new) → HasFive (state S.Store conn.old).now.schema → OnOk result (IsUnchanged (state S.Store conn.old) (state S.Store conn.new)) }
     ensures fault { result ≢ Err StoreFault.Damaged }
     ensures mode { conn.old.in_transaction ≡ false → conn.new.in_transaction ≡ false }
     ensures survives { Survives (state S.Store conn.old) (state S.Store conn.new) (λ _. ⊥) }
@@ -104,8 +104,8 @@ fn version_rows<S: Alter>(
     conn: &mut Connection<S>,
 ) -> Result<(Versions, bool), StoreFault>
     ensures rows { IfOk result (λ p. (rows : List Row) × (IsTrue p.1 → ComeOnce 0 rows) × AreVersions rows p.0.is_begun p.0.is_other
-        × (HasCleanDisk (state S.Store conn.new) → (state S.Store conn.old).now.schema ≡ the_schema → AreLoaded version_cells [] ((state S.Store conn.old).now.trees 7) rows)) }
-    ensures unchanged { HasCleanDisk (state S.Store conn.new) → (state S.Store conn.old).now.schema ≡ the_schema → OnOk result (IsUnchanged (state S.Store conn.old) (state S.Store conn.new)) }
+        × (HasCleanDisk (state S.Store conn.new) → HasFive (state S.Store conn.old).now.schema → AreLoaded version_cells [] ((state S.Store conn.old).now.trees 7) rows)) }
+    ensures unchanged { HasCleanDisk (state S.Store conn.new) → HasFive (state S.Store conn.old).now.schema → OnOk result (IsUnchanged (state S.Store conn.old) (state S.Store conn.new)) }
     ensures fault { result ≢ Err StoreFault.Damaged }
     ensures mode { conn.old.in_transaction ≡ false → conn.new.in_transaction ≡ false }
     ensures survives { Survives (state S.Store conn.old) (state S.Store conn.new) (λ _. ⊥) }
@@ -144,8 +144,8 @@ fn check_rowids(
 // Reads the rows of all tables.
 pub(crate) fn ask<S: Alter>(alloc: Global, conn: &mut Connection<S>) -> Result<Taken, StoreFault>
     ensures rows { IfOk result (λ t. (a : Answers) × AllComeOnce a × AreTaken a t
-        × (HasCleanDisk (state S.Store conn.new) → (state S.Store conn.old).now.schema ≡ the_schema → AreAnswers (state S.Store conn.old).now.trees a)) }
-    ensures unchanged { HasCleanDisk (state S.Store conn.new) → (state S.Store conn.old).now.schema ≡ the_schema → OnOk result (IsUnchanged (state S.Store conn.old) (state S.Store conn.new)) }
+        × (HasCleanDisk (state S.Store conn.new) → HasFive (state S.Store conn.old).now.schema → AreAnswers (state S.Store conn.old).now.trees a)) }
+    ensures unchanged { HasCleanDisk (state S.Store conn.new) → HasFive (state S.Store conn.old).now.schema → OnOk result (IsUnchanged (state S.Store conn.old) (state S.Store conn.new)) }
     ensures fault { result ≢ Err StoreFault.Damaged }
     ensures mode { conn.old.in_transaction ≡ false → conn.new.in_transaction ≡ false }
     ensures survives { Survives (state S.Store conn.old) (state S.Store conn.new) (λ _. ⊥) }

@@ -3,7 +3,7 @@ ghost use Rattle.std.specs.Prelude.{◌≡◌, ◌≢◌, ◌<◌, ◌≤◌, �
 ghost use Rattle.sqlite.specs.State.{HasCleanDisk, KeepsCommit, Survives};
 ghost use Rattle.sqlite.specs.Held.{state};
 ghost use Rattle.sqlite_trees.specs.Tree.{Trees};
-ghost use Rattle.tables.specs.Schema.{the_schema, beginning, five};
+ghost use Rattle.tables.specs.Schema.{the_schema, beginning, five, HasFive};
 ghost use Rattle.sql_tables.specs.Described.{LacksRest};
 ghost use Rattle.contents.specs.Contents.{no_rows};
 ghost use Rattle.tables.specs.Tables.{IsStore, HoldsTables, AreBare};
@@ -30,7 +30,8 @@ pub(crate) fn make_rest<S: Alter>(tx: &mut Transaction<'_, S>, count: usize) -> 
 // Puts the row of `schema` into tables that are all empty.
 pub(crate) fn put_version<S: Alter>(tx: &mut Transaction<'_, S>) -> Result<(), Error>
     ensures same_reference { tx.new.conn.ghost_name ≡ tx.old.conn.ghost_name }
-    ensures wrote { HasCleanDisk (state S.Store tx.new.conn.now) → (rows : Trees) → AreBare rows → IsMade rows the_schema (state S.Store tx.old.conn.now) → OnOk result (IsInside (state S.Store tx.new.conn.now) no_cells) }
+    ensures wrote { HasCleanDisk (state S.Store tx.new.conn.now) → IsTrue (state S.Store tx.old.conn.now).is_open → IsTrue (state S.Store tx.old.conn.now).in_transaction
+        → HasFive (state S.Store tx.old.conn.now).now.schema → AreBare (state S.Store tx.old.conn.now).now.trees → OnOk result (IsInside (state S.Store tx.new.conn.now) no_cells) }
     ensures kept { HasCleanDisk (state S.Store tx.new.conn.now) → KeepsCommit (state S.Store tx.old.conn.now) (state S.Store tx.new.conn.now) }
     ensures survives { Survives (state S.Store tx.old.conn.now) (state S.Store tx.new.conn.now) (λ _. ⊥) }
 {
@@ -42,9 +43,9 @@ pub(crate) fn put_version<S: Alter>(tx: &mut Transaction<'_, S>) -> Result<(), E
 pub(crate) fn begin<S: Alter>(conn: &mut Connection<S>) -> Result<(), Error>
     requires { conn.old.in_transaction ≡ false }
     ensures autocommit { conn.new.in_transaction ≡ false }
-    ensures wrote { HasCleanDisk (state S.Store conn.new) → (state S.Store conn.old).now.schema ≡ the_schema → AreBare (state S.Store conn.old).now.trees → OnOk result (IsStore (state S.Store conn.new) no_rows) }
+    ensures wrote { HasCleanDisk (state S.Store conn.new) → HasFive (state S.Store conn.old).now.schema → AreBare (state S.Store conn.old).now.trees → OnOk result (IsStore (state S.Store conn.new) no_rows) }
     ensures was_open { HasCleanDisk (state S.Store conn.new) → IsTrue (state S.Store conn.new).is_open → IsTrue (state S.Store conn.old).is_open }
-    ensures crash { Survives (state S.Store conn.old) (state S.Store conn.new) (λ trees. IsTrue (state S.Store conn.old).is_open → (state S.Store conn.old).now.schema ≡ the_schema → AreBare (state S.Store conn.old).now.trees → HoldsTables trees no_rows) }
+    ensures crash { Survives (state S.Store conn.old) (state S.Store conn.new) (λ trees. IsTrue (state S.Store conn.old).is_open → HasFive (state S.Store conn.old).now.schema → AreBare (state S.Store conn.old).now.trees → HoldsTables trees no_rows) }
 {
     let mut tx = conn.transaction();
     put_version(&mut tx)?;

@@ -2,7 +2,7 @@
 ghost use Rattle.std.specs.Prelude.{◌≡◌, ◌≢◌, ◌<◌, ℕ, [], true, false, Err, IfOk, OnOk, IsTrue};
 ghost use Rattle.sqlite.specs.State.{HasCleanDisk, IsLive, IsUnchanged, KeepsCommit, Survives};
 ghost use Rattle.sqlite.specs.Held.{state};
-ghost use Rattle.tables.specs.Schema.{the_schema, beginning, IsBeginning};
+ghost use Rattle.tables.specs.Schema.{beginning, HasFive, IsBeginning};
 ghost use Rattle.contents.specs.Contents as plain;
 ghost use Rattle.contents.specs.Contents.{contents_with, no_rows};
 ghost use Rattle.tables.specs.Tables.{HoldsTables, HaveDigests, IsStore, IsFit, AreBare, Stands, StandsFor};
@@ -22,13 +22,13 @@ use std::alloc::Global;
 // What the five tables hold, and whether `schema` has its row.
 fn gather<S: Alter>(alloc: Global, conn: &mut Connection<S>) -> Result<(Rows, bool), StoreFault>
     ensures read { IfOk result (λ p. (t : plain.Contents) × IsReadAs p.0.0 p.0.1.items t
-        × (HasCleanDisk (state S.Store conn.new) → (state S.Store conn.old).now.schema ≡ the_schema → IsLive (state S.Store conn.old)
+        × (HasCleanDisk (state S.Store conn.new) → HasFive (state S.Store conn.old).now.schema → IsLive (state S.Store conn.old)
         → (p.1 ≡ true → HoldsTables (state S.Store conn.old).now.trees t) × (p.1 ≡ false → IsUnbegun (state S.Store conn.old).now.trees t))) }
-    ensures damaged { HasCleanDisk (state S.Store conn.new) → (state S.Store conn.old).now.schema ≡ the_schema → result ≡ Err StoreFault.Damaged
+    ensures damaged { HasCleanDisk (state S.Store conn.new) → HasFive (state S.Store conn.old).now.schema → result ≡ Err StoreFault.Damaged
         → (t : plain.Contents) → IsFit t → HaveDigests t → StandsFor (state S.Store conn.old).now.trees t → ⊥ }
-    ensures kept { HasCleanDisk (state S.Store conn.new) → (state S.Store conn.old).now.schema ≡ the_schema → result ≡ Err StoreFault.Damaged → KeepsCommit (state S.Store conn.old) (state S.Store conn.new) }
-    ensures was_open { HasCleanDisk (state S.Store conn.new) → (state S.Store conn.old).now.schema ≡ the_schema → result ≡ Err StoreFault.Damaged → IsTrue (state S.Store conn.old).is_open }
-    ensures unchanged { HasCleanDisk (state S.Store conn.new) → (state S.Store conn.old).now.schema ≡ the_schema → OnOk result (IsUnchanged (state S.Store conn.old) (state S.Store conn.new)) }
+    ensures kept { HasCleanDisk (state S.Store conn.new) → HasFive (state S.Store conn.old).now.schema → result ≡ Err StoreFault.Damaged → KeepsCommit (state S.Store conn.old) (state S.Store conn.new) }
+    ensures was_open { HasCleanDisk (state S.Store conn.new) → HasFive (state S.Store conn.old).now.schema → result ≡ Err StoreFault.Damaged → IsTrue (state S.Store conn.old).is_open }
+    ensures unchanged { HasCleanDisk (state S.Store conn.new) → HasFive (state S.Store conn.old).now.schema → OnOk result (IsUnchanged (state S.Store conn.old) (state S.Store conn.new)) }
     ensures mode { conn.old.in_transaction ≡ false → conn.new.in_transaction ≡ false }
     ensures survives { Survives (state S.Store conn.old) (state S.Store conn.new) (λ _. ⊥) }
 {
@@ -49,10 +49,10 @@ fn begin_bare<S: Alter>(conn: &mut Connection<S>, is_bare: bool) -> Result<(), S
     requires { conn.old.in_transaction ≡ false }
     ensures autocommit { conn.new.in_transaction ≡ false }
     ensures bare { OnOk result (is_bare ≡ true) }
-    ensures begun { HasCleanDisk (state S.Store conn.new) → (state S.Store conn.old).now.schema ≡ the_schema → AreBare (state S.Store conn.old).now.trees → OnOk result (IsStore (state S.Store conn.new) no_rows) }
+    ensures begun { HasCleanDisk (state S.Store conn.new) → HasFive (state S.Store conn.old).now.schema → AreBare (state S.Store conn.old).now.trees → OnOk result (IsStore (state S.Store conn.new) no_rows) }
     ensures damaged { result ≡ Err StoreFault.Damaged → is_bare ≡ false }
     ensures told { is_bare ≡ false → (result ≡ Err StoreFault.Damaged) × (conn.new ≡ conn.old) }
-    ensures crash { Survives (state S.Store conn.old) (state S.Store conn.new) (λ trees. IsTrue (state S.Store conn.old).is_open → (state S.Store conn.old).now.schema ≡ the_schema
+    ensures crash { Survives (state S.Store conn.old) (state S.Store conn.new) (λ trees. IsTrue (state S.Store conn.old).is_open → HasFive (state S.Store conn.old).now.schema
         → (is_bare ≡ true) × (AreBare (state S.Store conn.old).now.trees → HoldsTables trees no_rows)) }
 {
     if !is_bare {
@@ -67,14 +67,14 @@ fn load<S: Alter>(alloc: Global, conn: &mut Connection<S>) -> Result<Rows, Store
     requires { conn.old.in_transaction ≡ false }
     ensures autocommit { conn.new.in_transaction ≡ false }
     ensures loaded { IfOk result (λ r. (t : plain.Contents) × IsReadAs r.0 r.1.items t
-        × (HasCleanDisk (state S.Store conn.new) → IsSettled (state S.Store conn.old) → (state S.Store conn.old).now.schema ≡ the_schema → IsLive (state S.Store conn.old)
+        × (HasCleanDisk (state S.Store conn.new) → IsSettled (state S.Store conn.old) → HasFive (state S.Store conn.old).now.schema → IsLive (state S.Store conn.old)
         → StandsFor (state S.Store conn.old).now.trees t × IsStore (state S.Store conn.new) t)) }
-    ensures was_open { HasCleanDisk (state S.Store conn.new) → (state S.Store conn.old).now.schema ≡ the_schema → OnOk result (IsTrue (state S.Store conn.old).is_open) }
-    ensures found_open { HasCleanDisk (state S.Store conn.new) → (state S.Store conn.old).now.schema ≡ the_schema → result ≡ Err StoreFault.Damaged → IsTrue (state S.Store conn.old).is_open }
-    ensures damaged { HasCleanDisk (state S.Store conn.new) → (state S.Store conn.old).now.schema ≡ the_schema → IsLive (state S.Store conn.old) → result ≡ Err StoreFault.Damaged
+    ensures was_open { HasCleanDisk (state S.Store conn.new) → HasFive (state S.Store conn.old).now.schema → OnOk result (IsTrue (state S.Store conn.old).is_open) }
+    ensures found_open { HasCleanDisk (state S.Store conn.new) → HasFive (state S.Store conn.old).now.schema → result ≡ Err StoreFault.Damaged → IsTrue (state S.Store conn.old).is_open }
+    ensures damaged { HasCleanDisk (state S.Store conn.new) → HasFive (state S.Store conn.old).now.schema → IsLive (state S.Store conn.old) → result ≡ Err StoreFault.Damaged
         → (t : plain.Contents) → IsFit t → HaveDigests t → StandsFor (state S.Store conn.old).now.trees t → ⊥ }
-    ensures kept { HasCleanDisk (state S.Store conn.new) → (state S.Store conn.old).now.schema ≡ the_schema → result ≡ Err StoreFault.Damaged → KeepsCommit (state S.Store conn.old) (state S.Store conn.new) }
-    ensures crash { IsLive (state S.Store conn.old) → Survives (state S.Store conn.old) (state S.Store conn.new) (λ trees. IsTrue (state S.Store conn.old).is_open → (state S.Store conn.old).now.schema ≡ the_schema
+    ensures kept { HasCleanDisk (state S.Store conn.new) → HasFive (state S.Store conn.old).now.schema → result ≡ Err StoreFault.Damaged → KeepsCommit (state S.Store conn.old) (state S.Store conn.new) }
+    ensures crash { IsLive (state S.Store conn.old) → Survives (state S.Store conn.old) (state S.Store conn.new) (λ trees. IsTrue (state S.Store conn.old).is_open → HasFive (state S.Store conn.old).now.schema
         → AreBare (state S.Store conn.old).now.trees × HoldsTables trees no_rows) }
 {
     let (rows, is_begun) = gather(alloc, conn)?;
@@ -124,8 +124,9 @@ fn complete_bare<S: Alter>(
 ///   bits, a role that is not UTF-8, a digest that is not 64 hex digits of lower case or not that of its bytes, and a third slot in
 ///   `current` do not fit. Nothing is made.
 /// - `Database`: a call of the database answered a fault, or the database has other tables than the first of these five in
-///   their order (no other is tried), or the rowids that it answered are not integers that come once, which by its own laws
-///   they are.
+///   their order and nothing else, or all five (no other is tried; behind all five may stand further tables, indexes and views,
+///   if no foreign key is onto one of the five), or the rowids that it answered are not integers that come once, which by its
+///   own laws they are.
 /// - `OutOfMemory`: memory was refused.
 pub fn prepare<S: Alter>(
     alloc: Global,

@@ -1,13 +1,14 @@
-// Whether a schema is that of the five tables.
-ghost use Rattle.std.specs.Prelude.{◌≡◌, ◌≤◌, MatchOption};
-ghost use Rattle.tables.specs.Schema.{beginning, IsBeginning};
+// Whether a schema has the five tables.
+ghost use Rattle.std.specs.Prelude.{MatchOption};
+ghost use Rattle.sql_tables.specs.Described.{HasFirst};
+ghost use Rattle.tables.specs.Schema.{five, IsBeginning};
 
 use crate::described::five_tables;
 use sqlite_schema::schema::Schema;
 
-// How many of the five tables there are, where they are the first in their order, and nothing else.
+// How many of the five tables there are, where they are the first in their order, and nothing else, or all.
 pub(crate) fn beginning_of(schema: &Schema) -> Option<usize>
-    ensures { MatchOption result (IsBeginning schema.now → ⊥) (λ count. (schema.now ≡ beginning count) × (count ≤ 5)) }
+    ensures { MatchOption result (IsBeginning schema.now → ⊥) (λ count. HasFirst five count schema.now) }
 {
     sql_tables::beginning_of(&five_tables(), schema)
 }

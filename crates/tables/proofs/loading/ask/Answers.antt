@@ -4,6 +4,7 @@ use Rattle.sqlite.specs.Held.{state}
 use Rattle.sqlite.specs.State.{HasCleanDisk}
 use Rattle.sql_tables.specs.Loading.{AreLoaded, rises, with_rowid}
 use Rattle.tables.specs.Rows.{current_cells, shelf_cells, blob_cells, version_cells}
+use Rattle.tables.proofs.Beginnings.{five_after}
 use Rattle.tables.proofs.loading.ask.Goals as goal
 
 pub returns-clause-rows : goal.returns-clause-rows
@@ -28,13 +29,13 @@ returns-clause-rows g c =
           let c2 : HasCleanDisk s2 = omega (arith, c3, c.shelf_rows.ensures.survives.clean) in
           let c1 : HasCleanDisk s1 = omega (arith, c2, c.current_rows.ensures.survives.clean) in
           let n1 : s1.now ≡ s0.now = (c.in_ok-roots.ensures.unchanged c1 has).0.now_is in
-          let h1 = ap (λ (d : Database). d.schema) n1 ∙ has in
+          let h1 = five_after n1 has in
           let n2 : s2.now ≡ s0.now = (c.in_ok-current.ensures.unchanged c2 h1).0.now_is ∙ n1 in
-          let h2 = ap (λ (d : Database). d.schema) n2 ∙ has in
+          let h2 = five_after n2 has in
           let n3 : s3.now ≡ s0.now = (c.in_ok-shelf.ensures.unchanged c3 h2).0.now_is ∙ n2 in
-          let h3 = ap (λ (d : Database). d.schema) n3 ∙ has in
+          let h3 = five_after n3 has in
           let n4 : s4.now ≡ s0.now = (c.in_ok-blobs.ensures.unchanged c4 h3).0.now_is ∙ n3 in
-          let h4 = ap (λ (d : Database). d.schema) n4 ∙ has in
+          let h4 = five_after n4 has in
           record {
             root = root.3 c1 has;
             current = subst (λ (d : Database). AreLoaded (with_rowid current_cells) [] (d.trees 1) current.0) n1 (current.3 c2 h1);

@@ -4,10 +4,10 @@ use Rattle.sqlite.specs.Held.{state}
 use Rattle.sqlite.specs.State.{HasCleanDisk, Survives}
 use Rattle.sqlite.proofs.StateLemmas.{survives_then}
 use Rattle.sqlite.proofs.Callers.{survives_begin}
-use Rattle.tables.specs.Schema.{the_schema}
+use Rattle.tables.specs.Schema.{HasFive}
 use Rattle.contents.specs.Contents.{no_rows}
 use Rattle.tables.specs.Tables.{AreBare, HoldsTables, IsStore}
-use Rattle.sql_tables.specs.Making.{IsMade}
+use Rattle.tables.specs.steps.Writing.{IsInside, no_cells}
 use Rattle.tables.proofs.Changes.{committed, to_tables}
 use Rattle.sql_tables.proofs.Calls.{OnOk_then}
 use Rattle.tables.proofs.making.begin.Goals as goal
@@ -23,25 +23,21 @@ returns-clause-wrote g c clean schema bare =
     subst (λ h. OnOk c.commit.result (IsStore (state g.S.Store h) no_rows)) same
     (OnOk_then c.commit.result (c.commit.ensures.ok late) (λ done.
     let is_open = (c.in_ok-put_version.ensures.kept early).was_open done.1.was_open in
-    let begun : IsMade old.now.trees the_schema (state g.S.Store c.transaction-tx.result.conn.now) =
-    subst (λ h. IsMade old.now.trees the_schema (state g.S.Store h)) (sym c.transaction-tx.ensures.begun)
-    (record { is_open = subst (λ h. IsTrue (state g.S.Store h).is_open) c.transaction-tx.ensures.begun is_open; inside = refl; schema_is = schema; holds = (refl, (refl, (refl, (refl, (refl, tt))))) }) in
-    committed tx (state g.S.Store end) no_rows (c.in_ok-put_version.ensures.wrote early old.now.trees bare begun) done.1))
+    let wrote = subst (λ h. IsTrue (state g.S.Store h).is_open → IsTrue (state g.S.Store h).in_transaction → HasFive (state g.S.Store h).now.schema → AreBare (state g.S.Store h).now.trees → IsInside tx no_cells) c.transaction-tx.ensures.begun (c.in_ok-put_version.ensures.wrote early) in
+    committed tx (state g.S.Store end) no_rows (wrote (subst (λ h. IsTrue (state g.S.Store h).is_open) c.transaction-tx.ensures.begun is_open) refl schema bare) done.1))
 
 pub returns-clause-crash : goal.returns-clause-crash
 returns-clause-crash g c =
     let old = state g.S.Store c.args.conn.now in
     let tx = state g.S.Store c.put_version.new.tx.conn.now in
     let end = c.commit.new.self.0 in
-    let P = λ (trees : Trees). IsTrue old.is_open → old.now.schema ≡ the_schema → AreBare old.now.trees → HoldsTables trees no_rows in
+    let P = λ (trees : Trees). IsTrue old.is_open → HasFive old.now.schema → AreBare old.now.trees → HoldsTables trees no_rows in
     let first : Survives old tx (λ _. ⊥) = survives_begin g.S.Store c.args.conn.now tx (λ _. ⊥) (subst (λ h. Survives (state g.S.Store h) tx (λ _. ⊥)) c.transaction-tx.ensures.begun c.put_version.ensures.survives) in
     let all = survives_then old tx (state g.S.Store end) (λ _. ⊥) (λ db. db ≡ tx.now.trees) P (λ _ db none. absurd none)
     (λ clean db is is_open schema bare.
     let early : HasCleanDisk tx = omega (arith, clean, c.commit.ensures.survives.clean) in
-    let begun : IsMade old.now.trees the_schema (state g.S.Store c.transaction-tx.result.conn.now) =
-    subst (λ h. IsMade old.now.trees the_schema (state g.S.Store h)) (sym c.transaction-tx.ensures.begun)
-    (record { is_open = is_open; inside = refl; schema_is = schema; holds = (refl, (refl, (refl, (refl, (refl, tt))))) }) in
-    subst (λ (d : Trees). HoldsTables d no_rows) (sym is) (to_tables (c.in_ok-put_version.ensures.wrote early old.now.trees bare begun)))
+    let wrote = subst (λ h. IsTrue (state g.S.Store h).is_open → IsTrue (state g.S.Store h).in_transaction → HasFive (state g.S.Store h).now.schema → AreBare (state g.S.Store h).now.trees → IsInside tx no_cells) c.transaction-tx.ensures.begun (c.in_ok-put_version.ensures.wrote early) in
+    subst (λ (d : Trees). HoldsTables d no_rows) (sym is) (to_tables (wrote is_open refl schema bare)))
     first c.commit.ensures.survives in
     let same : end ≡ c.conn-2-1.given.0 = search rules in
     subst (λ h. Survives old (state g.S.Store h) P) same all

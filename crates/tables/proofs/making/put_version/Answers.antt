@@ -3,5 +3,5 @@ use Rattle.tables.proofs.MakingLemmas.{begins}
 use Rattle.tables.proofs.making.put_version.Goals as goal
 
 pub returns-clause-wrote : goal.returns-clause-wrote
-returns-clause-wrote g c clean rows bare is =
-    begins rows (state g.S.Store c.args.tx.now.conn.now) (state g.S.Store c.execute.new.self.conn.now) c.in_ok-execute.field-0 bare is (c.in_ok-execute.ensures.runs clean is.inside)
+returns-clause-wrote g c clean is_open within schema bare =
+    begins (state g.S.Store c.args.tx.now.conn.now) (state g.S.Store c.execute.new.self.conn.now) c.in_ok-execute.field-0 is_open within schema bare (c.in_ok-execute.ensures.runs clean within)

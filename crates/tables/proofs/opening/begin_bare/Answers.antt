@@ -2,7 +2,7 @@ use Rattle.std.proofs.Common.{◌≡◌, IsTrue, true}
 use Rattle.sqlite_trees.specs.Tree.{Trees}
 use Rattle.sqlite.specs.Held.{state}
 use Rattle.sqlite.proofs.StateLemmas.{survives_weaker}
-use Rattle.tables.specs.Schema.{the_schema}
+use Rattle.tables.specs.Schema.{HasFive}
 use Rattle.contents.specs.Contents.{no_rows}
 use Rattle.tables.specs.Tables.{AreBare, HoldsTables}
 use Rattle.tables.proofs.opening.begin_bare.Goals as goal
@@ -11,6 +11,6 @@ pub returns-in_err-begin-clause-crash : goal.returns-in_err-begin-clause-crash
 returns-in_err-begin-clause-crash g c =
     let old = state g.S.Store c.args.conn.now in
     let new = state g.S.Store c.begin.new.conn in
-    survives_weaker old new _ (λ (trees : Trees). IsTrue old.is_open → old.now.schema ≡ the_schema → (c.args.is_bare ≡ true) × (AreBare old.now.trees → HoldsTables trees no_rows))
+    survives_weaker old new _ (λ (trees : Trees). IsTrue old.is_open → HasFive old.now.schema → (c.args.is_bare ≡ true) × (AreBare old.now.trees → HoldsTables trees no_rows))
     (λ _ db h is_open schema. (c.if-not-is_bare.false, λ bare. h is_open schema bare))
     c.in_err-begin.ensures.crash

@@ -1,11 +1,12 @@
-use Rattle.std.proofs.Common.{◌≡◌, ◌∙◌, inr, Err, ap, subst, sym, arith}
+use Rattle.std.proofs.Common.{◌≡◌, inl, inr, Err, ap, subst, sym, arith}
 use Rattle.sqlite.specs.Effect.{Database}
 use Rattle.sqlite.specs.Held.{state}
 use Rattle.sqlite.specs.State.{HasCleanDisk}
 use Rattle.contents.specs.Contents.{no_rows}
 use Rattle.tables.specs.Tables.{AreBare, IsStore}
 use Rattle.sql_tables.proofs.Gathering.{handed_on}
-use Rattle.tables.proofs.Openings.{began}
+use Rattle.tables.proofs.Beginnings.{five_after}
+use Rattle.tables.proofs.Openings.{began, loaded_store}
 use Rattle.tables.proofs.opening.load.Goals as goal
 
 pub returns-in_err-rows-clause-damaged : goal.returns-in_err-rows-clause-damaged
@@ -35,6 +36,17 @@ returns-clause-crash g c live =
     (λ early schema yes. ((it.2 early schema live).1 c.if-is_begun.false).bare (c.are_none.ensures.yes yes it.0 it.1))
     c.gather.ensures.survives c.begin_bare.ensures.crash
 
+pub returns-then-is_begun-clause-loaded : goal.returns-then-is_begun-clause-loaded
+returns-then-is_begun-clause-loaded g c =
+    let it = c.in_ok-rows.ensures.read in (
+      it.0,
+      it.1,
+      λ clean settled schema live.
+          let holds = (it.2 clean schema live).0 c.if-is_begun.true in
+          let same = c.in_ok-rows.ensures.unchanged clean schema in
+          (inl holds, loaded_store (state g.S.Store c.args.conn.now) (state g.S.Store c.gather.new.conn) it.0 same (settled same.0.was_open) schema holds),
+    )
+
 pub returns-clause-loaded : goal.returns-clause-loaded
 returns-clause-loaded g c =
     let it = c.in_ok-rows.ensures.read in
@@ -46,7 +58,7 @@ returns-clause-loaded g c =
           let none : it.0 ≡ no_rows = c.are_none.ensures.yes c.in_ok-begin_bare.ensures.bare it.0 it.1 in
           let bare = ((it.2 early schema live).1 c.if-is_begun.false).bare none in
           let same = c.in_ok-rows.ensures.unchanged early schema in
-          let there = ap (λ (d : Database). d.schema) same.0.now_is ∙ schema in
+          let there = five_after same.0.now_is schema in
           let done = c.in_ok-begin_bare.ensures.begun clean there (subst (λ (d : Database). AreBare d.trees) (sym same.0.now_is) bare) in
           (inr (bare, none), subst (IsStore new) (sym none) done),
     )

@@ -1,4 +1,4 @@
-use Rattle.std.proofs.Common.{◌≡◌, ◌+◌, ◌++◌, [], ◌∷◌, take, slice_index_or, refl, sym, ap, subst, ◌∙◌, arith, rules, OnOk}
+use Rattle.std.proofs.Common.{◌≡◌, ◌+◌, ◌++◌, [], ◌∷◌, take, slice_index_or, refl, sym, ap, subst, ◌∙◌, arith, rules, IsTrue, OnErr, OnOk}
 use Rattle.std.proofs.lemmas.List.{take_more, take_all}
 use Rattle.sqlite_trees.specs.Tree.{Trees}
 use Rattle.sqlite.specs.State.{HasCleanDisk, Survives}
@@ -9,7 +9,7 @@ use Rattle.tables.specs.declared.change.Change.TheVariants.{PutRoot}
 use Rattle.contents.specs.Contents.{Contents}
 use Rattle.tables.specs.Tables.{IsStore, HoldsTables, after_all}
 use Rattle.tables.specs.steps.Writing.{IsInside, cells_of}
-use Rattle.tables.proofs.Changes.{after_all_more, committed, inside, to_tables}
+use Rattle.tables.proofs.Changes.{after_all_more, committed, err_then, fails_back, inside, kept_back, on_err, to_tables}
 use Rattle.sql_tables.proofs.Calls.{OnOk_then, keeps_then}
 use Rattle.tables.proofs.writing.write_changes.Goals as goal
 
@@ -60,3 +60,25 @@ returns-clause-crash g c =
     c.writes.invariant.1 c.commit.ensures.survives in
     let same : end ≡ c.conn-2-1.given.0 = search rules in
     subst (λ h. Survives old (state g.S.Store h) P) same all
+
+pub returns-in_err-write-clause-kept : goal.returns-in_err-write-clause-kept
+returns-in_err-write-clause-kept g c clean stays t is =
+    let old = state g.S.Store c.args.conn.now in
+    let tx = state g.S.Store c.write.new.tx.conn.now in
+    let end = c.drop-tx.new.self.0 in
+    let same : end ≡ c.conn-1.given.0 = search rules in
+    let late : HasCleanDisk (state g.S.Store end) = subst (λ h. HasCleanDisk (state g.S.Store h)) (sym same) clean in
+    let early : HasCleanDisk tx = omega (arith, late, c.drop-tx.ensures.survives.clean) in
+    let kept = keeps_then old (state g.S.Store c.writes.tx.conn.now) tx (c.writes.invariant.2 (omega (arith, early, c.write.ensures.survives.clean))) (c.write.ensures.kept early) in
+    on_err c.from_residual.result (subst (λ h. IsStore (state g.S.Store h) t) same (kept_back old tx (state g.S.Store end) t (subst (λ h. IsTrue (state g.S.Store h).is_open) (sym same) stays) kept (c.drop-tx.ensures.undone late) is))
+
+pub returns-clause-kept : goal.returns-clause-kept
+returns-clause-kept g c clean stays t is =
+    let old = state g.S.Store c.args.conn.now in
+    let tx = state g.S.Store c.writes.tx.conn.now in
+    let end = c.commit.new.self.0 in
+    let same : end ≡ c.conn-2-1.given.0 = search rules in
+    let late : HasCleanDisk (state g.S.Store end) = subst (λ h. HasCleanDisk (state g.S.Store h)) (sym same) clean in
+    let early : HasCleanDisk tx = omega (arith, late, c.commit.ensures.survives.clean) in
+    subst (λ h. OnErr c.commit.result (IsStore (state g.S.Store h) t)) same
+    (err_then c.commit.result (c.commit.ensures.err late) (λ e fails. kept_back old tx (state g.S.Store end) t (subst (λ h. IsTrue (state g.S.Store h).is_open) (sym same) stays) (c.writes.invariant.2 early) (fails_back tx (state g.S.Store end) e (c.writes.invariant.3 early t is).inside fails) is))

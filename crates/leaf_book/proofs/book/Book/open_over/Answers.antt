@@ -6,6 +6,11 @@ use Rattle.leaf_book.specs.Book.{Book}
 use Rattle.leaf_book.specs.Rows.{Begins, IsRecorded, Stands}
 use Rattle.leaf_book.proofs.book.Book.open_over.Goals as goal
 
+pub over-requires-clause-rows : goal.over-requires-clause-rows
+over-requires-clause-rows g c clean stays =
+    let early : HasCleanDisk (state g.S.Store c.in-Ok.conn) = omega (arith, clean, c.prepare.ensures.crash.clean) in
+    (c.in-Ok-prepare.ensures.found clean (c.in-Ok.ensures.settled early)).2
+
 pub returns-in-Ok-prepare-clause-opened : goal.returns-in-Ok-prepare-clause-opened
 returns-in-Ok-prepare-clause-opened g c clean =
     let db = (state g.S.Store c.in-Ok.conn).now in

@@ -79,3 +79,14 @@ returns-clause-done g c U at =
     })
     (λ clean there. c.in_ok-write.ensures.wrote clean U at.state.valid valid
     (store_at inside.held.held (state g.S.Store inside.rows) U within (omega (arith, clean, c.write.ensures.crash.clean)) (c.write.ensures.was_open clean there)))
+
+pub returns-clause-crash : goal.returns-clause-crash
+returns-clause-crash g c clean was U at trees may =
+    let inside = c.self.inside in
+    let within = subst (λ s. StandsAt (seen s.kept (state g.S.Store s.conn)) U) (sym c.self.view_is) at in
+    let here : IsTrue (state g.S.Store inside.rows).is_open = subst (λ s. IsTrue (state g.S.Store s.conn).is_open) (sym c.self.view_is) was in
+    let is = store_at inside.held.held (state g.S.Store inside.rows) U within (omega (arith, clean, c.write.ensures.crash.clean)) here in
+    elim (c.write.ensures.crash.crash clean trees may) [
+      | inl before ↦ inl (c.rests.ensures (rows_of U) here is trees before)
+      | inr after ↦ inr (after U at.state.valid (c.requires.valid U at.state) is)
+    ]

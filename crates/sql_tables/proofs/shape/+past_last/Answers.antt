@@ -1,6 +1,6 @@
 use Rattle.std.proofs.Common.{arith}
 use Rattle.sql_tables.proofs.Shapes.{blank, first_fits}
-use Rattle.sql_tables.proofs.shape.+are_tables.Goals as goal
+use Rattle.sql_tables.proofs.shape.+past_last.Goals as goal
 
 pub past-requires : goal.past-requires
 past-requires t c = omega (arith, c.requires, first_fits c.args.tree c.args.described.now blank c.in-len1-up.len_at_least)

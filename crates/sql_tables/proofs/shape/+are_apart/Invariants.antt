@@ -1,0 +1,5 @@
+use Rattle.std.proofs.Common.{length}
+use Rattle.sql_tables.proofs.shape.+are_apart.Given as goal
+
+abbrev pub decreases-are_apart : goal.decreases-are_apart
+decreases-are_apart l = length l.references.now
