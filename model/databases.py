@@ -211,7 +211,7 @@ REFUSED_FURTHER = [
     "CREATE TABLE further(a REFERENCES blob(digest))", "CREATE TABLE further(a, b, FOREIGN KEY (b) REFERENCES Root(version))",
     "CREATE TRIGGER further AFTER INSERT ON blob BEGIN SELECT 1; END",
 ]
-HARMLESS_AFTER = ["VACUUM", "PRAGMA user_version = 7", "PRAGMA application_id = 7"]
+HARMLESS_AFTER = ["VACUUM", "ANALYZE", "PRAGMA user_version = 7", "PRAGMA application_id = 7"]
 HARMLESS_BEFORE = [
     "PRAGMA page_size = 1024", "PRAGMA page_size = 8192", "PRAGMA page_size = 65536", "PRAGMA journal_mode = WAL",
 ]

@@ -43,6 +43,14 @@ def made(room, files, release):
     return db
 
 
+def read_early():
+    """Bytes with a low digest: an opening reads by digest, so that it reads most of the further blobs behind them."""
+    while True:
+        data = random.randbytes(MEBIBYTE)
+        if hashlib.sha256(data).hexdigest() < "2":
+            return data
+
+
 def change(db, data):
     """Turns one bit in the middle of the bytes in the file, which stand there in pieces of a page."""
     piece = data[MEBIBYTE // 2:][:512]
@@ -53,7 +61,7 @@ def change(db, data):
 
 
 def serves_on(room, release):
-    files = {"large": random.randbytes(MEBIBYTE), "small": b"small"}
+    files = {"large": read_early(), "small": b"small"}
     db = made(room, files, release)
     with Server(db, release=release) as server:
         change(db, files["large"])
