@@ -75,7 +75,7 @@ impl<T: Drop> From<AllocFailed<T>> for ShapeFault {
 
 /// What a file says of another (TUF 1.0, sections 4.4 and 4.6, METAFILES): its version, 1 to 4,294,967,295, and its
 /// length in bytes and digest where these are given.
-#[derive(Debug, Clone, Copy)]
+#[derive(Clone, Copy)]
 pub struct Meta {
     pub version: u32,
     pub length: Option<u32>,
@@ -83,7 +83,7 @@ pub struct Meta {
 }
 
 /// Root metadata (TUF 1.0, section 4.3).
-#[derive(Debug, Drop)]
+#[derive(Drop)]
 pub struct Root {
     pub version: u32,
     pub expires: Moment,
@@ -95,7 +95,7 @@ pub struct Root {
 }
 
 /// Timestamp metadata (TUF 1.0, section 4.6).
-#[derive(Debug, Drop)]
+#[derive(Drop)]
 pub struct Timestamp {
     pub version: u32,
     pub expires: Moment,
@@ -104,7 +104,7 @@ pub struct Timestamp {
 
 /// Snapshot metadata (TUF 1.0, section 4.4): roles with what is said of their documents, in the order of their files'
 /// names, `ROLE.json`.
-#[derive(Debug, Drop)]
+#[derive(Drop)]
 pub struct Snapshot {
     pub version: u32,
     pub expires: Moment,
@@ -115,7 +115,7 @@ pub struct Snapshot {
 /// The layout that a target refers to (in-toto 1.0, section 4.3; this project's profile of TUF 1.0, section 4.5, custom): whose
 /// signatures it takes, over keys of its own, the paths of 1 to 64 links and of the layout as targets, and the step among whose
 /// products the target stands, with its path there. No link stands twice, and none is the layout.
-#[derive(Debug, Drop)]
+#[derive(Drop)]
 pub struct LayoutReference {
     pub owners: RoleRule,
     pub keys: KeyTable,
@@ -127,7 +127,7 @@ pub struct LayoutReference {
 
 /// A target (TUF 1.0, section 4.5, TARGETS): its length in bytes, its digest, and the layout that it refers to, if it refers to
 /// one.
-#[derive(Debug, Drop)]
+#[derive(Drop)]
 pub struct Listing {
     pub path: TargetPath,
     pub length: u32,
@@ -138,7 +138,7 @@ pub struct Listing {
 /// What a delegation covers (TUF 1.0, section 4.5, PATHPATTERN and path_hash_prefixes): paths that one of 1 to 64 patterns
 /// matches, with wildcards that stand for no slash, or whose digests begin with one of 1 to 64 prefixes, each of 1 to 64 hex
 /// digits of lower case.
-#[derive(Debug, Drop)]
+#[derive(Drop)]
 pub enum Scope {
     Patterns(Vec<Pattern>),
     Prefixes(Vec<String>),
@@ -146,7 +146,7 @@ pub enum Scope {
 
 /// A delegation (TUF 1.0, section 4.5, ROLENAME): a role, its rule over the keys of its list, whether nothing behind it is
 /// searched for a path that it covers, and what it covers.
-#[derive(Debug, Drop)]
+#[derive(Drop)]
 pub struct Delegation {
     pub name: RoleName,
     pub rule: RoleRule,
@@ -155,14 +155,14 @@ pub struct Delegation {
 }
 
 /// The delegations of targets metadata (TUF 1.0, section 4.5, DELEGATIONS): at most 64 in their order, with their keys.
-#[derive(Debug, Drop)]
+#[derive(Drop)]
 pub struct Delegations {
     pub keys: KeyTable,
     pub roles: Vec<Delegation>,
 }
 
 /// Targets metadata (TUF 1.0, section 4.5): the listings in the order of their paths, and the delegations, if it has any.
-#[derive(Debug, Drop)]
+#[derive(Drop)]
 pub struct Targets {
     pub version: u32,
     pub expires: Moment,
@@ -173,7 +173,7 @@ pub struct Targets {
 
 /// A step of a layout (in-toto 1.0, section 4.3.1): its name, whose links count for it and from how many keys there must be
 /// one, and the rules that its link's materials and products must keep to, at most 64 each.
-#[derive(Debug, Drop)]
+#[derive(Drop)]
 pub struct Step {
     pub name: RoleName,
     pub rule: RoleRule,
@@ -182,7 +182,7 @@ pub struct Step {
 }
 
 /// A layout (in-toto 1.0, section 4.3): 1 to 16 steps in their order, no name twice, and the keys that their rules name.
-#[derive(Debug, Drop)]
+#[derive(Drop)]
 pub struct Layout {
     pub expires: Moment,
     pub keys: KeyTable,
@@ -190,7 +190,7 @@ pub struct Layout {
 }
 
 /// What the signed part of a document says.
-#[derive(Debug, Drop)]
+#[derive(Drop)]
 pub enum Body {
     Root(Root),
     Timestamp(Timestamp),

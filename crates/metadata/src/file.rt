@@ -2,7 +2,8 @@
 ghost use Rattle.std.specs.Prelude.{◌≡◌, IfOk, IfErr, ◌⊎◌};
 ghost use Rattle.metadata.specs.File.{IsFileOf, root_form, timestamp_form, snapshot_form, targets_form, layout_form, link_form};
 ghost use Rattle.metadata.specs.FileViews.{root_file, timestamp_file, snapshot_file, targets_file, layout_file, link_file};
-ghost use Rattle.metadata.specs.Shape.{IsShapeFault};
+ghost use Rattle.metadata.specs.Shape.{IsDocument, IsShapeFault};
+ghost use Rattle.metadata.specs.Views.{body_view};
 
 use crate::document::read_document;
 use crate::documents::{
@@ -19,21 +20,28 @@ pub struct File<B> {
     pub body: B,
 }
 
-/// The file as root metadata, with a copy of its bytes, or the first check of its shape that fails.
-pub fn read_root_file(alloc: Global, bytes: &[u8]) -> Result<File<Root>, ShapeFault>
-    ensures file { IfOk result (λ f. IsFileOf root_form (root_file f) × ((root_file f).bytes ≡ bytes.now)) }
-    ensures fault { IfErr result (λ e. (e ≡ ShapeFault.OutOfMemory) ⊎ IsShapeFault Kind.Root bytes.now e) }
+// The file as a document of a kind, with a copy of its bytes.
+fn read_file(alloc: Global, kind: Kind, bytes: &[u8]) -> Result<File<Body>, ShapeFault>
+    ensures file { IfOk result (λ f. IsDocument kind f.source.bytes (record { entries = f.source.entries; signed = f.source.signed; body = body_view f.body }) × (f.source.bytes ≡ bytes.now)) }
+    ensures fault { IfErr result (λ e. (e ≡ ShapeFault.OutOfMemory) ⊎ IsShapeFault kind bytes.now e) }
 {
     let Document {
         signatures,
         signed,
         body,
-    } = read_document(alloc, Kind::Root, bytes)?;
+    } = read_document(alloc, kind, bytes)?;
+    let source = Source::new(alloc, bytes, signed, signatures)?;
+    Ok(File { source, body })
+}
+
+/// The file as root metadata, with a copy of its bytes, or the first check of its shape that fails.
+pub fn read_root_file(alloc: Global, bytes: &[u8]) -> Result<File<Root>, ShapeFault>
+    ensures file { IfOk result (λ f. IsFileOf root_form (root_file f) × ((root_file f).bytes ≡ bytes.now)) }
+    ensures fault { IfErr result (λ e. (e ≡ ShapeFault.OutOfMemory) ⊎ IsShapeFault Kind.Root bytes.now e) }
+{
+    let File { source, body } = read_file(alloc, Kind::Root, bytes)?;
     match body {
-        Body::Root(body) => {
-            let source = Source::new(alloc, bytes, signed, signatures)?;
-            Ok(File { source, body })
-        }
+        Body::Root(body) => Ok(File { source, body }),
         _ => Err(ShapeFault::WrongShape),
     }
 }
@@ -43,16 +51,9 @@ pub fn read_timestamp_file(alloc: Global, bytes: &[u8]) -> Result<File<Timestamp
     ensures file { IfOk result (λ f. IsFileOf timestamp_form (timestamp_file f) × ((timestamp_file f).bytes ≡ bytes.now)) }
     ensures fault { IfErr result (λ e. (e ≡ ShapeFault.OutOfMemory) ⊎ IsShapeFault Kind.Timestamp bytes.now e) }
 {
-    let Document {
-        signatures,
-        signed,
-        body,
-    } = read_document(alloc, Kind::Timestamp, bytes)?;
+    let File { source, body } = read_file(alloc, Kind::Timestamp, bytes)?;
     match body {
-        Body::Timestamp(body) => {
-            let source = Source::new(alloc, bytes, signed, signatures)?;
-            Ok(File { source, body })
-        }
+        Body::Timestamp(body) => Ok(File { source, body }),
         _ => Err(ShapeFault::WrongShape),
     }
 }
@@ -62,16 +63,9 @@ pub fn read_snapshot_file(alloc: Global, bytes: &[u8]) -> Result<File<Snapshot>,
     ensures file { IfOk result (λ f. IsFileOf snapshot_form (snapshot_file f) × ((snapshot_file f).bytes ≡ bytes.now)) }
     ensures fault { IfErr result (λ e. (e ≡ ShapeFault.OutOfMemory) ⊎ IsShapeFault Kind.Snapshot bytes.now e) }
 {
-    let Document {
-        signatures,
-        signed,
-        body,
-    } = read_document(alloc, Kind::Snapshot, bytes)?;
+    let File { source, body } = read_file(alloc, Kind::Snapshot, bytes)?;
     match body {
-        Body::Snapshot(body) => {
-            let source = Source::new(alloc, bytes, signed, signatures)?;
-            Ok(File { source, body })
-        }
+        Body::Snapshot(body) => Ok(File { source, body }),
         _ => Err(ShapeFault::WrongShape),
     }
 }
@@ -81,16 +75,9 @@ pub fn read_targets_file(alloc: Global, bytes: &[u8]) -> Result<File<Targets>, S
     ensures file { IfOk result (λ f. IsFileOf targets_form (targets_file f) × ((targets_file f).bytes ≡ bytes.now)) }
     ensures fault { IfErr result (λ e. (e ≡ ShapeFault.OutOfMemory) ⊎ IsShapeFault Kind.Targets bytes.now e) }
 {
-    let Document {
-        signatures,
-        signed,
-        body,
-    } = read_document(alloc, Kind::Targets, bytes)?;
+    let File { source, body } = read_file(alloc, Kind::Targets, bytes)?;
     match body {
-        Body::Targets(body) => {
-            let source = Source::new(alloc, bytes, signed, signatures)?;
-            Ok(File { source, body })
-        }
+        Body::Targets(body) => Ok(File { source, body }),
         _ => Err(ShapeFault::WrongShape),
     }
 }
@@ -100,16 +87,9 @@ pub fn read_layout_file(alloc: Global, bytes: &[u8]) -> Result<File<Layout>, Sha
     ensures file { IfOk result (λ f. IsFileOf layout_form (layout_file f) × ((layout_file f).bytes ≡ bytes.now)) }
     ensures fault { IfErr result (λ e. (e ≡ ShapeFault.OutOfMemory) ⊎ IsShapeFault Kind.Layout bytes.now e) }
 {
-    let Document {
-        signatures,
-        signed,
-        body,
-    } = read_document(alloc, Kind::Layout, bytes)?;
+    let File { source, body } = read_file(alloc, Kind::Layout, bytes)?;
     match body {
-        Body::Layout(body) => {
-            let source = Source::new(alloc, bytes, signed, signatures)?;
-            Ok(File { source, body })
-        }
+        Body::Layout(body) => Ok(File { source, body }),
         _ => Err(ShapeFault::WrongShape),
     }
 }
@@ -119,16 +99,9 @@ pub fn read_link_file(alloc: Global, bytes: &[u8]) -> Result<File<Link>, ShapeFa
     ensures file { IfOk result (λ f. IsFileOf link_form (link_file f) × ((link_file f).bytes ≡ bytes.now)) }
     ensures fault { IfErr result (λ e. (e ≡ ShapeFault.OutOfMemory) ⊎ IsShapeFault Kind.Link bytes.now e) }
 {
-    let Document {
-        signatures,
-        signed,
-        body,
-    } = read_document(alloc, Kind::Link, bytes)?;
+    let File { source, body } = read_file(alloc, Kind::Link, bytes)?;
     match body {
-        Body::Link(body) => {
-            let source = Source::new(alloc, bytes, signed, signatures)?;
-            Ok(File { source, body })
-        }
+        Body::Link(body) => Ok(File { source, body }),
         _ => Err(ShapeFault::WrongShape),
     }
 }

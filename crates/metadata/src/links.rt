@@ -6,14 +6,14 @@ ghost use Rattle.metadata.specs.Sorted.{AreInOrder};
 use path_patterns::{Digest, RoleName, TargetPath};
 
 /// Artifacts by their paths, each with the digest of its bytes, in the order of the paths' bytes, none twice.
-#[derive(Debug, Drop)]
+#[derive(Drop)]
 pub struct Artifacts {
     pub(crate) rows: Vec<(TargetPath, Digest)>,
     ghost in_order: { AreInOrder (map (λ r. r.0) rows.items) } by { Prim.hlevel props },
 }
 
 /// What a link says: the step that it is of, and the step's artifacts before it and after it.
-#[derive(Debug, Drop)]
+#[derive(Drop)]
 pub struct Link {
     pub name: RoleName,
     pub materials: Artifacts,

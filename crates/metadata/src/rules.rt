@@ -17,7 +17,7 @@ pub enum Side {
 }
 
 /// A rule that takes what stands in the link of another step, too: with the same digest, at the same path but for the two folders.
-#[derive(Debug, Drop)]
+#[derive(Drop)]
 pub struct Match {
     pub pattern: Pattern,
     /// The folder in which the paths lie, if one is named.
@@ -29,7 +29,7 @@ pub struct Match {
 }
 
 /// An artifact rule. Its patterns match flat: their wildcards stand for slashes too.
-#[derive(Debug, Drop)]
+#[derive(Drop)]
 pub enum Rule {
     Create(Pattern),
     Delete(Pattern),
