@@ -192,7 +192,7 @@ shelf_found (row ∷ rows) n a all h =
 
 -- ---- all files of a valid state
 
-root_small : {bs : List Bytes} {root : File Root} → IsRootChain bs root → root.body.version ≤ last_number
+pub root_small : {bs : List Bytes} {root : File Root} → IsRootChain bs root → root.body.version ≤ last_number
 root_small (first {root = root} doc is meets) = doc.read.body.head.1.2.2
 root_small (then {new = new} chain doc follows) = doc.read.body.head.1.2.2
 

@@ -20,14 +20,14 @@ use Rattle.machine.specs.Runs.{Command, Init, Batch, OfferOne, PutBlob, Prune, M
 
 -- ---- an order that never ends without a denial and without a value
 
-abbrev NeverSame : {A : Type 0} → Order A → Type 0
+abbrev pub NeverSame : {A : Type 0} → Order A → Type 0
 NeverSame m = m (Err Same) → ⊥
 
-then-never : {A B : Type 0} (m : Order A) (f : A → Order B) → NeverSame m → ((a : A) → NeverSame (f a)) → NeverSame (m >>= f)
+pub then-never : {A B : Type 0} (m : Order A) (f : A → Order B) → NeverSame m → ((a : A) → NeverSame (f a)) → NeverSame (m >>= f)
 then-never m f first rest (pass {a} h k) = rest a k
 then-never m f first rest (decide h) = first h
 
-check-never : (n : ℕ) (P : Type 0) → NeverSame (check n P)
+pub check-never : (n : ℕ) (P : Type 0) → NeverSame (check n P)
 check-never n P h = elim h [ ]
 
 give-never : {A : Type 0} (a : A) → NeverSame (give a)
@@ -36,7 +36,7 @@ give-never a h = elim h [ ]
 stop-never : {A : Type 0} (d : Denial) → NeverSame (stop {A = A} (Denied d))
 stop-never d h = elim h [ ]
 
-need-never : {A : Type 0} (d : Denial) (o : Option A) → NeverSame (need_or d o)
+pub need-never : {A : Type 0} (d : Denial) (o : Option A) → NeverSame (need_or d o)
 need-never d (Some a) h = give-never a h
 need-never {A} d None h = stop-never {A = A} d h
 
@@ -60,7 +60,7 @@ search-never V path now h =
     let why : Denial = Plain (cond (nat_lt most_visits (length (visited V path))) no.too_many_roles no.not_found) in
     find-never V (take most_visits (visited V path)) path now (stop {A = Found} (Denied why)) (stop-never {A = Found} why) h
 
-live-never : (S : State) (root : _) (now : ℕ) → NeverSame (live_snapshot S.trusted.timestamp S.trusted.snapshot root now)
+pub live-never : (S : State) (root : _) (now : ℕ) → NeverSame (live_snapshot S.trusted.timestamp S.trusted.snapshot root now)
 live-never S root now =
     then-never _ _ (then-never _ _ (check-never _ _) (λ _. then-never _ _ (need-never _ _) (λ stamp. then-never _ _ (check-never _ _) (λ _. give-never _))))
     (λ stamp. then-never _ _ (need-never _ _) (λ snap. then-never _ _ (check-never _ _) (λ _. then-never _ _ (check-never _ _) (λ _. give-never _))))

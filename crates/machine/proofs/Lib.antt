@@ -1,6 +1,7 @@
 pub mod AnswersMakeStates
 pub mod BatchOneByOne
 pub mod Carrying
+pub mod ChainsGoOn
 pub mod ChangesMake
 pub mod CoherentSteps
 pub mod EachInTurn
@@ -17,8 +18,10 @@ pub mod ListedVerdicts
 pub mod LoadedFiles
 pub mod LoadedHeld
 pub mod MetadataNames
+pub mod MissedFiles
 pub mod MoreRootsAndRows
 pub mod NewFiles
+pub mod OffersTell
 pub mod OneJudgement
 pub mod OneMoreBlob
 pub mod OrderSteps
@@ -33,4 +36,5 @@ pub mod ServedFrom
 pub mod ShapedOnce
 pub mod ShelfPlaces
 pub mod TargetFiles
+pub mod TargetListings
 pub mod ValidSteps

@@ -94,14 +94,14 @@ find-definite V [] path now none h = h
 find-definite V (e ∷ es) path now none h =
     line (visit-definite V e now) (λ file. found_or-definite V e.role (listing_of file.body path) _ (find-definite V es path now none h))
 
-search-definite : (V : Shelf) (path : Bytes) (now : ℕ) → Definite (search V path now)
+pub search-definite : (V : Shelf) (path : Bytes) (now : ℕ) → Definite (search V path now)
 search-definite V path now = find-definite V _ path now _ (stop-definite _)
 
 blob_of-definite : (S : State) (path : Bytes) (l : Listing) → Definite (blob_of S path l)
 blob_of-definite S path l =
     line (need_or-definite _ _) (λ blob. line (check-definite _ _) (λ _. give-definite blob))
 
-listed-definite : (T : Trusted) (path : Bytes) (now : ℕ) → Definite (listed T path now)
+pub listed-definite : (T : Trusted) (path : Bytes) (now : ℕ) → Definite (listed T path now)
 listed-definite T path now =
     line (check-definite _ _) (λ _.
     line (need_or-definite _ T.root) (λ root.

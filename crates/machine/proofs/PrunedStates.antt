@@ -166,14 +166,14 @@ named_is : (m : MetaFile) (o : Option (File Targets)) (file : File Targets)
 named_is m None file k = absurd (cc)
 named_is m (Some f) file k = whole_row (has_length m f.bytes && has_hash m f.bytes) f file k
 
-doc_row : (V : Shelf) (role : Name) (file : File Targets) → doc V role ≡ Some file → (v : ℕ) × (row_at V.rows role v ≡ Some file)
+pub doc_row : (V : Shelf) (role : Name) (file : File Targets) → doc V role ≡ Some file → (v : ℕ) × (row_at V.rows role v ≡ Some file)
 doc_row V role file is = at (look_up V.listing role) is
   where
     at : (o : Option MetaFile) → option_and_then (named_row V.rows role) o ≡ Some file → (v : ℕ) × (row_at V.rows role v ≡ Some file)
     at None k = absurd (cc)
     at (Some m) k = (m.version, named_is m (row_at V.rows role m.version) file k)
 
-abbrev Sound : Type 0
+abbrev pub Sound : Type 0
 Sound = (V : Shelf) (path : Bytes) (now : ℕ) (found : Found) → search V path now (Ok found) → IsSoundly V path now found
 
 -- ---- requests for targets

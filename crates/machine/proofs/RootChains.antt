@@ -32,7 +32,7 @@ pub follow_ends : (old : File Root) (rest : List (File Root)) (W : Type 0) → l
 follow_ends old [] W e same = ((λ t. same.0 tt), (λ w. refl))
 follow_ends old (x ∷ xs) W e same = absurd (omega arith)
 
-abbrev bytes_of : List (File Root) → List Bytes
+abbrev pub bytes_of : List (File Root) → List Bytes
 bytes_of fs = map (λ f. f.bytes) fs
 
 -- a chain, and what follows on it
@@ -91,7 +91,7 @@ chain_more old new [] e chain next = absurd (let k : None ≡ Some old = e in cc
 chain_more old new (g ∷ gs) e chain next = (chain.0, follow_more g old new gs e chain.1 next)
 
 module _ (law : Shapes) where
-  once : (f g : File Root) → IsFileOf root_form f → IsFileOf root_form g → f.bytes ≡ g.bytes → f ≡ g
+  pub once : (f g : File Root) → IsFileOf root_form f → IsFileOf root_form g → f.bytes ≡ g.bytes → f ≡ g
   once f g h k e =
       let same = shaped-definite law root_form root-tells g.bytes (Ok f) (Ok g) (reads h e) (reads k refl) in
       ok_same f g same

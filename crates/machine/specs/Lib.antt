@@ -3,6 +3,7 @@ pub mod Commands
 pub mod Contents
 pub mod Effects
 pub mod Held
+pub mod Misses
 pub mod Room
 pub mod Knowing
 pub mod Runs

@@ -1,23 +1,24 @@
 //! Laws of the trust machine, in functions that do nothing.
-ghost use Rattle.std.specs.Prelude.{◌≡◌, ◌≢◌, ◌<◌, ◌≤◌, ◌++◌, ℕ, List, Option, Some, None, Result, Ok, IfSome, IsNone, IsSome, length, map, codes, nat_eq, option_map, option_and_then, if◌then◌else◌};
+ghost use Rattle.std.specs.Prelude.{◌≡◌, ◌≢◌, ◌<◌, ◌≤◌, ◌+◌, ◌++◌, [], ◌∷◌, ℕ, List, Option, Some, None, Result, Ok, Err, IfSome, IsNone, IsSome, length, map, codes, nat_eq, option_map, option_and_then, if◌then◌else◌};
 ghost use Rattle.limits.specs.Limits.{blob_limit, most_held};
 ghost use Rattle.sha2.specs.Sha256.{sha256};
 ghost use Rattle.metadata.specs.Documents.{MetaFile, Root, Snapshot, Targets, Timestamp};
 ghost use Rattle.metadata.specs.Bodies.{IsListable};
-ghost use Rattle.metadata.specs.File.{Bytes, Name, File, IsFileOf, snapshot_form, targets_form, timestamp_form};
+ghost use Rattle.metadata.specs.File.{Bytes, Name, File, IsFileOf, root_form, snapshot_form, targets_form, timestamp_form};
 ghost use Rattle.metadata.specs.Parts.{last_number};
 ghost use Rattle.delegations.specs.Delegation.{before};
 ghost use Rattle.delegations.specs.Rows.{HasHash, HasLength, entry_of, place_before, row_at, value_at, with_row};
 ghost use Rattle.delegations.specs.Search.{Vouched, shelf_of};
-ghost use Rattle.denials.specs.Orders.{Denial, Judged};
-ghost use Rattle.machine.specs.State.{Trusted, State, MeetsTop, NamesSnapshot, blob_at, IsRootChain, IsTrusted, IsState, dotted, metadata_of, nothing};
-ghost use Rattle.machine.specs.Commands.{GrantAlike, NoDrop, NoRollback, Offer, SnapshotOffer, TargetsOffer, TimestampOffer, Batched, init, offer, batch, put_blob, prune, grants};
+ghost use Rattle.denials.specs.Orders.{Denial, RoleMissing, BlobMissing, Denied, Judged, Same};
+ghost use Rattle.machine.specs.Misses.{IsPart, IsThere, MissesRole, MissesBlob, IsProperListing};
+ghost use Rattle.machine.specs.State.{Trusted, State, FollowsRoot, MeetsTop, NamesSnapshot, blob_at, IsRootChain, IsTrusted, IsState, dotted, metadata_of, nothing};
+ghost use Rattle.machine.specs.Commands.{AfterRoot, GrantAlike, Listed, listed, NoDrop, NoRollback, Offer, RootOffer, SnapshotOffer, TargetsOffer, TimestampOffer, Batched, init, offer, batch, put_blob, prune, grants};
 ghost use Rattle.machine.specs.Contents.{contents_of, root_rows};
 ghost use Rattle.machine.specs.Effects.{Effects, applied};
 ghost use Rattle.machine.specs.Held.{IsHeld, held_of, held_with};
 ghost use Rattle.machine.specs.Runs.{Command, Target, Reply, Refused, Outcome, IsGranted, Steps, Runs, StaysCoherent};
 
-use delegations::search_is_sound;
+use delegations::{search_grows, search_is_sound};
 use layouts::one_verdict;
 use metadata::{one_document, one_shape, snapshot_names};
 
@@ -138,3 +139,62 @@ pub fn accepts_new()
     ensures blobs { (S : State) (root : File Root) (b : Bytes) → S.trusted.root ≡ Some root → length b ≤ blob_limit → IsNone (blob_at S.blobs (sha256 b))
         → length S.blobs < most_held → put_blob S (sha256 b) b (Ok (record S { blobs = with_row before S.blobs (sha256 b) b })) }
 {}
+
+/// A law, which does nothing: with which root a chain goes on, and under which name it is found.
+pub fn chains_go_on()
+    ensures next { (roots more : List Bytes) (b : Bytes) (old last : File Root) → IsRootChain roots old → IsRootChain (roots ++ b ∷ more) last
+        → (new : File Root) × (new.bytes ≡ b) × IsFileOf root_form new × FollowsRoot old new × IsRootChain (roots ++ b ∷ []) new }
+    ensures named { (T : Trusted) (roots more : List Bytes) (b : Bytes) (old : File Root) → IsTrusted T → IsRootChain roots old → T.roots ≡ roots ++ b ∷ more
+        → metadata_of T (dotted (old.body.version + 1) (codes "root")) ≡ Some b }
+    ensures newest { (T : Trusted) (root : File Root) → IsTrusted T → T.root ≡ Some root → root.body.version < last_number
+        → metadata_of T (dotted (root.body.version + 1) (codes "root")) ≡ None }
+{
+    one_document();
+    one_shape();
+}
+
+/// A law, which does nothing: a root that follows is taken, whatever else is said of it.
+pub fn roots_are_taken()
+    ensures { (T : Trusted) (old new : File Root) (now : ℕ) (j : Judged Trusted) → T.root ≡ Some old → IsFileOf root_form old → IsFileOf root_form new → FollowsRoot old new
+        → length T.roots < most_held → offer T RootOffer new.bytes now j → AfterRoot T old new j }
+{
+    one_document();
+    one_shape();
+}
+
+/// A law, which does nothing: bytes that are granted are the blob of the listing's digest, of the listing's length; and a path has one listing.
+pub fn granted_blobs()
+    ensures granted { (S : State) (path b : Bytes) (asked : Option Bytes) (now : ℕ) → grants S path asked now (Ok b)
+        → (at : Listed) × listed S.trusted path now (Ok at) × (blob_at S.blobs at.listing.digest ≡ Some b) × (length b ≡ at.listing.len)
+        × IfSome asked (λ digest. at.listing.digest ≡ digest) }
+    ensures listed_once { (T : Trusted) (path : Bytes) (now : ℕ) (r q : Judged Listed) → listed T path now r → listed T path now q → r ≡ q }
+{
+    one_document();
+    one_shape();
+}
+
+/// A law, which does nothing: what a targets document that is accepted leaves, and where an offer of one is the same.
+pub fn offers_tell()
+    ensures targets { (T U : Trusted) (snap : File Snapshot) (role : Name) (b : Bytes) (now : ℕ) → T.snapshot ≡ Some snap → offer T (TargetsOffer role) b now (Ok U)
+        → (entry : MetaFile) × (new : File Targets) × (entry_of snap role ≡ Some entry) × IsFileOf targets_form new × (new.bytes ≡ b)
+        × (U ≡ record T { shelf = with_row place_before T.shelf (role, entry.version) new }) }
+    ensures same { (T : Trusted) (snap : File Snapshot) (role : Name) (b : Bytes) (now : ℕ) → T.snapshot ≡ Some snap → offer T (TargetsOffer role) b now (Err Same)
+        → (entry : MetaFile) × (entry_of snap role ≡ Some entry) × IsSome (row_at T.shelf role entry.version) }
+{}
+
+/// A law, which does nothing: a state that holds a part of another grants and denies as that does, unless it misses a document or a file; and what
+/// it is that it misses (TUF 1.0, section 5.6.7; in-toto 1.0, section 5.2). So a client that fetches what is missed comes to the same end.
+pub fn missed_files()
+    ensures same { (D S : State) (path : Bytes) (asked : Option Bytes) (now : ℕ) (j : Judged Bytes) → IsPart D S → IsThere j
+        → grants D path asked now j → grants S path asked now j }
+    ensures roles { (D S : State) (path : Bytes) (now : ℕ) (role : Name) (version : ℕ) → IsPart D S
+        → grants D path None now (Err (Denied (RoleMissing role version))) → MissesRole D S path now role version }
+    ensures blobs { (D S : State) (path at digest : Bytes) (now len : ℕ) → IsState S → IsPart D S
+        → grants D path None now (Err (Denied (BlobMissing at digest len))) → MissesBlob D S path now at digest len }
+    ensures proper { (S : State) (path : Bytes) (now : ℕ) (at : Listed) → IsState S → listed S.trusted path now (Ok at) → IsProperListing at.listing }
+{
+    search_is_sound();
+    search_grows();
+    one_document();
+    one_shape();
+}

@@ -44,8 +44,9 @@ pub use effects::{Blob, Changes, Effects, Gone};
 pub use getting::{get, get_counted, get_from, get_from_counted, target, target_from};
 pub use held::Held;
 pub use laws::{
-    accepts_new, held_follows, names_find, nothing_is_valid, one_chain, one_judgement,
-    prune_keeps_answers, replies_tell, rows_stay, stays_coherent, stays_valid,
+    accepts_new, chains_go_on, granted_blobs, held_follows, missed_files, names_find,
+    nothing_is_valid, offers_tell, one_chain, one_judgement, prune_keeps_answers, replies_tell,
+    roots_are_taken, rows_stay, stays_coherent, stays_valid,
 };
 pub use metadata::{Digest, Timestamp};
 pub use names::metadata_file;
