@@ -1,4 +1,7 @@
+pub mod Agreement
+pub mod Answering
 pub mod Asking
+pub mod Behind
 pub mod Changes
 pub mod Session
 pub mod Taken

@@ -4,6 +4,7 @@
 
 mod fault;
 mod fetching;
+mod from_state;
 mod missing;
 mod taking;
 mod updating;
@@ -11,6 +12,7 @@ mod wanted;
 
 pub use fault::ClientFault;
 pub use fetching::fetch_target;
+pub use from_state::fetch_from_state;
 pub use sources::{FetchFault, Source};
 pub use store::{Denial, Moment, Store, TargetPath};
 pub use updating::update;
