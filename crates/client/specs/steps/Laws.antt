@@ -1,4 +1,4 @@
--- What the laws of the machine and of the crates below it say, as the client's proof of agreement cites them.
+-- What the laws of the machine and of the crates below it say, as the proof of agreement cites them.
 use Rattle.std.specs.Prelude.{◌≡◌, ◌≢◌, ◌<◌, ◌≤◌, ◌+◌, ◌++◌, [], ◌∷◌, ℕ, List, Option, Some, None, Ok, Err, IfSome, IsNone, IsSome, length, codes, nat_eq, option_map, option_and_then, if◌then◌else◌}
 use Rattle.std.specs.List.{AllByRecursion}
 use Rattle.limits.specs.Limits.{blob_limit, most_held}
