@@ -2,7 +2,7 @@
 
 # A client with the first root asks for five names in all, over five connections, and then has the file; the same again asks for nothing.
 a_client_fetches() {
-    local db=$folder/client.db out=$folder/fetched
+    local db=$folder/client.db out=$folder/fetched moment
     wants 1 '' 'denied 6 NoRoot\n' update --at=$at --db "$folder/nothing.db" --port 1
     wants 1 '' 'denied 6 NoRoot\n' get --at=$at --db "$folder/nothing.db" --port 1 --out "$out" hello.txt
     wants 0 'begun\n' '' init --at=$at --db "$db" "$example/root.json"
@@ -18,7 +18,9 @@ a_client_fetches() {
     wants 3 '' 'fault network\n' get --at=$at --db "$db" --port "$port" --out "$out" empty.txt
     wants 3 '' 'fault network\n' update --at=$at --db "$db" --port "$port"
     wants 1 '' 'denied 35 NotFound\n' get --at=$at --db "$db" --port "$port" --out "$out" other.txt
-    wants 1 '' 'denied 11 RootExpired\n' get --at=253402300799 --db "$db" --port "$port" --out "$out" hello.txt
+    for moment in 253402300799 +253402300799; do
+        wants 1 '' 'denied 11 RootExpired\n' get --at="$moment" --db "$db" --port "$port" --out "$out" hello.txt
+    done
     same "what get leaves where it writes nothing" "$example/hello.txt" "$out"
     dump "$db" "$folder/after"
     same "the tables of a client that fetched nothing" "$folder/before" "$folder/after"
@@ -38,6 +40,8 @@ faults_of_a_client() {
     wants 3 '' 'fault network\n' "${words[@]}" --db "$db" --out "$folder/none/out" empty.txt
     wants 3 '' "port $port: Connection refused (os error 111)\nempty.txt: the source failed\nfault network\n" \
         "${words[@]}" -v --db "$db" --out "$out" empty.txt
+    wants 3 '' "port 65535: Connection refused (os error 111)\nempty.txt: the source failed\nfault network\n" \
+        get --at=$at -v --out "$out" --db="$db" --port 65535 empty.txt
     wants 3 '' 'fault file\n' "${words[@]}" --db "$db" --out "$folder/none/out" hello.txt
     mkdir -p "$folder/taken"
     ln -sf "$out" "$folder/link"

@@ -67,6 +67,7 @@ more_is_told() {
     local db=$folder/db none=$folder/none.json gone='No such file or directory (os error 2)'
     wants 0 '{"a":0,"b":1}' '' canon --verbose "$folder/loose.json"
     wants 1 '' "$folder/ill.json: no canonical form\ndenied 2 NotCanonical\n" canon -v "$folder/ill.json"
+    wants 1 '' "$folder/ill.json: no canonical form\ndenied 2 NotCanonical\n" canon -vv "$folder/ill.json"
     wants 3 '' "$none: $gone\nfault file\n" canon -v "$none"
     wants 3 '' "$none: $gone\nfault file\n" init -v --at=$at --db "$db" "$none"
     wants 1 '' "$example/root.json: denied\ndenied 7 RootExists\n" init -v --at=$at --db "$db" "$example/root.json"

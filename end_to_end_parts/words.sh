@@ -7,8 +7,27 @@ canonical_forms() {
     wants 0 '{"a":0,"b":1}' '' canon --at 0 "$folder/loose.json"
     wants 1 '' 'denied 2 NotCanonical\n' canon "$folder/ill.json"
     wants 1 '' 'denied 2 NotCanonical\n' canon --at=253402300799 -- "$folder/ill.json"
+    wants 1 '' 'denied 2 NotCanonical\n' canon --at=+253402300799 -- "$folder/ill.json"
     wants 3 '' 'fault file\n' canon "$folder/none.json"
     wants 3 '' 'fault file\n' canon --at 5 "$folder/none.json"
+}
+
+# escapes DIGITS: bytes in hex, of which '-' is none, as printf has them.
+escapes() {
+    sed -e 's/^-$//' -e 's/../\\x&/g' <<<"$1"
+}
+
+# The texts of canonical_forms.txt, which other programs and the rules speak for.
+each_canonical_form() {
+    local text form
+    while read -r text form; do
+        printf '%b' "$(escapes "$text")" >"$folder/text.json"
+        if [ "$form" = none ]; then
+            wants 1 '' 'denied 2 NotCanonical\n' canon "$folder/text.json"
+        else
+            wants 0 "$(escapes "$form")" '' canon "$folder/text.json"
+        fi
+    done < <(grep -v '^#' end_to_end_parts/canonical_forms.txt)
 }
 
 # The table of denials is that of README.md.
@@ -21,6 +40,8 @@ the_help_is_printed() {
             helps "$text" help "$name"
         done
     done
+    helps --count serve --help
+    helps 'release prune --db' help prune
     wants 0 'release 0.3.0\n' '' --version
     sed -n -E 's/^\| ([0-9]+) \| `([A-Za-z]+)` \| (.*) \|$/\1 \2 \3/p' README.md | tr -d '`' >"$folder/denials.wanted"
     "$release" help denials | sed -n -E 's/^ *([0-9]+)  ([A-Za-z]+) +(.*)$/\1 \2 \3/p' >"$folder/denials"
@@ -42,6 +63,7 @@ words_of_canon() {
     usage canon --at 5
     usage canon --at=-1 a
     usage canon --on a
+    usage canon --verbose=1 a
     usage canon --at=253402300800 "$folder/loose.json"
 }
 
@@ -51,8 +73,11 @@ words_of_init_and_prune() {
     says required init "$example/root.json"
     says required init "$example/root.json" --at=5
     says required prune --at=5
+    says required prune --at=5 -v
     says '--db|unexpected' prune --db="$db" a
-    says '--db|unexpected' prune --db="$db" --db="$folder/other.db"
+    says '--db|unexpected' prune --db="$db" a b
+    says '--db|unexpected' prune --db="$db" --db="$folder/other.db" -v
+    says '--db|unexpected' prune --db="$db" --port=80 -v
     usage prune --db "$db" --at=-1
 }
 
@@ -80,6 +105,7 @@ words_of_key() {
 
 words_of_sign() {
     local db=$folder/db
+    says required sign --book a
     says required sign --seed "$db" --ots 8 --height 5 a
     says required sign --book "$db" --ots 8 --height 5 a
     says required sign --book "$db" --seed "$db" --height 5 a
