@@ -30,7 +30,7 @@ each_canonical_form() {
     done < <(grep -v '^#' end_to_end_parts/canonical_forms.txt)
 }
 
-# The table of denials is that of README.md.
+# The table of denials is that of docs/REFERENCE.md.
 the_help_is_printed() {
     local name text
     helps canon --help
@@ -43,7 +43,7 @@ the_help_is_printed() {
     helps --count serve --help
     helps 'release prune --db' help prune
     wants 0 'release 0.3.0\n' '' --version
-    sed -n -E 's/^\| ([0-9]+) \| `([A-Za-z]+)` \| (.*) \|$/\1 \2 \3/p' README.md | tr -d '`' >"$folder/denials.wanted"
+    sed -n -E 's/^\| ([0-9]+) \| `([A-Za-z]+)` \| (.*) \|$/\1 \2 \3/p' docs/REFERENCE.md | tr -d '`' >"$folder/denials.wanted"
     "$release" help denials | sed -n -E 's/^ *([0-9]+)  ([A-Za-z]+) +(.*)$/\1 \2 \3/p' >"$folder/denials"
     [ "$(wc -l <"$folder/denials")" = 51 ] || fail "not 51 denials in the help"
     same "the table of denials" "$folder/denials.wanted" "$folder/denials"
