@@ -1,7 +1,7 @@
 #!/usr/bin/env python3
 """Holds one server without '--at' over metadata that expires while it runs: it grants a target before, and denies it after.
 
-    crates/release/clock.py [RELEASE]       the program, out/release where none is named
+    gate/clock.py [RELEASE]       the program, out/release where none is named
 
 The example expires with the year 2099, so 'faketime' starts the server's clock some seconds before, and it runs on from there.
 """

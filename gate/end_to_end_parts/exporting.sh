@@ -68,11 +68,11 @@ a_layout_is_mirrored() {
     wants 1 '' 'denied 46 StepThreshold\n' get --at=$at --db "$client" --port "$mirrored" --out "$folder/out.txt" tool.txt
 }
 
-# Serves the exported folder by nginx, by the configuration of 'example/deploy'.
+# Serves the exported folder by nginx, by the configuration of 'deploy'.
 start_nginx() {
     mirrored=$(free_port)
     sed -e "s|listen 80;|listen 127.0.0.1:$mirrored;|" -e "s|/srv/repository|$folder/files|" -e "s|/run/|$folder/|" \
-        -e "s|/var/log/nginx|$folder|" example/deploy/mirror.conf >"$folder/mirror.conf"
+        -e "s|/var/log/nginx|$folder|" deploy/mirror.conf >"$folder/mirror.conf"
     if [ "$(id -u)" = 0 ]; then sed -i '1i user root;' "$folder/mirror.conf"; fi
     nginx -c "$folder/mirror.conf" -g 'daemon off;' 2>"$folder/mirror.err" &
     mirror=$!

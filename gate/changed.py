@@ -1,7 +1,7 @@
 #!/usr/bin/env python3
 """Changes a target's bytes in the database file behind the built server's back: it answers 503 for this target, and serves on.
 
-    crates/release/changed.py [RELEASE]       the program, out/release where none is named
+    gate/changed.py [RELEASE]       the program, out/release where none is named
 
 The repository has so many further blobs that the server no longer has the target's page when it is asked for it.
 """

@@ -1,7 +1,7 @@
 #!/usr/bin/env python3
 """What the standards say of most lines of the stored run, written apart from the crates.
 
-    straight.py    reads `stdin` and `stdout` beside it, and compares each line of the one but `json`, `document` and `rules` with
+    straight.py    reads `stdin` and `stdout` of crates/verdicts, and compares each line of the one but `json`, `document` and `rules` with
                    the line of the other. LMS (RFC 8554): the verdict and the hashes by section 5.4.2, the id as SHA-256
                    of the key's canonical object, the key and the signature by sections 4 and 5 and appendix A. Dates:
                    Python's calendar. Names: TUF 1.0, section 6.2. Patterns and prefixes: TUF 1.0, section 4.5
@@ -198,7 +198,7 @@ def expected(line):
 
 
 def main():
-    here = pathlib.Path(__file__).parent
+    here = pathlib.Path(__file__).resolve().parent.parent / "crates/verdicts"
     agree = 0
     differ = 0
     cases = (here / "stdin").read_text().splitlines()

@@ -9,7 +9,7 @@ import subprocess
 import tempfile
 import time
 
-TOP = os.path.dirname(os.path.dirname(os.path.dirname(os.path.realpath(__file__))))
+TOP = os.path.dirname(os.path.dirname(os.path.realpath(__file__)))
 RELEASE = f"{TOP}/crates/release/out/release"
 EXAMPLE = f"{TOP}/example"
 AT = ["--at", "1893456000"]

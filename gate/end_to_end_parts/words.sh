@@ -27,7 +27,7 @@ each_canonical_form() {
         else
             wants 0 "$(escapes "$form")" '' canon "$folder/text.json"
         fi
-    done < <(grep -v '^#' end_to_end_parts/canonical_forms.txt)
+    done < <(grep -v '^#' gate/end_to_end_parts/canonical_forms.txt)
 }
 
 # The table of denials is that of docs/REFERENCE.md.

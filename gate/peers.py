@@ -1,7 +1,7 @@
 #!/usr/bin/env python3
 """Holds the built server against peers that are slow, silent or more than it can take, and against being stopped.
 
-    crates/release/peers.py [RELEASE]       the program, out/release where none is named
+    gate/peers.py [RELEASE]       the program, out/release where none is named
 
 A connection has 10 seconds for its head, 60 in all, and 5 for what is read away behind a reply. The cases run side by side, each over
 a repository and a server of its own. Prints what is wrong, and ends with status 1 then.

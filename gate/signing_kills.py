@@ -1,7 +1,7 @@
 #!/usr/bin/env python3
 """Kills 'release sign' at random moments, over one book, and looks for a leaf that was spent on two documents.
 
-    crates/release/signing_kills.py [ROUNDS [RELEASE]]       200 rounds, and the program out/release, where none are named
+    gate/signing_kills.py [ROUNDS [RELEASE]]       200 rounds, and the program out/release, where none are named
 
 Each round signs a document, a new one or one from before, with one of several seeds, and kills the program (kill -9) within about the time that
 it takes. What was printed counts, also where it was cut. After each kill the book is opened by signing once more, to the end. No leaf of a key

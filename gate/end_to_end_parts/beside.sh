@@ -2,14 +2,14 @@
 
 the_example_is_made() {
     "$maker" "$folder/example" >"$folder/digests"
-    diff -r --exclude=deploy "$example" "$folder/example" || fail "the example is not what the program makes"
+    diff -r "$example" "$folder/example" || fail "the example is not what the program makes"
     same "digests of the example" crates/example/stdout "$folder/digests"
 }
 
 # The program `verdicts` over inputs and outputs that it does not reach the end of.
 verdicts_that_end_early() {
     local said
-    said=$(python3 crates/verdicts/ends.py "$verdicts") || fail "verdicts: $said"
+    said=$(python3 gate/ends.py "$verdicts") || fail "verdicts: $said"
     checks=$((checks + 1))
 }
 
@@ -17,7 +17,7 @@ verdicts_that_end_early() {
 beside=()
 start_beside() {
     local name
-    for name in crates/release/peers.py crates/release/clients.py crates/release/clock.py crates/release/full_disk.py crates/release/changed.py example/deploy/try; do
+    for name in gate/peers.py gate/clients.py gate/clock.py gate/full_disk.py gate/changed.py deploy/try; do
         "$repository/$name" "$release" >"$folder/$(basename "$name").out" 2>&1 &
         beside+=("$!:$name")
     done

@@ -1,7 +1,7 @@
 #!/usr/bin/env python3
 """Holds the built server over a file system that fills and is given room: it answers 503 meanwhile, and serves on afterwards.
 
-    crates/release/full_disk.py [RELEASE]       the program, out/release where none is named
+    gate/full_disk.py [RELEASE]       the program, out/release where none is named
 
 Where a file system in memory can be mounted, it is one of 3 MiB that another file fills. Everywhere it is a 'pwrite' of its own (LD_PRELOAD)
 that answers ENOSPC while a file of a certain name is there.

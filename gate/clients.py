@@ -1,7 +1,7 @@
 #!/usr/bin/env python3
 """Holds the built client against mirrors that do wrong: status, standard error, the rows of its database and the file that it writes.
 
-    crates/release/clients.py [RELEASE]     the program, out/release where none is named
+    gate/clients.py [RELEASE]     the program, out/release where none is named
 
 A mirror serves what 'release export' writes of the example, and does wrong with one file or with all ('model/hostile_mirror.py'). The
 cases run side by side, each over a database of its own. Prints what is wrong, and ends with status 1 then.

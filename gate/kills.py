@@ -1,7 +1,7 @@
 #!/usr/bin/env python3
 """Kills the built server at random moments of uploads and batches, and looks at what is left.
 
-    crates/release/kills.py [ROUNDS [RELEASE]]       100 rounds, and the program out/release, where none are named
+    gate/kills.py [ROUNDS [RELEASE]]       100 rounds, and the program out/release, where none are named
 
 Each round sends uploads and a batch to a server, which is killed (kill -9) within a random time, and looks at a copy of both files, the
 database and its log, as SQLite reads them: they are sound, each change that was acknowledged is there, and each other one wholly or not at
