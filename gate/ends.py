@@ -1,8 +1,8 @@
 #!/usr/bin/env python3
-"""How the built program ends where it does not reach the end of the input.
+"""How the built program ends where it does not reach the end of the input, and what it says of texts too long for the stored run.
 
-    ends.py PROGRAM    runs the program over lines that are no case, over inputs whose reading fails and over outputs
-                       whose writing fails, and compares what it writes and its exit status
+    ends.py PROGRAM    runs the program over lines that are no case, over inputs whose reading fails, over outputs whose
+                       writing fails and over long lines, and compares what it writes and its exit status
 
 It prints how many runs ended as they have to, and each that did not.
 """
@@ -180,9 +180,22 @@ def memory_that_is_refused():
     hold("refused memory", ((ran.returncode, ran.stderr), ran.stdout) == (MEMORY, b"canonical\n"))
 
 
+def texts_of_the_most_bytes():
+    """A document has at most 262,144 bytes, whatever else is wrong of it."""
+    item = rb'{"a":"x\"y\\z","b":-9223372036854775808,"c":[1,null,true],"d":{}},'
+    text = b"[" + item * 3971 + b'"the last item makes it as long as is wanted, no more..\"]'
+    hold("a text of 262,144 bytes", len(text) == 262144 and run(b"json " + text.hex().encode()) == ((0, b""), b"canonical\n"))
+    front = b'{"signatures":[],"signed":{"_type":"timestamp","expires":"2030-01-01T00:00:00Z","meta":{"snapshot.json":{"version":7}}'
+    front += b',"spec_version":"1.0.31","version":1,"x":"'
+    for length, behind, printed in [(262144, b"", b"ok\n"), (262145, b"", b"1\n"), (262145, b"x", b"1\n"), (262143, b"x", b"2\n")]:
+        text = front + b"a" * (length - len(front) - 3) + b'"}}' + behind
+        hold(f"a document of {len(text)} bytes", run(b"document timestamp " + text.hex().encode()) == ((0, b""), printed))
+
+
 lines_that_are_no_case()
 reads_that_fail()
 writes_that_fail()
 memory_that_is_refused()
+texts_of_the_most_bytes()
 print(f"{ended_well} ends as wanted, {failed} otherwise")
 sys.exit(1 if failed else 0)

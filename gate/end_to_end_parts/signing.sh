@@ -48,12 +48,13 @@ document() {
     printf '],"signed":%s}' "$2"
 }
 
-# The five parts share these variables: the book, the seed and the words that name both, and a document before and behind a signing.
+# The six parts share these variables: the book, the seed and the words that name both, and a document before and behind a signing.
 documents_are_signed() {
     local book=$folder/book seed=$folder/signing.seed signed=$folder/signed unsigned=$folder/unsigned
     local words=(--book "$book" --seed "$seed" --ots 8 --height 5)
     (umask 077 && seed 3 "$seed")
     a_document_is_signed
+    a_message_keeps_its_leaf
     documents_at_the_limits
     faults_of_signing
     a_book_with_a_further_table
@@ -73,6 +74,30 @@ a_document_is_signed() {
     same "signed twice" "$signed" "$folder/again"
     "$release" sign "${words[@]}" "$signed" >"$folder/again"
     same "its own output signed" "$signed" "$folder/again"
+}
+
+# by LEAF SEED NUMBER: the document of this number is signed by this leaf of the seed's key. A signature begins with the number of its leaf.
+by() {
+    document 0 "{\"_type\":\"x\",\"n\":$3}" >"$unsigned"
+    "$release" sign --book "$folder/leaves" --seed "$2" --ots 4 --height 5 "$unsigned" >"$folder/one" || fail "document $3"
+    printf '"sig":"%08x\n' "$1" >"$folder/leaf.wanted"
+    grep -o '"sig":"[0-9a-f]\{8\}' "$folder/one" >"$folder/leaf"
+    same "the leaf of document $3" "$folder/leaf.wanted" "$folder/leaf"
+}
+
+# Each message gets the next leaf and keeps it, and another key has leaves of its own in the same book.
+a_message_keeps_its_leaf() {
+    local other=$folder/other.seed
+    (umask 077 && seed 4 "$other")
+    by 0 "$seed" 1
+    by 1 "$seed" 2
+    by 0 "$seed" 1
+    by 2 "$seed" 3
+    by 0 "$other" 3
+    by 2 "$seed" 3
+    by 3 "$seed" 4
+    by 1 "$other" 1
+    rows "$folder/leaves" 'SELECT count(*), count(DISTINCT key) FROM leaf' '6|2\n'
 }
 
 # The most entries and the longest document, and more of both; and what is no document to sign.
@@ -121,6 +146,7 @@ leaves_are_spent() {
     for number in $(seq 29); do
         document 0 "{\"_type\":\"y\",\"n\":$number}" >"$unsigned"
         "$release" sign "${words[@]}" "$unsigned" >"$folder/one" || fail "leaf $number"
+        grep -q "\"sig\":\"$(printf %08x $((number + 2)))" "$folder/one" || fail "document $number is signed by another leaf"
     done
     document 0 '{"_type":"z"}' >"$unsigned"
     wants 1 '' 'leaves spent\n' sign "${words[@]}" "$unsigned"

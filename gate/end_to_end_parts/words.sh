@@ -10,6 +10,19 @@ canonical_forms() {
     wants 1 '' 'denied 2 NotCanonical\n' canon --at=+253402300799 -- "$folder/ill.json"
     wants 3 '' 'fault file\n' canon "$folder/none.json"
     wants 3 '' 'fault file\n' canon --at 5 "$folder/none.json"
+    long_canonical_form
+}
+
+# A canonical text of 262,144 bytes, the most of a document, stays as it is.
+long_canonical_form() {
+    {
+        printf '['
+        for _ in $(seq 3971); do printf '%s,' '{"a":"x\"y\\z","b":-9223372036854775808,"c":[1,null,true],"d":{}}'; done
+        printf '"the last item makes it as long as is wanted, no more..\"]'
+    } >"$folder/long.json"
+    [ "$(wc -c <"$folder/long.json")" = 262144 ] || fail "a long text has another length"
+    "$release" canon "$folder/long.json" >"$folder/out" || fail "a long text"
+    same "a long canonical text" "$folder/long.json" "$folder/out"
 }
 
 # escapes DIGITS: bytes in hex, of which '-' is none, as printf has them.
