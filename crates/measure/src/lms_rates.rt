@@ -1,10 +1,7 @@
 use crate::failure::Failure;
 use crate::rate::{now, percent, rate};
-use lms::{
-    KeyPair, OtsType, Params, Seed, SigningHeight, Steps, public_of, sign, verify, verify_counted,
-};
+use lms::{OtsType, Params, Seed, SigningHeight, Steps, public_of, sign, verify, verify_counted};
 use sha2::{Digest, Sha256};
-use std::alloc::Global;
 use std::rt::Clock;
 use std::time::Duration;
 
@@ -19,8 +16,8 @@ const SEED: Seed = Seed {
     secret: [1; 32],
 };
 
-/// Prints, for each LM-OTS type at height 5, the signings, verifications and hashes of verifications per second, then
-/// the hashes per second of `sha2` alone, and how many hundredths of those a verification reaches.
+/// Prints, for each LM-OTS type at height 5, the verifications and their hashes per second, then the hashes per second of `sha2` alone, and
+/// how many hundredths of those a verification reaches.
 pub fn measure(rt: &(impl Clock + Print + AllocGlobal), rounds: u32) -> Result<(), Failure> {
     let (hashing, message) = time_of_hashing(rt, rounds)?;
     let alone = rate(u64::from(HASHES), rounds, hashing);
@@ -35,34 +32,6 @@ pub fn measure(rt: &(impl Clock + Print + AllocGlobal), rounds: u32) -> Result<(
         percent(w2, alone),
         percent(w4, alone),
         percent(w8, alone)
-    )?;
-    measure_pair(rt, &message)
-}
-
-// The largest tree that is signed with.
-const LARGEST: Params = Params {
-    ots: OtsType::W8,
-    height: SigningHeight::H10,
-};
-
-// Prints the milliseconds that a public key takes at the largest tree, those of a key pair with its public key and a signature, and the
-// second in hundredths of the first.
-fn measure_pair(rt: &(impl Clock + Print + AllocGlobal), message: &[u8]) -> Result<(), Failure> {
-    let start = now(rt)?;
-    let public = public_of(&SEED, LARGEST);
-    let tree = now(rt)?.duration_since(start).as_millis();
-    let start = now(rt)?;
-    let pair = KeyPair::new(rt.alloc(), &SEED, LARGEST)?;
-    let mut signature = Vec::new(rt.alloc());
-    pair.sign(0, message, &mut signature)?;
-    let same = pair.public() == public;
-    let both = now(rt)?.duration_since(start).as_millis();
-    if !same || !verify(&public, message, &signature) {
-        return Err(Failure::NotVerified);
-    }
-    println!(rt;
-        "pair tree {tree} both {both} ratio {}",
-        percent(both, tree)
     )?;
     Ok(())
 }
@@ -80,19 +49,17 @@ fn measure_type(
         height: SigningHeight::H5,
     };
     let public = public_of(&SEED, params);
-    let (signing, signature) = time_of_signing(rt, rt.alloc(), params, message)?;
+    let mut signature = Vec::new(rt.alloc());
+    sign(&SEED, params, 0, message, &mut signature)?;
     let mut steps = Steps::new();
     if !verify_counted(&public, message, &signature, &mut steps) {
         return Err(Failure::NotVerified);
     }
     let verifying = time_of_verifying(rt, &public, message, &signature, rounds)?;
-    let signings = rate(1000, 1, signing);
-    let verifications = rate(1, rounds, verifying);
     let hashes = rate(steps.count(), rounds, verifying);
     println!(rt;
-        "{name} sign {}.{:03} verify {verifications} hashes {hashes}",
-        signings / 1000,
-        signings % 1000
+        "{name} verify {} hashes {hashes}",
+        rate(1, rounds, verifying)
     )?;
     Ok(hashes)
 }
@@ -111,18 +78,6 @@ fn time_of_hashing(rt: &impl Clock, rounds: u32) -> Result<(Duration, [u8; 32]),
         }
     }
     Ok((now(rt)?.duration_since(start), last))
-}
-
-fn time_of_signing(
-    rt: &impl Clock,
-    alloc: Global,
-    params: Params,
-    message: &[u8],
-) -> Result<(Duration, Vec<u8>), Failure> {
-    let mut signature = Vec::new(alloc);
-    let start = now(rt)?;
-    sign(&SEED, params, 0, message, &mut signature)?;
-    Ok((now(rt)?.duration_since(start), signature))
 }
 
 fn time_of_verifying(

@@ -1,25 +1,16 @@
 //! Times what the project does. It is run by hand, and never by a test.
 #![tactic(auto)]
 
-mod canon;
 mod documents;
 mod failure;
-mod get_rates;
 mod layout_rates;
 mod lms_rates;
-mod pattern_rates;
 mod rate;
-mod repository;
-mod shelves;
-mod states;
-mod supply_chain;
-mod task;
 
 use failure::Failure;
 use std::env;
 use std::process::ExitCode;
 use std::rt::{Clock, Env, Files};
-use task::Task;
 
 fn main(rt: HostRuntime) -> ExitCode {
     match run(&rt) {
@@ -31,15 +22,25 @@ fn main(rt: HostRuntime) -> ExitCode {
     }
 }
 
-// Makes the measurement that the words of the command line ask for.
+// Makes the measurement that the words of the command line ask for. The first word is the program's name.
 fn run(rt: &(impl Env + Files + Clock + Print + AllocGlobal)) -> Result<(), Failure> {
     let words: Vec<String> = env::args(rt)?.collect(rt.alloc())?;
-    match Task::parse(&words)? {
-        Task::Canon { file, rounds } => canon::measure(rt, file, rounds),
-        Task::Layout { rounds } => layout_rates::measure(rt, rounds),
-        Task::Lms { rounds } => lms_rates::measure(rt, rounds),
-        Task::Documents { rounds } => documents::measure(rt, rounds),
-        Task::Get { rounds } => get_rates::measure(rt, rounds),
-        Task::Patterns { rounds } => pattern_rates::measure(rt, rounds),
+    match words.as_slice() {
+        [_, task, rounds] if task.as_str() == "lms" => lms_rates::measure(rt, rounds_of(rounds)?),
+        [_, task, rounds, kind, file] if task.as_str() == "documents" => {
+            documents::measure(rt, rounds_of(rounds)?, kind, file)
+        }
+        [_, task, rounds, targets, path, layout, links @ ..] if task.as_str() == "layout" => {
+            layout_rates::measure(rt, rounds_of(rounds)?, targets, path, layout, links)
+        }
+        _ => Err(Failure::Usage),
+    }
+}
+
+// How often a measurement is repeated: at least once.
+fn rounds_of(word: &str) -> Result<u32, Failure> {
+    match word.parse::<u32>().unwrap_or(0) {
+        0 => Err(Failure::Usage),
+        rounds => Ok(rounds),
     }
 }

@@ -22,5 +22,8 @@ pub fn percent(part: u128, whole: u128) -> u128 {
 
 /// The moment.
 pub fn now(rt: &impl Clock) -> Result<Instant, Failure> {
-    Instant::now(rt).map_err(|_| Failure::Clock)
+    match Instant::now(rt) {
+        Ok(moment) => Ok(moment),
+        Err(_) => Err(Failure::Clock),
+    }
 }
