@@ -1,7 +1,7 @@
 use Rattle.std.proofs.Common.{ap₂, ◌∙◌}
 use Rattle.std.proofs.lemmas.Result.{IfOk-weaker}
-use Rattle.command_line.specs.CommandLine.{with_command}
-use Rattle.command_line.proofs.release.Goals as goal
+use Rattle.command_words.specs.Subcommands.{with_command}
+use Rattle.command_words.proofs.release.Goals as goal
 
 pub returns : goal.returns
 returns c =
