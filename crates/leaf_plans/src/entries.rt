@@ -4,14 +4,14 @@ use lms::Params;
 
 /// A key that signs, and the parameters of its tree.
 #[derive(Drop)]
-pub(crate) struct Signer {
+pub struct Signer {
     pub key: KeyId,
     pub params: Params,
 }
 
 /// A leaf of a key, by its number, and the message that it is kept for.
 #[derive(Drop)]
-pub(crate) struct Kept {
+pub struct Kept {
     pub key: KeyId,
     pub leaf: u32,
     pub message: Vec<u8>,

@@ -1,8 +1,8 @@
 use Rattle.std.proofs.Common.{sym, ap, ◌∙◌, arith, true≢false}
 use Rattle.std.proofs.lemmas.Slice.Eq.{bytes_eq-Decides}
 use Rattle.hex.specs.Hex.{encode_lower}
-use Rattle.leaf_book.proofs.Deciding.{decided, digits_one}
-use Rattle.leaf_book.proofs.cells.same_digits.Goals as goal
+use Rattle.leaf_plans.proofs.Deciding.{decided, digits_one}
+use Rattle.leaf_plans.proofs.ids.same_digits.Goals as goal
 
 pub returns : goal.returns
 returns c =

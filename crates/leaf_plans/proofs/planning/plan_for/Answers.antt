@@ -1,5 +1,5 @@
 use Rattle.std.proofs.Common.{arith}
-use Rattle.leaf_book.proofs.planning.plan_for.Goals as goal
+use Rattle.leaf_plans.proofs.planning.plan_for.Goals as goal
 
 pub returns-in-None : goal.returns-in-None
 returns-in-None c =

@@ -3,18 +3,18 @@ ghost use Rattle.std.specs.Prelude.{◌≡◌, ◌≤◌, ◌<◌, ℕ, List, ma
 ghost use Rattle.lms.specs.declared.Params.{Params};
 ghost use Rattle.sqlite_rules.specs.Lists.{Has};
 ghost use Rattle.keys_roles.specs.Views.{id_text};
-ghost use Rattle.leaf_book.specs.Book.{IsBook, IsLeastUnused, IsRegistered, IsUnused, IsUsed, Keeps, LacksMessage};
-ghost use Rattle.leaf_book.specs.Views.{book_view, kept_view, signer_view};
-ghost use Rattle.leaf_book.specs.steps.Planning.{IsPlan};
+ghost use Rattle.leaf_plans.specs.Book.{IsBook, IsLeastUnused, IsRegistered, IsUnused, IsUsed, Keeps, LacksMessage};
+ghost use Rattle.leaf_plans.specs.Views.{book_view, kept_view, signer_view};
+ghost use Rattle.leaf_plans.specs.Planning.{IsPlan};
 
-use crate::cells::{is_same, same_id};
 use crate::entries::{Kept, Signer};
+use crate::ids::{is_same, same_id};
 use crate::parameters::leaves_of;
 use keys_roles::KeyId;
 use lms::Params;
 
-// The parameters of the key that stand first.
-pub(crate) fn params_of(signers: &[Signer], key: &KeyId) -> Option<Params>
+/// The parameters of the key that stand first.
+pub fn params_of(signers: &[Signer], key: &KeyId) -> Option<Params>
     ensures { MatchOption result ((params : Params) → Has (map signer_view signers.now) (record { key = id_text key.now; params = params }) → ⊥)
         (λ params. Has (map signer_view signers.now) (record { key = id_text key.now; params = params })) }
 {
@@ -90,7 +90,7 @@ fn least_unused(leaves: &[Kept], key: &KeyId, count: u32) -> Option<u32>
 
 /// What `reserve` is to do.
 #[derive(Debug, Clone, Copy)]
-pub(crate) enum Plan {
+pub enum Plan {
     /// The leaf is kept for the message already.
     Held(u32, Params),
     /// The leaf is to be kept for the message.
@@ -102,7 +102,7 @@ pub(crate) enum Plan {
 }
 
 /// Where the message has a leaf it is that one, else the least that is not used.
-pub(crate) fn plan_for(signers: &[Signer], leaves: &[Kept], key: &KeyId, message: &[u8]) -> Plan
+pub fn plan_for(signers: &[Signer], leaves: &[Kept], key: &KeyId, message: &[u8]) -> Plan
     requires { IsBook (book_view signers.now leaves.now) }
     ensures { IsPlan (book_view signers.now leaves.now) (id_text key.now) message.now result }
 {

@@ -8,7 +8,7 @@ ghost use Rattle.lms.specs.Keys.{leaf_count};
 use lms::{OtsType, Params, SigningHeight};
 
 /// The number of an LM-OTS type (RFC 8554, section 4.1).
-pub(crate) fn code_of(ots: OtsType) -> u32
+pub fn code_of(ots: OtsType) -> u32
     ensures { result ≡ ots_code ots }
 {
     match ots {
@@ -20,7 +20,7 @@ pub(crate) fn code_of(ots: OtsType) -> u32
 }
 
 /// The LM-OTS type of a number.
-pub(crate) fn ots_of(code: u32) -> Option<OtsType>
+pub fn ots_of(code: u32) -> Option<OtsType>
     ensures { MatchOption result ((ots : OtsType) → code ≢ ots_code ots) (λ ots. code ≡ ots_code ots) }
 {
     match code {
@@ -33,7 +33,7 @@ pub(crate) fn ots_of(code: u32) -> Option<OtsType>
 }
 
 /// The height as a number.
-pub(crate) fn number_of(signing: SigningHeight) -> u32
+pub fn number_of(signing: SigningHeight) -> u32
     ensures { result ≡ height (signing_type signing) }
 {
     match signing {
@@ -43,7 +43,7 @@ pub(crate) fn number_of(signing: SigningHeight) -> u32
 }
 
 /// The height of a number.
-pub(crate) fn height_of(number: u32) -> Option<SigningHeight>
+pub fn height_of(number: u32) -> Option<SigningHeight>
     ensures { MatchOption result ((h : SigningHeight) → number ≢ height (signing_type h)) (λ h. number ≡ height (signing_type h)) }
 {
     match number {
@@ -54,7 +54,7 @@ pub(crate) fn height_of(number: u32) -> Option<SigningHeight>
 }
 
 /// How many leaves a tree has.
-pub(crate) fn leaves_of(params: Params) -> u32
+pub fn leaves_of(params: Params) -> u32
     ensures value { result ≡ leaf_count params }
     ensures few { result ≤ 1024 }
 {
@@ -65,7 +65,7 @@ pub(crate) fn leaves_of(params: Params) -> u32
 }
 
 /// Whether the parameters are the same.
-pub(crate) fn same_params(a: Params, b: Params) -> bool
+pub fn same_params(a: Params, b: Params) -> bool
     ensures { MatchBool result (a ≡ b) (a ≢ b) }
 {
     code_of(a.ots) == code_of(b.ots) && number_of(a.height) == number_of(b.height)

@@ -2,8 +2,8 @@ use Rattle.std.proofs.Common.{◌≡◌, ℕ, List, inl, inr, arith, map, subst}
 use Rattle.std.proofs.lemmas.Bool.{cases_lt}
 use Rattle.sqlite_rules.specs.Lists.{Has}
 use Rattle.keys_roles.specs.Views.{id_text}
-use Rattle.leaf_book.specs.Views.{kept_view}
-use Rattle.leaf_book.proofs.planning.least_unused.Goals as goal
+use Rattle.leaf_plans.specs.Views.{kept_view}
+use Rattle.leaf_plans.proofs.planning.least_unused.Goals as goal
 
 pub numbers-preserved : goal.numbers-preserved
 numbers-preserved c = λ n below.

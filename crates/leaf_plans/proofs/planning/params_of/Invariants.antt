@@ -2,9 +2,9 @@ use Rattle.std.proofs.Common.{map, length}
 use Rattle.sqlite_rules.specs.Lists.{Has}
 use Rattle.lms.specs.declared.Params.{Params}
 use Rattle.keys_roles.specs.Views.{id_text}
-use Rattle.leaf_book.specs.Book.{Signer}
-use Rattle.leaf_book.specs.Views.{signer_view}
-use Rattle.leaf_book.proofs.planning.params_of.Given as goal
+use Rattle.leaf_plans.specs.Book.{Signer}
+use Rattle.leaf_plans.specs.Views.{signer_view}
+use Rattle.leaf_plans.proofs.planning.params_of.Given as goal
 
 -- what is left are signers, and those of the key are among them
 abbrev pub invariant-signers : goal.invariant-signers

@@ -1,9 +1,9 @@
 use Rattle.std.proofs.Common.{ℕ, List, map, length}
 use Rattle.sqlite_rules.specs.Lists.{Has}
 use Rattle.keys_roles.specs.Views.{id_text}
-use Rattle.leaf_book.specs.Book.{Kept}
-use Rattle.leaf_book.specs.Views.{kept_view}
-use Rattle.leaf_book.proofs.planning.is_used.Given as goal
+use Rattle.leaf_plans.specs.Book.{Kept}
+use Rattle.leaf_plans.specs.Views.{kept_view}
+use Rattle.leaf_plans.proofs.planning.is_used.Given as goal
 
 -- what is left are leaves, and those of the key with this number are among them
 abbrev pub invariant-leaves : goal.invariant-leaves

@@ -3,9 +3,9 @@ use Rattle.std.specs.Prelude.{◌<◌, ℕ, List}
 use Rattle.sqlite_rules.specs.Lists.{Has}
 use Rattle.lms.specs.Keys.{leaf_count}
 use Rattle.lms.specs.declared.Params.{Params}
-use Rattle.leaf_book.specs.declared.planning.Plan.{Plan}
-use Rattle.leaf_book.specs.declared.planning.Plan.TheVariants.{Held, New, Spent, Unknown}
-use Rattle.leaf_book.specs.Book.{Book, IsLeastUnused, IsRegistered, IsUsed, Keeps, LacksMessage}
+use Rattle.leaf_plans.specs.declared.planning.Plan.{Plan}
+use Rattle.leaf_plans.specs.declared.planning.Plan.TheVariants.{Held, New, Spent, Unknown}
+use Rattle.leaf_plans.specs.Book.{Book, IsLeastUnused, IsRegistered, IsUsed, Keeps, LacksMessage}
 
 -- none of the values is so
 abbrev pub HasNone : {V : Type 0} → (V → Type 0) → List V → Type 0
