@@ -9,6 +9,7 @@ import delegation_rows
 import delegation_scenes
 import delegation_shapes
 import document_shapes
+import following
 import histories
 import http_cases
 import layout_cases
@@ -104,6 +105,7 @@ def of_delegations(chosen):
     yield "layouts: random histories", layout_histories.compare_histories, chosen.histories
     yield "clients: random histories", client_histories.compare_histories, chosen.histories
     yield "clients: random chains", client_histories.compare_chains, chosen.chains // 10
+    yield "clients: agreement with their server", following.compare_histories, chosen.histories
 
 
 def groups(chosen):

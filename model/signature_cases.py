@@ -1,4 +1,4 @@
-"""LMS: the test keys beside `crates/verdicts/straight.py`, and odd signatures and keys before the program."""
+"""LMS: the test keys beside `gate/straight.py`, and odd signatures and keys before the program."""
 import importlib.util
 from pathlib import Path
 
@@ -13,7 +13,7 @@ from repository import State
 from scenes import LIVE, NOW, SIMPLE_RULES, signed_document
 from test_keys import KEYS
 
-STRAIGHT = Path(__file__).resolve().parent.parent / "crates/verdicts/straight.py"
+STRAIGHT = Path(__file__).resolve().parent.parent / "gate/straight.py"
 
 
 def straight():

@@ -1,6 +1,6 @@
 """LMS keys from fixed seeds (RFC 8554, section 5 and appendix A).
 
-They are for tests alone: a leaf signs again when all have signed. `crates/verdicts/straight.py` makes the whole tree
+They are for tests alone: a leaf signs again when all have signed. `gate/straight.py` makes the whole tree
 for each signature. Here a key keeps its tree, since thousands of files are signed. The first group of `compare`
 compares the two.
 """

@@ -29,7 +29,7 @@ from pathlib import Path
 from serve_rates import HERE, RELEASE, release, repository
 from store_rates import BLOB, MEASURE, sha2_blocks
 
-sys.path.insert(0, str(HERE / "release"))
+sys.path.insert(0, str(HERE.parent / "gate"))
 from served import Server, rest  # noqa: E402
 
 MEBIBYTE = 1048576

@@ -21,7 +21,7 @@ import time
 from pathlib import Path
 
 HERE = Path(__file__).resolve().parent.parent
-sys.path.insert(0, str(HERE / "verdicts"))
+sys.path.insert(0, str(HERE.parent / "gate"))
 import straight  # noqa: E402
 
 RELEASE = HERE / "release/out/release"

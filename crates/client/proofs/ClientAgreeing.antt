@@ -19,7 +19,7 @@ use Rattle.client.specs.Views.{Fault}
 use Rattle.client.proofs.FetchAgrees.{fetch_agrees, fetch_denied}
 use Rattle.client.proofs.HonestTakes.{IsWanting, want_agrees}
 use Rattle.client.proofs.Levels.{Level}
-use Rattle.client.proofs.MachineLaws.{GrantLaws, NewLaws, RootLaws, StepLaws}
+use Rattle.client.specs.steps.Laws.{GrantLaws, NewLaws, RootLaws, StepLaws}
 use Rattle.client.proofs.RootsFollow.{Followed, roots_follow, same_root, trusts_one}
 use Rattle.client.proofs.StampAndSnapshot.{Brought, Denies, IsCalm, Ready, stamp_and_snapshot, timestamp_valid}
 use Rattle.client.proofs.Standing.{none_some, some_one}

@@ -28,7 +28,7 @@ use Rattle.client.specs.Wanted.{Misses, Wanted, blob, role, wanted_blob, wanted_
 use Rattle.client.proofs.HonestTakes as takes
 use Rattle.client.proofs.HonestTakes.{Arrives, Comes, EndsAs, IsWanting, arrives, arrives_valid, as_made, document_arrives, longer, made, nothing, put_comes, unmade, unmade_wants, want_agrees, wants}
 use Rattle.client.proofs.Levels.{Level, blob_enough, blob_level, blob_new, file, is_blob, not_same, not_served, puts, read, refuses, role_enough, role_level, role_named, role_new, role_room, served, some_text, stores}
-use Rattle.client.proofs.MachineLaws.{GrantLaws, NewLaws, StepLaws}
+use Rattle.client.specs.steps.Laws.{GrantLaws, NewLaws, StepLaws}
 
 denied_is : (d e : Denial) → ◌≡◌ {A = Result Bytes Fault} (Err (views.Denied d)) (Err (views.Denied e)) → d ≡ e
 denied_is d e k = cc

@@ -19,7 +19,7 @@ use Rattle.client.specs.Session.{IsAccepted, IsUnmade, Makes, Takes}
 use Rattle.client.specs.Views as views
 use Rattle.client.specs.Views.{Fault}
 use Rattle.client.specs.Wanted.{Wanted, document}
-use Rattle.client.proofs.MachineLaws.{StepLaws}
+use Rattle.client.specs.steps.Laws.{StepLaws}
 
 -- ---- want
 

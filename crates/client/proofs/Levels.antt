@@ -35,7 +35,7 @@ use Rattle.machine.specs.State.{IsCoherent, IsState, State, Trusted, blob_at, do
 use Rattle.machine.specs.Commands.{Listed, TargetsOffer, grants, listed, offer, put_blob}
 use Rattle.machine.specs.Runs.{with_trusted}
 use Rattle.client.specs.Behind.{most_rows}
-use Rattle.client.proofs.MachineLaws.{GrantLaws, NewLaws, StepLaws}
+use Rattle.client.specs.steps.Laws.{GrantLaws, NewLaws, StepLaws}
 use Rattle.client.proofs.Refused as refused
 use Rattle.client.proofs.RootsFollow.{held_by}
 use Rattle.client.proofs.StampAndSnapshot.{Server, server_of}

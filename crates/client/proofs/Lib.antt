@@ -8,7 +8,6 @@ pub mod FilesRun
 pub mod Found
 pub mod HonestTakes
 pub mod Levels
-pub mod MachineLaws
 pub mod OneFile
 pub mod Refused
 pub mod Replied

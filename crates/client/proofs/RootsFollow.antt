@@ -21,7 +21,7 @@ use Rattle.client.specs.Session.{Takes, TakesRoots, max_version}
 use Rattle.client.specs.Views.{Fault}
 use Rattle.client.specs.Wanted.{wanted_root}
 use Rattle.client.proofs.HonestTakes.{Document, IsWanting, arrives, arrives_valid, as_made, document_arrives, no_document}
-use Rattle.client.proofs.MachineLaws.{RootLaws, StepLaws}
+use Rattle.client.specs.steps.Laws.{RootLaws, StepLaws}
 
 -- ---- what a chain says
 

@@ -27,7 +27,7 @@ use Rattle.client.specs.Views.{Fault}
 use Rattle.client.specs.Wanted.{wanted_snapshot, wanted_timestamp}
 use Rattle.client.proofs.HonestTakes.{EndsAs, IsWanting, arrives, arrives_valid, as_made, document_arrives, no_document}
 use Rattle.client.proofs.HonestTakes as takes
-use Rattle.client.proofs.MachineLaws.{NewLaws, StepLaws}
+use Rattle.client.specs.steps.Laws.{NewLaws, StepLaws}
 use Rattle.client.proofs.RootsFollow.{held_by}
 
 -- ---- denials of both

@@ -16,7 +16,7 @@ use Rattle.client.specs.Session.{Fetches}
 use Rattle.client.specs.Views.{Fault}
 use Rattle.client.proofs.ClientAgreeing.{client_agrees}
 use Rattle.client.proofs.FilesRun.{files_run}
-use Rattle.client.proofs.MachineLaws.{GrantLaws, NewLaws, RootLaws, StepLaws}
+use Rattle.client.specs.steps.Laws.{GrantLaws, NewLaws, RootLaws, StepLaws}
 use Rattle.client.proofs.Runs.{fetch-granted}
 
 module _ (roots_law : RootLaws) (news : NewLaws) (grant : GrantLaws) (step : StepLaws) (shapes : Shapes) (S : State) (sure : IsState S) (path : Bytes) (is_path : IsTargetPath path) (now : ℕ)

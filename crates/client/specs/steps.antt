@@ -1,3 +1,4 @@
 -- Definitions that contracts of private functions cite.
 pub mod Asked
+pub mod Laws
 pub mod Rounds

@@ -10,13 +10,10 @@ ghost use Rattle.client.specs.Views.{ended, fetched};
 
 use crate::fault::ClientFault;
 use crate::fetching::fetch_target;
+use crate::laws::laws;
 use crate::updating::update;
-use delegations::missed_documents;
-use machine::{
-    Refusal, State, accepts_new, chains_go_on, granted_blobs, metadata_file, missed_files,
-    names_find, offers_tell, one_chain, one_judgement, roots_are_taken, stays_valid, target,
-};
-use metadata::{Moment, one_document, one_shape, snapshot_names};
+use machine::{Refusal, State, metadata_file, target};
+use metadata::{Moment, one_document, one_shape};
 use path_patterns::{TargetPath, names_undo, read_asked};
 use sources::{FetchFault, Source};
 use sqlite::Alter;
@@ -99,19 +96,7 @@ pub fn fetch_from_state<S: Alter>(
 {
     let _text = path.as_str();
     server.is_valid();
-    chains_go_on();
-    roots_are_taken();
-    one_chain();
-    stays_valid();
-    one_judgement();
-    names_find();
-    accepts_new();
-    granted_blobs();
-    offers_tell();
-    missed_files();
-    missed_documents();
-    snapshot_names();
-    names_undo();
+    laws();
     one_document();
     one_shape();
     let mut source = StateSource { server, now };

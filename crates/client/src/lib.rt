@@ -5,6 +5,7 @@
 mod fault;
 mod fetching;
 mod from_state;
+mod laws;
 mod missing;
 mod taking;
 mod updating;
@@ -13,6 +14,7 @@ mod wanted;
 pub use fault::ClientFault;
 pub use fetching::fetch_target;
 pub use from_state::fetch_from_state;
+pub use laws::anchor_is_behind;
 pub use sources::{FetchFault, Source};
 pub use store::{Denial, Moment, Store, TargetPath};
 pub use updating::update;

@@ -1,5 +1,16 @@
-//! Tests of `http_serve`: readers and writers that fail, a socket, and memory that is refused.
+//! Tests of `http_serve` and `http_messages` that want an end of a connection inside the process: readers and writers that fail or take
+//! little, one that never fails, and sockets.
 #![tactic(auto)]
 
 #[cfg(test)]
-mod tests;
+mod connections;
+#[cfg(test)]
+mod ends;
+#[cfg(test)]
+mod first_root;
+#[cfg(test)]
+mod sockets;
+#[cfg(test)]
+mod sound;
+#[cfg(test)]
+mod texts;

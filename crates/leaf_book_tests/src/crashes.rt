@@ -1,14 +1,45 @@
 // A book over two files in memory, which stop at each of their calls in turn, and are opened again after the crash.
-use crate::seeds::{leaf_of, low_pair, signature};
-use leaf_book::Book;
-use lms::KeyPair;
+use leaf_book::{Book, BookFault};
+use lms::{KeyPair, OtsType, Params, Seed, SigningHeight};
+use signing::sign_message;
 use sqlite::{Connection, FileStore, Files};
 use sqlite_disk::{Crash, Fuse, Memory};
 use sqlite_pager::Options;
-use std::alloc::Global;
+use std::alloc::{AllocError, Global};
 use std::test::Fail;
 
 type Disks = FileStore<Fuse<Memory>>;
+
+// The pair of the seed of ones, with 32 leaves.
+fn low_pair(alloc: Global) -> Result<KeyPair, AllocError> {
+    let seed = Seed {
+        identifier: [1; 16],
+        secret: [1; 32],
+    };
+    let params = Params {
+        ots: OtsType::W4,
+        height: SigningHeight::H5,
+    };
+    KeyPair::new(alloc, &seed, params)
+}
+
+// The signature of the message.
+fn signature(
+    alloc: Global,
+    book: &mut Book<Disks>,
+    pair: &KeyPair,
+    message: &[u8],
+) -> Result<Vec<u8>, BookFault> {
+    Ok(sign_message(alloc, book, pair, message)?.1)
+}
+
+// The leaf that a signature was made with: its first four bytes (RFC 8554, section 5.4).
+fn leaf_of(signature: &[u8]) -> u32 {
+    match signature {
+        [a, b, c, d, ..] => u32::from_be_bytes([*a, *b, *c, *d]),
+        _ => u32::MAX,
+    }
+}
 
 // What was signed before the disks stopped, and the files, unless the opening that failed took them with it.
 #[derive(Drop)]
@@ -125,7 +156,7 @@ fn ends(alloc: Global, pair: &KeyPair, files: Files<Fuse<Memory>>) -> Result<Opt
 // The log stops at each of its calls in turn, until none is left: in the opening, in a registration and in two reservations.
 #[test]
 fn the_log_stops_at_each_call(rt: HostRuntime) -> Result<(), Fail> {
-    let pair = low_pair(rt.alloc(), 1)?;
+    let pair = low_pair(rt.alloc())?;
     for calls in 0..1_000u64 {
         let files = new_files(rt.alloc(), calls, u64::MAX);
         match ends(rt.alloc(), &pair, files)? {
@@ -143,7 +174,7 @@ fn the_log_stops_at_each_call(rt: HostRuntime) -> Result<(), Fail> {
 // The same of the file of the database.
 #[test]
 fn the_database_stops_at_each_call(rt: HostRuntime) -> Result<(), Fail> {
-    let pair = low_pair(rt.alloc(), 1)?;
+    let pair = low_pair(rt.alloc())?;
     for calls in 0..1_000u64 {
         let files = new_files(rt.alloc(), u64::MAX, calls);
         match ends(rt.alloc(), &pair, files)? {

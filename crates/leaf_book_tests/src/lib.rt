@@ -1,12 +1,5 @@
-//! Tests of `leaf_book` and of what `signing` does over it: leaves in their order, another implementation's signatures, and disks that
-//! fail at each of their calls.
+//! Tests of `leaf_book`, and of what `signing` does over it, over disks that fail at each of their calls, which no command can say.
 #![tactic(auto)]
 
 #[cfg(test)]
 mod crashes;
-#[cfg(test)]
-mod leaves;
-#[cfg(test)]
-mod seeds;
-#[cfg(test)]
-mod vectors;

@@ -9,74 +9,6 @@ fn written(alloc: Global, value: &Value) -> Result<Vec<u8>, WriteFault> {
     Ok(out)
 }
 
-fn read_fault(rt: HostRuntime, text: &str) -> Option<ReadFault> {
-    read(rt.alloc(), text.as_bytes()).err()
-}
-
-const CANONICAL: [&str; 20] = [
-    "null",
-    "true",
-    "false",
-    "0",
-    "-1",
-    "10",
-    "9223372036854775807",
-    "-9223372036854775808",
-    r#""""#,
-    r#""a\"b\\c/""#,
-    "\"a line feed \n and a null \0\"",
-    "\"\u{7f}\u{e9}\u{ffff}\u{10000}\"",
-    "[]",
-    "{}",
-    "[1,[2],{}]",
-    r#"{"a":1,"b":[null]}"#,
-    r#"{"":1,"a":2,"aa":3,"b":4}"#,
-    "{\"z\":1,\"\u{e9}\":2}",
-    "{\"\u{ffff}\":1,\"\u{10000}\":2}",
-    r#"{"!":1,"\"":2,"[":3,"\\":4,"]":5}"#,
-];
-
-#[test]
-fn reads_and_writes_back(rt: HostRuntime) -> Result<(), Fail> {
-    for text in CANONICAL {
-        let value = read(rt.alloc(), text.as_bytes())?;
-        let out = written(rt.alloc(), &value)?;
-        assert!(rt; out.as_slice() == text.as_bytes(), "{text}");
-    }
-    Ok(())
-}
-
-// So many lists and objects inside one another, opened by these texts in turn.
-fn nested(alloc: Global, openings: [&str; 2], levels: usize) -> Result<String, AllocError> {
-    let mut text = String::new(alloc);
-    for level in 0..levels {
-        text.push_str(openings[level % 2])?;
-    }
-    text.push_str("0")?;
-    for level in 0..levels {
-        let opening = openings[(levels - 1 - level) % 2];
-        text.push_str(if opening == "[" { "]" } else { "}" })?;
-    }
-    Ok(text)
-}
-
-#[test]
-fn reads_32_levels(rt: HostRuntime) -> Result<(), Fail> {
-    for openings in [
-        ["[", "["],
-        ["{\"a\":", "{\"a\":"],
-        ["[", "{\"a\":"],
-        ["{\"a\":", "["],
-    ] {
-        let deepest = nested(rt.alloc(), openings, 32)?;
-        let out = written(rt.alloc(), &read(rt.alloc(), deepest.as_bytes())?)?;
-        assert!(rt; out.as_slice() == deepest.as_bytes());
-        let deeper = nested(rt.alloc(), openings, 33)?;
-        assert!(rt; read_fault(rt, deeper.as_str()) == Some(ReadFault::TooDeep));
-    }
-    Ok(())
-}
-
 fn object(alloc: Global, members: [(&str, Value); 2]) -> Result<Value, AllocError> {
     let mut found = Vec::with_capacity(alloc, 2)?;
     for (name, value) in members {
@@ -207,48 +139,6 @@ fn lends_the_member(rt: HostRuntime) {
     ] {
         assert!(rt; member(text.as_bytes(), "a").is_none(), "{text}");
     }
-}
-
-const ROUND: &str = r#"{"a":["x\"y",-10],"b":{"c":null},"d":"zz"}"#;
-
-// Holds whichever one allocation is refused: the call says so and leaves the output as it was, and the next call, with
-// memory again, answers in full.
-#[test]
-fn goes_on_after_a_refused_allocation(rt: HostRuntime) {
-    let mut out = Vec::new(rt.alloc());
-    if out.push(b'>').is_err() {
-        assert!(rt; out.push(b'>').is_ok());
-    }
-    let mut value = read(rt.alloc(), ROUND.as_bytes());
-    if let Err(e) = value {
-        assert!(rt; e == ReadFault::OutOfMemory);
-        value = read(rt.alloc(), ROUND.as_bytes());
-    }
-    let Ok(value) = value else {
-        panic!(rt; "a second refusal");
-    };
-    if let Err(e) = write(&value, &mut out) {
-        assert!(rt; e == WriteFault::OutOfMemory);
-        assert!(rt; out.as_slice() == b">".as_slice());
-        assert!(rt; write(&value, &mut out) == Ok(()));
-    }
-    assert!(rt; out.len() == ROUND.len() + 1 && &out[1..] == ROUND.as_bytes());
-}
-
-const ITEM: &str = r#"{"a":"x\"y\\z","b":-9223372036854775808,"c":[1,null,true],"d":{}},"#;
-
-#[test]
-fn reads_and_writes_262144_bytes(rt: HostRuntime) -> Result<(), Fail> {
-    let mut text = String::from_str(rt.alloc(), "[")?;
-    for _ in 0..3971 {
-        text.push_str(ITEM)?;
-    }
-    text.push_str("\"the last item makes it as long as is wanted, no more..\"]")?;
-    assert_eq!(rt; text.len(), 262144);
-    let value = read(rt.alloc(), text.as_bytes())?;
-    let out = written(rt.alloc(), &value)?;
-    assert!(rt; out.as_slice() == text.as_bytes());
-    Ok(())
 }
 
 #[test]

@@ -1,5 +1,5 @@
-//! Tests of what no contract of the libraries says, through their public calls: worked examples, printed texts, and refused
-//! memory. Each library has a module of its own.
+//! Tests of what neither a contract of the libraries says nor a line of `verdicts` or `replay` can: what is written of values that no reader
+//! gives, a key of two ids, hashes of lengths that no chain has, and printed texts.
 //!
 //! They stand apart since a crate with tests is proved twice, once with them.
 #![tactic(auto)]
@@ -7,14 +7,6 @@
 #[cfg(test)]
 mod canonical_json_tests;
 #[cfg(test)]
-mod denials_tests;
-#[cfg(test)]
 mod keys_roles_tests;
-#[cfg(test)]
-mod lms_tests;
-#[cfg(test)]
-mod metadata_tests;
-#[cfg(test)]
-mod path_patterns_tests;
 #[cfg(test)]
 mod sha256_lanes_tests;

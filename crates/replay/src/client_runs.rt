@@ -42,7 +42,8 @@ impl Run {
     }
 }
 
-fn end_text(
+/// How a run ended.
+pub fn end_text(
     alloc: Global,
     files: &[File],
     end: &Result<Option<Vec<u8>>, ClientFault>,

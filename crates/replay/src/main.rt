@@ -4,6 +4,7 @@
 //! The script stands on standard input. `crates/replay/README.md` says what its lines are.
 #![tactic(auto)]
 
+mod agreement;
 mod base;
 mod client_runs;
 mod cold;
@@ -18,6 +19,7 @@ mod replies;
 mod requests;
 mod roots;
 mod script;
+mod server_state;
 mod session;
 mod source;
 mod words;

@@ -136,6 +136,7 @@ fn answer_line(session: &mut Session, line: &str) -> Result<String, LineFault> {
         "client" => over_client(session, rest),
         "update" => session.update(),
         "fetch" => session.fetch(rest),
+        "agree" => session.agree(rest),
         "case" => {
             session.forget_client();
             session.begin_case(line)

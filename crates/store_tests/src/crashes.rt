@@ -1,7 +1,6 @@
 // A store over two files in memory, which are handed back after a command, and opened again after a crash.
-use canonical_json::write;
+use crate::root::ROOT;
 use metadata::{Moment, digest_of, read_date_time};
-use signed_files::{Keys, Leaf, OtsType, Root, Rule, root_signed, signed_file};
 use sqlite::{Connection, FileStore, Files};
 use sqlite_disk::{Crash, Fuse, Memory};
 use sqlite_pager::Options;
@@ -17,42 +16,9 @@ fn moment(rt: &impl Abort) -> Moment {
     read_date_time("2030-01-01T00:00:00Z").expect(rt, "a moment")
 }
 
-// The rule of the key of the seed 1.
-fn rule_of_one(alloc: Global) -> Result<Rule, Fail> {
-    let mut seeds = Vec::new(alloc);
-    seeds.push(1u8)?;
-    Ok(Rule {
-        seeds,
-        threshold: 1,
-    })
-}
-
-// A root with one key for all roles, which signs it.
-fn root_file(alloc: Global) -> Result<Vec<u8>, Fail> {
-    let mut keys = Keys::new(alloc, OtsType::W4);
-    keys.make(1)?;
-    let rule = rule_of_one(alloc)?;
-    let signed = root_signed(
-        alloc,
-        &keys,
-        &Root {
-            version: 1,
-            expires: "2031-01-01T00:00:00Z",
-            root: &rule,
-            timestamp: &rule,
-            snapshot: &rule,
-            targets: &rule,
-        },
-    )?;
-    let mut message = Vec::new(alloc);
-    write(&signed, &mut message)?;
-    let leaf = Leaf { seed: 1, number: 0 };
-    Ok(signed_file(alloc, &keys, &message, &[leaf])?)
-}
-
 // Whether the root begins the trust.
-fn begins(store: &mut Store<Disks>, root: &[u8], now: Moment) -> Result<bool, StoreFault> {
-    let reply = store.apply(Command::Init(root), now)?;
+fn begins(store: &mut Store<Disks>, now: Moment) -> Result<bool, StoreFault> {
+    let reply = store.apply(Command::Init(ROOT.as_bytes()), now)?;
     Ok(matches!(reply, Reply::Begun))
 }
 
@@ -74,11 +40,11 @@ fn opened(alloc: Global, files: Files<Fuse<Memory>>) -> Option<Store<Disks>> {
 }
 
 // A store with a root over new files, if the log does not fail before. It fails from so many calls on.
-fn begun_over(alloc: Global, root: &[u8], calls: u64, now: Moment) -> Option<Store<Disks>> {
+fn begun_over(alloc: Global, calls: u64, now: Moment) -> Option<Store<Disks>> {
     let log = Fuse::new(Memory::new(alloc), calls);
     let db = Fuse::new(Memory::new(alloc), u64::MAX);
     let mut store = opened(alloc, Files { log, db })?;
-    match begins(&mut store, root, now) {
+    match begins(&mut store, now) {
         Ok(true) => Some(store),
         _ => None,
     }
@@ -96,9 +62,9 @@ fn holds_blob(
 }
 
 // Whether a blob is stored before the log fails. If it is, the next open finds it.
-fn puts(rt: &(impl Abort + AllocGlobal), root: &[u8], calls: u64) -> Result<bool, Fail> {
+fn puts(rt: &(impl Abort + AllocGlobal), calls: u64) -> Result<bool, Fail> {
     let now = moment(rt);
-    let Some(store) = begun_over(rt.alloc(), root, calls, now) else {
+    let Some(store) = begun_over(rt.alloc(), calls, now) else {
         return Ok(false);
     };
     let (result, files) = apply_and_close(store, Command::PutBlob(digest_of(b"abc"), b"abc"), now);
@@ -110,9 +76,8 @@ fn puts(rt: &(impl Abort + AllocGlobal), root: &[u8], calls: u64) -> Result<bool
 // The log fails at each of its calls in turn, until none is left.
 #[test]
 fn a_crash_at_each_call(rt: HostRuntime) -> Result<(), Fail> {
-    let root = root_file(rt.alloc())?;
     for calls in 0..1_000u64 {
-        if puts(&rt, &root, calls)? {
+        if puts(&rt, calls)? {
             assert!(rt; calls > 10, "{calls}");
             return Ok(());
         }

@@ -3,3 +3,5 @@
 
 #[cfg(test)]
 mod crashes;
+#[cfg(test)]
+mod root;

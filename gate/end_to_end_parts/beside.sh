@@ -1,0 +1,33 @@
+# The other programs: 'example' and 'verdicts', and the scripts that run beside all else.
+
+the_example_is_made() {
+    "$maker" "$folder/example" >"$folder/digests"
+    diff -r "$example" "$folder/example" || fail "the example is not what the program makes"
+    same "digests of the example" crates/example/stdout "$folder/digests"
+}
+
+# The program `verdicts` over inputs and outputs that it does not reach the end of.
+verdicts_that_end_early() {
+    local said
+    said=$(python3 gate/ends.py "$verdicts") || fail "verdicts: $said"
+    checks=$((checks + 1))
+}
+
+# What takes its time runs beside all else, over repositories of its own. 'await' waits for it.
+beside=()
+start_beside() {
+    local name
+    for name in gate/peers.py gate/clients.py gate/clock.py gate/full_disk.py gate/changed.py gate/signatures.py deploy/try; do
+        "$repository/$name" "$release" >"$folder/$(basename "$name").out" 2>&1 &
+        beside+=("$!:$name")
+    done
+}
+
+await_beside() {
+    local one name
+    for one in "${beside[@]}"; do
+        name=${one#*:}
+        wait "${one%%:*}" || fail "$name: $(cat "$folder/$(basename "$name").out")"
+        checks=$((checks + 1))
+    done
+}

@@ -1,0 +1,45 @@
+# The commands of chapters of documents, word by word, in folders of their own and at ports of their own.
+
+# chapter WORD FOLDER DOCUMENT: the commands of this chapter of the document are run in the folder as they stand there.
+chapter() {
+    {
+        echo 'set -e'
+        sed -n '/^```sh '"$1"'$/,/^```$/{/^```/!p}' "docs/$3" | sed "s/8080/$(free_port)/"
+    } >"$2/commands"
+    (cd "$2" && PATH=${release%/*}:$PATH bash commands >out 2>err) || fail "the chapter '$1': $(cat "$2/err")"
+}
+
+# From seeds to a file that is served, a timestamp that is renewed and a key that is replaced.
+the_first_chapter() {
+    local name
+    mkdir "$folder/first"
+    chapter first "$folder/first" TUTORIAL.md
+    [ ! -s "$folder/first/err" ] || fail "the chapter 'first': $(cat "$folder/first/err")"
+    {
+        printf 'begun\n{"accepted":3,"same":0}\n%s\n' "$(sha256sum <"$folder/first/hello.txt" | cut -c 1-64)"
+        printf '{"accepted":1,"same":0}\n{"accepted":4,"same":0}\n'
+        for name in tool.tgz layout.json write.json pack.json; do sha256sum <"$folder/first/$name" | cut -c 1-64; done
+        printf '{"accepted":3,"same":0}\n'
+    } >"$folder/first/wanted"
+    grep -v '^listening' "$folder/first/out" >"$folder/first/said"
+    same "what the chapter 'first' prints" "$folder/first/wanted" "$folder/first/said"
+}
+
+the_backup_chapter() {
+    local chapter=$folder/chapter
+    mkdir "$chapter"
+    cp -r "$example" "$chapter/example"
+    chapter backup "$chapter" OPERATING.md
+    grep -q '^ok$' "$chapter/out" || fail "the chapter on backups: the backup is not sound"
+    grep -q '{"stored":true}' "$chapter/out" || fail "the chapter on backups: nothing was stored"
+    checks=$((checks + 1))
+}
+
+# A client over a mirror of plain files.
+the_client_chapter() {
+    mkdir "$folder/clients"
+    cp -r "$example" "$folder/clients/example"
+    chapter client "$folder/clients" TUTORIAL.md
+    grep -q '^updated$' "$folder/clients/out" || fail "the chapter on clients: nothing was updated"
+    same "what the chapter on clients fetches" "$example/hello.txt" "$folder/clients/hello.txt"
+}

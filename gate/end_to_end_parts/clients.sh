@@ -1,0 +1,67 @@
+# A client: what it fetches, its faults, and what it tells.
+
+# A client with the first root asks for five names in all, over five connections, and then has the file; the same again asks for nothing.
+a_client_fetches() {
+    local db=$folder/client.db out=$folder/fetched moment
+    wants 1 '' 'denied 6 NoRoot\n' update --at=$at --db "$folder/nothing.db" --port 1
+    wants 1 '' 'denied 6 NoRoot\n' get --at=$at --db "$folder/nothing.db" --port 1 --out "$out" hello.txt
+    wants 0 'begun\n' '' init --at=$at --db "$db" "$example/root.json"
+    serve --count 5
+    wants 0 'updated\n' '' update --at=$at --db "$db" --port "$port"
+    echo 'what stood there' >"$out"
+    wants 0 'written\n' '' get --at=$at --db "$db" --port "$port" --out "$out" hello.txt
+    served_one
+    same "what get writes" "$example/hello.txt" "$out"
+    dump "$db" "$folder/before"
+    wants 0 'written\n' '' get --at=$at --db "$db" --port "$port" --out "$out.again" hello.txt
+    same "what get writes again, without a server" "$example/hello.txt" "$out.again"
+    wants 3 '' 'fault network\n' get --at=$at --db "$db" --port "$port" --out "$out" empty.txt
+    wants 3 '' 'fault network\n' update --at=$at --db "$db" --port "$port"
+    wants 1 '' 'denied 35 NotFound\n' get --at=$at --db "$db" --port "$port" --out "$out" other.txt
+    for moment in 253402300799 +253402300799; do
+        wants 1 '' 'denied 11 RootExpired\n' get --at="$moment" --db "$db" --port "$port" --out "$out" hello.txt
+    done
+    same "what get leaves where it writes nothing" "$example/hello.txt" "$out"
+    dump "$db" "$folder/after"
+    same "the tables of a client that fetched nothing" "$folder/before" "$folder/after"
+}
+
+# Faults are looked for in their order: the clock, the path, the database, the network, and the file that is written.
+faults_of_a_client() {
+    local db=$folder/client.db out=$folder/fetched words
+    words=(get --at=$at --port "$port")
+    wants 1 '' 'denied 36 BadPath\n' "${words[@]}" --db "$folder/ill.db" --out "$folder/none/out" a/../hello.txt
+    wants 1 '' 'denied 36 BadPath\n' "${words[@]}" --db "$folder/unmade.db" --out "$folder/none/out" /hello.txt
+    wants 1 '' '/hello.txt: denied\ndenied 36 BadPath\n' "${words[@]}" -v --db "$folder/unmade.db" --out "$out" /hello.txt
+    [ ! -e "$folder/unmade.db" ] || fail "a path that is none made a database"
+    ends 3 '' 'fault clock\n' faketime '1960-01-01 00:00:00' "$release" get --db "$db" --port "$port" --out "$out" /hello.txt
+    wants 3 '' 'fault database\n' "${words[@]}" --db "$folder/ill.db" --out "$folder/none/out" hello.txt
+    wants 3 '' 'fault database\n' update --at=$at --port "$port" --db "$folder/ill.db"
+    wants 3 '' 'fault network\n' "${words[@]}" --db "$db" --out "$folder/none/out" empty.txt
+    wants 3 '' "port $port: Connection refused (os error 111)\nempty.txt: the source failed\nfault network\n" \
+        "${words[@]}" -v --db "$db" --out "$out" empty.txt
+    wants 3 '' "port 65535: Connection refused (os error 111)\nempty.txt: the source failed\nfault network\n" \
+        get --at=$at -v --out "$out" --db="$db" --port 65535 empty.txt
+    wants 3 '' 'fault file\n' "${words[@]}" --db "$db" --out "$folder/none/out" hello.txt
+    mkdir -p "$folder/taken"
+    ln -sf "$out" "$folder/link"
+    wants 3 '' 'fault file\n' "${words[@]}" --db "$db" --out "$folder/taken" hello.txt
+    wants 3 '' "$folder/link: what stands there is no file\nfault file\n" "${words[@]}" -v --db "$db" --out "$folder/link" hello.txt
+    [ -L "$folder/link" ] || fail "a link was replaced"
+    ends 3 '' 'fault file\n' with_no_output "${words[@]}" --db "$db" --out "$folder/taken/out" hello.txt
+    same "what get writes where it cannot say so" "$example/hello.txt" "$folder/taken/out"
+    [ "$(ls -A "$folder/taken")" = out ] || fail "get left a file beside another"
+}
+
+# What is told of a client: the names that it asks for, in their order, and what it got.
+what_a_client_tells() {
+    local db=$folder/told.db
+    wants 0 'begun\n' '' init --at=$at --db "$db" "$example/root.json"
+    serve --count 5
+    wants 0 'updated\n' "metadata/2.root.json: none\nmetadata/timestamp.json: $(wc -c <"$example/timestamp.json") bytes\n$(
+        )metadata/1.snapshot.json: $(wc -c <"$example/snapshot.json") bytes\n" update -v --at=$at --db "$db" --port "$port"
+    wants 0 'written\n' "metadata/1.targets.json: $(wc -c <"$example/targets.json") bytes\n$(
+        )targets/$(sha256sum <"$example/hello.txt" | cut -c 1-64).hello.txt: 32 bytes\n" \
+        get -v --at=$at --db "$db" --port "$port" --out "$folder/out.txt" hello.txt
+    served_one
+}

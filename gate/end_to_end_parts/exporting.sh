@@ -1,0 +1,97 @@
+# A repository that is exported as files, which nginx serves a client.
+
+# exports COUNT TOLD: the database that is served is exported, so many files of it are new; each file that a new folder gets is what the
+# server answers, and stands in the folder of earlier exports, too.
+exports() {
+    local name names
+    wants 0 "exported $1\n" "$2" export -v --at=$at --db "$served" --to "$folder/files"
+    rm -rf "$folder/whole"
+    "$release" export --at=$at --db "$served" --to "$folder/whole" >"$folder/out"
+    names=$(cd "$folder/whole" && find . -type f | cut -c 3- | sort)
+    echo "exported $(wc -l <<<"$names")" >"$folder/out.wanted"
+    same "a whole export" "$folder/out.wanted" "$folder/out"
+    serve --count "$(wc -l <<<"$names")"
+    for name in $names; do
+        curl -s -S -f -o "$folder/body" "http://127.0.0.1:$port/$name"
+        same "an exported file: $name" "$folder/body" "$folder/whole/$name"
+        same "an earlier exported file: $name" "$folder/body" "$folder/files/$name"
+    done
+    served_one
+}
+
+# What is exported is what the server answers, each file once; a plain web server then serves a client as well.
+a_repository_is_exported() {
+    served=$folder/exported.db
+    each_file_is_exported_once
+    start_nginx
+    wants 0 'begun\n' '' init --at=$at --db "$folder/exported.client.db" "$example/root.json"
+    mirrored hello.txt
+    a_layout_is_mirrored
+    printf 'spoilt' >"$folder/files/metadata/timestamp.json"
+    wants 0 'exported 1\n' '' export --at=$at --db "$served" --to "$folder/files"
+    stop_nginx
+    served=$folder/db
+    [ -z "$(find "$folder/files" -name '.release-*')" ] || fail "an export left a file beside another"
+}
+
+each_file_is_exported_once() {
+    local name
+    wants 1 '' 'denied 6 NoRoot\n' export --at=$at --db "$folder/unbegun.db" --to "$folder/files"
+    wants 3 '' 'fault database\n' export --at=$at --db "$folder/ill.db" --to "$folder/files"
+    [ ! -e "$folder/files" ] || fail "nothing was exported into a folder"
+    wants 0 'begun\n' '' init --at=$at --db "$served" "$example/root.json"
+    exports 1 ''
+    wants 0 '{"accepted":3,"same":0}\n' '' publish --at=$at --db "$served" \
+        "timestamp:$example/timestamp.json" "snapshot:$example/snapshot.json" "targets:$example/targets.json"
+    exports 3 'empty.txt: BlobMissing\nhello.txt: BlobMissing\n'
+    for name in hello.txt empty.txt; do
+        wants 0 "$(sha256sum "$example/$name" | cut -c1-64)\n" '' put --at=$at --db "$served" "$example/$name"
+    done
+    exports 2 ''
+    exports 0 ''
+    wants 3 '' 'fault file\n' export --at=$at --db "$served" --to "$served"
+}
+
+# nginx serves a client a target with a layout; one that the layout forbids is denied by the client itself.
+a_layout_is_mirrored() {
+    local part client=$folder/exported.client.db
+    for part in chain exchanged; do
+        takes "$served" "$part"
+        if [ "$part" = chain ]; then
+            exports 7 ''
+            mirrored chain/tool.txt
+        else
+            wants 0 'exported 4\n' '' export --at=$at --db "$served" --to "$folder/files"
+        fi
+    done
+    wants 0 'updated\n' '' update --at=$at --db "$client" --port "$mirrored"
+    wants 1 '' 'denied 46 StepThreshold\n' get --at=$at --db "$client" --port "$mirrored" --out "$folder/out.txt" tool.txt
+}
+
+# Serves the exported folder by nginx, by the configuration of 'deploy'.
+start_nginx() {
+    mirrored=$(free_port)
+    sed -e "s|listen 80;|listen 127.0.0.1:$mirrored;|" -e "s|/srv/repository|$folder/files|" -e "s|/run/|$folder/|" \
+        -e "s|/var/log/nginx|$folder|" deploy/mirror.conf >"$folder/mirror.conf"
+    if [ "$(id -u)" = 0 ]; then sed -i '1i user root;' "$folder/mirror.conf"; fi
+    nginx -c "$folder/mirror.conf" -g 'daemon off;' 2>"$folder/mirror.err" &
+    mirror=$!
+    for _ in $(seq 100); do
+        if (exec 3<>"/dev/tcp/127.0.0.1/$mirrored") 2>/dev/null; then return; fi
+        sleep 0.1
+    done
+    fail "nginx: $(cat "$folder/mirror.err")"
+}
+
+stop_nginx() {
+    kill "$mirror"
+    wait "$mirror" || true
+    mirror=
+}
+
+# mirrored FILE: nginx serves the client the target of this name, which is a file of the example.
+mirrored() {
+    wants 0 'updated\n' '' update --at=$at --db "$folder/exported.client.db" --port "$mirrored"
+    wants 0 'written\n' '' get --at=$at --db "$folder/exported.client.db" --port "$mirrored" --out "$folder/out.txt" "${1##*/}"
+    same "from nginx: $1" "$example/$1" "$folder/out.txt"
+}

@@ -1,0 +1,82 @@
+# Faults: files that are no database, outputs that take nothing, no memory, no clock; and what is told of them.
+
+# What is no database, or holds the rows of no state. A file to read is read before the database is opened.
+databases_that_are_none() {
+    printf 'this is no database' >"$folder/ill.db"
+    wants 3 '' 'fault file\n' init --at=$at --db "$folder/ill.db" "$folder/none"
+    wants 3 '' 'fault file\n' put --at=$at --db "$folder/ill.db" "$folder/none"
+    wants 3 '' 'fault database\n' put --db "$folder/ill.db" "$example/hello.txt"
+    wants 3 '' 'fault database\n' put --db "$folder/none/db" "$example/hello.txt"
+    wants 3 '' 'fault database\n' put --at=$at --db=:memory: "$example/hello.txt"
+    dump "$folder/db" "$folder/dump"
+    sqlite3 "$folder/damaged.db" <"$folder/dump"
+    sqlite3 "$folder/damaged.db" "UPDATE blob SET bytes = x'00' WHERE length(bytes) = 0"
+    wants 3 '' 'fault damaged\n' put --db "$folder/damaged.db" "$example/hello.txt"
+    sqlite3 "$folder/damaged.db" 'DROP TABLE blob'
+    wants 3 '' 'fault database\n' put --db "$folder/damaged.db" "$example/hello.txt"
+    wants 0 'begun\n' '' init --at=$at --db "$folder/begun.db" "$example/root.json"
+    dump "$folder/begun.db" "$folder/dump"
+    sqlite3 "$folder/root.db" <"$folder/dump"
+    sqlite3 "$folder/root.db" 'UPDATE root SET version = 2'
+    wants 3 '' 'fault damaged\n' put --at=$at --db "$folder/root.db" "$example/root.json"
+    sqlite3 "$folder/root.db" 'DROP TABLE root'
+    wants 3 '' 'fault database\n' put --at=$at --db "$folder/root.db" "$example/root.json"
+}
+
+# Tables, indexes and views behind the five are let be. A foreign key onto one of the five is refused.
+what_stands_behind_is_let_be() {
+    local digest
+    digest=$(sha256sum "$example/hello.txt" | cut -c1-64)
+    dump "$folder/begun.db" "$folder/dump"
+    sqlite3 "$folder/further.db" <"$folder/dump"
+    sqlite3 "$folder/further.db" 'CREATE TABLE further(a PRIMARY KEY, b REFERENCES further(a)); INSERT INTO further VALUES (1, 1);
+        CREATE INDEX by_bytes ON blob(bytes); CREATE VIEW digests AS SELECT digest FROM blob'
+    sqlite3 "$folder/onto.db" <"$folder/dump"
+    sqlite3 "$folder/onto.db" 'CREATE TABLE further(a REFERENCES blob(digest))'
+    for _ in 1 2; do
+        wants 0 "$digest\n" '' put --at=$at --db "$folder/further.db" "$example/hello.txt"
+        rows "$folder/further.db" 'SELECT a, b, digest FROM further, digests' "1|1|$digest\n"
+        rows "$folder/further.db" 'PRAGMA integrity_check' 'ok\n'
+    done
+    wants 3 '' 'fault database\n' put --at=$at --db "$folder/onto.db" "$example/hello.txt"
+}
+
+# What was done stays done where it cannot be said.
+outputs_that_fail() {
+    ends 3 '' 'fault file\n' with_no_output --help
+    ends 3 '' 'fault file\n' with_no_output canon "$folder/loose.json"
+    ends 3 '' 'fault file\n' with_no_output init --at=$at --db "$folder/output.db" "$example/root.json"
+    wants 1 '' 'denied 7 RootExists\n' init --at=$at --db "$folder/output.db" "$example/root.json"
+}
+
+# No memory, and a clock at which no moment is, which `--at` takes the place of.
+faults_of_the_machine() {
+    {
+        printf '"'
+        head -c 20000000 /dev/zero | tr '\0' a
+        printf '"'
+    } >"$folder/large.json"
+    ends 3 '' 'fault memory\n' with_memory 60000 canon "$folder/large.json"
+    ends 3 '' 'fault clock\n' faketime '1960-01-01 00:00:00' "$release" canon "$folder/loose.json"
+    ends 3 '' 'fault clock\n' faketime '1960-01-01 00:00:00' "$release" publish --db "$folder/db" none
+    ends 0 '{"a":0,"b":1}' '' faketime '1960-01-01 00:00:00' "$release" canon --at 0 "$folder/loose.json"
+}
+
+# What is told where it is asked for: the file or argument that a fault is about, and the error of the system.
+more_is_told() {
+    local db=$folder/db none=$folder/none.json gone='No such file or directory (os error 2)'
+    wants 0 '{"a":0,"b":1}' '' canon --verbose "$folder/loose.json"
+    wants 1 '' "$folder/ill.json: no canonical form\ndenied 2 NotCanonical\n" canon -v "$folder/ill.json"
+    wants 1 '' "$folder/ill.json: no canonical form\ndenied 2 NotCanonical\n" canon -vv "$folder/ill.json"
+    wants 3 '' "$none: $gone\nfault file\n" canon -v "$none"
+    wants 3 '' "$none: $gone\nfault file\n" init -v --at=$at --db "$db" "$none"
+    wants 1 '' "$example/root.json: denied\ndenied 7 RootExists\n" init -v --at=$at --db "$db" "$example/root.json"
+    wants 1 '' "$folder/large: denied\ndenied 38 BlobLength\n" put -v --at=$at --db "$db" "$folder/large"
+    wants 1 '' "Targets:a: denied\ndenied 3 WrongShape at 1\n" publish -v --at=$at --db "$db" targets:a Targets:a
+    wants 3 '' "$none: $gone\nfault file\n" publish -v --at=$at --db "$db" "targets:$none"
+    wants 1 '' "the documents together: denied\ndenied 51 Incoherent at 1\n" publish -v --at=$at --db "$folder/begun.db" \
+        "timestamp:$example/timestamp.json"
+    wants 3 '' "$folder/none/db: $gone\nfault database\n" put -v --db "$folder/none/db" "$example/hello.txt"
+    wants 3 '' "$folder/damaged.db: database\nfault database\n" put -v --db "$folder/damaged.db" "$example/hello.txt"
+    ends 3 '' 'standard output: No space left on device (os error 28)\nfault file\n' with_no_output canon -v "$folder/loose.json"
+}

@@ -1,0 +1,176 @@
+# The words of the command line: what is help, what is a fault of usage, and 'canon'.
+
+canonical_forms() {
+    printf '{ "b": 1, "a": 0 }' >"$folder/loose.json"
+    printf '1.5' >"$folder/ill.json"
+    wants 0 '{"a":0,"b":1}' '' canon "$folder/loose.json"
+    wants 0 '{"a":0,"b":1}' '' canon --at 0 "$folder/loose.json"
+    wants 1 '' 'denied 2 NotCanonical\n' canon "$folder/ill.json"
+    wants 1 '' 'denied 2 NotCanonical\n' canon --at=253402300799 -- "$folder/ill.json"
+    wants 1 '' 'denied 2 NotCanonical\n' canon --at=+253402300799 -- "$folder/ill.json"
+    wants 3 '' 'fault file\n' canon "$folder/none.json"
+    wants 3 '' 'fault file\n' canon --at 5 "$folder/none.json"
+    long_canonical_form
+}
+
+# A canonical text of 262,144 bytes, the most of a document, stays as it is.
+long_canonical_form() {
+    {
+        printf '['
+        for _ in $(seq 3971); do printf '%s,' '{"a":"x\"y\\z","b":-9223372036854775808,"c":[1,null,true],"d":{}}'; done
+        printf '"the last item makes it as long as is wanted, no more..\"]'
+    } >"$folder/long.json"
+    [ "$(wc -c <"$folder/long.json")" = 262144 ] || fail "a long text has another length"
+    "$release" canon "$folder/long.json" >"$folder/out" || fail "a long text"
+    same "a long canonical text" "$folder/long.json" "$folder/out"
+}
+
+# escapes DIGITS: bytes in hex, of which '-' is none, as printf has them.
+escapes() {
+    sed -e 's/^-$//' -e 's/../\\x&/g' <<<"$1"
+}
+
+# The texts of canonical_forms.txt, which other programs and the rules speak for.
+each_canonical_form() {
+    local text form
+    while read -r text form; do
+        printf '%b' "$(escapes "$text")" >"$folder/text.json"
+        if [ "$form" = none ]; then
+            wants 1 '' 'denied 2 NotCanonical\n' canon "$folder/text.json"
+        else
+            wants 0 "$(escapes "$form")" '' canon "$folder/text.json"
+        fi
+    done < <(grep -v '^#' gate/end_to_end_parts/canonical_forms.txt)
+}
+
+# The table of denials is that of docs/REFERENCE.md.
+the_help_is_printed() {
+    local name text
+    helps canon --help
+    for name in canon export get init key prune publish put serve sign update; do
+        for text in "Example:" "release $name" "Exit status:" "--verbose" "help denials" "HTTP" OPERATING.md; do
+            helps "$text" "$name" --help
+            helps "$text" help "$name"
+        done
+    done
+    helps --count serve --help
+    helps 'release prune --db' help prune
+    wants 0 'release 0.3.0\n' '' --version
+    sed -n -E 's/^\| ([0-9]+) \| `([A-Za-z]+)` \| (.*) \|$/\1 \2 \3/p' docs/REFERENCE.md | tr -d '`' >"$folder/denials.wanted"
+    "$release" help denials | sed -n -E 's/^ *([0-9]+)  ([A-Za-z]+) +(.*)$/\1 \2 \3/p' >"$folder/denials"
+    [ "$(wc -l <"$folder/denials")" = 51 ] || fail "not 51 denials in the help"
+    same "the table of denials" "$folder/denials.wanted" "$folder/denials"
+}
+
+# documents N WORD: so many times this word.
+documents() {
+    local _
+    for _ in $(seq "$1"); do echo "$2"; done
+}
+
+words_of_canon() {
+    usage
+    usage prune
+    usage canon
+    usage canon a b
+    usage canon --at 5
+    usage canon --at=-1 a
+    usage canon --on a
+    usage canon --verbose=1 a
+    usage canon --at=253402300800 "$folder/loose.json"
+}
+
+words_of_init_and_prune() {
+    local db=$folder/db
+    says required init --db "$db"
+    says required init "$example/root.json"
+    says required init "$example/root.json" --at=5
+    says required prune --at=5
+    says required prune --at=5 -v
+    says '--db|unexpected' prune --db="$db" a
+    says '--db|unexpected' prune --db="$db" a b
+    says '--db|unexpected' prune --db="$db" --db="$folder/other.db" -v
+    says '--db|unexpected' prune --db="$db" --port=80 -v
+    usage prune --db "$db" --at=-1
+}
+
+words_of_publish() {
+    local db=$folder/db
+    says required publish --db "$db"
+    says required publish root:a --at=5
+    usage publish --db "$db" $(documents 161 targets:none)
+    usage publish --at=5 --db "$db" $(documents 161 targets:none)
+    wants 3 '' 'fault file\n' publish --at=5 --db "$db" $(documents 160 "targets:$folder/none")
+}
+
+words_of_key() {
+    local db=$folder/db
+    says required key --ots 4 --height 5
+    says required key --seed "$db" --height 5
+    says required key --seed "$db" --ots 4
+    says "'--ots' is 1, 2, 4 or 8" key --seed "$db" --ots 3 --height 5
+    says "'--height' is 5 or 10" key --seed "$db" --ots 4 --height 7
+    usage key --seed "$db" --ots 9 --height 5
+    usage key --seed "$db" --ots 0 --height 5
+    usage key --seed "$db" --ots 4 --height 11
+    usage key --seed "$db" --ots 4 --height 5 a
+}
+
+words_of_sign() {
+    local db=$folder/db
+    says required sign --book a
+    says required sign --seed "$db" --ots 8 --height 5 a
+    says required sign --book "$db" --ots 8 --height 5 a
+    says required sign --book "$db" --seed "$db" --height 5 a
+    says required sign --book "$db" --seed "$db" --ots 8 --height 5
+    says "'--height' is 5 or 10" sign --book "$db" --seed "$db" --ots 8 --height 6 a
+}
+
+words_of_put_and_serve() {
+    local db=$folder/db
+    says required put --db "$db"
+    says required put abc --at=5
+    usage put --db "$db" --at=-1 "$example/hello.txt"
+    says '--db|unexpected' init --db="$db" a b
+    says '--db|unexpected' put --db="$db" a b
+    says '--db|unexpected' put --db="$db" --db="$folder/other.db" a
+    says '--db|unexpected' put --db="$db" --port=80 a
+    usage serve --db "$db"
+    usage serve --db "$db" --port 0
+    usage serve --db "$db" --port 65536
+    usage serve --db "$db" --port 80 --count 0
+    usage serve --db "$db" --port 80 --count 4294967296
+}
+
+words_of_a_client_and_export() {
+    local db=$folder/db
+    says required update --db "$db"
+    says required update --port 80
+    says required get --db "$db" --port 80 hello.txt
+    says required get --db "$db" --port 80 --out "$folder/out.txt"
+    says required get --db "$db" --out "$folder/out.txt" hello.txt
+    says required export --db "$db"
+    says required export --to "$folder/files"
+    usage update --db "$db" --port 0
+    usage update --db "$db" --port 65536
+    usage update --db "$db" --port 80 --at=-1
+    usage update --db "$db" --port 80 a
+    usage get --db "$db" --port 65536 --out "$folder/out.txt" hello.txt
+    usage get --db "$db" --port 80 --out "$folder/out.txt" --at=253402300800 hello.txt
+    usage get --db "$db" --port 80 --out "$folder/out.txt" hello.txt empty.txt
+    usage export --db "$db" --to "$folder/files" a
+    usage export --db "$db" --to "$folder/files" --at=x
+}
+
+# Faults of usage make no database and no folder.
+other_words() {
+    words_of_canon
+    words_of_init_and_prune
+    words_of_publish
+    words_of_key
+    words_of_sign
+    words_of_put_and_serve
+    words_of_a_client_and_export
+    [ ! -e "$folder/db" ] || fail "a usage fault made a database"
+    [ ! -e "$folder/files" ] || fail "a usage fault made a folder"
+}
