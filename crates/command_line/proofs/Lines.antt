@@ -4,7 +4,7 @@ use Rattle.clap.specs.Words.{Text, first_of, first_value, is_simple, rows_of}
 use Rattle.clap.specs.declared.parser.matches.Found.{Found}
 use Rattle.clap.proofs.OnLiterals.{clap_on_literals}
 use Rattle.clap.proofs.WalkLemmas.{first_value-rows}
-use Rattle.command_line.specs.CommandLine.{release_line}
+use Rattle.command_words.specs.Subcommands.{release_line}
 
 pub line_is_simple : is_simple release_line ≡ true
 unfolding clap_on_literals

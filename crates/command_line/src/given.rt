@@ -3,7 +3,8 @@ ghost use Rattle.std.specs.Prelude.{◌≡◌, ◌≤◌, IfOk, Some, codes, map
 ghost use Rattle.std.specs.Str.Parse.{digits_value, without_leading_plus};
 ghost use Rattle.clap.specs.Words.{found_of, rows_of};
 ghost use Rattle.lms.specs.Parameters.{height, signing_type, width};
-ghost use Rattle.command_line.specs.CommandLine.{HasNumber, HasText, HasTexts, HasParams, MayHaveNumber, is_used, last_moment, last_port, most_connections};
+ghost use Rattle.command_line.specs.CommandLine.{HasNumber, HasText, HasTexts, HasParams, MayHaveNumber, is_used};
+ghost use Rattle.command_words.specs.Subcommands.{last_moment, last_port, most_connections};
 ghost use Rattle.limits.specs.Limits.{most_documents};
 
 use crate::tasks::{LAST_MOMENT, LAST_PORT, MOST_CONNECTIONS, Usage};

@@ -1,21 +1,19 @@
 //! The command line of the program `release`, read with `clap`: the words, and the task that they ask for.
 #![tactic(auto)]
 
-ghost use Rattle.std.specs.Prelude.{◌≡◌, IfOk, codes, false, map, string_bytes};
-ghost use Rattle.clap.specs.Words.{app_of, found_of, new_app, rows_of, subcommand_rows_of};
-ghost use Rattle.clap.specs.declared.builder.command.Command.TheViews.{out-Command};
-ghost use Rattle.command_line.specs.CommandLine.{IsAsked, IsTask, IsTaskOf, Says, needs_subcommand, release_line, with_command, with_version};
+ghost use Rattle.std.specs.Prelude.{IfOk, codes, map, string_bytes};
+ghost use Rattle.clap.specs.Words.{found_of, rows_of, subcommand_rows_of};
+ghost use Rattle.command_line.specs.CommandLine.{IsAsked, IsTask, IsTaskOf, Says};
 
-mod arguments;
 mod given;
 mod help;
 mod tasks;
 
-use arguments::{canon, export, get, init, key, prune, publish, put, serve, sign, update};
+use clap::ArgMatches;
 use clap::error::ErrorKind;
-use clap::{ArgMatches, Command};
+use command_words::release;
 use given::{count_of, fault, is_verbose, moment_of, params_of, port_of, text_of, texts_of};
-use std::alloc::{AllocError, Global};
+use std::alloc::Global;
 pub use tasks::{Subcommand, Task, Usage};
 
 /// The task that the words ask for, the program's own name first: the subcommand, its options and operands, each one
@@ -31,43 +29,6 @@ pub fn task(alloc: Global, words: &[String]) -> Result<Task, Usage>
         Ok(matches) => task_of(alloc, &matches),
         Err(error) => Err(usage_of(alloc, &error)),
     }
-}
-
-// The whole command line.
-fn release<'a>(alloc: Global) -> Result<Command<'a>, AllocError>
-    ensures { IfOk result (λ c. app_of c ≡ release_line) }
-{
-    let command = begun(alloc);
-    let command = with(command, canon(alloc)?)?;
-    let command = with(command, export(alloc)?)?;
-    let command = with(command, get(alloc)?)?;
-    let command = with(command, init(alloc)?)?;
-    let command = with(command, key(alloc)?)?;
-    let command = with(command, prune(alloc)?)?;
-    let command = with(command, publish(alloc)?)?;
-    let command = with(command, put(alloc)?)?;
-    let command = with(command, serve(alloc)?)?;
-    let command = with(command, sign(alloc)?)?;
-    with(command, update(alloc)?)
-}
-
-// The program, before its subcommands.
-fn begun<'a>(alloc: Global) -> Command<'a>
-    ensures { app_of result ≡ needs_subcommand (with_version (new_app (codes "release"))) }
-{
-    Command::new(alloc, "release")
-        .about("A release repository after The Update Framework 1.0")
-        .version(help::VERSION)
-        .after_help(help::PROGRAM)
-        .subcommand_required(true)
-}
-
-// The command with one more subcommand.
-fn with<'a>(command: Command<'a>, subcommand: Command<'a>) -> Result<Command<'a>, AllocError>
-    requires local { (out-Command subcommand).has_globals ≡ false }
-    ensures line { IfOk result (λ c. app_of c ≡ with_command (app_of command.entry) (app_of subcommand.entry)) }
-{
-    command.subcommand(subcommand)
 }
 
 fn task_of(alloc: Global, matches: &ArgMatches<'_>) -> Result<Task, Usage>

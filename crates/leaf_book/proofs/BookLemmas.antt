@@ -11,7 +11,7 @@ use Rattle.sql_tables.proofs.Shapes.{has_all_alone}
 use Rattle.leaf_book.specs.Schema.{HasBoth, the_schema, two}
 use Rattle.leaf_book.specs.steps.Loading.{AreLeaves, AreSigners, three_cells}
 use Rattle.leaf_book.specs.steps.Making.{nowhere}
-use Rattle.leaf_book.specs.Book.{AreSame, Book, IsBook, Kept, Signer, no_book}
+use Rattle.leaf_plans.specs.Book.{AreSame, Book, IsBook, Kept, Signer, no_book}
 use Rattle.leaf_book.specs.Rows.{AreRowsOf, HoldsBook, IsLeafFrom, IsRecorded, IsSignerFrom}
 use Rattle.leaf_book.proofs.ReadLemmas.{leaf_is, signer_is}
 

@@ -10,7 +10,7 @@ use Rattle.lms.specs.declared.Seed.{Seed}
 use Rattle.lms.specs.Keys.{public_of}
 use Rattle.keys_roles.specs.Keys.{key_bytes}
 use Rattle.keys_roles.specs.Plain.{lms}
-use Rattle.leaf_book.specs.Book.{IsKeyId, key_of}
+use Rattle.leaf_plans.specs.Book.{IsKeyId, key_of}
 
 four_bytes : (n : ℕ) → AllByRecursion (λ b. b < 256) (to_be_bytes w32 n)
 four_bytes n = (omega arith, (omega arith, (omega arith, (omega arith, tt))))

@@ -1,5 +1,3 @@
-pub mod Deciding
-pub mod Listed
 pub mod ReadLemmas
 pub mod KeyIds
 pub mod RunLemmas

@@ -14,7 +14,7 @@ use Rattle.lms.specs.declared.Params.{Params}
 use Rattle.lms.specs.Parameters.{height, ots_code, signing_type}
 use Rattle.lms.specs.Keys.{leaf_count}
 use Rattle.leaf_book.specs.declared.reading.Place.TheVariants.{New}
-use Rattle.leaf_book.specs.Book.{Book, IsBook, IsKeyId, Kept, Signer}
+use Rattle.leaf_plans.specs.Book.{Book, IsBook, IsKeyId, Kept, Signer}
 use Rattle.leaf_book.specs.Rows.{AreRowsOf, IsLeafFrom, IsSignerFrom}
 use Rattle.leaf_book.specs.steps.Loading.{AreLeaves, AreSigners, Clashes, IsAddedLeaf, IsAddedSigner, IsPlace}
 

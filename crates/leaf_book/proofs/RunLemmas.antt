@@ -7,7 +7,7 @@ use Rattle.lms.specs.declared.Seed.{Seed}
 use Rattle.lms.specs.Keys.{leaf_count}
 use Rattle.leaf_book.specs.declared.faults.BookFault.{BookFault}
 use Rattle.leaf_book.specs.declared.faults.BookFault.TheVariants.{LeavesSpent, UnknownKey, Damaged, Database, OutOfMemory}
-use Rattle.leaf_book.specs.Book.{Book, IsBook, IsKeyId, IsLeastUnused, IsRegistered, Kept, Keeps, LacksMessage, Signer, with_leaf, with_signer}
+use Rattle.leaf_plans.specs.Book.{Book, IsBook, IsKeyId, IsLeastUnused, IsRegistered, Kept, Keeps, LacksMessage, Signer, with_leaf, with_signer}
 use Rattle.leaf_book.specs.Calls.{Registers, Reserved, Reserves, signature_by}
 use Rattle.leaf_book.specs.Runs.{Event, Happens, NeverTwice, Runs, Signed, World, begun, crash, crash_in_register, crash_in_reserve, more_reserved, register, reopen, reserve, sign}
 use Rattle.leaf_book.proofs.ReadLemmas.{leaves_more, signers_more}

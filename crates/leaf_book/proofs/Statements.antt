@@ -22,7 +22,7 @@ use Rattle.sql_tables.proofs.References.{unreferenced}
 use Rattle.sql_tables.proofs.Statements.{cast_int, cast_null}
 use Rattle.lms.specs.declared.Params.{Params}
 use Rattle.lms.specs.Parameters.{height, ots_code, signing_type}
-use Rattle.leaf_book.specs.Book.{Book, Kept, Signer, with_leaf, with_signer}
+use Rattle.leaf_plans.specs.Book.{Book, Kept, Signer, with_leaf, with_signer}
 use Rattle.leaf_book.specs.Rows.{AreRowsOf, HoldsBook, IsLeafFrom, IsRecorded, IsSignerFrom}
 use Rattle.leaf_book.specs.Schema.{HasBoth, leaf_table, signer_table, two}
 use Rattle.leaf_book.proofs.Autocommit.{commits_as, left_by_error}

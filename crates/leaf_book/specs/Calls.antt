@@ -5,7 +5,7 @@ use Rattle.lms.specs.declared.Seed.{Seed}
 use Rattle.lms.specs.Keys.{leaf_count, signature_of}
 use Rattle.leaf_book.specs.declared.faults.BookFault.{BookFault}
 use Rattle.leaf_book.specs.declared.faults.BookFault.TheVariants.{LeavesSpent, UnknownKey, Damaged, Database, OutOfMemory}
-use Rattle.leaf_book.specs.Book.{Book, IsLeastUnused, IsRegistered, IsUsed, Keeps, LacksMessage, key_of, with_leaf, with_signer}
+use Rattle.leaf_plans.specs.Book.{Book, IsLeastUnused, IsRegistered, IsUsed, Keeps, LacksMessage, key_of, with_leaf, with_signer}
 
 -- A leaf that was answered and is to be spent: one of the key's tree with these parameters, for this message.
 pub record Reserved : Type 0 where

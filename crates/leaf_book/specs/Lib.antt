@@ -1,4 +1,3 @@
-pub mod Book
 pub mod Schema
 pub mod Faults
 pub mod Rows

@@ -8,7 +8,7 @@ use Rattle.sqlite_trees.specs.Tree.{Trees}
 use Rattle.sqlite_rules.specs.Lists.{Has}
 pub use Rattle.sql_tables.specs.Opening.{IsSettled}
 use Rattle.lms.specs.Parameters.{height, ots_code, signing_type}
-use Rattle.leaf_book.specs.Book.{Book, IsBook, Kept, Signer, no_book}
+use Rattle.leaf_plans.specs.Book.{Book, IsBook, Kept, Signer, no_book}
 use Rattle.leaf_book.specs.Schema.{HasBoth, no_schema}
 
 -- the cells of a row from column `n` on: the key id, the number of the LM-OTS type (RFC 8554, section 4.1), the height of the tree

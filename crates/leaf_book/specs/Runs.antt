@@ -4,7 +4,7 @@ use Rattle.lms.specs.declared.Params.{Params}
 use Rattle.lms.specs.declared.Seed.{Seed}
 use Rattle.sqlite_rules.specs.Lists.{Has}
 use Rattle.leaf_book.specs.declared.faults.BookFault.{BookFault}
-use Rattle.leaf_book.specs.Book.{AreSame, Book, IsBook, Keeps}
+use Rattle.leaf_plans.specs.Book.{AreSame, Book, IsBook, Keeps}
 use Rattle.leaf_book.specs.Calls.{IsSeedOf, Registers, Reserved, Reserves, signature_by}
 
 -- a signature that was made: the leaf that was spent for it, the seed, and its bytes

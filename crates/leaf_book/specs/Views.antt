@@ -1,25 +1,15 @@
 -- What the code's values stand for, and what a caller sees of a book.
-use Rattle.std.specs.Prelude.{ℕ, List, map, Result, Ok, Err, refl}
+use Rattle.std.specs.Prelude.{ℕ, List, Result, Ok, Err, refl}
 use Rattle.std.specs.Coded.{Coded, code_by, coded×, coded_ℕ, coded_list}
 use Rattle.sqlite.specs.Held.{Held as Connection, held_code}
 use Rattle.lms.specs.declared.Params.{Params}
 use Rattle.lms.specs.contracts.Params as params
 use Rattle.keys_roles.specs.declared.KeyId.{KeyId}
 use Rattle.keys_roles.specs.Views.{id_text}
-use Rattle.leaf_book.specs.Book.{Book, Kept, Signer}
+use Rattle.leaf_plans.specs.Book.{Book}
+use Rattle.leaf_plans.specs.Views.{book_code}
 use Rattle.leaf_book.specs.Calls.{Reserved}
-use Rattle.leaf_book.specs.declared.entries.Signer.{Signer as SignerHeld}
-use Rattle.leaf_book.specs.declared.entries.Kept.{Kept as KeptHeld}
 use Rattle.leaf_book.specs.declared.faults.BookFault.{BookFault}
-
-abbrev pub signer_view : SignerHeld → Signer
-signer_view s = record { key = id_text s.key; params = s.params }
-
-abbrev pub kept_view : KeptHeld → Kept
-kept_view e = record { key = id_text e.key; leaf = e.leaf; message = e.message.items }
-
-abbrev pub book_view : List SignerHeld → List KeptHeld → Book
-book_view signers leaves = record { signers = map signer_view signers; leaves = map kept_view leaves }
 
 abbrev pub id_answer : Result KeyId BookFault → Result (List ℕ) BookFault
 id_answer (Ok id) = Ok (id_text id)
@@ -29,15 +19,6 @@ id_answer (Err e) = Err e
 pub record Shown (S : Type 0) : Type 0 where
   pub conn : Connection S
   pub book : Book
-
-abbrev signer_code : Coded Signer
-signer_code = code_by (List ℕ × Params) (coded× (coded_list coded_ℕ) params.the_row.coded) (λ s. (s.key, s.params)) (λ p. record { key = p.0; params = p.1 }) (λ _. refl)
-
-abbrev kept_code : Coded Kept
-kept_code = code_by (List ℕ × (ℕ × List ℕ)) (coded× (coded_list coded_ℕ) (coded× coded_ℕ (coded_list coded_ℕ))) (λ e. (e.key, (e.leaf, e.message))) (λ p. record { key = p.0; leaf = p.1.0; message = p.1.1 }) (λ _. refl)
-
-abbrev book_code : Coded Book
-book_code = code_by (List Signer × List Kept) (coded× (coded_list signer_code) (coded_list kept_code)) (λ b. (b.signers, b.leaves)) (λ p. record { signers = p.0; leaves = p.1 }) (λ _. refl)
 
 abbrev pub shown_code : {S : Type 0} → Coded S → Coded (Shown S)
 shown_code {S} store = code_by (Connection S × Book) (coded× (held_code store) book_code) (λ s. (s.conn, s.book)) (λ p. record { conn = p.0; book = p.1 }) (λ _. refl)

@@ -1,4 +1,3 @@
 -- Definitions that contracts of private functions cite.
 pub mod Loading
-pub mod Planning
 pub mod Making

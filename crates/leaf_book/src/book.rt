@@ -7,22 +7,21 @@ ghost use Rattle.sqlite_trees.specs.Tree.{Trees};
 ghost use Rattle.lms.specs.Keys.{leaf_count};
 ghost use Rattle.keys_roles.specs.Keys.{id_of};
 ghost use Rattle.keys_roles.specs.Views.{id_text, key_view};
-ghost use Rattle.leaf_book.specs.Book as plain;
-ghost use Rattle.leaf_book.specs.Book.{IsBook, IsLeastUnused, IsRegistered, LacksMessage, key_of, with_leaf, with_signer};
+ghost use Rattle.leaf_plans.specs.Book as plain;
+ghost use Rattle.leaf_plans.specs.Book.{IsBook, IsLeastUnused, IsRegistered, LacksMessage, key_of, with_leaf, with_signer};
 ghost use Rattle.leaf_book.specs.Calls.{Registers, Reserves};
 ghost use Rattle.leaf_book.specs.Faults.{IsOutside};
 ghost use Rattle.leaf_book.specs.Rows.{HoldsBook, IsRecorded};
-ghost use Rattle.leaf_book.specs.Views.{book_view, id_answer};
-ghost use Rattle.leaf_book.specs.steps.Planning.{IsPlan};
+ghost use Rattle.leaf_plans.specs.Views.{book_view};
+ghost use Rattle.leaf_book.specs.Views.{id_answer};
+ghost use Rattle.leaf_plans.specs.Planning.{IsPlan};
 
 use crate::cells::copied;
-use crate::entries::{Kept, Signer};
 use crate::faults::BookFault;
 use crate::leaf::Leaf;
-use crate::parameters::same_params;
-use crate::planning::{Plan, params_of, plan_for};
 use crate::writing::{check_open, put_leaf, put_signer};
 use keys_roles::{Key, KeyId, key_id};
+use leaf_plans::{Kept, Plan, Signer, params_of, plan_for, same_params};
 use lms::{KeyPair, Params, Seed, public_of};
 use sqlite::{Alter, Connection};
 use std::alloc::Global;
@@ -42,9 +41,10 @@ impl<S: Alter> Model for Book<S> {
     ghost use Rattle.std.specs.Prelude.{IsTrue};
     ghost use Rattle.sqlite.specs.Held.{state};
     ghost use Rattle.sqlite.specs.State.{HasCleanDisk};
-    ghost use Rattle.leaf_book.specs.Book.{IsBook};
+    ghost use Rattle.leaf_plans.specs.Book.{IsBook};
     ghost use Rattle.leaf_book.specs.Rows.{IsRecorded};
-    ghost use Rattle.leaf_book.specs.Views.{Shown, book_view, shown_code};
+    ghost use Rattle.leaf_plans.specs.Views.{book_view};
+    ghost use Rattle.leaf_book.specs.Views.{Shown, shown_code};
 
     ghost Value = { Shown S };
 

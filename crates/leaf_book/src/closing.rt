@@ -7,7 +7,7 @@ ghost use Rattle.sqlite_wal.specs.Reads.{AreClean};
 ghost use Rattle.sqlite_wal.specs.Recovery.{Image};
 ghost use Rattle.keys_roles.specs.Views.{id_text};
 ghost use Rattle.sql_tables.specs.Opening.{IsFound};
-ghost use Rattle.leaf_book.specs.Book as plain;
+ghost use Rattle.leaf_plans.specs.Book as plain;
 ghost use Rattle.leaf_book.specs.Calls.{Registers, Reserves};
 ghost use Rattle.leaf_book.specs.Rows.{Begins, HoldsBook};
 

@@ -1,7 +1,7 @@
 //! Laws of the definitions, which do nothing.
 ghost use Rattle.std.specs.Prelude.{List};
 ghost use Rattle.sqlite_trees.specs.Tree.{Trees};
-ghost use Rattle.leaf_book.specs.Book.{AreSame, Book, IsBook};
+ghost use Rattle.leaf_plans.specs.Book.{AreSame, Book, IsBook};
 ghost use Rattle.leaf_book.specs.Rows.{HoldsBook};
 ghost use Rattle.leaf_book.specs.Runs.{Event, NeverTwice, Runs, World, begun};
 

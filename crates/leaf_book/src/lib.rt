@@ -5,15 +5,12 @@ mod book;
 mod cells;
 mod closing;
 mod described;
-mod entries;
 mod faults;
 mod laws;
 mod leaf;
 mod loading;
 mod making;
 mod opening;
-mod parameters;
-mod planning;
 mod reading;
 mod writing;
 

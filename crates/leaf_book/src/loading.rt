@@ -3,16 +3,16 @@ ghost use Rattle.std.specs.Prelude.{◌≡◌, ◌⊎◌, [], Err, IfErr, IfOk, 
 ghost use Rattle.sqlite.specs.State.{HasCleanDisk, IsUnchanged, Survives};
 ghost use Rattle.sqlite.specs.Held.{state};
 ghost use Rattle.sql_tables.specs.Loading.{AreLoaded};
-ghost use Rattle.leaf_book.specs.Book.{Book, IsBook};
+ghost use Rattle.leaf_plans.specs.Book.{Book, IsBook};
 ghost use Rattle.leaf_book.specs.Faults.{IsOutside};
 ghost use Rattle.leaf_book.specs.Rows.{HoldsBook};
 ghost use Rattle.leaf_book.specs.Schema.{HasBoth};
-ghost use Rattle.leaf_book.specs.Views.{book_view};
+ghost use Rattle.leaf_plans.specs.Views.{book_view};
 ghost use Rattle.leaf_book.specs.steps.Loading.{AreAnswers, three_cells};
 
-use crate::entries::{Kept, Signer};
 use crate::faults::BookFault;
 use crate::reading::{leaves_of, signers_of};
+use leaf_plans::{Kept, Signer};
 use sqlite::{Alter, Connection, Row};
 use std::alloc::Global;
 

@@ -3,7 +3,7 @@ ghost use Rattle.std.specs.Prelude.{◌≡◌, ◌⊎◌, false, Ok, [], IsTrue,
 ghost use Rattle.sqlite.specs.State.{HasCleanDisk, KeepsCommit, Survives};
 ghost use Rattle.sqlite.specs.Held.{state};
 ghost use Rattle.sql_tables.specs.Making.{IsMade};
-ghost use Rattle.leaf_book.specs.Book.{no_book};
+ghost use Rattle.leaf_plans.specs.Book.{no_book};
 ghost use Rattle.leaf_book.specs.Faults.{IsOutside};
 ghost use Rattle.leaf_book.specs.Rows.{HoldsBook, IsRecorded, IsSettled};
 ghost use Rattle.leaf_book.specs.Schema.{no_schema, the_schema};

@@ -2,18 +2,18 @@
 ghost use Rattle.std.specs.Prelude.{◌≡◌, ◌⊎◌, false, Err, IfErr, IfOk, MatchResult, OnOk, IsSomeAnd, IsTrue};
 ghost use Rattle.sqlite.specs.Held.{state};
 ghost use Rattle.sqlite.specs.State.{HasCleanDisk, IsLive, Survives};
-ghost use Rattle.leaf_book.specs.Book as plain;
-ghost use Rattle.leaf_book.specs.Book.{IsBook, no_book};
+ghost use Rattle.leaf_plans.specs.Book as plain;
+ghost use Rattle.leaf_plans.specs.Book.{IsBook, no_book};
 ghost use Rattle.leaf_book.specs.Rows.{Begins, HoldsBook, HoldsNoBook, IsRecorded, IsSettled, Stands, TreesStand};
 ghost use Rattle.leaf_book.specs.Schema.{HasBoth, no_schema};
-ghost use Rattle.leaf_book.specs.Views.{book_view};
+ghost use Rattle.leaf_plans.specs.Views.{book_view};
 
 use crate::book::Book;
 use crate::described::beginning_of;
-use crate::entries::{Kept, Signer};
 use crate::faults::BookFault;
 use crate::loading::{ask, read};
 use crate::making::{make_book, renew};
+use leaf_plans::{Kept, Signer};
 use sqlite::{Alter, Connection};
 use std::alloc::Global;
 

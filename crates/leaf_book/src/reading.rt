@@ -5,17 +5,18 @@ ghost use Rattle.lms.specs.Keys.{leaf_count};
 ghost use Rattle.sqlite_rules.specs.Lists.{Has};
 ghost use Rattle.sqlite.specs.Order.{column};
 ghost use Rattle.sqlite.specs.declared.types.Value.TheVariants.{Text};
-ghost use Rattle.leaf_book.specs.Book as plain;
-ghost use Rattle.leaf_book.specs.Book.{Book, IsBook, IsKeyId};
+ghost use Rattle.leaf_plans.specs.Book as plain;
+ghost use Rattle.leaf_plans.specs.Book.{Book, IsBook, IsKeyId};
 ghost use Rattle.leaf_book.specs.Rows.{AreRowsOf, IsLeafFrom, IsSignerFrom};
-ghost use Rattle.leaf_book.specs.Views.{kept_view, signer_view};
+ghost use Rattle.leaf_plans.specs.Views.{kept_view, signer_view};
 ghost use Rattle.leaf_book.specs.steps.Loading.{AreLeaves, AreSigners, IsAddedLeaf, IsAddedSigner, IsPlace};
 
-use crate::cells::{copied, id_of, is_same, same_id};
-use crate::entries::{Kept, Signer};
+use crate::cells::{copied, id_of};
 use crate::faults::BookFault;
-use crate::parameters::{height_of, leaves_of as leaves_of_tree, ots_of, same_params};
-use crate::planning::params_of;
+use leaf_plans::{
+    Kept, Signer, height_of, is_same, leaves_of as leaves_of_tree, ots_of, params_of, same_id,
+    same_params,
+};
 use lms::Params;
 use sql_tables::{blob_at, number_at, text_at};
 use sqlite::Row;

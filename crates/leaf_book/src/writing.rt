@@ -7,13 +7,13 @@ ghost use Rattle.lms.specs.declared.SigningHeight.{SigningHeight};
 ghost use Rattle.lms.specs.Parameters.{height, ots_code, signing_type};
 ghost use Rattle.keys_roles.specs.Views.{id_text};
 ghost use Rattle.hex.specs.Hex.{encode_lower};
-ghost use Rattle.leaf_book.specs.Book.{Book, with_leaf, with_signer};
+ghost use Rattle.leaf_plans.specs.Book.{Book, with_leaf, with_signer};
 ghost use Rattle.leaf_book.specs.Faults.{IsOutside};
 ghost use Rattle.leaf_book.specs.Rows.{HoldsBook, IsRecorded};
 
 use crate::faults::BookFault;
-use crate::parameters::{code_of, number_of};
 use keys_roles::KeyId;
+use leaf_plans::{code_of, number_of};
 use lms::Params;
 use sqlite::types::ToSql;
 use sqlite::{Alter, Connection, Error};

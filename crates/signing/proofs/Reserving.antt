@@ -3,7 +3,7 @@ use Rattle.std.proofs.Common.{◌≡◌, ◌++◌, ◌∷◌, [], ℕ, List, Ok,
 use Rattle.sqlite_rules.specs.Lists.{Has}
 use Rattle.lms.specs.declared.Params.{Params}
 use Rattle.lms.specs.declared.Seed.{Seed}
-use Rattle.leaf_book.specs.Book.{Book, IsBook, IsRegistered, Signer}
+use Rattle.leaf_plans.specs.Book.{Book, IsBook, IsRegistered, Signer}
 use Rattle.leaf_book.specs.Calls.{Registers, Reserved, Reserves}
 
 last_has : (xs : List Signer) (x : Signer) → Has (xs ++ x ∷ []) x

@@ -3,7 +3,7 @@ ghost use Rattle.std.specs.Prelude.{◌≡◌, IfOk};
 ghost use Rattle.lms.specs.Keys.{public_of};
 ghost use Rattle.lms.specs.Verifies.{Verifies};
 ghost use Rattle.keys_roles.specs.Views.{id_text};
-ghost use Rattle.leaf_book.specs.Book.{key_of};
+ghost use Rattle.leaf_plans.specs.Book.{key_of};
 
 use keys_roles::KeyId;
 use leaf_book::{Book, BookFault, sign_with};

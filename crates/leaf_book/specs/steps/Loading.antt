@@ -9,7 +9,7 @@ use Rattle.sql_tables.specs.Loading.{AreLoaded}
 use Rattle.leaf_book.specs.declared.loading.Answers.{Answers}
 use Rattle.leaf_book.specs.declared.reading.Place.{Place}
 use Rattle.leaf_book.specs.declared.reading.Place.TheVariants.{New, Same, Clash}
-use Rattle.leaf_book.specs.Book.{IsKeyId, Kept, Signer}
+use Rattle.leaf_plans.specs.Book.{IsKeyId, Kept, Signer}
 
 -- the cells of a stored row behind its rowid
 abbrev pub three_cells : Row → Row

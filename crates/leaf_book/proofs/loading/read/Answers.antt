@@ -2,7 +2,7 @@ use Rattle.std.proofs.Common.{◌≡◌, Err, map, ap, subst, sym}
 use Rattle.sqlite_rules.specs.Lists.{Has}
 use Rattle.leaf_book.specs.declared.faults.BookFault.TheVariants.{Damaged}
 use Rattle.leaf_book.specs.Rows.{AreRowsOf, IsLeafFrom, IsSignerFrom}
-use Rattle.leaf_book.specs.Views.{kept_view, signer_view}
+use Rattle.leaf_plans.specs.Views.{kept_view, signer_view}
 use Rattle.leaf_book.specs.steps.Loading.{AreLeaves}
 use Rattle.leaf_book.proofs.BookLemmas.{as_answered, as_stored, book_right, goes_over, signers_right}
 use Rattle.leaf_book.proofs.ReadLemmas.{signer_is}

@@ -6,7 +6,7 @@ use Rattle.sqlite.proofs.StateLemmas.{survives_then}
 use Rattle.sqlite.proofs.Callers.{survives_begin}
 use Rattle.sql_tables.specs.Making.{IsMade}
 use Rattle.sql_tables.proofs.Calls.{OnOk_then}
-use Rattle.leaf_book.specs.Book.{no_book}
+use Rattle.leaf_plans.specs.Book.{no_book}
 use Rattle.leaf_book.specs.Rows.{HoldsBook, IsRecorded}
 use Rattle.leaf_book.specs.Schema.{no_schema}
 use Rattle.leaf_book.specs.steps.Making.{nowhere}

@@ -1,5 +1,5 @@
 use Rattle.std.proofs.Common.{◌≡◌, ◌≢◌, inl, inr, refl, sym, ◌∙◌, rules}
-use Rattle.leaf_book.specs.Views.{kept_view}
+use Rattle.leaf_plans.specs.Views.{kept_view}
 use Rattle.leaf_book.proofs.reading.beside.Goals as goal
 
 pub returns-else-same_message : goal.returns-else-same_message

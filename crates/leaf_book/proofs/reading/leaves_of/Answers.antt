@@ -3,7 +3,7 @@ use Rattle.std.proofs.lemmas.List.{take_more}
 use Rattle.leaf_book.specs.declared.faults.BookFault.TheVariants.{Damaged}
 use Rattle.sqlite_rules.specs.Lists.{Has}
 use Rattle.leaf_book.specs.Rows.{AreRowsOf, IsLeafFrom}
-use Rattle.leaf_book.specs.Views.{kept_view, signer_view}
+use Rattle.leaf_plans.specs.Views.{kept_view, signer_view}
 use Rattle.leaf_book.specs.steps.Loading.{AreLeaves}
 use Rattle.leaf_book.proofs.ReadLemmas.{among, leaf_fits, leaf_is, leaf_read, no_clash, row_before, row_in}
 use Rattle.leaf_book.proofs.reading.leaves_of.Goals as goal

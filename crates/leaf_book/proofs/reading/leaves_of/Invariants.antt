@@ -1,6 +1,6 @@
 use Rattle.std.proofs.Common.{map, take}
 use Rattle.leaf_book.specs.Rows.{AreRowsOf, IsLeafFrom}
-use Rattle.leaf_book.specs.Views.{kept_view, signer_view}
+use Rattle.leaf_plans.specs.Views.{kept_view, signer_view}
 use Rattle.leaf_book.specs.steps.Loading.{AreLeaves}
 use Rattle.leaf_book.proofs.reading.leaves_of.Given as goal
 

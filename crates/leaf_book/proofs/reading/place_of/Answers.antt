@@ -1,6 +1,6 @@
 use Rattle.std.proofs.Common.{◌≡◌, ◌∷◌, inl, inr, rules}
-use Rattle.leaf_book.specs.Views.{kept_view}
-use Rattle.leaf_book.proofs.Listed.{first_or_later, is_later}
+use Rattle.leaf_plans.specs.Views.{kept_view}
+use Rattle.leaf_plans.proofs.Listed.{first_or_later, is_later}
 use Rattle.leaf_book.proofs.reading.place_of.Goals as goal
 
 pub leaves-preserved : goal.leaves-preserved

@@ -1,8 +1,8 @@
 use Rattle.std.proofs.Common.{map, length}
 use Rattle.sqlite_rules.specs.Lists.{Has}
 use Rattle.leaf_book.specs.declared.reading.Place.TheVariants.{New}
-use Rattle.leaf_book.specs.Book.{Kept}
-use Rattle.leaf_book.specs.Views.{kept_view}
+use Rattle.leaf_plans.specs.Book.{Kept}
+use Rattle.leaf_plans.specs.Views.{kept_view}
 use Rattle.leaf_book.specs.steps.Loading.{IsPlace}
 use Rattle.leaf_book.proofs.reading.place_of.Given as goal
 

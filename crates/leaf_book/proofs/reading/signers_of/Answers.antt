@@ -1,9 +1,9 @@
 use Rattle.std.proofs.Common.{◌≡◌, ◌+◌, ◌++◌, [], ◌∷◌, Err, take, map, arith, sym, ap, subst, ◌∙◌}
 use Rattle.std.proofs.lemmas.List.{take_more}
 use Rattle.leaf_book.specs.declared.faults.BookFault.TheVariants.{Damaged}
-use Rattle.leaf_book.specs.Book.{Signer}
+use Rattle.leaf_plans.specs.Book.{Signer}
 use Rattle.leaf_book.specs.Rows.{AreRowsOf, IsSignerFrom}
-use Rattle.leaf_book.specs.Views.{signer_view}
+use Rattle.leaf_plans.specs.Views.{signer_view}
 use Rattle.leaf_book.specs.steps.Loading.{AreSigners}
 use Rattle.leaf_book.proofs.ReadLemmas.{among, row_before, row_in, signer_is, signer_read}
 use Rattle.leaf_book.proofs.reading.signers_of.Goals as goal

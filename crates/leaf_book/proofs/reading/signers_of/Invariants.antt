@@ -1,6 +1,6 @@
 use Rattle.std.proofs.Common.{map, take}
 use Rattle.leaf_book.specs.Rows.{AreRowsOf, IsSignerFrom}
-use Rattle.leaf_book.specs.Views.{signer_view}
+use Rattle.leaf_plans.specs.Views.{signer_view}
 use Rattle.leaf_book.specs.steps.Loading.{AreSigners}
 use Rattle.leaf_book.proofs.reading.signers_of.Given as goal
 

@@ -3,7 +3,7 @@ use Rattle.lms.specs.Keys.{public_of}
 use Rattle.lms.specs.Verifies.{Verifies}
 use Rattle.lms.specs.declared.Params.{Params}
 use Rattle.keys_roles.specs.Views.{id_text}
-use Rattle.leaf_book.specs.Book.{key_of}
+use Rattle.leaf_plans.specs.Book.{key_of}
 use Rattle.signing.proofs.Reserving.{same_params}
 use Rattle.signing.proofs.messages.sign_message.Goals as goal
 

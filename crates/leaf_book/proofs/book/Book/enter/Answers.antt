@@ -2,7 +2,7 @@ use Rattle.std.proofs.Common.{Ok, inl, inr, refl, sym, subst}
 use Rattle.sqlite.specs.Held.{state}
 use Rattle.sqlite.specs.State.{HasCleanDisk}
 use Rattle.keys_roles.specs.Views.{id_text}
-use Rattle.leaf_book.specs.Book.{Book, IsBook, IsKeyId, IsRegistered, with_signer}
+use Rattle.leaf_plans.specs.Book.{Book, IsBook, IsKeyId, IsRegistered, with_signer}
 use Rattle.leaf_book.specs.Rows.{HoldsBook}
 use Rattle.leaf_book.proofs.KeyIds.{key_of_id}
 use Rattle.leaf_book.proofs.RunLemmas.{with_signer_right}

@@ -3,9 +3,9 @@ use Rattle.sqlite.specs.Held.{state}
 use Rattle.sqlite.specs.State.{HasCleanDisk}
 use Rattle.sql_tables.proofs.ListLemmas.{mapped_last}
 use Rattle.keys_roles.specs.Views.{id_text}
-use Rattle.leaf_book.specs.Book.{IsBook, Kept, with_leaf}
+use Rattle.leaf_plans.specs.Book.{IsBook, Kept, with_leaf}
 use Rattle.leaf_book.specs.Rows.{IsRecorded}
-use Rattle.leaf_book.specs.Views.{book_view, kept_view, signer_view}
+use Rattle.leaf_plans.specs.Views.{book_view, kept_view, signer_view}
 use Rattle.leaf_book.proofs.book.Book.keep_leaf.Goals as goal
 
 pub invariant_of-self-in_err-put_leaf : goal.invariant_of-self-in_err-put_leaf

@@ -2,7 +2,7 @@ use Rattle.std.proofs.Common.{◌≡◌, Err, Ok, Result, sym, subst, ap, arith}
 use Rattle.sqlite.specs.Effect.{IsDatabase}
 use Rattle.sqlite.specs.Held.{state}
 use Rattle.sqlite.specs.State.{HasCleanDisk, Survives}
-use Rattle.leaf_book.specs.Book.{Book}
+use Rattle.leaf_plans.specs.Book.{Book}
 use Rattle.leaf_book.specs.Rows.{Begins, IsRecorded, Stands}
 use Rattle.leaf_book.proofs.book.Book.open_over.Goals as goal
 

@@ -1,7 +1,7 @@
 use Rattle.std.proofs.Common.{subst, subst₂}
 use Rattle.keys_roles.specs.Views.{id_text}
-use Rattle.leaf_book.specs.Views.{book_view}
-use Rattle.leaf_book.specs.steps.Planning.{IsPlan}
+use Rattle.leaf_plans.specs.Views.{book_view}
+use Rattle.leaf_plans.specs.Planning.{IsPlan}
 use Rattle.leaf_book.proofs.book.Book.plan.Goals as goal
 
 pub returns : goal.returns

@@ -4,7 +4,7 @@ use Rattle.keys_roles.specs.Plain.{lms}
 use Rattle.lms.specs.declared.Params.{Params}
 use Rattle.lms.specs.declared.Seed.{Seed}
 use Rattle.leaf_book.specs.declared.faults.BookFault.{BookFault}
-use Rattle.leaf_book.specs.Book.{Book, key_of}
+use Rattle.leaf_plans.specs.Book.{Book, key_of}
 use Rattle.leaf_book.specs.Calls.{Registers}
 use Rattle.leaf_book.specs.Rows.{HoldsBook}
 use Rattle.leaf_book.proofs.book.Book.register_pair.Goals as goal

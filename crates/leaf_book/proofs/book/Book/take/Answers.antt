@@ -2,10 +2,10 @@ use Rattle.std.proofs.Common.{Ok, inl, inr, refl, sym, subst, arith}
 use Rattle.sqlite.specs.Held.{state}
 use Rattle.sqlite.specs.State.{HasCleanDisk}
 use Rattle.keys_roles.specs.Views.{id_text}
-use Rattle.leaf_book.specs.declared.planning.Plan.TheVariants.{New, Spent}
-use Rattle.leaf_book.specs.Book.{Book, IsBook, with_leaf}
+use Rattle.leaf_plans.specs.declared.planning.Plan.TheVariants.{New, Spent}
+use Rattle.leaf_plans.specs.Book.{Book, IsBook, with_leaf}
 use Rattle.leaf_book.specs.Rows.{HoldsBook}
-use Rattle.leaf_book.specs.steps.Planning.{IsPlan}
+use Rattle.leaf_plans.specs.Planning.{IsPlan}
 use Rattle.leaf_book.proofs.RunLemmas.{with_leaf_right}
 use Rattle.leaf_book.proofs.book.Book.take.Goals as goal
 

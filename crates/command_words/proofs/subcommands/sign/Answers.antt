@@ -1,0 +1,11 @@
+use Rattle.std.proofs.Common.{ap₂, ◌∙◌, ap}
+use Rattle.std.proofs.lemmas.Result.{IfOk-weaker}
+use Rattle.clap.specs.Words.{with_rule}
+use Rattle.command_words.specs.Subcommands.{with_key_pair}
+use Rattle.command_words.proofs.subcommands.sign.Goals as goal
+
+pub returns-clause-line : goal.returns-clause-line
+returns-clause-line c =
+    let one = c.in_ok-command-2.ensures.line ∙ ap₂ with_rule c.in_ok-command.ensures.line c.book.ensures.rule in
+    let two = c.in_ok-command-3.ensures.line ∙ ap with_key_pair one in
+    IfOk-weaker c.with-2.result _ _ (λ r added. added ∙ ap₂ with_rule two c.operand.ensures.rule) c.with-2.ensures.line

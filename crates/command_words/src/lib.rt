@@ -1,0 +1,53 @@
+//! The words of the command line of `release`, as `clap` is told of them: subcommands, options and operands, and what help says of them.
+#![tactic(auto)]
+
+ghost use Rattle.std.specs.Prelude.{◌≡◌, IfOk, codes, false};
+ghost use Rattle.clap.specs.Words.{app_of, new_app};
+ghost use Rattle.clap.specs.declared.builder.command.Command.TheViews.{out-Command};
+ghost use Rattle.command_words.specs.Subcommands.{needs_subcommand, release_line, with_command, with_version};
+
+mod options;
+mod subcommands;
+mod texts;
+
+use clap::Command;
+use std::alloc::{AllocError, Global};
+use subcommands::{canon, export, get, init, key, prune, publish, put, serve, sign, update};
+pub use texts::DENIALS;
+
+/// The whole command line.
+pub fn release<'a>(alloc: Global) -> Result<Command<'a>, AllocError>
+    ensures { IfOk result (λ c. app_of c ≡ release_line) }
+{
+    let command = begun(alloc);
+    let command = with(command, canon(alloc)?)?;
+    let command = with(command, export(alloc)?)?;
+    let command = with(command, get(alloc)?)?;
+    let command = with(command, init(alloc)?)?;
+    let command = with(command, key(alloc)?)?;
+    let command = with(command, prune(alloc)?)?;
+    let command = with(command, publish(alloc)?)?;
+    let command = with(command, put(alloc)?)?;
+    let command = with(command, serve(alloc)?)?;
+    let command = with(command, sign(alloc)?)?;
+    with(command, update(alloc)?)
+}
+
+// The program, before its subcommands.
+fn begun<'a>(alloc: Global) -> Command<'a>
+    ensures { app_of result ≡ needs_subcommand (with_version (new_app (codes "release"))) }
+{
+    Command::new(alloc, "release")
+        .about("A release repository after The Update Framework 1.0")
+        .version(texts::VERSION)
+        .after_help(texts::PROGRAM)
+        .subcommand_required(true)
+}
+
+// The command with one more subcommand.
+fn with<'a>(command: Command<'a>, subcommand: Command<'a>) -> Result<Command<'a>, AllocError>
+    requires local { (out-Command subcommand).has_globals ≡ false }
+    ensures line { IfOk result (λ c. app_of c ≡ with_command (app_of command.entry) (app_of subcommand.entry)) }
+{
+    command.subcommand(subcommand)
+}

@@ -1,0 +1,3 @@
+pub mod Book
+pub mod Planning
+pub mod Views
