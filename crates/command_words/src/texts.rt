@@ -14,8 +14,8 @@ macro_rules! behind {
             "  2  a fault of the command line\n",
             "  3  all else: 'fault' and one of memory, database, damaged, network, file and clock\n",
             "\n",
-            "'release help denials' prints the numbers and names of the denials. README.md describes the HTTP\n",
-            "interface, and docs/OPERATING.md how a repository is run."
+            "'release help denials' prints the numbers and names of the denials. docs/REFERENCE.md describes the\n",
+            "HTTP interface, docs/TUTORIAL.md a first repository, and docs/OPERATING.md how one is run."
         )
     };
 }
