@@ -7,14 +7,6 @@ use machine::Held;
 use metadata::{read_root_file, read_snapshot_file, read_targets_file, read_timestamp_file};
 use std::alloc::Global;
 
-// The files that a search reads.
-#[derive(Drop)]
-struct Documents {
-    root: File<Root>,
-    snapshot: File<Snapshot>,
-    rows: Vec<Row>,
-}
-
 /// How many signatures the search checks, and how many roles it visits, where a root, a timestamp and a snapshot are held.
 pub fn cold_search(
     alloc: Global,
@@ -23,31 +15,60 @@ pub fn cold_search(
     path: &TargetPath,
     now: Moment,
 ) -> Result<(u64, u64), LineFault> {
-    let documents = documents_of(alloc, held, root_version)?;
+    let root = root_of(alloc, held, root_version)?;
+    search_under(alloc, held, &root.body, path, now)
+}
+
+// The same under this root.
+fn search_under(
+    alloc: Global,
+    held: &Held,
+    root: &Root,
+    path: &TargetPath,
+    now: Moment,
+) -> Result<(u64, u64), LineFault> {
+    let snapshot = snapshot_of(alloc, held)?;
+    search_in(alloc, held, root, &snapshot.body, path, now)
+}
+
+// The same in what this snapshot lists.
+fn search_in(
+    alloc: Global,
+    held: &Held,
+    root: &Root,
+    snapshot: &Snapshot,
+    path: &TargetPath,
+    now: Moment,
+) -> Result<(u64, u64), LineFault> {
+    let added = rows_of(alloc, held, snapshot)?;
     let rows = Rows {
         held: &[],
-        added: &documents.rows,
+        added: &added,
     };
-    let shelf = Shelf::new(&documents.root.body, &documents.snapshot.body, rows);
+    let shelf = Shelf::new(root, snapshot, rows);
     let mut checks = Steps::new();
     let mut visits = Steps::new();
     let _ = search_counted(&shelf, path, now, &mut checks, &mut visits);
     Ok((checks.count(), visits.count()))
 }
 
-fn documents_of(alloc: Global, held: &Held, root_version: u32) -> Result<Documents, LineFault> {
-    let name = format!(in alloc; "{root_version}.root.json")?;
-    let root = shaped(read_root_file(alloc, file(held, name.as_str())?))?;
-    let timestamp = shaped(read_timestamp_file(alloc, file(held, "timestamp.json")?))?;
-    let version = timestamp.body.snapshot.version;
+fn root_of(alloc: Global, held: &Held, version: u32) -> Result<File<Root>, LineFault> {
+    let name = format!(in alloc; "{version}.root.json")?;
+    shaped(read_root_file(alloc, file(held, name.as_str())?))
+}
+
+// The snapshot that the timestamp names.
+fn snapshot_of(alloc: Global, held: &Held) -> Result<File<Snapshot>, LineFault> {
+    let version = snapshot_version(alloc, held)?;
     let name = format!(in alloc; "{version}.snapshot.json")?;
-    let snapshot = shaped(read_snapshot_file(alloc, file(held, name.as_str())?))?;
-    let rows = rows_of(alloc, held, &snapshot.body)?;
-    Ok(Documents {
-        root,
-        snapshot,
-        rows,
-    })
+    shaped(read_snapshot_file(alloc, file(held, name.as_str())?))
+}
+
+fn snapshot_version(alloc: Global, held: &Held) -> Result<u32, LineFault> {
+    match read_timestamp_file(alloc, file(held, "timestamp.json")?) {
+        Ok(timestamp) => Ok(timestamp.body.snapshot.version),
+        Err(_) => Err(LineFault::NotUnderstood),
+    }
 }
 
 // The rows that the snapshot lists and that are held.

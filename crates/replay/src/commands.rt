@@ -31,19 +31,48 @@ fn kind_of(role: &str) -> Kind {
     }
 }
 
+// The role and the name of `ROLE:NAME`.
+fn role_and_name(word: &str) -> Result<(&str, &str), LineFault> {
+    match word.split_once(':') {
+        Some(both) => Ok(both),
+        None => Err(LineFault::NotUnderstood),
+    }
+}
+
+// The offers of `ROLE:NAME ..`, each with the bytes of its file.
+fn documents_of<'a>(
+    alloc: Global,
+    text: &str,
+    files: &'a [Vec<u8>],
+) -> Result<Vec<(Offer, &'a [u8])>, LineFault> {
+    let mut documents = Vec::new(alloc);
+    for (word, file) in text.split_whitespace().zip(files.iter()) {
+        let (role, _) = role_and_name(word)?;
+        let offer = offer_of(alloc, role)?;
+        documents.push((offer, file.as_slice()))?;
+    }
+    Ok(documents)
+}
+
 impl Session {
     /// Makes a command. Where memory was refused, the rows have to be as before, and it is made once more.
     pub fn ask(&mut self, command: Command<'_>) -> Result<String, LineFault> {
-        let mut result = self.base.apply(command, self.now);
-        if matches!(result, Err(StoreFault::OutOfMemory)) {
-            self.refusals = self.refusals.saturating_add(1);
-            if !self.has_rows_of_before()? {
-                return Ok(told(self.alloc, "rows are changed by a refusal")?);
-            }
-            result = self.base.apply(command, self.now);
+        let answer = self.base.apply(command, self.now);
+        if matches!(answer, Err(StoreFault::OutOfMemory)) {
+            return self.ask_again(command);
         }
         self.rows = None;
-        Ok(reply_text(self.alloc, &self.files, result)?)
+        Ok(reply_text(self.alloc, &self.files, &answer)?)
+    }
+
+    fn ask_again(&mut self, command: Command<'_>) -> Result<String, LineFault> {
+        self.refusals = self.refusals.saturating_add(1);
+        if !self.has_rows_of_before()? {
+            return Ok(told(self.alloc, "rows are changed by a refusal")?);
+        }
+        let answer = self.base.apply(command, self.now);
+        self.rows = None;
+        Ok(reply_text(self.alloc, &self.files, &answer)?)
     }
 
     /// Whether the rows are those that were looked at before, where they were.
@@ -73,20 +102,20 @@ impl Session {
 
     /// `batch ROLE:NAME ..`.
     pub fn batch(&mut self, text: &str) -> Result<String, LineFault> {
-        let mut offers = Vec::new(self.alloc);
+        let files = self.files_named(text)?;
+        let documents = documents_of(self.alloc, text, &files)?;
+        self.ask(Command::Batch(&documents))
+    }
+
+    // The bytes of the files of `ROLE:NAME ..`.
+    fn files_named(&self, text: &str) -> Result<Vec<Vec<u8>>, LineFault> {
         let mut files = Vec::new(self.alloc);
         for word in text.split_whitespace() {
-            let Some((role, name)) = word.split_once(':') else {
-                return Err(LineFault::NotUnderstood);
-            };
-            offers.push(offer_of(self.alloc, role)?)?;
-            files.push(find(&self.files, name)?.bytes.clone()?)?;
+            let (_, name) = role_and_name(word)?;
+            let bytes = find(&self.files, name)?.bytes.clone()?;
+            files.push(bytes)?;
         }
-        let mut documents = Vec::new(self.alloc);
-        for (offer, file) in offers.into_iter().zip(files.iter()) {
-            documents.push((offer, file.as_slice()))?;
-        }
-        self.ask(Command::Batch(&documents))
+        Ok(files)
     }
 
     /// `put DIGEST NAME`.

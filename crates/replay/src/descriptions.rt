@@ -65,8 +65,33 @@ fn usual_rules(alloc: Global) -> Result<Rules, LineFault> {
 impl Description {
     // The usual document of a kind.
     fn usual(alloc: Global, kind: Kind) -> Result<Description, LineFault> {
-        let mut entries = Vec::new(alloc);
-        let named = match kind {
+        let mut description = Description::begun(alloc, kind, usual_rules(alloc)?);
+        description.set_usual()?;
+        Ok(description)
+    }
+
+    // What nothing but its rules is said of.
+    fn begun(alloc: Global, kind: Kind, rules: Rules) -> Description {
+        Description {
+            alloc,
+            kind,
+            version: 1,
+            expires: String::new(alloc),
+            rules,
+            entries: Vec::new(alloc),
+            listings: Vec::new(alloc),
+            references: Vec::new(alloc),
+            delegations: Vec::new(alloc),
+            steps: Vec::new(alloc),
+            link: SaidLink::new(alloc),
+            leaves: Vec::new(alloc),
+        }
+    }
+
+    fn set_usual(&mut self) -> Result<(), LineFault> {
+        self.expires = String::from_str(self.alloc, "2031-01-01T00:00:00Z")?;
+        self.link.name = String::from_str(self.alloc, "build")?;
+        let named = match self.kind {
             Kind::Timestamp => "snapshot",
             _ => "targets",
         };
@@ -75,21 +100,9 @@ impl Description {
             length: None,
             digest: None,
         };
-        entries.push((String::from_str(alloc, named)?, entry))?;
-        Ok(Description {
-            alloc,
-            kind,
-            version: 1,
-            expires: String::from_str(alloc, "2031-01-01T00:00:00Z")?,
-            rules: usual_rules(alloc)?,
-            entries,
-            listings: Vec::new(alloc),
-            references: Vec::new(alloc),
-            delegations: Vec::new(alloc),
-            steps: Vec::new(alloc),
-            link: SaidLink::new(alloc)?,
-            leaves: Vec::new(alloc),
-        })
+        self.entries
+            .push((String::from_str(self.alloc, named)?, entry))?;
+        Ok(())
     }
 
     // Takes one more word.
@@ -219,6 +232,24 @@ impl Description {
         make_signers(keys, &self.leaves)
     }
 
+    // The file, signed by the leaves of these words.
+    fn file(&mut self, keys: &mut Keys, leaves: &str) -> Result<Vec<u8>, LineFault> {
+        self.leaves = leaves_of(self.alloc, leaves)?;
+        self.make_keys(keys)?;
+        let signed = self.written(keys)?;
+        Ok(signed_file(self.alloc, keys, &signed, &self.leaves)?)
+    }
+
+    // The bytes of the signed part.
+    fn written(&self, keys: &Keys) -> Result<Vec<u8>, LineFault> {
+        let value = self.signed(keys)?;
+        let mut bytes = Vec::new(self.alloc);
+        match write(&value, &mut bytes) {
+            Ok(()) => Ok(bytes),
+            Err(_) => Err(LineFault::NotUnderstood),
+        }
+    }
+
     // The signed part.
     fn signed(&self, keys: &Keys) -> Result<Value, LineFault> {
         let expires = self.expires.as_str();
@@ -346,12 +377,6 @@ pub fn described(
     };
     let words = whole_words(alloc, files, words)?;
     let mut description = description_of(alloc, files, now, usual, words.as_str())?;
-    description.leaves = leaves_of(alloc, leaves)?;
-    description.make_keys(keys)?;
-    let mut signed = Vec::new(alloc);
-    if write(&description.signed(keys)?, &mut signed).is_err() {
-        return Err(LineFault::NotUnderstood);
-    }
-    let bytes = signed_file(alloc, keys, &signed, &description.leaves)?;
+    let bytes = description.file(keys, leaves)?;
     Ok((words, bytes))
 }

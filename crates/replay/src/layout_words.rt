@@ -15,14 +15,14 @@ pub struct SaidLink {
 }
 
 impl SaidLink {
-    /// The usual link: of the step `build`, which took nothing and made nothing.
-    pub fn new(alloc: Global) -> Result<SaidLink, AllocError> {
-        Ok(SaidLink {
+    /// A link of a step with no name, which took nothing and made nothing.
+    pub fn new(alloc: Global) -> SaidLink {
+        SaidLink {
             alloc,
-            name: String::from_str(alloc, "build")?,
+            name: String::new(alloc),
             materials: Vec::new(alloc),
             products: Vec::new(alloc),
-        })
+        }
     }
 
     /// What they say.

@@ -28,24 +28,24 @@ pub fn fault_text(fault: StoreFault) -> &'static str {
 pub fn reply_text(
     alloc: Global,
     files: &[File],
-    answer: Result<Reply, StoreFault>,
+    answer: &Result<Reply, StoreFault>,
 ) -> Result<String, AllocError> {
     match answer {
         Ok(reply) => done_text(alloc, files, reply),
-        Err(fault) => told(alloc, fault_text(fault)),
+        Err(fault) => told(alloc, fault_text(*fault)),
     }
 }
 
-fn done_text(alloc: Global, files: &[File], reply: Reply) -> Result<String, AllocError> {
+fn done_text(alloc: Global, files: &[File], reply: &Reply) -> Result<String, AllocError> {
     match reply {
         Reply::Begun => told(alloc, "begun"),
         Reply::Batch { accepted, same } => format!(in alloc; "accepted {accepted} same {same}"),
-        Reply::Offered { same } => told(alloc, if same { "same" } else { "taken" }),
-        Reply::Stored(new) => told(alloc, if new { "stored" } else { "held" }),
+        Reply::Offered { same } => told(alloc, if *same { "same" } else { "taken" }),
+        Reply::Stored(new) => told(alloc, if *new { "stored" } else { "held" }),
         Reply::Pruned { blobs, rows } => format!(in alloc; "blobs {blobs} rows {rows}"),
-        Reply::Bytes(bytes) => bytes_text(alloc, files, &bytes),
+        Reply::Bytes(bytes) => bytes_text(alloc, files, bytes),
         Reply::Absent => told(alloc, "absent"),
-        Reply::Denied(denial, index) => denial_text(alloc, &denial, index),
+        Reply::Denied(denial, index) => denial_text(alloc, denial, *index),
     }
 }
 

@@ -42,14 +42,24 @@ impl Session {
     /// `http TEXT`: a request with escapes. Where memory was refused, the rows have to be as before, and it is made once more.
     pub fn request(&mut self, text: &str) -> Result<String, LineFault> {
         let request = expanded(self.alloc, &self.files, text)?;
-        let mut given = self.answer(&request)?;
+        self.respond(&request)
+    }
+
+    fn respond(&mut self, request: &[u8]) -> Result<String, LineFault> {
+        let given = self.answer(request)?;
         if given.as_slice() == NO_MEMORY {
-            self.refusals = self.refusals.saturating_add(1);
-            if !self.has_rows_of_before()? {
-                return Ok(told(self.alloc, "rows are changed by a refusal")?);
-            }
-            given = self.answer(&request)?;
+            return self.respond_again(request);
         }
+        self.rows = None;
+        Ok(response_text(self.alloc, &self.files, &given)?)
+    }
+
+    fn respond_again(&mut self, request: &[u8]) -> Result<String, LineFault> {
+        self.refusals = self.refusals.saturating_add(1);
+        if !self.has_rows_of_before()? {
+            return Ok(told(self.alloc, "rows are changed by a refusal")?);
+        }
+        let given = self.answer(request)?;
         self.rows = None;
         Ok(response_text(self.alloc, &self.files, &given)?)
     }
