@@ -17,7 +17,7 @@ verdicts_that_end_early() {
 beside=()
 start_beside() {
     local name
-    for name in crates/release/peers.py crates/release/clients.py crates/release/clock.py crates/release/full_disk.py crates/release/changed.py example/deploy/try; do
+    for name in crates/release/peers.py crates/release/cut.py crates/release/clients.py crates/release/clock.py crates/release/full_disk.py crates/release/changed.py example/deploy/try; do
         "$repository/$name" "$release" >"$folder/$(basename "$name").out" 2>&1 &
         beside+=("$!:$name")
     done
