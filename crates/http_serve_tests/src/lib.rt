@@ -1,16 +1,7 @@
-//! Tests of `http_serve` and `http_messages` that want an end of a connection inside the process: readers and writers that fail or take
-//! little, one that never fails, and sockets.
+//! A test of `http_serve` over a socket: one connection over loopback, whose accepted end is served.
 #![tactic(auto)]
 
 #[cfg(test)]
-mod connections;
-#[cfg(test)]
-mod ends;
-#[cfg(test)]
 mod first_root;
 #[cfg(test)]
-mod sockets;
-#[cfg(test)]
-mod sound;
-#[cfg(test)]
-mod texts;
+mod loopback;

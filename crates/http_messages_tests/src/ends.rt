@@ -2,7 +2,7 @@
 ghost use Rattle.std.specs.Prelude.{◌++◌, false};
 ghost use Rattle.std.specs.Io.{WritesAtMost};
 
-use http_serve::{Receive, Transmit};
+use http_messages::{Receive, Transmit};
 use std::io;
 use std::io::{ErrorKind, Read, Write};
 

@@ -1,0 +1,14 @@
+//! Tests of `http_messages` that want an end of a connection inside the process: readers and writers that fail or take little, one that never
+//! fails, and sockets.
+#![tactic(auto)]
+
+#[cfg(test)]
+mod cuts;
+#[cfg(test)]
+mod ends;
+#[cfg(test)]
+mod sockets;
+#[cfg(test)]
+mod sound;
+#[cfg(test)]
+mod texts;
