@@ -3,8 +3,8 @@ use Rattle.std.specs.Prelude.{◌≡◌, ℕ, ◌<◌, List, [], ◌∷◌, ◌+
 use Rattle.path_patterns.specs.Grammar.{IsName}
 use Rattle.machine.specs.Commands.{Offer, offer_of}
 use Rattle.denials.specs.declared.denial.Denial.TheVariants as denials
-use Rattle.commands.specs.declared.fault.Fault.{Fault}
-use Rattle.commands.specs.declared.fault.Fault.TheVariants.{Denied, Memory}
+use Rattle.command_support.specs.declared.fault.Fault.{Fault}
+use Rattle.command_support.specs.declared.fault.Fault.TheVariants.{Denied, Memory}
 
 -- the argument is a role's name, a colon and a file, and the offer that of the role
 pub record IsDocument (argument : List ℕ) (offer : Offer) (file : List ℕ) : Type 0 where

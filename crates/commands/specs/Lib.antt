@@ -1,2 +1,2 @@
 pub mod Arguments
-pub mod Statuses
+pub mod Faults

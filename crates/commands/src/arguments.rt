@@ -4,9 +4,8 @@ ghost use Rattle.machine.specs.Commands as commands;
 ghost use Rattle.machine.specs.Views.{offer_view};
 ghost use Rattle.commands.specs.Arguments.{AreDocuments, IsDocument, IsWhyNot};
 
-use crate::fault::Fault;
 use crate::files::InputFile;
-use crate::notes::Notes;
+use command_support::{Fault, Notes};
 use machine::{Denial, Offer};
 use path_patterns::RoleName;
 use std::alloc::{AllocError, Global};

@@ -1,58 +1,15 @@
-//! Input files, and standard output.
+//! The files of documents.
 ghost use Rattle.std.specs.Prelude.{◌≡◌, IfOk, map};
 
-use crate::fault::{Fault, file_fault};
-use crate::notes::Notes;
+use command_support::{DOCUMENT_LIMIT, Fault, Notes, read_at_most};
 use machine::Offer;
-use std::fs::{self, File};
-use std::io::{self, Read, Write};
-
-/// The most bytes of a metadata file.
-pub const DOCUMENT_LIMIT: usize = 262_144;
+use std::io::Write;
 
 /// A file that was read: its path, and its bytes.
 #[derive(Drop)]
 pub struct InputFile<'a> {
     pub path: &'a str,
     pub bytes: Vec<u8>,
-}
-
-/// The bytes of a file.
-pub fn read<E: Write>(
-    rt: &HostRuntime,
-    path: &str,
-    notes: &mut Notes<'_, E>,
-) -> Result<Vec<u8>, Fault> {
-    match fs::read(rt, path) {
-        Ok(bytes) => Ok(bytes),
-        Err(error) => Err(unread(path, &error, notes)),
-    }
-}
-
-/// The bytes of a file that may have so many: of a longer one these and one more, by which it can be told.
-pub fn read_at_most<E: Write>(
-    rt: &HostRuntime,
-    path: &str,
-    limit: usize,
-    notes: &mut Notes<'_, E>,
-) -> Result<Vec<u8>, Fault> {
-    match beginning(rt, path, limit) {
-        Ok(bytes) => Ok(bytes),
-        Err(error) => Err(unread(path, &error, notes)),
-    }
-}
-
-fn beginning(rt: &HostRuntime, path: &str, limit: usize) -> io::Result<Vec<u8>> {
-    let file = File::open(rt, path)?;
-    let mut bytes = Vec::new(rt.alloc());
-    let most = (limit as u64).saturating_add(1);
-    file.take(most).read_to_end(&mut bytes)?;
-    Ok(bytes)
-}
-
-fn unread<E: Write>(path: &str, error: &io::Error, notes: &mut Notes<'_, E>) -> Fault {
-    notes.tell(&path, error);
-    file_fault(error)
 }
 
 // The metadata file at a path, as far as one may go and one byte more.
@@ -81,24 +38,4 @@ pub fn read_all<'a, E: Write>(
         files.push(file)?;
     }
     Ok(files)
-}
-
-/// Prints these bytes. A write that fails is a fault of a file.
-pub fn print<O: Write, E: Write>(
-    out: &mut O,
-    bytes: &[u8],
-    notes: &mut Notes<'_, E>,
-) -> Result<(), Fault> {
-    match write_flushed(out, bytes) {
-        Ok(()) => Ok(()),
-        Err(error) => {
-            notes.tell(&"standard output", &error);
-            Err(Fault::File)
-        }
-    }
-}
-
-fn write_flushed<O: Write>(out: &mut O, bytes: &[u8]) -> io::Result<()> {
-    out.write_all(bytes)?;
-    out.flush()
 }

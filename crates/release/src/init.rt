@@ -1,7 +1,6 @@
 //! `init`: begins the trust with a first root.
-use crate::moments::moment;
-use crate::repository::applied;
-use commands::{DOCUMENT_LIMIT, Fault, Notes, print, read_at_most, refused};
+use command_support::{DOCUMENT_LIMIT, Fault, Notes, moment, print, read_at_most};
+use commands::{applied, refused};
 use std::io::Write;
 use store::{Command, Reply};
 

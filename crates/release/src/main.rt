@@ -1,33 +1,15 @@
 //! The program `release`: one subcommand for each task of a release repository.
 #![tactic(auto)]
 
-mod accepting;
-mod answering;
-mod deadlines;
-mod ending;
-mod export;
-mod exporting;
-mod get;
-mod incoming;
 mod init;
-mod key;
-mod lines;
-mod mirror;
-mod moments;
-mod outgoing;
-mod placing;
 mod prune;
 mod publish;
 mod put;
-mod repository;
 mod run;
-mod seeds;
 mod serve;
-mod sign;
 mod standing;
-mod update;
 
-use commands::Fault;
+use command_support::Fault;
 use run::{report, run};
 use std::env::{self, Env};
 use std::io;

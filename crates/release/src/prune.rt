@@ -1,7 +1,6 @@
 //! `prune`: takes away what the listed documents do not ask for.
-use crate::moments::moment;
-use crate::repository::applied;
-use commands::{Fault, Notes, print, refused};
+use command_support::{Fault, Notes, moment, print};
+use commands::{applied, refused};
 use http_messages::pruned_body;
 use std::io::Write;
 use store::{Command, Reply};

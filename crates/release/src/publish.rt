@@ -1,7 +1,6 @@
 //! `publish`: offers documents in order, which are taken together or not at all.
-use crate::moments::moment;
-use crate::repository::applied;
-use commands::{Fault, Notes, batch_of, documents_of, print, read_all, refused, told};
+use command_support::{Fault, Notes, moment, print};
+use commands::{applied, batch_of, documents_of, read_all, refused, told};
 use http_messages::accepted_body;
 use std::io::Write;
 use store::{Command, Reply};

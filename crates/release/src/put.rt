@@ -1,7 +1,6 @@
 //! `put`: stores a target file.
-use crate::moments::moment;
-use crate::repository::applied;
-use commands::{Fault, Notes, print, read_at_most, refused};
+use command_support::{Fault, Notes, moment, print, read_at_most};
+use commands::{applied, refused};
 use http_messages::BLOB_LIMIT;
 use metadata::digest_of;
 use std::io::Write;

@@ -1,18 +1,15 @@
 //! A command from its words to its exit status.
-use crate::export::export;
-use crate::get::{Getting, get};
 use crate::init::init;
-use crate::key::print_key;
-use crate::moments::moment;
 use crate::prune::prune;
 use crate::publish::publish;
 use crate::put::put;
 use crate::serve::Server;
-use crate::sign::{Signing, sign};
-use crate::update::update;
 use canon::canon;
-use command_line::{Subcommand, task};
-use commands::{Fault, Notes, print, read};
+use client_commands::{Getting, get, update};
+use command_line::{Subcommand, Task, task};
+use command_support::{Fault, Notes, moment, print, read};
+use exporting::export;
+use signing_commands::{Signing, print_key, sign};
 use std::io::Write;
 
 /// Does what the words ask for. What it prints goes to `out`, why it was not done to `err`, and the exit status is
@@ -47,34 +44,40 @@ fn perform<O: Write, E: Write>(
     err: &mut E,
 ) -> Result<(), Fault> {
     let task = task(rt.alloc(), words)?;
+    perform_task(rt, &task, out, err)
+}
+
+fn perform_task<O: Write, E: Write>(
+    rt: &HostRuntime,
+    task: &Task,
+    out: &mut O,
+    err: &mut E,
+) -> Result<(), Fault> {
     let at = task.at;
     let notes = &mut Notes::new(err, task.verbose);
-    match task.subcommand {
-        Subcommand::Canon { file } => print_canon(rt, &file, at, out, notes),
-        Subcommand::Export { db, to } => export(rt, &db, &to, at, out, notes),
+    match &task.subcommand {
+        Subcommand::Canon { file } => print_canon(rt, file, at, out, notes),
+        Subcommand::Export { db, to } => export(rt, db, to, at, out, notes),
         Subcommand::Get {
             db,
             port,
             out: to,
             path,
-        } => get(rt, Getting::new(&db, port, &to, &path), at, out, notes),
-        Subcommand::Init { db, root } => init(rt, &db, &root, at, out, notes),
-        Subcommand::Key { seed, params } => print_key(rt, &seed, params, at, out, notes),
-        Subcommand::Prune { db } => prune(rt, &db, at, out, notes),
-        Subcommand::Publish { db, documents } => publish(rt, &db, &documents, at, out, notes),
-        Subcommand::Put { db, file } => put(rt, &db, &file, at, out, notes),
+        } => get(rt, Getting::new(db, *port, to, path), at, out, notes),
+        Subcommand::Init { db, root } => init(rt, db, root, at, out, notes),
+        Subcommand::Key { seed, params } => print_key(rt, seed, *params, at, out, notes),
+        Subcommand::Prune { db } => prune(rt, db, at, out, notes),
+        Subcommand::Publish { db, documents } => publish(rt, db, documents, at, out, notes),
+        Subcommand::Put { db, file } => put(rt, db, file, at, out, notes),
         Subcommand::Sign {
             book,
             seed,
             params,
             file,
-        } => {
-            let asked = Signing::new(&book, &seed, params, &file);
-            sign(rt, asked, at, out, notes)
-        }
-        Subcommand::Update { db, port } => update(rt, &db, port, at, out, notes),
+        } => sign(rt, Signing::new(book, seed, *params, file), at, out, notes),
+        Subcommand::Update { db, port } => update(rt, db, *port, at, out, notes),
         Subcommand::Serve { db, port, count } => {
-            Server::new(rt, &db, port, count, at).run(out, notes)
+            Server::new(rt, db, *port, *count, at).run(out, notes)
         }
     }
 }

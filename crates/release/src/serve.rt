@@ -1,15 +1,11 @@
 //! `serve`: answers HTTP requests from the repository.
-use crate::accepting::{listen, next_stream};
-use crate::answering::answer_unavailable;
-use crate::deadlines::Timer;
-use crate::ending::end;
-use crate::incoming::{Beginning, Incoming};
-use crate::lines::tell_connection;
-use crate::moments::moment;
-use crate::outgoing::Outgoing;
-use crate::repository::{Repository, close, is_shut, opened};
 use crate::standing::tell_standing;
-use commands::{Fault, Notes, print};
+use command_support::{Fault, Notes, moment, print};
+use commands::{Work, is_shut, worked};
+use connections::{
+    Beginning, Incoming, Outgoing, Timer, answer_unavailable, end, listen, next_stream,
+    tell_connection,
+};
 use http_serve::{Routes, serve_list};
 use metadata::Moment;
 use sqlite::Alter;
@@ -54,134 +50,218 @@ impl<'a> Server<'a> {
         notes: &mut Notes<'_, E>,
     ) -> Result<(), Fault> {
         let routes = Routes::new(self.rt.alloc())?;
-        let mut held = Some(opened(self.rt, self.db, notes)?);
-        let ended = self.serve(&routes, &mut held, out, notes);
-        let_go(&mut held);
-        ended
-    }
-
-    fn serve<O: Write, E: Write>(
-        &self,
-        routes: &Routes,
-        held: &mut Option<Repository>,
-        out: &mut O,
-        notes: &mut Notes<'_, E>,
-    ) -> Result<(), Fault> {
-        let listener = listen(self.rt, self.port, notes)?;
-        self.say_listening(out, notes)?;
-        if notes.are_told() {
-            let now = moment(self.rt, self.at)?;
-            tell_standing(self.rt.alloc(), self.db, held, now, notes);
-        }
-        self.serve_all(&listener, routes, held, notes)
-    }
-
-    fn say_listening<O: Write, E: Write>(
-        &self,
-        out: &mut O,
-        notes: &mut Notes<'_, E>,
-    ) -> Result<(), Fault> {
-        let port = self.port;
-        let line = format!(in self.rt.alloc(); "listening on 127.0.0.1:{port}\n")?;
-        print(out, line.as_bytes(), notes)
-    }
-
-    fn serve_all<E: Write>(
-        &self,
-        listener: &TcpListener,
-        routes: &Routes,
-        held: &mut Option<Repository>,
-        notes: &mut Notes<'_, E>,
-    ) -> Result<(), Fault> {
         let mut kept = Beginning::new();
-        let mut is_available = true;
-        for _ in 0..self.count.unwrap_or(u64::MAX) {
-            let stream = next_stream(self.rt, listener, notes)?;
-            let now = moment(self.rt, self.at)?;
-            if !is_available {
-                self.open_again(held, now, notes);
+        let mut serving = Serving {
+            server: *self,
+            routes: &routes,
+            kept: &mut kept,
+            out,
+            listener: None,
+            left: self.count.unwrap_or(u64::MAX),
+            waiting: None,
+        };
+        serving.serve(notes)
+    }
+}
+
+// A connection that was accepted, and its moment.
+#[derive(Drop)]
+struct Accepted {
+    stream: TcpStream,
+    now: Moment,
+}
+
+// What a connection is read from and written to.
+type Sides<'a, 'k> = (Incoming<'a, 'k>, Outgoing<'a>, Moment);
+
+// What a server does over its repository, as often as that is opened: so many connections are left, and one may have been accepted
+// that waits for a database.
+#[derive(Drop)]
+struct Serving<'a, 'k, O: Write> {
+    server: Server<'a>,
+    routes: &'a Routes,
+    kept: &'k mut Beginning,
+    out: &'k mut O,
+    listener: Option<TcpListener>,
+    left: u64,
+    waiting: Option<Accepted>,
+}
+
+impl<O: Write> Work for Serving<'_, '_, O> {
+    // Whether all connections were served: else a fault has shut the database, and one waits.
+    type Done = Result<bool, Fault>;
+
+    fn work<S: Alter, E: Write>(
+        &mut self,
+        repository: &mut Store<S>,
+        notes: &mut Notes<'_, E>,
+    ) -> Result<Result<bool, Fault>, Fault> {
+        Ok(self.serve_from(repository, notes))
+    }
+}
+
+impl<O: Write> Serving<'_, '_, O> {
+    // Where the database cannot be opened at first, nothing is served. Where it cannot be opened again, that is tried at each
+    // further connection.
+    fn serve<E: Write>(&mut self, notes: &mut Notes<'_, E>) -> Result<(), Fault> {
+        let Server { rt, db, .. } = self.server;
+        let done = worked(rt, db, self, notes)?;
+        if done? {
+            return Ok(());
+        }
+        for _ in 0..u64::MAX {
+            let is_done = match worked(rt, db, self, notes) {
+                Ok(done) => done?,
+                Err(_) => !self.refuse(notes)?,
+            };
+            if is_done {
+                return Ok(());
             }
-            is_available = self.serve_stream(&stream, &mut kept, routes, held, now, notes);
         }
         Ok(())
     }
 
-    // Opens the database again where a fault has shut it, or where it was not opened before. Where that fails it is tried at the next connection.
-    fn open_again<E: Write>(
-        &self,
-        held: &mut Option<Repository>,
-        now: Moment,
+    fn serve_from<S: Alter, E: Write>(
+        &mut self,
+        repository: &mut Store<S>,
         notes: &mut Notes<'_, E>,
-    ) {
-        if is_open(held, now) {
-            return;
+    ) -> Result<bool, Fault> {
+        if self.listener.is_some() {
+            notes.tell(&self.server.db, &"opened again");
+        } else {
+            self.begin(repository, notes)?;
         }
-        let_go(held);
-        *held = opened(self.rt, self.db, notes).ok();
-        if held.is_some() {
-            notes.tell(&self.db, &"opened again");
-        }
+        self.serve_all(repository, notes)
     }
 
-    // Serves one connection, and answers whether a database is held that no fault can have shut meanwhile, which the reply
+    // Listens, and says so.
+    fn begin<S: Alter, E: Write>(
+        &mut self,
+        repository: &mut Store<S>,
+        notes: &mut Notes<'_, E>,
+    ) -> Result<(), Fault> {
+        let Server {
+            rt,
+            db,
+            port,
+            at,
+            ..
+        } = self.server;
+        self.listener = Some(listen(rt, port, notes)?);
+        let line = format!(in rt.alloc(); "listening on 127.0.0.1:{port}\n")?;
+        print(self.out, line.as_bytes(), notes)?;
+        if notes.are_told() {
+            let now = moment(rt, at)?;
+            tell_standing(rt.alloc(), db, repository, now, notes);
+        }
+        Ok(())
+    }
+
+    // Serves the connection that waits and all further ones, until a fault has shut the database.
+    fn serve_all<S: Alter, E: Write>(
+        &mut self,
+        repository: &mut Store<S>,
+        notes: &mut Notes<'_, E>,
+    ) -> Result<bool, Fault> {
+        let mut is_available = true;
+        if let Some(accepted) = self.waiting.take() {
+            is_available = self.serve_one(&accepted, repository, notes);
+        }
+        for _ in 0..u64::MAX {
+            let Some(accepted) = self.next(notes)? else {
+                return Ok(true);
+            };
+            if !is_available && is_shut(repository, accepted.now) {
+                self.waiting = Some(accepted);
+                return Ok(false);
+            }
+            is_available = self.serve_one(&accepted, repository, notes);
+        }
+        Ok(true)
+    }
+
+    // The next connection, if one more is to be served.
+    fn next<E: Write>(&mut self, notes: &mut Notes<'_, E>) -> Result<Option<Accepted>, Fault> {
+        let Some(listener) = &self.listener else {
+            return Ok(None);
+        };
+        if self.left == 0 {
+            return Ok(None);
+        }
+        self.left -= 1;
+        let stream = next_stream(self.server.rt, listener, notes)?;
+        let now = moment(self.server.rt, self.server.at)?;
+        Ok(Some(Accepted { stream, now }))
+    }
+
+    // Serves one connection from the repository, and answers whether no fault can have shut its database meanwhile, which the reply
     // shows. One whose clock cannot be read is not served.
-    fn serve_stream<S: Alter, E: Write>(
-        &self,
-        stream: &TcpStream,
-        kept: &mut Beginning,
-        routes: &Routes,
-        held: &mut Option<Store<S>>,
-        now: Moment,
+    fn serve_one<S: Alter, E: Write>(
+        &mut self,
+        accepted: &Accepted,
+        repository: &mut Store<S>,
         notes: &mut Notes<'_, E>,
     ) -> bool {
-        let Ok(timer) = Timer::start(self.rt) else {
-            return held.is_some();
+        let rt = self.server.rt;
+        let Ok(timer) = Timer::start(rt) else {
+            return true;
         };
-        let mut connection = (
-            Incoming::new(stream, timer, kept),
-            Outgoing::new(stream, timer),
-            now,
+        let mut sides = sides_of(accepted, timer, self.kept);
+        serve_list(
+            rt.alloc(),
+            self.routes,
+            slice::from_mut(&mut sides),
+            repository,
         );
-        self.answer(routes, &mut connection, held);
-        let (incoming, outgoing, _) = &connection;
-        tell_connection(incoming, outgoing, now, &timer, notes);
-        if outgoing.status().is_some() {
-            end(self.rt, stream, incoming, outgoing, &timer);
-        }
-        held.is_some() && outgoing.is_available()
+        end_one(rt, accepted, &sides, &timer, notes);
+        sides.1.is_available()
     }
 
-    // Answers the connection from the repository, if one is held.
-    fn answer<S: Alter>(
-        &self,
-        routes: &Routes,
-        connection: &mut (Incoming<'_, '_>, Outgoing<'_>, Moment),
-        held: &mut Option<Store<S>>,
-    ) {
-        let alloc = self.rt.alloc();
-        match held {
-            Some(repository) => {
-                serve_list(alloc, routes, slice::from_mut(connection), repository);
-            }
-            None => {
-                let (incoming, outgoing, _) = connection;
-                answer_unavailable(alloc, routes, incoming, outgoing);
-            }
+    // Answers the connection that waits while no database can be opened, and waits for the next one, if one more is to be served.
+    fn refuse<E: Write>(&mut self, notes: &mut Notes<'_, E>) -> Result<bool, Fault> {
+        if let Some(accepted) = self.waiting.take() {
+            self.refuse_one(&accepted, notes);
         }
+        self.waiting = self.next(notes)?;
+        Ok(self.waiting.is_some())
+    }
+
+    fn refuse_one<E: Write>(&mut self, accepted: &Accepted, notes: &mut Notes<'_, E>) {
+        let rt = self.server.rt;
+        let Ok(timer) = Timer::start(rt) else {
+            return;
+        };
+        let mut sides = sides_of(accepted, timer, self.kept);
+        let (incoming, outgoing, _) = &mut sides;
+        answer_unavailable(rt.alloc(), self.routes, incoming, outgoing);
+        end_one(rt, accepted, &sides, &timer, notes);
     }
 }
 
-// Whether a repository is held that no fault has shut.
-fn is_open<S: Alter>(held: &mut Option<Store<S>>, now: Moment) -> bool {
-    match held {
-        Some(repository) => !is_shut(repository, now),
-        None => false,
-    }
+fn sides_of<'a, 'k>(
+    accepted: &'a Accepted,
+    timer: Timer<'a>,
+    kept: &'k mut Beginning,
+) -> Sides<'a, 'k> {
+    let stream = &accepted.stream;
+    (
+        Incoming::new(stream, timer, kept),
+        Outgoing::new(stream, timer),
+        accepted.now,
+    )
 }
 
-// Closes the repository, if one is held.
-fn let_go(held: &mut Option<Repository>) {
-    if let Some(repository) = held.take() {
-        close(repository);
+// Tells of a connection, and ends it behind its reply.
+fn end_one<E: Write>(
+    rt: &HostRuntime,
+    accepted: &Accepted,
+    sides: &Sides<'_, '_>,
+    timer: &Timer<'_>,
+    notes: &mut Notes<'_, E>,
+) {
+    let (incoming, outgoing, now) = sides;
+    tell_connection(incoming, outgoing, *now, timer, notes);
+    if outgoing.status().is_some() {
+        end(rt, &accepted.stream, incoming, outgoing, timer);
     }
 }

@@ -1,6 +1,6 @@
 //! What is told of a repository before it is served: which root is trusted, and when the first of its documents expires.
-use commands::Notes;
-use metadata::{Body, Kind, Moment, RoleName, read_document};
+use command_support::Notes;
+use metadata::{Body, Kind, Moment, Snapshot, read_document};
 use sqlite::Alter;
 use std::alloc::Global;
 use std::fmt;
@@ -12,13 +12,10 @@ use store::{Command, Reply, Store};
 pub fn tell_standing<S: Alter, E: Write>(
     alloc: Global,
     db: &str,
-    held: &mut Option<Store<S>>,
+    repository: &mut Store<S>,
     now: Moment,
     notes: &mut Notes<'_, E>,
 ) {
-    let Some(repository) = held else {
-        return;
-    };
     let Some(version) = repository.root_version() else {
         notes.tell(&db, &"no root is trusted");
         return;
@@ -69,54 +66,48 @@ struct Looked<'a, S: Alter> {
 
 impl<S: Alter> Looked<'_, S> {
     fn at_all(&mut self, root: u32) {
-        self.at_root(root);
+        self.at_named(root, "root", Kind::Root);
         if let Some(snapshot) = self.at_timestamp() {
             self.at_snapshot(snapshot);
         }
     }
 
-    fn at_root(&mut self, version: u32) {
-        let Ok(name) = format!(in self.alloc; "{version}.root.json") else {
-            return;
-        };
-        let Some(bytes) = self.file(name.as_str()) else {
-            return;
-        };
-        self.at_document(Kind::Root, &bytes);
+    // Looks at a role's document of a version, if it is held.
+    fn at_named(&mut self, version: u32, role: &str, kind: Kind) {
+        if let Some(bytes) = self.file_of(version, role) {
+            self.at_document(kind, &bytes);
+        }
     }
 
     // The version of the snapshot that the timestamp names, if one is held.
     fn at_timestamp(&mut self) -> Option<u32> {
         let bytes = self.file("timestamp.json")?;
-        match self.at_document(Kind::Timestamp, &bytes)? {
+        let body = self.at_document(Kind::Timestamp, &bytes)?;
+        match &body {
             Body::Timestamp(timestamp) => Some(timestamp.snapshot.version),
             _ => None,
         }
     }
 
+    // Looks at the snapshot, and at what it lists.
     fn at_snapshot(&mut self, version: u32) {
-        let Ok(name) = format!(in self.alloc; "{version}.snapshot.json") else {
-            return;
-        };
-        let Some(bytes) = self.file(name.as_str()) else {
-            return;
-        };
-        if let Some(Body::Snapshot(snapshot)) = self.at_document(Kind::Snapshot, &bytes) {
-            for (role, meta) in &snapshot.meta {
-                self.at_targets(role, meta.version);
+        if let Some(bytes) = self.file_of(version, "snapshot") {
+            if let Some(Body::Snapshot(snapshot)) = self.at_document(Kind::Snapshot, &bytes) {
+                self.at_listed(&snapshot);
             }
         }
     }
 
-    fn at_targets(&mut self, role: &RoleName, version: u32) {
-        let role = role.as_str();
-        let Ok(name) = format!(in self.alloc; "{version}.{role}.json") else {
-            return;
-        };
-        let Some(bytes) = self.file(name.as_str()) else {
-            return;
-        };
-        self.at_document(Kind::Targets, &bytes);
+    fn at_listed(&mut self, snapshot: &Snapshot) {
+        for (role, meta) in &snapshot.meta {
+            self.at_named(meta.version, role.as_str(), Kind::Targets);
+        }
+    }
+
+    // The bytes of a role's document of a version, if it is held.
+    fn file_of(&mut self, version: u32, role: &str) -> Option<Vec<u8>> {
+        let name = format!(in self.alloc; "{version}.{role}.json").ok()?;
+        self.file(name.as_str())
     }
 
     // The bytes of a metadata file, if it is held.
@@ -129,18 +120,32 @@ impl<S: Alter> Looked<'_, S> {
 
     // Notes when the document expires, and answers what it says.
     fn at_document(&mut self, kind: Kind, bytes: &[u8]) -> Option<Body> {
-        let body = read_document(self.alloc, kind, bytes).ok()?.body;
-        let expires = match &body {
-            Body::Root(root) => root.expires,
-            Body::Timestamp(timestamp) => timestamp.expires,
-            Body::Snapshot(snapshot) => snapshot.expires,
-            Body::Targets(targets) => targets.expires,
-            Body::Layout(layout) => layout.expires,
-            Body::Link(_) => return None,
-        };
-        if self.nearest.is_none_or(|nearest| expires < nearest.0) {
-            self.nearest = Some(Nearest(expires));
+        match read_document(self.alloc, kind, bytes) {
+            Ok(document) => {
+                self.note(expiry_of(&document.body));
+                Some(document.body)
+            }
+            Err(_) => None,
         }
-        Some(body)
+    }
+
+    fn note(&mut self, expires: Option<Moment>) {
+        if let Some(expires) = expires {
+            if self.nearest.is_none_or(|nearest| expires < nearest.0) {
+                self.nearest = Some(Nearest(expires));
+            }
+        }
+    }
+}
+
+// When a document expires. Links do not.
+fn expiry_of(body: &Body) -> Option<Moment> {
+    match body {
+        Body::Root(root) => Some(root.expires),
+        Body::Timestamp(timestamp) => Some(timestamp.expires),
+        Body::Snapshot(snapshot) => Some(snapshot.expires),
+        Body::Targets(targets) => Some(targets.expires),
+        Body::Layout(layout) => Some(layout.expires),
+        Body::Link(_) => None,
     }
 }

@@ -1,12 +1,11 @@
 //! Where `update` and `get` fetch files: a repository that is served at a port of 127.0.0.1.
 ghost use Rattle.std.specs.Io.{ReadsAtMost, WritesAtMost};
 
-use crate::accepting::Port;
-use crate::deadlines::{FILE_SECONDS, QUIET_SECONDS, Timer};
-use client::{FetchFault, Source};
-use commands::Notes;
+use command_support::Notes;
+use connections::{FILE_SECONDS, Port, QUIET_SECONDS, Timer};
 use http_fetch::fetch_over;
 use http_messages::{Receive, Transmit};
+use sources::{FetchFault, Source};
 use std::alloc::Global;
 use std::fmt;
 use std::io::{self, ErrorKind, IsTerminal, Read, Write};

@@ -1,11 +1,11 @@
 //! The files of a repository in a folder, under the names that clients ask for.
-use crate::placing::put_in_place;
-use commands::{DOCUMENT_LIMIT, Denial, Fault, Notes, file_fault};
+use command_support::{DOCUMENT_LIMIT, Denial, Fault, Notes, file_fault, put_in_place};
+use commands::fault_of_store;
 use metadata::{Body, Kind, Listing, Moment, ShapeFault, Snapshot, Targets, read_document};
 use path_patterns::consistent_name;
 use sqlite::Alter;
-use std::alloc::Global;
-use std::fs::{self, File};
+use std::alloc::{AllocError, Global};
+use std::fs::{self, File, Metadata};
 use std::io::{self, Read, Write};
 use store::{Command, Reply, Store};
 
@@ -60,55 +60,88 @@ impl<'a, S: Alter> Exporting<'a, S> {
         self.rt.alloc()
     }
 
+    // The name of a role's metadata file.
+    fn name(&self, version: u32, role: &str) -> Result<String, AllocError> {
+        format!(in self.alloc(); "{version}.{role}.json")
+    }
+
     // The snapshot that the timestamp names, where it is held, behind what it lists.
     fn write_named_snapshot<E: Write>(
         &mut self,
         timestamp: &[u8],
         notes: &mut Notes<'_, E>,
     ) -> Result<(), Fault> {
-        let body = self.body(Kind::Timestamp, timestamp)?;
-        let Some(Body::Timestamp(timestamp)) = &body else {
+        let Some(version) = self.snapshot_version(timestamp)? else {
             return Ok(());
         };
-        let version = timestamp.snapshot.version;
-        let name = format!(in self.alloc(); "{version}.snapshot.json")?;
+        let name = self.name(version, "snapshot")?;
         let Some(bytes) = self.file(name.as_str(), notes)? else {
             return Ok(());
         };
-        if let Some(Body::Snapshot(snapshot)) = self.body(Kind::Snapshot, &bytes)? {
-            self.write_listed(&snapshot, notes)?;
-        }
+        self.write_listed(&bytes, notes)?;
         self.write_metadata(name.as_str(), &bytes, notes)
     }
 
-    // The targets metadata that a snapshot lists, as far as they are held.
+    // The version of the snapshot that a timestamp names.
+    fn snapshot_version(&self, timestamp: &[u8]) -> Result<Option<u32>, Fault> {
+        let body = self.body(Kind::Timestamp, timestamp)?;
+        match &body {
+            Some(Body::Timestamp(timestamp)) => Ok(Some(timestamp.snapshot.version)),
+            _ => Ok(None),
+        }
+    }
+
+    // What a snapshot lists.
     fn write_listed<E: Write>(
+        &mut self,
+        snapshot: &[u8],
+        notes: &mut Notes<'_, E>,
+    ) -> Result<(), Fault> {
+        let body = self.body(Kind::Snapshot, snapshot)?;
+        match &body {
+            Some(Body::Snapshot(snapshot)) => self.write_roles(snapshot, notes),
+            _ => Ok(()),
+        }
+    }
+
+    // The targets metadata that a snapshot lists, as far as they are held.
+    fn write_roles<E: Write>(
         &mut self,
         snapshot: &Snapshot,
         notes: &mut Notes<'_, E>,
     ) -> Result<(), Fault> {
         for (role, meta) in &snapshot.meta {
-            let version = meta.version;
-            let role = role.as_str();
-            let name = format!(in self.alloc(); "{version}.{role}.json")?;
-            if let Some(bytes) = self.file(name.as_str(), notes)? {
-                self.write_targets(name.as_str(), &bytes, notes)?;
-            }
+            self.write_role(role.as_str(), meta.version, notes)?;
         }
         Ok(())
     }
 
     // Targets metadata, behind the files that they list.
-    fn write_targets<E: Write>(
+    fn write_role<E: Write>(
         &mut self,
-        name: &str,
-        bytes: &[u8],
+        role: &str,
+        version: u32,
         notes: &mut Notes<'_, E>,
     ) -> Result<(), Fault> {
-        if let Some(Body::Targets(targets)) = self.body(Kind::Targets, bytes)? {
-            self.write_target_files(&targets, notes)?;
+        let name = self.name(version, role)?;
+        let Some(bytes) = self.file(name.as_str(), notes)? else {
+            return Ok(());
+        };
+        self.write_targets(&bytes, notes)?;
+        self.write_metadata(name.as_str(), &bytes, notes)
+    }
+
+    // The files that targets metadata list.
+    fn write_targets<E: Write>(
+        &mut self,
+        targets: &[u8],
+        notes: &mut Notes<'_, E>,
+    ) -> Result<(), Fault> {
+        let body = self.body(Kind::Targets, targets)?;
+        match &body {
+            Some(Body::Targets(targets)) => self.write_target_files(targets, notes),
+            _ => Ok(()),
         }
-        self.write_metadata(name, bytes, notes)
     }
 
     fn write_target_files<E: Write>(
@@ -128,16 +161,33 @@ impl<'a, S: Alter> Exporting<'a, S> {
         listing: &Listing,
         notes: &mut Notes<'_, E>,
     ) -> Result<(), Fault> {
-        let name = consistent_name(self.alloc(), &listing.path, &listing.digest)?;
-        let name = name.as_str();
-        let folder = self.folder;
-        let place = format!(in self.alloc(); "{folder}/targets/{name}")?;
+        let place = self.target_place(listing)?;
         if has_length(self.rt, place.as_str(), u64::from(listing.length)) {
             return Ok(());
         }
         let command = Command::Target(listing.path.as_str(), Some(listing.digest));
-        match self.asked(command, notes)? {
-            Reply::Bytes(bytes) => self.write(place.as_str(), &bytes, notes),
+        let reply = self.asked(command, notes)?;
+        self.write_reply(place.as_str(), listing, &reply, notes)
+    }
+
+    // Where the file of a target stands.
+    fn target_place(&self, listing: &Listing) -> Result<String, AllocError> {
+        let name = consistent_name(self.alloc(), &listing.path, &listing.digest)?;
+        let name = name.as_str();
+        let folder = self.folder;
+        format!(in self.alloc(); "{folder}/targets/{name}")
+    }
+
+    // What was answered for a target. A denial is told.
+    fn write_reply<E: Write>(
+        &mut self,
+        place: &str,
+        listing: &Listing,
+        reply: &Reply,
+        notes: &mut Notes<'_, E>,
+    ) -> Result<(), Fault> {
+        match reply {
+            Reply::Bytes(bytes) => self.write(place, bytes, notes),
             Reply::Denied(denial, _) => {
                 notes.tell(&listing.path.as_str(), &denial.name());
                 Ok(())
@@ -149,13 +199,25 @@ impl<'a, S: Alter> Exporting<'a, S> {
     // The roots that are held, from the last to the first, so that whoever follows them finds all of them or none.
     fn write_roots<E: Write>(&mut self, last: u32, notes: &mut Notes<'_, E>) -> Result<(), Fault> {
         for version in (1..=last).rev() {
-            let name = format!(in self.alloc(); "{version}.root.json")?;
-            let Some(bytes) = self.file(name.as_str(), notes)? else {
+            if !self.write_root(version, notes)? {
                 return Ok(());
-            };
-            self.write_metadata(name.as_str(), &bytes, notes)?;
+            }
         }
         Ok(())
+    }
+
+    // A root, and whether it is held.
+    fn write_root<E: Write>(
+        &mut self,
+        version: u32,
+        notes: &mut Notes<'_, E>,
+    ) -> Result<bool, Fault> {
+        let name = self.name(version, "root")?;
+        let root = self.file(name.as_str(), notes)?;
+        if let Some(bytes) = &root {
+            self.write_metadata(name.as_str(), bytes, notes)?;
+        }
+        Ok(root.is_some())
     }
 
     // A metadata file that is not there already with these bytes.
@@ -213,7 +275,7 @@ impl<'a, S: Alter> Exporting<'a, S> {
             Ok(reply) => Ok(reply),
             Err(fault) => {
                 notes.tell(&self.db, &fault);
-                Err(Fault::from(fault))
+                Err(fault_of_store(fault))
             }
         }
     }
@@ -231,9 +293,13 @@ impl<'a, S: Alter> Exporting<'a, S> {
 // Whether a file of this length stands there.
 fn has_length(rt: &HostRuntime, place: &str, length: u64) -> bool {
     match fs::symlink_metadata(rt, place) {
-        Ok(found) => found.is_file() && found.len() == length,
+        Ok(found) => is_file_of(&found, length),
         Err(_) => false,
     }
+}
+
+fn is_file_of(found: &Metadata, length: u64) -> bool {
+    found.len() == length && found.is_file()
 }
 
 // Whether a file of these bytes stands there.

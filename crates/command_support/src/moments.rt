@@ -1,5 +1,5 @@
 //! The moment of a command.
-use commands::Fault;
+use crate::fault::Fault;
 use metadata::Moment;
 use std::rt::Clock;
 use std::time::{SystemTime, UNIX_EPOCH};

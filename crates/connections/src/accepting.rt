@@ -1,5 +1,5 @@
 //! The port of `serve`, and the connections that come to it.
-use commands::{Fault, Notes};
+use command_support::{Fault, Notes};
 use std::io::{self, ErrorKind, Write};
 use std::net::{Ipv4Addr, SocketAddr, TcpListener, TcpStream};
 use std::thread;

@@ -1,5 +1,5 @@
 //! Seed files.
-use commands::{Fault, Notes, file_fault};
+use command_support::{Fault, Notes, file_fault};
 use signing::{Seed, read_seed};
 use std::fs::File;
 use std::io::{self, Read, Write};

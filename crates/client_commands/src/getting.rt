@@ -1,10 +1,9 @@
 //! `get`: fetches a target as a client.
+use crate::fault::fault_of_client;
 use crate::mirror::Mirror;
-use crate::moments::moment;
-use crate::placing::put_in_place;
-use crate::repository::{close, opened};
 use client::fetch_target;
-use commands::{Denial, Fault, Notes, file_fault, print};
+use command_support::{Denial, Fault, Notes, file_fault, moment, print, put_in_place};
+use commands::{Work, worked};
 use metadata::Moment;
 use path_patterns::TargetPath;
 use sqlite::Alter;
@@ -43,14 +42,28 @@ pub fn get<O: Write, E: Write>(
 ) -> Result<(), Fault> {
     let now = moment(rt, at)?;
     let path = target_path(rt, asked.path, notes)?;
-    let mut repository = opened(rt, asked.db, notes)?;
-    let done = fetched(rt, &mut repository, asked.port, &path, now, notes);
-    close(repository);
-    let bytes = done?;
-    match put_in_place(rt, asked.out, &bytes) {
-        Ok(()) => print(out, b"written\n", notes),
+    let mut fetching = Fetching {
+        rt,
+        port: asked.port,
+        path: &path,
+        now,
+    };
+    let bytes = worked(rt, asked.db, &mut fetching, notes)?;
+    put(rt, asked.out, &bytes, notes)?;
+    print(out, b"written\n", notes)
+}
+
+// Writes the target's file.
+fn put<E: Write>(
+    rt: &HostRuntime,
+    out: &str,
+    bytes: &[u8],
+    notes: &mut Notes<'_, E>,
+) -> Result<(), Fault> {
+    match put_in_place(rt, out, bytes) {
+        Ok(()) => Ok(()),
         Err(error) => {
-            notes.tell(&asked.out, &error);
+            notes.tell(&out, &error);
             Err(file_fault(&error))
         }
     }
@@ -70,24 +83,33 @@ fn target_path<E: Write>(
     }
 }
 
-// The bytes of the target that the client's own state grants.
-fn fetched<S: Alter, E: Write>(
-    rt: &HostRuntime,
-    repository: &mut Store<S>,
+// What is done over the client's own state: the bytes of the target that it grants are fetched. A fault is told with the target's path.
+#[derive(Clone, Copy)]
+struct Fetching<'a> {
+    rt: &'a HostRuntime,
     port: u16,
-    path: &TargetPath,
+    path: &'a TargetPath,
     now: Moment,
-    notes: &mut Notes<'_, E>,
-) -> Result<Vec<u8>, Fault> {
-    let done = {
-        let mut mirror = Mirror::new(rt, port, notes);
-        fetch_target(rt.alloc(), repository, &mut mirror, path, now)
-    };
-    match done {
-        Ok(bytes) => Ok(bytes),
-        Err(fault) => {
-            notes.tell(&path.as_str(), &fault);
-            Err(Fault::from(fault))
+}
+
+impl Work for Fetching<'_> {
+    type Done = Vec<u8>;
+
+    fn work<S: Alter, E: Write>(
+        &mut self,
+        state: &mut Store<S>,
+        notes: &mut Notes<'_, E>,
+    ) -> Result<Vec<u8>, Fault> {
+        let done = {
+            let mut mirror = Mirror::new(self.rt, self.port, notes);
+            fetch_target(self.rt.alloc(), state, &mut mirror, self.path, self.now)
+        };
+        match done {
+            Ok(bytes) => Ok(bytes),
+            Err(fault) => {
+                notes.tell(&self.path.as_str(), &fault);
+                Err(fault_of_client(fault))
+            }
         }
     }
 }

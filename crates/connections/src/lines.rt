@@ -2,7 +2,7 @@
 use crate::deadlines::Timer;
 use crate::incoming::Incoming;
 use crate::outgoing::Outgoing;
-use commands::Notes;
+use command_support::Notes;
 use metadata::Moment;
 use std::fmt;
 use std::io::Write;

@@ -1,8 +1,7 @@
 //! `key`: prints the public half of a key.
-use crate::moments::moment;
+use crate::documents::tell_of_tree;
 use crate::seeds::seed_at;
-use crate::sign::tell_of_tree;
-use commands::{Fault, Notes, print};
+use command_support::{Fault, Notes, moment, print};
 use keys_roles::{Key, key_object};
 use lms::{Params, public_of};
 use std::io::Write;

@@ -1,15 +1,12 @@
 //! Why a command was not done, with the exit status and the line on standard error.
-ghost use Rattle.std.specs.Prelude.{◌≡◌, ℕ, Option};
-ghost use Rattle.denials.specs.declared.denial.Denial.{Denial as Denials};
-ghost use Rattle.commands.specs.Statuses.{status_of};
+ghost use Rattle.std.specs.Prelude.{◌≡◌};
+ghost use Rattle.command_support.specs.Statuses.{status_of};
 
 use canon::CanonFault;
-use client::{ClientFault, FetchFault};
 use command_line::Usage;
-use machine::Denial;
+use denials::Denial;
 use std::alloc::{AllocError, AllocFailed};
 use std::{fmt, io};
-use store::Reply;
 
 /// Why a command was not done. Its text is what standard error gets.
 #[derive(Debug, Drop)]
@@ -83,7 +80,7 @@ fn write_denial<W: fmt::Write>(
 
 impl From<AllocError> for Fault {
     ghost use Rattle.std.specs.Prelude.{◌≡◌};
-    ghost use Rattle.commands.specs.declared.fault.Fault.TheVariants.{Memory};
+    ghost use Rattle.command_support.specs.declared.fault.Fault.TheVariants.{Memory};
 
     ghost from_gives = { λ _ f. f ≡ Memory };
 
@@ -94,7 +91,7 @@ impl From<AllocError> for Fault {
 
 impl<T: Drop> From<AllocFailed<T>> for Fault {
     ghost use Rattle.std.specs.Prelude.{◌≡◌};
-    ghost use Rattle.commands.specs.declared.fault.Fault.TheVariants.{Memory};
+    ghost use Rattle.command_support.specs.declared.fault.Fault.TheVariants.{Memory};
 
     ghost from_gives = { λ _ f. f ≡ Memory };
 
@@ -105,7 +102,7 @@ impl<T: Drop> From<AllocFailed<T>> for Fault {
 
 impl From<Usage> for Fault {
     ghost use Rattle.std.specs.Prelude.{◌≡◌};
-    ghost use Rattle.commands.specs.Statuses.{fault_of_usage};
+    ghost use Rattle.command_support.specs.Statuses.{fault_of_usage};
 
     ghost from_gives = { λ u f. f ≡ fault_of_usage u };
 
@@ -120,7 +117,7 @@ impl From<Usage> for Fault {
 
 impl From<CanonFault> for Fault {
     ghost use Rattle.std.specs.Prelude.{◌≡◌};
-    ghost use Rattle.commands.specs.Statuses.{fault_of_canon};
+    ghost use Rattle.command_support.specs.Statuses.{fault_of_canon};
 
     ghost from_gives = { λ c f. f ≡ fault_of_canon c };
 
@@ -132,53 +129,11 @@ impl From<CanonFault> for Fault {
     }
 }
 
-impl From<store::StoreFault> for Fault {
-    ghost use Rattle.std.specs.Prelude.{◌≡◌};
-    ghost use Rattle.commands.specs.Statuses.{fault_of_store};
-
-    ghost from_gives = { λ s f. f ≡ fault_of_store s };
-
-    fn from(fault: store::StoreFault) -> Fault {
-        match fault {
-            store::StoreFault::Damaged => Fault::Damaged,
-            store::StoreFault::Database => Fault::Database,
-            store::StoreFault::OutOfMemory => Fault::Memory,
-        }
-    }
-}
-
-impl From<ClientFault> for Fault {
-    ghost use Rattle.std.specs.Prelude.{◌≡◌};
-    ghost use Rattle.commands.specs.Statuses.{fault_of_client};
-
-    ghost from_gives = { λ c f. f ≡ fault_of_client c };
-
-    fn from(fault: ClientFault) -> Fault {
-        match fault {
-            ClientFault::Denied(denial) => Fault::Denied(denial, None),
-            ClientFault::Fetch(FetchFault::OutOfMemory) => Fault::Memory,
-            ClientFault::Fetch(FetchFault::TooLong | FetchFault::Broken) => Fault::Network,
-            ClientFault::Database => Fault::Database,
-            ClientFault::OutOfMemory => Fault::Memory,
-        }
-    }
-}
-
 /// What a failed use of a file comes to.
 pub fn file_fault(error: &io::Error) -> Fault {
     if error.kind() == io::ErrorKind::OutOfMemory {
         Fault::Memory
     } else {
         Fault::File
-    }
-}
-
-/// Why a command was not done, by its reply. A command has no other reply than a denial or its own.
-pub fn refused(reply: Reply) -> Fault
-    ensures { (d : Denials) (i : Option ℕ) → reply ≡ Reply.Denied d i → result ≡ Fault.Denied d i }
-{
-    match reply {
-        Reply::Denied(denial, index) => Fault::Denied(denial, index),
-        _ => Fault::Database,
     }
 }

@@ -1,0 +1,32 @@
+-- Exit statuses: 0 done, 1 denied, 2 a fault of the command line, 3 all else.
+use Rattle.std.specs.Prelude.{ℕ, None}
+use Rattle.denials.specs.declared.denial.Denial.TheVariants as denials
+use Rattle.command_support.specs.declared.fault.Fault.{Fault}
+use Rattle.command_support.specs.declared.fault.Fault.TheVariants.{Usage, Help, Denied, LeavesSpent, Memory, Database, Damaged, Network, File, Clock}
+use Rattle.command_line.specs.declared.tasks.Usage.{Usage as Usages}
+use Rattle.command_line.specs.declared.tasks.Usage.TheVariants as usages
+use Rattle.canon.specs.declared.CanonFault.{CanonFault}
+use Rattle.canon.specs.declared.CanonFault.TheVariants as canon_faults
+
+-- help is no fault: it is printed as asked
+abbrev pub status_of : Fault → ℕ
+status_of (Help text) = 0
+status_of (Denied denial index) = 1
+status_of LeavesSpent = 1
+status_of (Usage text) = 2
+status_of Memory = 3
+status_of Database = 3
+status_of Damaged = 3
+status_of Network = 3
+status_of File = 3
+status_of Clock = 3
+
+-- what a fault of the command line comes to, and one of `canon`
+abbrev pub fault_of_usage : Usages → Fault
+fault_of_usage (usages.Text text) = Usage text
+fault_of_usage (usages.Help text) = Help text
+fault_of_usage usages.OutOfMemory = Memory
+
+abbrev pub fault_of_canon : CanonFault → Fault
+fault_of_canon canon_faults.NotCanonical = Denied denials.NotCanonical None
+fault_of_canon canon_faults.OutOfMemory = Memory

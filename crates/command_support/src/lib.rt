@@ -1,0 +1,20 @@
+//! What the subcommands of the program `release` have in common and needs no repository: why a command was not done, with its text and
+//! its exit status, the moment, input files, standard output, files that come into their places, and what is told besides.
+#![tactic(auto)]
+
+mod databases;
+mod fault;
+mod files;
+mod moments;
+mod notes;
+mod placing;
+
+pub use canon::CanonFault;
+pub use command_line::Usage;
+pub use databases::connected;
+pub use denials::Denial;
+pub use fault::{Fault, file_fault};
+pub use files::{DOCUMENT_LIMIT, print, read, read_at_most};
+pub use moments::moment;
+pub use notes::Notes;
+pub use placing::put_in_place;
