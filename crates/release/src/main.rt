@@ -6,6 +6,8 @@ mod prune;
 mod publish;
 mod put;
 mod run;
+mod serve;
+mod standing;
 
 use command_support::Fault;
 use run::{report, run};

@@ -3,6 +3,7 @@ use crate::init::init;
 use crate::prune::prune;
 use crate::publish::publish;
 use crate::put::put;
+use crate::serve::Server;
 use canon::canon;
 use client_commands::{Getting, get, update};
 use command_line::{Subcommand, Task, task};
@@ -75,7 +76,9 @@ fn perform_task<O: Write, E: Write>(
             file,
         } => sign(rt, Signing::new(book, seed, *params, file), at, out, notes),
         Subcommand::Update { db, port } => update(rt, db, *port, at, out, notes),
-        _ => Ok(()),
+        Subcommand::Serve { db, port, count } => {
+            Server::new(rt, db, *port, *count, at).run(out, notes)
+        }
     }
 }
 

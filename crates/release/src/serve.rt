@@ -1,0 +1,267 @@
+//! `serve`: answers HTTP requests from the repository.
+use crate::standing::tell_standing;
+use command_support::{Fault, Notes, moment, print};
+use commands::{Work, is_shut, worked};
+use connections::{
+    Beginning, Incoming, Outgoing, Timer, answer_unavailable, end, listen, next_stream,
+    tell_connection,
+};
+use http_serve::{Routes, serve_list};
+use metadata::Moment;
+use sqlite::Alter;
+use std::io::Write;
+use std::net::{TcpListener, TcpStream};
+use std::slice;
+use store::Store;
+
+/// A server: the database file of its repository, its port on 127.0.0.1, after how many connections it ends, and the moment
+/// that was handed in.
+#[derive(Clone, Copy)]
+pub struct Server<'a> {
+    rt: &'a HostRuntime,
+    db: &'a str,
+    port: u16,
+    count: Option<u64>,
+    at: Option<u64>,
+}
+
+impl<'a> Server<'a> {
+    pub fn new(
+        rt: &'a HostRuntime,
+        db: &'a str,
+        port: u16,
+        count: Option<u64>,
+        at: Option<u64>,
+    ) -> Server<'a> {
+        Server {
+            rt,
+            db,
+            port,
+            count,
+            at,
+        }
+    }
+
+    /// Listens, says so, and serves one connection at a time. Each connection has its own moment. A database that a fault has
+    /// shut is opened again before the next connection is served.
+    pub fn run<O: Write, E: Write>(
+        &self,
+        out: &mut O,
+        notes: &mut Notes<'_, E>,
+    ) -> Result<(), Fault> {
+        let routes = Routes::new(self.rt.alloc())?;
+        let mut kept = Beginning::new();
+        let mut serving = Serving {
+            server: *self,
+            routes: &routes,
+            kept: &mut kept,
+            out,
+            listener: None,
+            left: self.count.unwrap_or(u64::MAX),
+            waiting: None,
+        };
+        serving.serve(notes)
+    }
+}
+
+// A connection that was accepted, and its moment.
+#[derive(Drop)]
+struct Accepted {
+    stream: TcpStream,
+    now: Moment,
+}
+
+// What a connection is read from and written to.
+type Sides<'a, 'k> = (Incoming<'a, 'k>, Outgoing<'a>, Moment);
+
+// What a server does over its repository, as often as that is opened: so many connections are left, and one may have been accepted
+// that waits for a database.
+#[derive(Drop)]
+struct Serving<'a, 'k, O: Write> {
+    server: Server<'a>,
+    routes: &'a Routes,
+    kept: &'k mut Beginning,
+    out: &'k mut O,
+    listener: Option<TcpListener>,
+    left: u64,
+    waiting: Option<Accepted>,
+}
+
+impl<O: Write> Work for Serving<'_, '_, O> {
+    // Whether all connections were served: else a fault has shut the database, and one waits.
+    type Done = Result<bool, Fault>;
+
+    fn work<S: Alter, E: Write>(
+        &mut self,
+        repository: &mut Store<S>,
+        notes: &mut Notes<'_, E>,
+    ) -> Result<Result<bool, Fault>, Fault> {
+        Ok(self.serve_from(repository, notes))
+    }
+}
+
+impl<O: Write> Serving<'_, '_, O> {
+    // Where the database cannot be opened at first, nothing is served. Where it cannot be opened again, that is tried at each
+    // further connection.
+    fn serve<E: Write>(&mut self, notes: &mut Notes<'_, E>) -> Result<(), Fault> {
+        let Server { rt, db, .. } = self.server;
+        let done = worked(rt, db, self, notes)?;
+        if done? {
+            return Ok(());
+        }
+        for _ in 0..u64::MAX {
+            let is_done = match worked(rt, db, self, notes) {
+                Ok(done) => done?,
+                Err(_) => !self.refuse(notes)?,
+            };
+            if is_done {
+                return Ok(());
+            }
+        }
+        Ok(())
+    }
+
+    fn serve_from<S: Alter, E: Write>(
+        &mut self,
+        repository: &mut Store<S>,
+        notes: &mut Notes<'_, E>,
+    ) -> Result<bool, Fault> {
+        if self.listener.is_some() {
+            notes.tell(&self.server.db, &"opened again");
+        } else {
+            self.begin(repository, notes)?;
+        }
+        self.serve_all(repository, notes)
+    }
+
+    // Listens, and says so.
+    fn begin<S: Alter, E: Write>(
+        &mut self,
+        repository: &mut Store<S>,
+        notes: &mut Notes<'_, E>,
+    ) -> Result<(), Fault> {
+        let Server {
+            rt,
+            db,
+            port,
+            at,
+            ..
+        } = self.server;
+        self.listener = Some(listen(rt, port, notes)?);
+        let line = format!(in rt.alloc(); "listening on 127.0.0.1:{port}\n")?;
+        print(self.out, line.as_bytes(), notes)?;
+        if notes.are_told() {
+            let now = moment(rt, at)?;
+            tell_standing(rt.alloc(), db, repository, now, notes);
+        }
+        Ok(())
+    }
+
+    // Serves the connection that waits and all further ones, until a fault has shut the database.
+    fn serve_all<S: Alter, E: Write>(
+        &mut self,
+        repository: &mut Store<S>,
+        notes: &mut Notes<'_, E>,
+    ) -> Result<bool, Fault> {
+        let mut is_available = true;
+        if let Some(accepted) = self.waiting.take() {
+            is_available = self.serve_one(&accepted, repository, notes);
+        }
+        for _ in 0..u64::MAX {
+            let Some(accepted) = self.next(notes)? else {
+                return Ok(true);
+            };
+            if !is_available && is_shut(repository, accepted.now) {
+                self.waiting = Some(accepted);
+                return Ok(false);
+            }
+            is_available = self.serve_one(&accepted, repository, notes);
+        }
+        Ok(true)
+    }
+
+    // The next connection, if one more is to be served.
+    fn next<E: Write>(&mut self, notes: &mut Notes<'_, E>) -> Result<Option<Accepted>, Fault> {
+        let Some(listener) = &self.listener else {
+            return Ok(None);
+        };
+        if self.left == 0 {
+            return Ok(None);
+        }
+        self.left -= 1;
+        let stream = next_stream(self.server.rt, listener, notes)?;
+        let now = moment(self.server.rt, self.server.at)?;
+        Ok(Some(Accepted { stream, now }))
+    }
+
+    // Serves one connection from the repository, and answers whether no fault can have shut its database meanwhile, which the reply
+    // shows. One whose clock cannot be read is not served.
+    fn serve_one<S: Alter, E: Write>(
+        &mut self,
+        accepted: &Accepted,
+        repository: &mut Store<S>,
+        notes: &mut Notes<'_, E>,
+    ) -> bool {
+        let rt = self.server.rt;
+        let Ok(timer) = Timer::start(rt) else {
+            return true;
+        };
+        let mut sides = sides_of(accepted, timer, self.kept);
+        serve_list(
+            rt.alloc(),
+            self.routes,
+            slice::from_mut(&mut sides),
+            repository,
+        );
+        end_one(rt, accepted, &sides, &timer, notes);
+        sides.1.is_available()
+    }
+
+    // Answers the connection that waits while no database can be opened, and waits for the next one, if one more is to be served.
+    fn refuse<E: Write>(&mut self, notes: &mut Notes<'_, E>) -> Result<bool, Fault> {
+        if let Some(accepted) = self.waiting.take() {
+            self.refuse_one(&accepted, notes);
+        }
+        self.waiting = self.next(notes)?;
+        Ok(self.waiting.is_some())
+    }
+
+    fn refuse_one<E: Write>(&mut self, accepted: &Accepted, notes: &mut Notes<'_, E>) {
+        let rt = self.server.rt;
+        let Ok(timer) = Timer::start(rt) else {
+            return;
+        };
+        let mut sides = sides_of(accepted, timer, self.kept);
+        let (incoming, outgoing, _) = &mut sides;
+        answer_unavailable(rt.alloc(), self.routes, incoming, outgoing);
+        end_one(rt, accepted, &sides, &timer, notes);
+    }
+}
+
+fn sides_of<'a, 'k>(
+    accepted: &'a Accepted,
+    timer: Timer<'a>,
+    kept: &'k mut Beginning,
+) -> Sides<'a, 'k> {
+    let stream = &accepted.stream;
+    (
+        Incoming::new(stream, timer, kept),
+        Outgoing::new(stream, timer),
+        accepted.now,
+    )
+}
+
+// Tells of a connection, and ends it behind its reply.
+fn end_one<E: Write>(
+    rt: &HostRuntime,
+    accepted: &Accepted,
+    sides: &Sides<'_, '_>,
+    timer: &Timer<'_>,
+    notes: &mut Notes<'_, E>,
+) {
+    let (incoming, outgoing, now) = sides;
+    tell_connection(incoming, outgoing, *now, timer, notes);
+    if outgoing.status().is_some() {
+        end(rt, &accepted.stream, incoming, outgoing, timer);
+    }
+}

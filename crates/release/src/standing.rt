@@ -1,0 +1,151 @@
+//! What is told of a repository before it is served: which root is trusted, and when the first of its documents expires.
+use command_support::Notes;
+use metadata::{Body, Kind, Moment, Snapshot, read_document};
+use sqlite::Alter;
+use std::alloc::Global;
+use std::fmt;
+use std::io::Write;
+use store::{Command, Reply, Store};
+
+/// Tells the version of the trusted root, and the moment and the name of the document that expires first, of those that are in
+/// use: root, timestamp, snapshot, and the targets metadata that the snapshot lists.
+pub fn tell_standing<S: Alter, E: Write>(
+    alloc: Global,
+    db: &str,
+    repository: &mut Store<S>,
+    now: Moment,
+    notes: &mut Notes<'_, E>,
+) {
+    let Some(version) = repository.root_version() else {
+        notes.tell(&db, &"no root is trusted");
+        return;
+    };
+    notes.tell(&db, &Trusted(version));
+    let mut looked = Looked {
+        alloc,
+        repository,
+        now,
+        nearest: None,
+    };
+    looked.at_all(version);
+    if let Some(nearest) = looked.nearest {
+        notes.tell(&db, &nearest);
+    }
+}
+
+// The version of the trusted root, as notes tell it.
+#[derive(Drop)]
+struct Trusted(u32);
+
+impl fmt::Display for Trusted {
+    fn fmt<W: fmt::Write>(&self, f: &mut fmt::Formatter<W>) -> fmt::Result {
+        let version = self.0;
+        write!(f, "root {version} is trusted")
+    }
+}
+
+// The moment at which the first document expires.
+#[derive(Clone, Copy)]
+struct Nearest(Moment);
+
+impl fmt::Display for Nearest {
+    fn fmt<W: fmt::Write>(&self, f: &mut fmt::Formatter<W>) -> fmt::Result {
+        let seconds = self.0.seconds();
+        write!(f, "the first expiry is at {seconds}")
+    }
+}
+
+// The documents that were looked at, and the first moment at which one of them expires.
+#[derive(Drop)]
+struct Looked<'a, S: Alter> {
+    alloc: Global,
+    repository: &'a mut Store<S>,
+    now: Moment,
+    nearest: Option<Nearest>,
+}
+
+impl<S: Alter> Looked<'_, S> {
+    fn at_all(&mut self, root: u32) {
+        self.at_named(root, "root", Kind::Root);
+        if let Some(snapshot) = self.at_timestamp() {
+            self.at_snapshot(snapshot);
+        }
+    }
+
+    // Looks at a role's document of a version, if it is held.
+    fn at_named(&mut self, version: u32, role: &str, kind: Kind) {
+        if let Some(bytes) = self.file_of(version, role) {
+            self.at_document(kind, &bytes);
+        }
+    }
+
+    // The version of the snapshot that the timestamp names, if one is held.
+    fn at_timestamp(&mut self) -> Option<u32> {
+        let bytes = self.file("timestamp.json")?;
+        let body = self.at_document(Kind::Timestamp, &bytes)?;
+        match &body {
+            Body::Timestamp(timestamp) => Some(timestamp.snapshot.version),
+            _ => None,
+        }
+    }
+
+    // Looks at the snapshot, and at what it lists.
+    fn at_snapshot(&mut self, version: u32) {
+        if let Some(bytes) = self.file_of(version, "snapshot") {
+            if let Some(Body::Snapshot(snapshot)) = self.at_document(Kind::Snapshot, &bytes) {
+                self.at_listed(&snapshot);
+            }
+        }
+    }
+
+    fn at_listed(&mut self, snapshot: &Snapshot) {
+        for (role, meta) in &snapshot.meta {
+            self.at_named(meta.version, role.as_str(), Kind::Targets);
+        }
+    }
+
+    // The bytes of a role's document of a version, if it is held.
+    fn file_of(&mut self, version: u32, role: &str) -> Option<Vec<u8>> {
+        let name = format!(in self.alloc; "{version}.{role}.json").ok()?;
+        self.file(name.as_str())
+    }
+
+    // The bytes of a metadata file, if it is held.
+    fn file(&mut self, name: &str) -> Option<Vec<u8>> {
+        match self.repository.apply(Command::Metadata(name), self.now) {
+            Ok(Reply::Bytes(bytes)) => Some(bytes),
+            _ => None,
+        }
+    }
+
+    // Notes when the document expires, and answers what it says.
+    fn at_document(&mut self, kind: Kind, bytes: &[u8]) -> Option<Body> {
+        match read_document(self.alloc, kind, bytes) {
+            Ok(document) => {
+                self.note(expiry_of(&document.body));
+                Some(document.body)
+            }
+            Err(_) => None,
+        }
+    }
+
+    fn note(&mut self, expires: Option<Moment>) {
+        if let Some(expires) = expires {
+            if self.nearest.is_none_or(|nearest| expires < nearest.0) {
+                self.nearest = Some(Nearest(expires));
+            }
+        }
+    }
+}
+
+// When a document expires. Links do not.
+fn expiry_of(body: &Body) -> Option<Moment> {
+    match body {
+        Body::Root(root) => Some(root.expires),
+        Body::Timestamp(timestamp) => Some(timestamp.expires),
+        Body::Snapshot(snapshot) => Some(snapshot.expires),
+        Body::Targets(targets) => Some(targets.expires),
+        Body::Layout(layout) => Some(layout.expires),
+        Body::Link(_) => None,
+    }
+}
