@@ -1,9 +1,9 @@
-//! The state that the rows of a case's database stand for.
+//! The state that the rows of a case's database stand for. What is read is kept in place, so that nothing large is let go where a read fails.
 use crate::base::Base;
 use crate::failure::LineFault;
 use machine::{Contents, MetadataRows, State};
 use path_patterns::Digest;
-use sqlite::{Connection, Error, MemStore};
+use sqlite::{Connection, Error, MemStore, Row};
 use std::alloc::{AllocError, Global};
 
 // A row of a version and bytes.
@@ -23,85 +23,109 @@ const BLOBS: &str = "SELECT digest, bytes FROM blob ORDER BY digest";
 pub fn state_of(alloc: Global, base: &mut Base) -> Result<State, LineFault> {
     let is_open = base.is_open();
     base.shut();
-    let contents = match base.connection() {
-        Some(conn) => contents_in(alloc, conn),
-        None => return Err(LineFault::NotUnderstood),
-    };
-    if is_open && base.open(alloc).is_err() {
-        return Err(LineFault::OutOfMemory);
-    }
-    let Ok(contents) = contents else {
-        return Err(LineFault::OutOfMemory);
-    };
-    match State::load(alloc, contents)? {
-        Some(state) => Ok(state),
-        None => Err(LineFault::NotUnderstood),
+    let contents = contents_of(alloc, base);
+    let is_back = !is_open || base.open(alloc).is_ok();
+    match contents {
+        Some(contents) if is_back => settled(State::load(alloc, contents)),
+        _ => Err(LineFault::OutOfMemory),
     }
 }
 
-fn contents_in(alloc: Global, conn: &mut Connection<MemStore>) -> Result<Contents, Error> {
-    Ok(Contents {
-        metadata: metadata_in(alloc, conn)?,
-        blobs: blobs_in(alloc, conn)?,
-    })
+// The state, where the rows are those of one.
+fn settled(loaded: Result<Option<State>, AllocError>) -> Result<State, LineFault> {
+    match loaded {
+        Ok(Some(state)) => Ok(state),
+        Ok(None) => Err(LineFault::NotUnderstood),
+        Err(_) => Err(LineFault::OutOfMemory),
+    }
 }
 
-fn metadata_in(alloc: Global, conn: &mut Connection<MemStore>) -> Result<MetadataRows, Error> {
-    Ok(MetadataRows {
-        roots: versioned(alloc, conn, ROOTS)?,
-        timestamp: versioned(alloc, conn, TIMESTAMP)?.pop(),
-        snapshot: versioned(alloc, conn, SNAPSHOT)?.pop(),
-        shelf: shelf_in(alloc, conn)?,
-    })
+// The rows of a database that is shut, if memory sufficed.
+fn contents_of(alloc: Global, base: &mut Base) -> Option<Contents> {
+    let mut contents = Contents {
+        metadata: MetadataRows::empty(alloc),
+        blobs: Vec::new(alloc),
+    };
+    let is_read = match base.connection() {
+        Some(conn) => read_into(conn, &mut contents).is_ok(),
+        None => false,
+    };
+    if is_read { Some(contents) } else { None }
+}
+
+fn read_into(conn: &mut Connection<MemStore>, contents: &mut Contents) -> Result<(), Error> {
+    read_metadata(conn, &mut contents.metadata)?;
+    read_blobs(conn, &mut contents.blobs)
+}
+
+fn read_metadata(
+    conn: &mut Connection<MemStore>,
+    metadata: &mut MetadataRows,
+) -> Result<(), Error> {
+    read_versioned(conn, ROOTS, &mut metadata.roots)?;
+    read_current(conn, TIMESTAMP, &mut metadata.timestamp)?;
+    read_current(conn, SNAPSHOT, &mut metadata.snapshot)?;
+    read_shelf(conn, &mut metadata.shelf)
 }
 
 // The rows of a version and bytes that a query finds.
-fn versioned(
-    alloc: Global,
+fn read_versioned(
     conn: &mut Connection<MemStore>,
     text: &str,
-) -> Result<Vec<Versioned>, Error> {
+    found: &mut Vec<Versioned>,
+) -> Result<(), Error> {
     let rows = conn.query_all(text, &[])?;
-    let mut found = Vec::new(alloc);
     for row in rows.iter() {
-        let version: u32 = row.get(0)?;
-        let bytes: Vec<u8> = row.get(1)?;
-        found.push((version, bytes)).map_err(AllocError::from)?;
+        found.push(versioned(row)?).map_err(AllocError::from)?;
     }
-    Ok(found)
+    Ok(())
 }
 
-fn shelf_in(
-    alloc: Global,
+fn versioned(row: &Row) -> Result<Versioned, Error> {
+    let version: u32 = row.get(0)?;
+    Ok((version, row.get(1)?))
+}
+
+// The row of a slot, if there is one.
+fn read_current(
     conn: &mut Connection<MemStore>,
-) -> Result<Vec<(String, u32, Vec<u8>)>, Error> {
-    let rows = conn.query_all(SHELF, &[])?;
-    let mut found = Vec::new(alloc);
+    text: &str,
+    slot: &mut Option<Versioned>,
+) -> Result<(), Error> {
+    let rows = conn.query_all(text, &[])?;
     for row in rows.iter() {
-        let role: String = row.get(0)?;
+        *slot = Some(versioned(row)?);
+    }
+    Ok(())
+}
+
+fn read_shelf(
+    conn: &mut Connection<MemStore>,
+    found: &mut Vec<(String, u32, Vec<u8>)>,
+) -> Result<(), Error> {
+    let rows = conn.query_all(SHELF, &[])?;
+    for row in rows.iter() {
         let version: u32 = row.get(1)?;
-        let bytes: Vec<u8> = row.get(2)?;
+        let role: String = row.get(0)?;
         found
-            .push((role, version, bytes))
+            .push((role, version, row.get(2)?))
             .map_err(AllocError::from)?;
     }
-    Ok(found)
+    Ok(())
 }
 
-fn blobs_in(
-    alloc: Global,
+fn read_blobs(
     conn: &mut Connection<MemStore>,
-) -> Result<Vec<([u8; 32], Vec<u8>)>, Error> {
+    found: &mut Vec<([u8; 32], Vec<u8>)>,
+) -> Result<(), Error> {
     let rows = conn.query_all(BLOBS, &[])?;
-    let mut found = Vec::new(alloc);
     for row in rows.iter() {
         let digits: String = row.get(0)?;
-        let bytes: Vec<u8> = row.get(1)?;
         if let Some(digest) = Digest::read(digits.as_str()) {
             found
-                .push((digest.bytes(), bytes))
+                .push((digest.bytes(), row.get(1)?))
                 .map_err(AllocError::from)?;
         }
     }
-    Ok(found)
+    Ok(())
 }
