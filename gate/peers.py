@@ -138,9 +138,20 @@ def stopped(server):
     want(is_granted(server.ask(HELLO)), "stopped and continued: the next peer is not served")
 
 
+def wait_for_accept(server):
+    """Waits until the server does, which has nothing else to wait for once it says that it listens."""
+    for _ in range(500):
+        with open(f"/proc/{server.pid()}/stat", encoding="ascii") as file:
+            if file.read().rpartition(")")[2].split()[0] == "S":
+                return
+        time.sleep(0.02)
+    want(False, "the server does not wait for a connection")
+
+
 # While the process may open no more files, the next connection waits, and is served when it may. (The system takes the descriptor before it
 # waits for the peer, so the one peer behind the change is served still.)
 def no_descriptor(server):
+    wait_for_accept(server)
     taken = {int(it) for it in os.listdir(f"/proc/{server.pid()}/fd")}
     few = next(it for it in range(len(taken) + 1) if it not in taken)
     hard = resource.prlimit(server.pid(), resource.RLIMIT_NOFILE)[1]
