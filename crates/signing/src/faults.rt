@@ -21,18 +21,33 @@ pub enum SignFileFault {
 }
 
 impl From<AllocError> for SignFileFault {
+    ghost use Rattle.std.specs.Prelude.{◌≡◌};
+    ghost use Rattle.signing.specs.declared.faults.SignFileFault.TheVariants.{OutOfMemory};
+
+    ghost from_gives = { λ _ fault. fault ≡ OutOfMemory };
+
     fn from(_: AllocError) -> Self {
         SignFileFault::OutOfMemory
     }
 }
 
 impl<T: Drop> From<AllocFailed<T>> for SignFileFault {
+    ghost use Rattle.std.specs.Prelude.{◌≡◌};
+    ghost use Rattle.signing.specs.declared.faults.SignFileFault.TheVariants.{OutOfMemory};
+
+    ghost from_gives = { λ _ fault. fault ≡ OutOfMemory };
+
     fn from(_: AllocFailed<T>) -> Self {
         SignFileFault::OutOfMemory
     }
 }
 
 impl From<BookFault> for SignFileFault {
+    ghost use Rattle.std.specs.Prelude.{◌≡◌};
+    ghost use Rattle.signing.specs.Faults.{of_book};
+
+    ghost from_gives = { λ fault given. given ≡ of_book fault };
+
     fn from(fault: BookFault) -> Self {
         match fault {
             BookFault::OutOfMemory => SignFileFault::OutOfMemory,
@@ -42,6 +57,11 @@ impl From<BookFault> for SignFileFault {
 }
 
 impl From<ShapeFault> for SignFileFault {
+    ghost use Rattle.std.specs.Prelude.{◌≡◌};
+    ghost use Rattle.signing.specs.Faults.{of_shape};
+
+    ghost from_gives = { λ fault given. given ≡ of_shape fault };
+
     fn from(fault: ShapeFault) -> Self {
         match fault {
             ShapeFault::TooLong => SignFileFault::Denied(Denial::TooLong),

@@ -8,7 +8,7 @@ mod messages;
 mod seeds;
 
 pub use faults::SignFileFault;
-pub use files::sign_file;
+pub use files::{sign_file, sign_file_with};
 pub use keys_roles::KeyId;
 pub use leaf_book::{Book, BookFault};
 pub use lms::{KeyPair, Params, Seed};
