@@ -1,5 +1,5 @@
 -- A source that answers from a state at a moment is honest.
-use Rattle.std.proofs.Common.{◌≡◌, ℕ, Option, Some, None, Ok, Err, refl, sym, subst}
+use Rattle.std.proofs.Common.{◌≡◌, ℕ, Option, Some, None, Ok, Err, sym, subst}
 use Rattle.std.specs.Borrow.{Bor}
 use Rattle.std.specs.Prelude.{option_map}
 use Rattle.metadata.specs.File.{Bytes}
@@ -7,7 +7,7 @@ use Rattle.machine.specs.State.{State}
 use Rattle.sources.specs.Source.{Gives}
 use Rattle.sources.specs.declared.FetchFault.{FetchFault}
 use Rattle.sources.specs.declared.FetchFault.TheVariants.{OutOfMemory}
-use Rattle.client.specs.Answering.{AnswersFrom, IsAnswer, IsFoundAs, IsHeldAs, IsHonest, has_none, lacks_memory}
+use Rattle.client.specs.Answering.{AnswersFrom, IsAnswer, IsHeldAs, IsHonest, has_none, lacks_memory}
 use Rattle.client.proofs.Found.{copy_answers}
 
 module _ {Src : Type 0} (state_of : Src → State) (now_of : Src → ℕ) where
