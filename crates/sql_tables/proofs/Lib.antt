@@ -12,5 +12,6 @@ pub mod MakingLemmas
 pub mod Calls
 pub mod Shapes
 pub mod Beginnings
+pub mod Listed
 pub mod References
 pub mod Editing
