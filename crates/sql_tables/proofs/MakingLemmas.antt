@@ -12,7 +12,7 @@ use Rattle.sqlite_resolve.specs.declared.error.CompileError.{CompileError}
 use Rattle.sqlite.specs.Command.TheVariants.{CreateTable}
 use Rattle.sqlite.specs.Listing.{understood}
 use Rattle.sqlite.specs.Does.{lacks_sequence, Tally}
-use Rattle.sqlite.specs.Effect.{Database}
+use Rattle.sqlite.specs.Effect.{Database, IsDatabase}
 use Rattle.sqlite.specs.State.{State, ExecutesInside}
 use Rattle.sqlite.proofs.Callers.{IsPlain, command_of, statement_of, runs_as}
 use Rattle.sql_tables.specs.Making.{IsMade, MakesBy, Makes}
@@ -65,6 +65,11 @@ makes before after sql rows old new count m lacks is h =
       schema_is = ap (λ (d : Database). d.schema) now ∙ schema;
       holds = subst (λ (d : Database). HoldsRows rows after d.trees) (sym now) (subst (λ s. HoldsRows rows s first.0.trees) it.is holds);
     }
+
+pub makes_sound : (before after : Schema) (sql : List ℕ) (rows : Trees) (old new : State) (count : ℕ) → Makes before sql after → IsMade rows before old → ExecutesInside 0 sql [] old new (Ok count) → IsDatabase new.now
+makes_sound before after sql rows old new count m is h =
+    let it = parts before sql after (understood before sql) m in
+    (runs_as sql [] old new before is.schema_is CreateTable it.command it.plain count h.0).sound
 
 pub no_rows : (shown : Row → Row) → AreRows shown [] []
 no_rows shown = record { keyed = λ x y none. absurd none; numbered = λ x none. absurd none; sound = λ x none. absurd none; complete = λ c none. absurd none }

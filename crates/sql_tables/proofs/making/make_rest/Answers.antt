@@ -28,9 +28,15 @@ tables-preserved g c =
           let makes = subst (λ (d : Description). Makes (beginning ds at) d.make (beginning ds (at + 1))) (at_view c.args.described.now at blank (omega arith)) text.0 in
           let none : rows (next_tree (beginning ds at)) ≡ [] = ap rows text.1 ∙ lacks at (omega arith) few in
           c.in_ok-make.ensures.wrote clean (beginning ds at) (beginning ds (at + 1)) makes rows none (so.3 (early clean) texts rows lacks is),
+      λ clean texts rows lacks is sound.
+          let makes = subst (λ (d : Description). Makes (beginning ds at) d.make (beginning ds (at + 1))) (at_view c.args.described.now at blank (omega arith)) (texts at few).0 in
+          c.in_ok-make.ensures.sound clean (beginning ds at) (beginning ds (at + 1)) makes rows (so.3 (early clean) texts rows lacks is),
     )
 
 pub returns-clause-wrote : goal.returns-clause-wrote
 returns-clause-wrote g c clean texts rows lacks is =
     let ds = map described_view c.args.described.now in
     subst (λ schema. IsMade rows schema (state g.S.Store c.tables.tx.conn.now)) (whole_beginning ds c.tables.at (omega (arith, length-map c.args.described.now described_view))) (c.tables.invariant.3 clean texts rows lacks is)
+
+pub returns-clause-sound : goal.returns-clause-sound
+returns-clause-sound g c clean texts rows lacks is sound = c.tables.invariant.4 clean texts rows lacks is sound

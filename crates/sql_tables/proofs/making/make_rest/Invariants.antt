@@ -1,5 +1,6 @@
 use Rattle.std.proofs.Common.{◌≡◌, map}
 use Rattle.sqlite_trees.specs.Tree.{Trees}
+use Rattle.sqlite.specs.Effect.{IsDatabase}
 use Rattle.sqlite.specs.State.{HasCleanDisk, KeepsCommit, Survives}
 use Rattle.sqlite.specs.Held.{state}
 use Rattle.sql_tables.specs.Making.{IsMade}
@@ -16,3 +17,4 @@ invariant-tables g l =
     × Survives old now (λ _. ⊥)
     × (HasCleanDisk now → KeepsCommit old now)
     × (HasCleanDisk now → AllMake ds → (rows : Trees) → LacksRest ds l.count rows → IsMade rows (beginning ds l.count) old → IsMade rows (beginning ds l.at) now)
+    × (HasCleanDisk now → AllMake ds → (rows : Trees) → LacksRest ds l.count rows → IsMade rows (beginning ds l.count) old → IsDatabase old.now → IsDatabase now.now)
