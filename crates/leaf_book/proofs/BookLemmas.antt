@@ -4,15 +4,15 @@ use Rattle.sqlite.specs.Order.{Row}
 use Rattle.sqlite_trees.specs.Tree.{Trees}
 use Rattle.sqlite_rules.specs.Lists.{Has}
 use Rattle.sql_tables.specs.Loading.{AreLoaded}
-use Rattle.sqlite.specs.Effect.{Database}
-use Rattle.sqlite.specs.State.{State, Shows}
+use Rattle.sqlite.specs.Effect.{Database, IsDatabase}
+use Rattle.sqlite.specs.State.{IsLive, State, Shows}
 use Rattle.sql_tables.specs.Making.{IsMade}
 use Rattle.sql_tables.proofs.Shapes.{has_all_alone}
 use Rattle.leaf_book.specs.Schema.{HasBoth, the_schema, two}
 use Rattle.leaf_book.specs.steps.Loading.{AreLeaves, AreSigners, three_cells}
 use Rattle.leaf_book.specs.steps.Making.{nowhere}
 use Rattle.leaf_plans.specs.Book.{AreSame, Book, IsBook, Kept, Signer, no_book}
-use Rattle.leaf_book.specs.Rows.{AreRowsOf, HoldsBook, IsLeafFrom, IsRecorded, IsSignerFrom}
+use Rattle.leaf_book.specs.Rows.{AreRowsOf, HoldsBook, HoldsWhole, IsLeafFrom, IsRecorded, IsSignerFrom}
 use Rattle.leaf_book.proofs.ReadLemmas.{leaf_is, signer_is}
 
 module _ {V : Type 0} (IsRow : Row → V → Type 0) (one : (x : Row) (v w : V) → IsRow x v → IsRow x w → v ≡ w) where
@@ -69,6 +69,13 @@ none_of IsRow rows none = subst (λ rs. AreRowsOf IsRow rs []) (sym none) (recor
 
 pub made_book : (s : State) → IsMade nowhere the_schema s → HoldsBook s.now.trees no_book
 made_book s is = record { signers = none_of (IsSignerFrom 1) (s.now.trees 0) is.holds.0; leaves = none_of (IsLeafFrom 1) (s.now.trees 2) is.holds.1.0 }
+
+pub whole_book : (s : State) (trees : Trees) → s.now.trees ≡ trees → IsDatabase s.now → IsMade nowhere the_schema s → HoldsWhole trees no_book
+whole_book s trees same sound is = (s.now, same, sound, subst HasBoth (sym is.schema_is) (has_all_alone two), subst (λ (d : Trees). HoldsBook d no_book) same (made_book s is))
+
+-- at rest: the last commit is whole
+pub rests_whole : (s : State) (b : Book) (trees : Trees) → IsLive s → IsRecorded s b → s.now.trees ≡ trees → HoldsWhole trees b
+rests_whole s b trees live is same = (s.now, same, (live is.is_open).0, is.schema, subst (λ (d : Trees). HoldsBook d b) same is.holds)
 
 pub committed : (tx end : State) → IsMade nowhere the_schema tx → Shows tx end tx.now tx.now false → IsRecorded end no_book
 committed tx end is shows = record {

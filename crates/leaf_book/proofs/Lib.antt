@@ -5,3 +5,4 @@ pub mod BookLemmas
 pub mod Autocommit
 pub mod Texts
 pub mod Statements
+pub mod Reopening

@@ -23,7 +23,7 @@ use Rattle.sql_tables.proofs.Statements.{cast_int, cast_null}
 use Rattle.lms.specs.declared.Params.{Params}
 use Rattle.lms.specs.Parameters.{height, ots_code, signing_type}
 use Rattle.leaf_plans.specs.Book.{Book, Kept, Signer, with_leaf, with_signer}
-use Rattle.leaf_book.specs.Rows.{AreRowsOf, HoldsBook, IsLeafFrom, IsRecorded, IsSignerFrom}
+use Rattle.leaf_book.specs.Rows.{AreRowsOf, HoldsBook, HoldsWhole, IsLeafFrom, IsRecorded, IsSignerFrom}
 use Rattle.leaf_book.specs.Schema.{HasBoth, leaf_table, signer_table, two}
 use Rattle.leaf_book.proofs.Autocommit.{commits_as, left_by_error}
 use Rattle.leaf_book.proofs.Texts.{insert_leaf, insert_leaf_means, insert_signer, insert_signer_means, three_values}
@@ -125,16 +125,20 @@ signer_kept old new key params count b is h =
       holds = a.0;
     }
 
-pub may_keep_leaf : (old : State) (key : List ℕ) (leaf : ℕ) (message : List ℕ) (b : Book) (db : Trees) → CommitsBy insert_leaf (leaf_params key leaf message) old db → IsRecorded old b → HoldsBook db (with_leaf key leaf message b)
+pub may_keep_leaf : (old : State) (key : List ℕ) (leaf : ℕ) (message : List ℕ) (b : Book) (db : Trees) → CommitsBy insert_leaf (leaf_params key leaf message) old db → IsRecorded old b → HoldsWhole db (with_leaf key leaf message b)
 may_keep_leaf old key leaf message b db h is = elim (commits_as insert_leaf (leaf_params key leaf message) old (followed two is.schema.0) is.schema.1 (Insert 1 (Values three_values 4)) (insert_leaf_means is.schema.0).0 (insert_leaf_means is.schema.0).1 db h) [
   | inl other ↦ absurd (elim other.0 [ inl c ↦ cc | inr r ↦ let e = r.2 in cc ])
-  | inr write ↦ subst (λ (d : Trees). HoldsBook d (with_leaf key leaf message b)) (sym write.5) (puts_leaf old.step_limit old.now write.2 key leaf message (leaf_text is.schema.0) write.1 b is.schema is.holds write.3).0
+  | inr write ↦
+      let put = puts_leaf old.step_limit old.now write.2 key leaf message (leaf_text is.schema.0) write.1 b is.schema is.holds write.3 in
+      (write.2, sym write.5, write.4, put.1, subst (λ (d : Trees). HoldsBook d (with_leaf key leaf message b)) (sym write.5) put.0)
 ]
 
-pub may_keep_signer : (old : State) (key : List ℕ) (params : Params) (b : Book) (db : Trees) → CommitsBy insert_signer (signer_params key params) old db → IsRecorded old b → HoldsBook db (with_signer key params b)
+pub may_keep_signer : (old : State) (key : List ℕ) (params : Params) (b : Book) (db : Trees) → CommitsBy insert_signer (signer_params key params) old db → IsRecorded old b → HoldsWhole db (with_signer key params b)
 may_keep_signer old key params b db h is = elim (commits_as insert_signer (signer_params key params) old (followed two is.schema.0) is.schema.1 (Insert 0 (Values three_values 4)) (insert_signer_means is.schema.0).0 (insert_signer_means is.schema.0).1 db h) [
   | inl other ↦ absurd (elim other.0 [ inl c ↦ cc | inr r ↦ let e = r.2 in cc ])
-  | inr write ↦ subst (λ (d : Trees). HoldsBook d (with_signer key params b)) (sym write.5) (puts_signer old.step_limit old.now write.2 key params (signer_text is.schema.0) write.1 b is.schema is.holds write.3).0
+  | inr write ↦
+      let put = puts_signer old.step_limit old.now write.2 key params (signer_text is.schema.0) write.1 b is.schema is.holds write.3 in
+      (write.2, sym write.5, write.4, put.1, subst (λ (d : Trees). HoldsBook d (with_signer key params b)) (sym write.5) put.0)
 ]
 
 -- ---- where nothing was written

@@ -1,5 +1,5 @@
 -- The rows of the two tables.
-use Rattle.std.specs.Prelude.{◌≡◌, ◌⊎◌, ◌+◌, ℕ, pos, false, List, IsTrue}
+use Rattle.std.specs.Prelude.{◌≡◌, ◌⊎◌, ◌+◌, ℕ, pos, false, List, Result, Ok, Err, IsTrue}
 use Rattle.sqlite.specs.declared.types.Value.TheVariants.{Int, Text, Blob}
 use Rattle.sqlite.specs.Order.{Row, column}
 use Rattle.sqlite.specs.Effect.{Database, IsDatabase}
@@ -8,7 +8,10 @@ use Rattle.sqlite_trees.specs.Tree.{Trees}
 use Rattle.sqlite_rules.specs.Lists.{Has}
 pub use Rattle.sql_tables.specs.Opening.{IsSettled}
 use Rattle.lms.specs.Parameters.{height, ots_code, signing_type}
-use Rattle.leaf_plans.specs.Book.{Book, IsBook, Kept, Signer, no_book}
+use Rattle.leaf_plans.specs.Book.{AreSame, Book, IsBook, Kept, Signer, no_book}
+use Rattle.leaf_book.specs.declared.faults.BookFault.{BookFault}
+use Rattle.leaf_book.specs.declared.faults.BookFault.TheVariants.{LeavesSpent, UnknownKey, Damaged, Database as Faulty, OutOfMemory}
+use Rattle.leaf_book.specs.Faults.{IsOutside}
 use Rattle.leaf_book.specs.Schema.{HasBoth, no_schema}
 
 -- the cells of a row from column `n` on: the key id, the number of the LM-OTS type (RFC 8554, section 4.1), the height of the tree
@@ -49,6 +52,32 @@ TreesStand trees b = (db : Database) × (db.trees ≡ trees) × IsDatabase db ×
 abbrev pub HoldsNoBook : Trees → Type 0
 HoldsNoBook trees = (db : Database) × (db.trees ≡ trees) × IsDatabase db × HasBoth db.schema × ((b : Book) → IsBook b → HoldsBook db.trees b → ⊥)
 
--- What an opening writes: where there was no table, the rows of the empty book.
+-- What a crash leaves is a whole database of a book: it has both tables, and they hold the rows of the book.
+abbrev pub HoldsWhole : Trees → Book → Type 0
+HoldsWhole trees b = (db : Database) × (db.trees ≡ trees) × IsDatabase db × HasBoth db.schema × HoldsBook trees b
+
+-- What an opening writes: where there was no table, both, with the rows of the empty book.
 abbrev pub Begins : State → Trees → Type 0
-Begins s trees = IsTrue s.is_open → (s.now.schema ≡ no_schema) × HoldsBook trees no_book
+Begins s trees = IsTrue s.is_open → (s.now.schema ≡ no_schema) × HoldsWhole trees no_book
+
+-- ---- the next open
+
+-- What an opening answers over a database of these trees: a book for which they stand, and `Damaged` only where both tables hold the rows
+-- of no book. Of a fault of memory or of the database nothing is said.
+abbrev pub OpensTo : Trees → Result Book BookFault → Type 0
+OpensTo trees (Ok b) = IsBook b × TreesStand trees b
+OpensTo trees (Err Damaged) = HoldsNoBook trees
+OpensTo trees (Err LeavesSpent) = ⊥
+OpensTo trees (Err UnknownKey) = ⊥
+OpensTo trees (Err Faulty) = Unit {0}
+OpensTo trees (Err OutOfMemory) = Unit {0}
+
+-- an opening answers this book, with its entries in any order, faults of memory and of the database aside
+abbrev pub Reopens : Book → Result Book BookFault → Type 0
+Reopens b (Ok c) = AreSame b c
+Reopens b (Err fault) = IsOutside fault
+
+-- The database of these trees is that of the book, and whatever an opening answers over it is this book.
+pub record Recovers (trees : Trees) (b : Book) : Type 0 where
+  pub whole : HoldsWhole trees b
+  pub reopens : (r : Result Book BookFault) → OpensTo trees r → Reopens b r

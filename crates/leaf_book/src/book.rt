@@ -11,7 +11,7 @@ ghost use Rattle.leaf_plans.specs.Book as plain;
 ghost use Rattle.leaf_plans.specs.Book.{IsBook, IsLeastUnused, IsRegistered, LacksMessage, key_of, with_leaf, with_signer};
 ghost use Rattle.leaf_book.specs.Calls.{Registers, Reserves};
 ghost use Rattle.leaf_book.specs.Faults.{IsOutside};
-ghost use Rattle.leaf_book.specs.Rows.{HoldsBook, IsRecorded};
+ghost use Rattle.leaf_book.specs.Rows.{HoldsWhole, IsRecorded};
 ghost use Rattle.leaf_plans.specs.Views.{book_view};
 ghost use Rattle.leaf_book.specs.Views.{id_answer};
 ghost use Rattle.leaf_plans.specs.Planning.{IsPlan};
@@ -90,8 +90,8 @@ impl<S: Alter> Book<S> {
         ensures clean { HasCleanDisk (state S.Store self.new.conn) → HasCleanDisk (state S.Store self.old.conn) }
         ensures live { HasCleanDisk (state S.Store self.new.conn) → OnOk result (IsTrue (state S.Store self.old.conn).is_open × IsTrue (state S.Store self.new.conn).is_open) }
         ensures crash { HasCleanDisk (state S.Store self.new.conn) → IsTrue (state S.Store self.old.conn).is_open → (trees : Trees) → (state S.Store self.new.conn).may_leave trees
-            → HoldsBook trees self.old.book ⊎ ((r : _) × (c : plain.Book) × Registers self.old.book seed.now params r c × HoldsBook trees c) }
-        ensures durable { HasCleanDisk (state S.Store self.new.conn) → IsTrue (state S.Store self.new.conn).is_open → (trees : Trees) → (state S.Store self.new.conn).may_leave trees → HoldsBook trees self.new.book }
+            → HoldsWhole trees self.old.book ⊎ ((r : _) × (c : plain.Book) × Registers self.old.book seed.now params r c × HoldsWhole trees c) }
+        ensures durable { HasCleanDisk (state S.Store self.new.conn) → IsTrue (state S.Store self.new.conn).is_open → (trees : Trees) → (state S.Store self.new.conn).may_leave trees → HoldsWhole trees self.new.book }
     {
         let key = key_by(self.alloc(), &Key::Lms(public_of(seed, params)));
         let result = self.enter(key, seed, params);
@@ -107,8 +107,8 @@ impl<S: Alter> Book<S> {
         ensures clean { HasCleanDisk (state S.Store self.new.conn) → HasCleanDisk (state S.Store self.old.conn) }
         ensures live { HasCleanDisk (state S.Store self.new.conn) → OnOk result (IsTrue (state S.Store self.old.conn).is_open × IsTrue (state S.Store self.new.conn).is_open) }
         ensures crash { HasCleanDisk (state S.Store self.new.conn) → IsTrue (state S.Store self.old.conn).is_open → (trees : Trees) → (state S.Store self.new.conn).may_leave trees
-            → HoldsBook trees self.old.book ⊎ ((r : _) × (c : plain.Book) × Registers self.old.book pair.now.seed pair.now.params r c × HoldsBook trees c) }
-        ensures durable { HasCleanDisk (state S.Store self.new.conn) → IsTrue (state S.Store self.new.conn).is_open → (trees : Trees) → (state S.Store self.new.conn).may_leave trees → HoldsBook trees self.new.book }
+            → HoldsWhole trees self.old.book ⊎ ((r : _) × (c : plain.Book) × Registers self.old.book pair.now.seed pair.now.params r c × HoldsWhole trees c) }
+        ensures durable { HasCleanDisk (state S.Store self.new.conn) → IsTrue (state S.Store self.new.conn).is_open → (trees : Trees) → (state S.Store self.new.conn).may_leave trees → HoldsWhole trees self.new.book }
     {
         let key = key_by(self.alloc(), &Key::Lms(pair.public()));
         let result = self.enter(key, pair.seed(), pair.params());
@@ -131,12 +131,19 @@ impl<S: Alter> Book<S> {
         ensures clean { HasCleanDisk (state S.Store self.new.conn) → HasCleanDisk (state S.Store self.old.conn) }
         ensures live { HasCleanDisk (state S.Store self.new.conn) → OnOk result (IsTrue (state S.Store self.old.conn).is_open × IsTrue (state S.Store self.new.conn).is_open) }
         ensures crash { HasCleanDisk (state S.Store self.new.conn) → IsTrue (state S.Store self.old.conn).is_open → (trees : Trees) → (state S.Store self.new.conn).may_leave trees
-            → HoldsBook trees self.old.book ⊎ ((r : _) × (c : plain.Book) × Reserves self.old.book (id_text key.now) message.now r c × HoldsBook trees c) }
-        ensures durable { HasCleanDisk (state S.Store self.new.conn) → IsTrue (state S.Store self.new.conn).is_open → (trees : Trees) → (state S.Store self.new.conn).may_leave trees → HoldsBook trees self.new.book }
+            → HoldsWhole trees self.old.book ⊎ ((r : _) × (c : plain.Book) × Reserves self.old.book (id_text key.now) message.now r c × HoldsWhole trees c) }
+        ensures durable { HasCleanDisk (state S.Store self.new.conn) → IsTrue (state S.Store self.new.conn).is_open → (trees : Trees) → (state S.Store self.new.conn).may_leave trees → HoldsWhole trees self.new.book }
     {
         let result = self.take(key, message);
         self.rests();
         result
+    }
+
+    /// The parameters with which a key is registered, and `None` where it is not. It takes no memory.
+    pub fn registered(&self, key: &KeyId) -> Option<Params>
+        ensures { MatchOption result ((params : Params) → IsRegistered self.now.book (id_text key.now) params → ⊥) (λ params. IsRegistered self.now.book (id_text key.now) params) }
+    {
+        params_of(self.signers.as_slice(), key)
     }
 
     /// The connection of a book that is done.
@@ -146,14 +153,14 @@ impl<S: Alter> Book<S> {
         self.conn
     }
 
-    // A law, which does nothing: the rows are those of the book, and a crash leaves just these.
-    fn rests(&self)
+    // A law, which does nothing: the rows are those of the book, and a crash leaves just these, in both tables.
+    pub(crate) fn rests(&self)
         ensures right { IsBook self.now.book }
         ensures rows { HasCleanDisk (state S.Store self.now.conn) → IsTrue (state S.Store self.now.conn).is_open → IsRecorded (state S.Store self.now.conn) self.now.book }
         ensures left { HasCleanDisk (state S.Store self.now.conn) → IsTrue (state S.Store self.now.conn).is_open
-            → (trees : Trees) → (state S.Store self.now.conn).may_leave trees → HoldsBook trees self.now.book }
+            → (trees : Trees) → (state S.Store self.now.conn).may_leave trees → HoldsWhole trees self.now.book }
     {
-        let _ = &self.signers;
+        let _ = self.conn.schema();
     }
 
     // Asks the database for one column, so that nothing is answered from memory where the connection is shut.
@@ -174,10 +181,11 @@ impl<S: Alter> Book<S> {
         ensures kept { OnErr result (self.new.book ≡ self.old.book) }
         ensures live { HasCleanDisk (state S.Store self.new.conn) → IsTrue (state S.Store self.old.conn).is_open → OnOk result (IsTrue (state S.Store self.new.conn).is_open) }
         ensures crash { HasCleanDisk (state S.Store self.new.conn) → IsTrue (state S.Store self.old.conn).is_open → (trees : Trees) → (state S.Store self.new.conn).may_leave trees
-            → HoldsBook trees self.old.book ⊎ HoldsBook trees (with_signer (id_text key.now) params self.old.book) }
+            → HoldsWhole trees self.old.book ⊎ HoldsWhole trees (with_signer (id_text key.now) params self.old.book) }
         ensures clean { HasCleanDisk (state S.Store self.new.conn) → HasCleanDisk (state S.Store self.old.conn) }
         ensures fault { IfErr result IsOutside }
     {
+        self.rests();
         let signer = Signer { key: *key, params };
         self.signers.reserve(1)?;
         put_signer(&mut self.conn, key, params)?;
@@ -193,10 +201,11 @@ impl<S: Alter> Book<S> {
         ensures kept { OnErr result (self.new.book ≡ self.old.book) }
         ensures live { HasCleanDisk (state S.Store self.new.conn) → IsTrue (state S.Store self.old.conn).is_open → OnOk result (IsTrue (state S.Store self.new.conn).is_open) }
         ensures crash { HasCleanDisk (state S.Store self.new.conn) → IsTrue (state S.Store self.old.conn).is_open → (trees : Trees) → (state S.Store self.new.conn).may_leave trees
-            → HoldsBook trees self.old.book ⊎ HoldsBook trees (with_leaf (id_text key.now) leaf message.now self.old.book) }
+            → HoldsWhole trees self.old.book ⊎ HoldsWhole trees (with_leaf (id_text key.now) leaf message.now self.old.book) }
         ensures clean { HasCleanDisk (state S.Store self.new.conn) → HasCleanDisk (state S.Store self.old.conn) }
         ensures fault { IfErr result IsOutside }
     {
+        self.rests();
         let kept = Kept {
             key: *key,
             leaf,
@@ -220,13 +229,6 @@ impl<S: Alter> Book<S> {
         )
     }
 
-    // The parameters of a key that is registered.
-    fn known(&self, key: &KeyId) -> Option<Params>
-        ensures { MatchOption result ((params : Params) → IsRegistered self.now.book (id_text key.now) params → ⊥) (λ params. IsRegistered self.now.book (id_text key.now) params) }
-    {
-        params_of(self.signers.as_slice(), key)
-    }
-
     fn alloc(&self) -> Global {
         self.alloc
     }
@@ -238,14 +240,14 @@ impl<S: Alter> Book<S> {
         ensures clean { HasCleanDisk (state S.Store self.new.conn) → HasCleanDisk (state S.Store self.old.conn) }
         ensures live { HasCleanDisk (state S.Store self.new.conn) → OnOk result (IsTrue (state S.Store self.old.conn).is_open × IsTrue (state S.Store self.new.conn).is_open) }
         ensures crash { HasCleanDisk (state S.Store self.new.conn) → IsTrue (state S.Store self.old.conn).is_open → (trees : Trees) → (state S.Store self.new.conn).may_leave trees
-            → HoldsBook trees self.old.book ⊎ ((r : _) × (c : plain.Book) × Registers self.old.book seed.now params r c × HoldsBook trees c) }
+            → HoldsWhole trees self.old.book ⊎ ((r : _) × (c : plain.Book) × Registers self.old.book seed.now params r c × HoldsWhole trees c) }
     {
         self.rests();
         match self.touch() {
             Ok(()) => {}
             Err(fault) => return Err(fault),
         }
-        match self.known(&key) {
+        match self.registered(&key) {
             None => {}
             Some(held) if same_params(held, params) => return Ok(key),
             Some(_) => return Err(BookFault::Damaged),
@@ -262,7 +264,7 @@ impl<S: Alter> Book<S> {
         ensures clean { HasCleanDisk (state S.Store self.new.conn) → HasCleanDisk (state S.Store self.old.conn) }
         ensures live { HasCleanDisk (state S.Store self.new.conn) → OnOk result (IsTrue (state S.Store self.old.conn).is_open × IsTrue (state S.Store self.new.conn).is_open) }
         ensures crash { HasCleanDisk (state S.Store self.new.conn) → IsTrue (state S.Store self.old.conn).is_open → (trees : Trees) → (state S.Store self.new.conn).may_leave trees
-            → HoldsBook trees self.old.book ⊎ ((r : _) × (c : plain.Book) × Reserves self.old.book (id_text key.now) message.now r c × HoldsBook trees c) }
+            → HoldsWhole trees self.old.book ⊎ ((r : _) × (c : plain.Book) × Reserves self.old.book (id_text key.now) message.now r c × HoldsWhole trees c) }
     {
         self.rests();
         match self.touch() {
@@ -282,7 +284,7 @@ impl<S: Alter> Book<S> {
         };
         match self.keep_leaf(key, leaf, message) {
             Ok(()) => Ok(Leaf::of(*key, leaf, params, copy)),
-            Err(fault) => Err(fault),
+            Err(unkept) => Err(unkept),
         }
     }
 }

@@ -1,5 +1,5 @@
 //! The end of a book over two files: what the next open finds in them.
-ghost use Rattle.std.specs.Prelude.{◌≡◌, ◌⊎◌, false, IfOk, IsSomeAnd, IsTrue, Ok};
+ghost use Rattle.std.specs.Prelude.{◌≡◌, ◌⊎◌, false, IfOk, IsSomeAnd, IsTrue, Ok, Result};
 ghost use Rattle.sqlite.specs.Files.{file_state};
 ghost use Rattle.sqlite_trees.specs.Tree.{Trees};
 ghost use Rattle.sqlite_wal.specs.Files.{outcomes};
@@ -8,8 +8,9 @@ ghost use Rattle.sqlite_wal.specs.Recovery.{Image};
 ghost use Rattle.keys_roles.specs.Views.{id_text};
 ghost use Rattle.sql_tables.specs.Opening.{IsFound};
 ghost use Rattle.leaf_plans.specs.Book as plain;
+ghost use Rattle.leaf_plans.specs.Book.{IsBook};
 ghost use Rattle.leaf_book.specs.Calls.{Registers, Reserves};
-ghost use Rattle.leaf_book.specs.Rows.{Begins, HoldsBook};
+ghost use Rattle.leaf_book.specs.Rows.{Begins, OpensTo, Recovers, Reopens, TreesStand};
 
 use crate::book::Book;
 use crate::faults::BookFault;
@@ -23,9 +24,10 @@ use sqlite_disk::Disk;
 use std::alloc::Global;
 
 /// Reserves a leaf, as `Book::reserve` does, and hands back the two files. Whatever a crash leaves of them, inside the call or
-/// after it, the next open finds the rows of the book before the call or of the book after it, and after a leaf was answered those
-/// of the book that keeps it. A crash inside the call is one from which on each call of the disks fails. Nothing is said where the
-/// connection was shut and no leaf is answered, nor where a wrong answer of the disks was taken as true.
+/// after it, is the whole database of the book before the call or of the book after it, and after a leaf was answered of the book that
+/// keeps it; `Book::open` over it answers this book, faults of memory and of the database aside. A crash inside the call is one from
+/// which on each call of the disks fails. Nothing is said where the connection was shut and no leaf is answered, nor where a wrong answer
+/// of the disks was taken as true.
 pub fn reserve_and_close<D: Disk + Drop>(
     mut book: Book<FileStore<D>>,
     key: &KeyId,
@@ -33,11 +35,12 @@ pub fn reserve_and_close<D: Disk + Drop>(
 ) -> (Result<Leaf, BookFault>, Files<D>)
     ensures before_or_after { AreClean D.Disk result.1.log result.1.db → IsTrue (file_state book.conn).is_open
         → (left : Image) → outcomes D.Disk result.1.log result.1.db left → (found : Trees) → IsFound left found
-        → ∥ HoldsBook found book.book ⊎ ((r : _) × (c : plain.Book) × Reserves book.book (id_text key.now) message.now r c × HoldsBook found c) ∥₁ }
+        → ∥ Recovers found book.book ⊎ ((r : _) × (c : plain.Book) × Reserves book.book (id_text key.now) message.now r c × Recovers found c) ∥₁ }
     ensures after { AreClean D.Disk result.1.log result.1.db
         → (left : Image) → outcomes D.Disk result.1.log result.1.db left → (found : Trees) → IsFound left found
-        → IfOk result.0 (λ leaf. ∥ ((c : plain.Book) × Reserves book.book (id_text key.now) message.now (Ok leaf) c × HoldsBook found c) ∥₁) }
+        → IfOk result.0 (λ leaf. ∥ ((c : plain.Book) × Reserves book.book (id_text key.now) message.now (Ok leaf) c × Recovers found c) ∥₁) }
 {
+    book.rests();
     let result = book.reserve(key, message);
     let conn = book.into_connection();
     (result, close(conn))
@@ -53,11 +56,12 @@ pub fn register_and_close<D: Disk + Drop>(
 ) -> (Result<KeyId, BookFault>, Files<D>)
     ensures before_or_after { AreClean D.Disk result.1.log result.1.db → IsTrue (file_state book.conn).is_open
         → (left : Image) → outcomes D.Disk result.1.log result.1.db left → (found : Trees) → IsFound left found
-        → ∥ HoldsBook found book.book ⊎ ((r : _) × (c : plain.Book) × Registers book.book seed.now params r c × HoldsBook found c) ∥₁ }
+        → ∥ Recovers found book.book ⊎ ((r : _) × (c : plain.Book) × Registers book.book seed.now params r c × Recovers found c) ∥₁ }
     ensures after { AreClean D.Disk result.1.log result.1.db
         → (left : Image) → outcomes D.Disk result.1.log result.1.db left → (found : Trees) → IsFound left found
-        → IfOk result.0 (λ key. ∥ ((c : plain.Book) × Registers book.book seed.now params (Ok (id_text key)) c × HoldsBook found c) ∥₁) }
+        → IfOk result.0 (λ key. ∥ ((c : plain.Book) × Registers book.book seed.now params (Ok (id_text key)) c × Recovers found c) ∥₁) }
 {
+    book.rests();
     let result = book.register(seed, params);
     let conn = book.into_connection();
     (result, close(conn))
@@ -65,7 +69,8 @@ pub fn register_and_close<D: Disk + Drop>(
 
 /// Opens a book over two files in which no transaction is under way, as `Book::open_over` does, and hands them back. Whatever a crash
 /// leaves of them, inside the opening or after it, the next open finds what stood there before, or the rows of the empty book where there
-/// was no table. Nothing is said where a wrong answer of the disks was taken as true.
+/// was no table. So where what stood there stood for a book, no table as the empty one, the next open answers this book, faults of memory
+/// and of the database aside. Nothing is said where a wrong answer of the disks was taken as true.
 pub fn open_and_close<D: Disk + Drop>(
     alloc: Global,
     conn: Connection<FileStore<D>>,
@@ -73,6 +78,10 @@ pub fn open_and_close<D: Disk + Drop>(
     ensures crash { conn.in_transaction ≡ false → IsSomeAnd result.1 (λ files. AreClean D.Disk files.log files.db
         → (left : Image) → outcomes D.Disk files.log files.db left → (found : Trees) → IsFound left found
         → ∥ (file_state conn).may_leave found ⊎ Begins (file_state conn) found ∥₁) }
+    ensures reopened { conn.in_transaction ≡ false → IsTrue (file_state conn).is_open → (b : plain.Book) → IsBook b → TreesStand (file_state conn).committed.trees b
+        → IsSomeAnd result.1 (λ files. AreClean D.Disk files.log files.db
+        → (left : Image) → outcomes D.Disk files.log files.db left → (found : Trees) → IsFound left found
+        → (answer : Result plain.Book BookFault) → OpensTo found answer → ∥ Reopens b answer ∥₁) }
 {
     match Book::open_over(alloc, conn) {
         Ok(book) => (Ok(()), Some(close(book.into_connection()))),

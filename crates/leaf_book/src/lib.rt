@@ -18,7 +18,7 @@ pub use book::Book;
 pub use closing::{open_and_close, register_and_close, reserve_and_close};
 pub use faults::{BookFault, NoMemory};
 pub use keys_roles::KeyId;
-pub use laws::{never_twice, one_book};
+pub use laws::{never_twice, one_book, reopens};
 pub use leaf::{Leaf, sign, sign_with};
 pub use lms::{KeyPair, OtsType, Params, Seed, SigningHeight};
 pub use opening::Unopened;

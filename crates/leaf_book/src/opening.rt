@@ -1,10 +1,11 @@
 //! Opening a book: the rows that stand in the tables, or new tables.
-ghost use Rattle.std.specs.Prelude.{◌≡◌, ◌⊎◌, false, Err, IfErr, IfOk, MatchResult, OnOk, IsSomeAnd, IsTrue};
+ghost use Rattle.std.specs.Prelude.{◌≡◌, ◌⊎◌, false, Err, Ok, IfErr, IfOk, MatchResult, OnOk, IsSomeAnd, IsTrue};
 ghost use Rattle.sqlite.specs.Held.{state};
 ghost use Rattle.sqlite.specs.State.{HasCleanDisk, IsLive, Survives};
+ghost use Rattle.sqlite_trees.specs.Tree.{Trees};
 ghost use Rattle.leaf_plans.specs.Book as plain;
 ghost use Rattle.leaf_plans.specs.Book.{IsBook, no_book};
-ghost use Rattle.leaf_book.specs.Rows.{Begins, HoldsBook, HoldsNoBook, IsRecorded, IsSettled, Stands, TreesStand};
+ghost use Rattle.leaf_book.specs.Rows.{Begins, HoldsBook, HoldsWhole, IsRecorded, IsSettled, OpensTo, Stands, TreesStand};
 ghost use Rattle.leaf_book.specs.Schema.{HasBoth, no_schema};
 ghost use Rattle.leaf_plans.specs.Views.{book_view};
 
@@ -36,10 +37,10 @@ impl<S: Alter + Drop> Book<S> {
     ///   order, or a further one has a foreign key onto one of them.
     /// - `OutOfMemory`: memory was refused.
     pub fn open(alloc: Global, conn: Connection<S>) -> Result<Book<S>, BookFault>
-        ensures opened { IfOk result (λ b. HasCleanDisk (state S.Store b.conn) → TreesStand (state S.Store conn).committed.trees b.book) }
+        ensures opened { IfOk result (λ b. HasCleanDisk (state S.Store b.conn) → OpensTo (state S.Store conn).committed.trees (Ok b.book)) }
         ensures rows { IfOk result (λ b. HasCleanDisk (state S.Store b.conn) → IsRecorded (state S.Store b.conn) b.book) }
         ensures right { IfOk result (λ b. IsBook b.book) }
-        ensures damaged { ((c : _) → HasCleanDisk (state S.Store c)) → result ≡ Err BookFault.Damaged → HoldsNoBook (state S.Store conn).committed.trees }
+        ensures damaged { ((c : _) → HasCleanDisk (state S.Store c)) → result ≡ Err BookFault.Damaged → OpensTo (state S.Store conn).committed.trees (Err BookFault.Damaged) }
         ensures fault { IfErr result (λ f. (f ≡ BookFault.Damaged) ⊎ ((f ≡ BookFault.Database) ⊎ (f ≡ BookFault.OutOfMemory))) }
     {
         match Book::open_over(alloc, conn) {
@@ -51,15 +52,18 @@ impl<S: Alter + Drop> Book<S> {
     /// The same as `open`. Where the rows are those of no book, the connection is given back, so that it can be said of every kind
     /// of disk; `open` says it of those that cannot give a wrong answer, such as one in memory. Where no transaction was under way
     /// the connection is given back on each fault, and whether it opens or not, a crash leaves what it left before, or the empty
-    /// book where there was no table.
+    /// book where there was no table: what stood for a book stands for it.
     pub fn open_over(alloc: Global, conn: Connection<S>) -> Result<Book<S>, Unopened<S>>
-        ensures opened { IfOk result (λ b. HasCleanDisk (state S.Store b.conn) → TreesStand (state S.Store conn).committed.trees b.book) }
+        ensures opened { IfOk result (λ b. HasCleanDisk (state S.Store b.conn) → OpensTo (state S.Store conn).committed.trees (Ok b.book)) }
         ensures rows { IfOk result (λ b. HasCleanDisk (state S.Store b.conn) → IsRecorded (state S.Store b.conn) b.book) }
         ensures right { IfOk result (λ b. IsBook b.book) }
-        ensures damaged { IfErr result (λ u. u.fault ≡ BookFault.Damaged → IsSomeAnd u.conn (λ c. HasCleanDisk (state S.Store c) → HoldsNoBook (state S.Store conn).committed.trees)) }
+        ensures damaged { IfErr result (λ u. u.fault ≡ BookFault.Damaged → IsSomeAnd u.conn (λ c. HasCleanDisk (state S.Store c) → OpensTo (state S.Store conn).committed.trees (Err BookFault.Damaged))) }
         ensures fault { IfErr result (λ u. (u.fault ≡ BookFault.Damaged) ⊎ ((u.fault ≡ BookFault.Database) ⊎ (u.fault ≡ BookFault.OutOfMemory))) }
         ensures crash { conn.in_transaction ≡ false → MatchResult result (λ b. Survives (state S.Store conn) (state S.Store b.conn) (λ trees. Begins (state S.Store conn) trees))
             (λ u. IsSomeAnd u.conn (λ c. Survives (state S.Store conn) (state S.Store c) (λ trees. Begins (state S.Store conn) trees))) }
+        ensures stays { conn.in_transaction ≡ false → IsTrue (state S.Store conn).is_open → (b : plain.Book) → TreesStand (state S.Store conn).committed.trees b
+            → MatchResult result (λ o. HasCleanDisk (state S.Store o.conn) → (trees : Trees) → (state S.Store o.conn).may_leave trees → TreesStand trees b)
+            (λ u. IsSomeAnd u.conn (λ c. HasCleanDisk (state S.Store c) → (trees : Trees) → (state S.Store c).may_leave trees → TreesStand trees b)) }
     {
         let mut conn = match renew(alloc, conn) {
             Ok(conn) => conn,
@@ -112,7 +116,7 @@ fn prepare<S: Alter>(
     ensures damaged { HasCleanDisk (state S.Store conn.new) → result ≡ Err BookFault.Damaged
         → IsTrue (state S.Store conn.old).is_open × HasBoth (state S.Store conn.old).now.schema × ((b : plain.Book) → IsBook b → HoldsBook (state S.Store conn.old).now.trees b → ⊥) }
     ensures fault { IfErr result (λ f. (f ≡ BookFault.Damaged) ⊎ ((f ≡ BookFault.Database) ⊎ (f ≡ BookFault.OutOfMemory))) }
-    ensures crash { Survives (state S.Store conn.old) (state S.Store conn.new) (λ trees. IsTrue (state S.Store conn.old).is_open → ((state S.Store conn.old).now.schema ≡ no_schema) × HoldsBook trees no_book) }
+    ensures crash { Survives (state S.Store conn.old) (state S.Store conn.new) (λ trees. IsTrue (state S.Store conn.old).is_open → ((state S.Store conn.old).now.schema ≡ no_schema) × HoldsWhole trees no_book) }
 {
     let count = beginning_of(conn.schema());
     if count == Some(2) {

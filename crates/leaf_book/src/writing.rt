@@ -9,7 +9,7 @@ ghost use Rattle.keys_roles.specs.Views.{id_text};
 ghost use Rattle.hex.specs.Hex.{encode_lower};
 ghost use Rattle.leaf_plans.specs.Book.{Book, with_leaf, with_signer};
 ghost use Rattle.leaf_book.specs.Faults.{IsOutside};
-ghost use Rattle.leaf_book.specs.Rows.{HoldsBook, IsRecorded};
+ghost use Rattle.leaf_book.specs.Rows.{HoldsWhole, IsRecorded};
 
 use crate::faults::BookFault;
 use keys_roles::KeyId;
@@ -28,7 +28,7 @@ fn insert_leaf<'x, S: Alter>(
 ) -> Result<(), Error>
     ensures kept { HasCleanDisk (state S.Store conn.new) → (b : Book) → IsRecorded (state S.Store conn.old) b → OnOk result (IsRecorded (state S.Store conn.new) (with_leaf digits.now leaf message.now b)) }
     ensures unchanged { HasCleanDisk (state S.Store conn.new) → IsTrue (state S.Store conn.new).is_open → (b : Book) → IsRecorded (state S.Store conn.old) b → OnErr result (IsRecorded (state S.Store conn.new) b) }
-    ensures crash { Survives (state S.Store conn.old) (state S.Store conn.new) (λ trees. (b : Book) → IsRecorded (state S.Store conn.old) b → HoldsBook trees (with_leaf digits.now leaf message.now b)) }
+    ensures crash { Survives (state S.Store conn.old) (state S.Store conn.new) (λ trees. (b : Book) → IsRecorded (state S.Store conn.old) b → HoldsWhole trees (with_leaf digits.now leaf message.now b)) }
 {
     conn.execute(
         "INSERT INTO leaf (key, leaf, message) VALUES (?1, ?2, ?3)",
@@ -50,7 +50,7 @@ pub(crate) fn put_leaf<S: Alter>(
 ) -> Result<(), BookFault>
     ensures kept { HasCleanDisk (state S.Store conn.new) → (b : Book) → IsRecorded (state S.Store conn.old) b → OnOk result (IsRecorded (state S.Store conn.new) (with_leaf (id_text key.now) leaf message.now b)) }
     ensures unchanged { HasCleanDisk (state S.Store conn.new) → IsTrue (state S.Store conn.new).is_open → (b : Book) → IsRecorded (state S.Store conn.old) b → OnErr result (IsRecorded (state S.Store conn.new) b) }
-    ensures crash { Survives (state S.Store conn.old) (state S.Store conn.new) (λ trees. (b : Book) → IsRecorded (state S.Store conn.old) b → HoldsBook trees (with_leaf (id_text key.now) leaf message.now b)) }
+    ensures crash { Survives (state S.Store conn.old) (state S.Store conn.new) (λ trees. (b : Book) → IsRecorded (state S.Store conn.old) b → HoldsWhole trees (with_leaf (id_text key.now) leaf message.now b)) }
     ensures fault { IfErr result IsOutside }
 {
     let mut digits = [0; 64];
@@ -67,7 +67,7 @@ fn insert_signer<S: Alter>(
 ) -> Result<(), Error>
     ensures kept { HasCleanDisk (state S.Store conn.new) → (b : Book) → IsRecorded (state S.Store conn.old) b → OnOk result (IsRecorded (state S.Store conn.new) (with_signer digits.now params b)) }
     ensures unchanged { HasCleanDisk (state S.Store conn.new) → IsTrue (state S.Store conn.new).is_open → (b : Book) → IsRecorded (state S.Store conn.old) b → OnErr result (IsRecorded (state S.Store conn.new) b) }
-    ensures crash { Survives (state S.Store conn.old) (state S.Store conn.new) (λ trees. (b : Book) → IsRecorded (state S.Store conn.old) b → HoldsBook trees (with_signer digits.now params b)) }
+    ensures crash { Survives (state S.Store conn.old) (state S.Store conn.new) (λ trees. (b : Book) → IsRecorded (state S.Store conn.old) b → HoldsWhole trees (with_signer digits.now params b)) }
 {
     let ots = code_of(params.ots);
     let height = number_of(params.height);
@@ -90,7 +90,7 @@ pub(crate) fn put_signer<S: Alter>(
 ) -> Result<(), BookFault>
     ensures kept { HasCleanDisk (state S.Store conn.new) → (b : Book) → IsRecorded (state S.Store conn.old) b → OnOk result (IsRecorded (state S.Store conn.new) (with_signer (id_text key.now) params b)) }
     ensures unchanged { HasCleanDisk (state S.Store conn.new) → IsTrue (state S.Store conn.new).is_open → (b : Book) → IsRecorded (state S.Store conn.old) b → OnErr result (IsRecorded (state S.Store conn.new) b) }
-    ensures crash { Survives (state S.Store conn.old) (state S.Store conn.new) (λ trees. (b : Book) → IsRecorded (state S.Store conn.old) b → HoldsBook trees (with_signer (id_text key.now) params b)) }
+    ensures crash { Survives (state S.Store conn.old) (state S.Store conn.new) (λ trees. (b : Book) → IsRecorded (state S.Store conn.old) b → HoldsWhole trees (with_signer (id_text key.now) params b)) }
     ensures fault { IfErr result IsOutside }
 {
     let mut digits = [0; 64];

@@ -1,5 +1,6 @@
 use Rattle.std.proofs.Common.{◌≡◌, arith, rules, sym, subst, refl, IsTrue, OnOk}
 use Rattle.sqlite_trees.specs.Tree.{Trees}
+use Rattle.sqlite.specs.Effect.{IsDatabase}
 use Rattle.sqlite.specs.Held.{state}
 use Rattle.sqlite.specs.State.{HasCleanDisk, Survives}
 use Rattle.sqlite.proofs.StateLemmas.{survives_then}
@@ -7,10 +8,10 @@ use Rattle.sqlite.proofs.Callers.{survives_begin}
 use Rattle.sql_tables.specs.Making.{IsMade}
 use Rattle.sql_tables.proofs.Calls.{OnOk_then}
 use Rattle.leaf_plans.specs.Book.{no_book}
-use Rattle.leaf_book.specs.Rows.{HoldsBook, IsRecorded}
+use Rattle.leaf_book.specs.Rows.{HoldsWhole, IsRecorded}
 use Rattle.leaf_book.specs.Schema.{no_schema}
 use Rattle.leaf_book.specs.steps.Making.{nowhere}
-use Rattle.leaf_book.proofs.BookLemmas.{committed, made_book}
+use Rattle.leaf_book.proofs.BookLemmas.{committed, whole_book}
 use Rattle.leaf_book.proofs.making.make_tables.Goals as goal
 
 pub returns-clause-wrote : goal.returns-clause-wrote
@@ -34,15 +35,17 @@ returns-clause-crash g c =
     let old = state g.S.Store c.args.conn.now in
     let tx = state g.S.Store c.make_both.new.tx.conn.now in
     let end = c.commit.new.self.0 in
-    let P = λ (trees : Trees). IsTrue old.is_open → old.now.schema ≡ no_schema → HoldsBook trees no_book in
+    let P = λ (trees : Trees). IsTrue old.is_open → old.now.schema ≡ no_schema → IsDatabase old.now → HoldsWhole trees no_book in
     let first : Survives old tx (λ _. ⊥) = survives_begin g.S.Store c.args.conn.now tx (λ _. ⊥) (subst (λ h. Survives (state g.S.Store h) tx (λ _. ⊥)) c.transaction-tx.ensures.begun c.make_both.ensures.survives) in
     let all = survives_then old tx (state g.S.Store end) (λ _. ⊥) (λ db. db ≡ tx.now.trees) P (λ _ db none. absurd none)
-    (λ clean db is is_open schema.
+    (λ clean db is is_open schema sound.
     let early : HasCleanDisk tx = omega (arith, clean, c.commit.ensures.survives.clean) in
     let begun : IsMade nowhere no_schema (state g.S.Store c.transaction-tx.result.conn.now) =
     subst (λ h. IsMade nowhere no_schema (state g.S.Store h)) (sym c.transaction-tx.ensures.begun)
     (record { is_open = is_open; inside = refl; schema_is = schema; holds = tt }) in
-    subst (λ (d : Trees). HoldsBook d no_book) (sym is) (made_book tx (c.in_ok-make_both.ensures.wrote early begun)))
+    let made = c.in_ok-make_both.ensures.wrote early begun in
+    let whole = c.in_ok-make_both.ensures.sound early begun (subst (λ h. IsDatabase (state g.S.Store h).now) (sym c.transaction-tx.ensures.begun) sound) in
+    whole_book tx db (sym is) whole made)
     first c.commit.ensures.survives in
     let same : end ≡ c.conn-2-1.given.0 = search rules in
     subst (λ h. Survives old (state g.S.Store h) P) same all

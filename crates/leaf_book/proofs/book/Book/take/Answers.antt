@@ -4,7 +4,7 @@ use Rattle.sqlite.specs.State.{HasCleanDisk}
 use Rattle.keys_roles.specs.Views.{id_text}
 use Rattle.leaf_plans.specs.declared.planning.Plan.TheVariants.{New, Spent}
 use Rattle.leaf_plans.specs.Book.{Book, IsBook, with_leaf}
-use Rattle.leaf_book.specs.Rows.{HoldsBook}
+use Rattle.leaf_book.specs.Rows.{HoldsWhole}
 use Rattle.leaf_plans.specs.Planning.{IsPlan}
 use Rattle.leaf_book.proofs.RunLemmas.{with_leaf_right}
 use Rattle.leaf_book.proofs.book.Book.take.Goals as goal
@@ -32,12 +32,12 @@ returns-in-Ok-keep_leaf-clause-crash g c clean was trees may =
     let p = subst (λ (b : Book). IsPlan b key c.args.message.now (New c.in-New.leaf c.in-New.params)) same c.in-New.ensures in
     let late : HasCleanDisk (state g.S.Store c.touch.new.self.conn) = c.keep_leaf.ensures.clean clean in
     elim (c.keep_leaf.ensures.crash clean (c.in-Ok.ensures.open late).1 trees may) [
-      | inl before ↦ inl (subst (HoldsBook trees) same before)
+      | inl before ↦ inl (subst (HoldsWhole trees) same before)
       | inr after ↦ inr (
         Ok (record { key = key; leaf = c.in-New.leaf; params = c.in-New.params; message = c.args.message.now }),
         with_leaf key c.in-New.leaf c.args.message.now c.args.self.now.book,
         (refl, refl, p.0, p.1, inr (p.2, p.3, refl)),
-        subst (λ (b : Book). HoldsBook trees (with_leaf key c.in-New.leaf c.args.message.now b)) same after,
+        subst (λ (b : Book). HoldsWhole trees (with_leaf key c.in-New.leaf c.args.message.now b)) same after,
       )
     ]
 
@@ -48,11 +48,11 @@ returns-in-Err-keep_leaf-clause-crash g c clean was trees may =
     let p = subst (λ (b : Book). IsPlan b key c.args.message.now (New c.in-New.leaf c.in-New.params)) same c.in-New.ensures in
     let late : HasCleanDisk (state g.S.Store c.touch.new.self.conn) = c.keep_leaf.ensures.clean clean in
     elim (c.keep_leaf.ensures.crash clean (c.in-Ok.ensures.open late).1 trees may) [
-      | inl before ↦ inl (subst (HoldsBook trees) same before)
+      | inl before ↦ inl (subst (HoldsWhole trees) same before)
       | inr after ↦ inr (
         Ok (record { key = key; leaf = c.in-New.leaf; params = c.in-New.params; message = c.args.message.now }),
         with_leaf key c.in-New.leaf c.args.message.now c.args.self.now.book,
         (refl, refl, p.0, p.1, inr (p.2, p.3, refl)),
-        subst (λ (b : Book). HoldsBook trees (with_leaf key c.in-New.leaf c.args.message.now b)) same after,
+        subst (λ (b : Book). HoldsWhole trees (with_leaf key c.in-New.leaf c.args.message.now b)) same after,
       )
     ]
