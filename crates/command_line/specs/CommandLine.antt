@@ -1,13 +1,18 @@
 -- The command line, in the definitions of `clap`: what words say with the arguments that each subcommand has.
-use Rattle.std.specs.Prelude.{◌≡◌, ℕ, ◌≤◌, Bool, List, Option, Some, None, nat_lt, codes, length, map, string_bytes, String}
+use Rattle.std.specs.Prelude.{◌≡◌, ◌⊎◌, ℕ, ◌≤◌, Bool, List, [], ◌∷◌, Option, Some, None, nat_lt, codes, length, map, string_bytes, String}
 use Rattle.std.specs.declared.alloc.Global.{Global}
 use Rattle.std.specs.Str.Parse.{digits_value, without_leading_plus}
 use Rattle.limits.specs.Limits.{most_documents}
 use Rattle.lms.specs.declared.Params.{Params}
 use Rattle.lms.specs.Parameters.{height, signing_type, width}
-use Rattle.clap.specs.Words.{Row, Text, all_of, count_of, first_of, subcommand_of}
+use Rattle.clap.specs.Words.{IsAmong, Row, Text, all_of, count_of, fault_of, first_of, subcommand_of}
+use Rattle.clap.specs.declared.error.kind.ErrorKind.TheVariants.{DisplayHelp, DisplayVersion}
 use Rattle.command_words.specs.Subcommands.{last_moment, last_port, most_connections, release_line}
 use Rattle.command_line.specs.declared.tasks.Task.{Task}
+use Rattle.command_line.specs.declared.tasks.Unread.{Unread}
+use Rattle.command_line.specs.declared.tasks.Unread.TheVariants as unread
+use Rattle.command_line.specs.declared.tasks.Usage.{Usage}
+use Rattle.command_line.specs.declared.tasks.Usage.TheVariants as usages
 use Rattle.command_line.specs.declared.tasks.Subcommand.{Subcommand}
 use Rattle.command_line.specs.declared.tasks.Subcommand.TheVariants.{Canon, Export, Get, Init, Key, Prune, Publish, Put, Serve, Sign, Update}
 
@@ -51,7 +56,7 @@ name_of (Prune db) = codes "prune"
 name_of (Publish db documents) = codes "publish"
 name_of (Put db file) = codes "put"
 name_of (Serve db port count) = codes "serve"
-name_of (Sign book seed params file) = codes "sign"
+name_of (Sign book seed params known file) = codes "sign"
 name_of (Update db port) = codes "update"
 
 -- the subcommand has the options and operands that were found
@@ -67,8 +72,8 @@ HasArguments rows (Publish db documents) = HasText rows (codes "db") db × HasTe
 HasArguments rows (Put db file) = HasText rows (codes "db") db × HasText rows (codes "file") file
 HasArguments rows (Serve db port count) = HasText rows (codes "db") db × HasNumber rows (codes "port") 1 last_port port
     × MayHaveNumber rows (codes "count") 1 most_connections count
-HasArguments rows (Sign book seed params file) = HasText rows (codes "book") book × HasText rows (codes "seed") seed × HasParams rows params
-    × HasText rows (codes "file") file
+HasArguments rows (Sign book seed params known file) = HasText rows (codes "book") book × HasText rows (codes "seed") seed × HasParams rows params
+    × (known ≡ is_used rows (codes "known")) × HasText rows (codes "file") file
 HasArguments rows (Update db port) = HasText rows (codes "db") db × HasNumber rows (codes "port") 1 last_port port
 
 -- a subcommand of this name with what was found for it
@@ -87,3 +92,18 @@ Says line task = (name : Text) × (rows : List Row) × (line ≡ Some (name, row
 -- the words, the program's own name first, say this task
 abbrev pub IsTaskOf : List Text → Task → Type 0
 IsTaskOf words task = Says (subcommand_of release_line words) task
+
+-- ---- help
+
+-- the program's own name, `help` and `denials`
+abbrev pub AsksForDenials : List Text → Type 0
+AsksForDenials words = (program : Text) × (words ≡ program ∷ codes "help" ∷ codes "denials" ∷ [])
+
+-- the words ask for the table of denials, or `clap` answers them with help or with the version
+abbrev pub AsksForHelp : List Text → Type 0
+AsksForHelp words = AsksForDenials words ⊎ (IsAmong DisplayHelp (fault_of release_line words) ⊎ IsAmong DisplayVersion (fault_of release_line words))
+
+-- what `clap` found is no task: its text, or want of memory, and never help
+abbrev pub IsRead : Unread → Usage → Type 0
+IsRead (unread.Text text) usage = usage ≡ usages.Text text
+IsRead unread.OutOfMemory usage = usage ≡ usages.OutOfMemory

@@ -7,14 +7,14 @@ ghost use Rattle.command_line.specs.CommandLine.{HasNumber, HasText, HasTexts, H
 ghost use Rattle.command_words.specs.Subcommands.{last_moment, last_port, most_connections};
 ghost use Rattle.limits.specs.Limits.{most_documents};
 
-use crate::tasks::{LAST_MOMENT, LAST_PORT, MOST_CONNECTIONS, Usage};
+use crate::tasks::{LAST_MOMENT, LAST_PORT, MOST_CONNECTIONS, Unread};
 use clap::ArgMatches;
 use limits::MOST_DOCUMENTS;
 use lms::{OtsType, Params, SigningHeight};
 use std::alloc::{AllocError, Global};
 
 /// The text that is given for an argument.
-pub fn text_of(alloc: Global, given: &ArgMatches<'_>, id: &str) -> Result<String, Usage>
+pub fn text_of(alloc: Global, given: &ArgMatches<'_>, id: &str) -> Result<String, Unread>
     ensures { IfOk result (HasText (rows_of (found_of given.now)) id.now) }
 {
     match given.get_str(id) {
@@ -24,7 +24,7 @@ pub fn text_of(alloc: Global, given: &ArgMatches<'_>, id: &str) -> Result<String
 }
 
 /// The texts that are given for an argument, 1 to 160.
-pub fn texts_of(alloc: Global, given: &ArgMatches<'_>, id: &str) -> Result<Vec<String>, Usage>
+pub fn texts_of(alloc: Global, given: &ArgMatches<'_>, id: &str) -> Result<Vec<String>, Unread>
     ensures { IfOk result (λ texts. HasTexts (rows_of (found_of given.now)) id.now most_documents texts.items) }
 {
     let Some(found) = given.get_strs(id) else {
@@ -53,28 +53,28 @@ fn copied(alloc: Global, found: &[&str]) -> Result<Vec<String>, AllocError>
 }
 
 /// The moment that is given, if there is one.
-pub fn moment_of(alloc: Global, given: &ArgMatches<'_>) -> Result<Option<u64>, Usage>
+pub fn moment_of(alloc: Global, given: &ArgMatches<'_>) -> Result<Option<u64>, Unread>
     ensures { IfOk result (MayHaveNumber (rows_of (found_of given.now)) (codes "at") 0 last_moment) }
 {
     number_of(alloc, given, "at", 0, LAST_MOMENT)
 }
 
-/// Whether more is to be told.
-pub fn is_verbose(given: &ArgMatches<'_>) -> bool
-    ensures { result ≡ is_used (rows_of (found_of given.now)) (codes "verbose") }
+/// Whether an option that takes no value is given.
+pub fn is_given(given: &ArgMatches<'_>, id: &str) -> bool
+    ensures { result ≡ is_used (rows_of (found_of given.now)) id.now }
 {
-    0 < given.get_count("verbose")
+    0 < given.get_count(id)
 }
 
 /// The count of connections that is given, if there is one.
-pub fn count_of(alloc: Global, given: &ArgMatches<'_>) -> Result<Option<u64>, Usage>
+pub fn count_of(alloc: Global, given: &ArgMatches<'_>) -> Result<Option<u64>, Unread>
     ensures { IfOk result (MayHaveNumber (rows_of (found_of given.now)) (codes "count") 1 most_connections) }
 {
     number_of(alloc, given, "count", 1, MOST_CONNECTIONS)
 }
 
 /// The port that is given.
-pub fn port_of(alloc: Global, given: &ArgMatches<'_>) -> Result<u16, Usage>
+pub fn port_of(alloc: Global, given: &ArgMatches<'_>) -> Result<u16, Unread>
     ensures { IfOk result (HasNumber (rows_of (found_of given.now)) (codes "port") 1 last_port) }
 {
     let Some(port) = number_of(alloc, given, "port", 1, LAST_PORT)? else {
@@ -84,7 +84,7 @@ pub fn port_of(alloc: Global, given: &ArgMatches<'_>) -> Result<u16, Usage>
 }
 
 /// The parameters of a key pair that are given.
-pub fn params_of(alloc: Global, given: &ArgMatches<'_>) -> Result<Params, Usage>
+pub fn params_of(alloc: Global, given: &ArgMatches<'_>) -> Result<Params, Unread>
     ensures { IfOk result (HasParams (rows_of (found_of given.now))) }
 {
     let ots = ots_of(alloc, given)?;
@@ -93,7 +93,7 @@ pub fn params_of(alloc: Global, given: &ArgMatches<'_>) -> Result<Params, Usage>
 }
 
 // The LM-OTS type of the width that is given.
-fn ots_of(alloc: Global, given: &ArgMatches<'_>) -> Result<OtsType, Usage>
+fn ots_of(alloc: Global, given: &ArgMatches<'_>) -> Result<OtsType, Unread>
     ensures { IfOk result (λ t. HasNumber (rows_of (found_of given.now)) (codes "ots") 1 8 (width t)) }
 {
     match number_of(alloc, given, "ots", 1, 8)? {
@@ -106,7 +106,7 @@ fn ots_of(alloc: Global, given: &ArgMatches<'_>) -> Result<OtsType, Usage>
 }
 
 // The height that is given.
-fn height_of(alloc: Global, given: &ArgMatches<'_>) -> Result<SigningHeight, Usage>
+fn height_of(alloc: Global, given: &ArgMatches<'_>) -> Result<SigningHeight, Unread>
     ensures { IfOk result (λ h. HasNumber (rows_of (found_of given.now)) (codes "height") 5 10 (height (signing_type h))) }
 {
     match number_of(alloc, given, "height", 5, 10)? {
@@ -123,7 +123,7 @@ fn number_of(
     id: &str,
     least: u64,
     most: u64,
-) -> Result<Option<u64>, Usage>
+) -> Result<Option<u64>, Unread>
     ensures { IfOk result (MayHaveNumber (rows_of (found_of given.now)) id.now least most) }
 {
     match given.get_str(id) {
@@ -136,7 +136,7 @@ fn number_of(
 }
 
 // The number that a text says.
-fn number(alloc: Global, text: &str, least: u64, most: u64) -> Result<u64, Usage>
+fn number(alloc: Global, text: &str, least: u64, most: u64) -> Result<u64, Unread>
     ensures { IfOk result (λ n. (n ≡ digits_value 10 (without_leading_plus text.now)) × (least ≤ n) × (n ≤ most)) }
 {
     match text.parse::<u64>() {
@@ -146,9 +146,9 @@ fn number(alloc: Global, text: &str, least: u64, most: u64) -> Result<u64, Usage
 }
 
 /// A fault that `clap` does not name. Its own tests of the words leave few of these.
-pub fn fault(alloc: Global, text: &str) -> Usage {
+pub fn fault(alloc: Global, text: &str) -> Unread {
     match String::from_str(alloc, text) {
-        Ok(text) => Usage::Text(text),
-        Err(_) => Usage::OutOfMemory,
+        Ok(text) => Unread::Text(text),
+        Err(_) => Unread::OutOfMemory,
     }
 }

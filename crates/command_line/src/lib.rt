@@ -1,9 +1,9 @@
 //! The command line of the program `release`, read with `clap`: the words, and the task that they ask for.
 #![tactic(auto)]
 
-ghost use Rattle.std.specs.Prelude.{IfOk, codes, map, string_bytes};
-ghost use Rattle.clap.specs.Words.{found_of, rows_of, subcommand_rows_of};
-ghost use Rattle.command_line.specs.CommandLine.{IsAsked, IsTask, IsTaskOf, Says};
+ghost use Rattle.std.specs.Prelude.{◌≡◌, ◌⊎◌, Err, IfOk, codes, map, string_bytes};
+ghost use Rattle.clap.specs.Words.{found_of, kind_of, rows_of, subcommand_rows_of};
+ghost use Rattle.command_line.specs.CommandLine.{AsksForHelp, IsAsked, IsTask, IsTaskOf, Says};
 
 mod given;
 mod help;
@@ -12,26 +12,32 @@ mod tasks;
 use clap::ArgMatches;
 use clap::error::ErrorKind;
 use command_words::release;
-use given::{count_of, fault, is_verbose, moment_of, params_of, port_of, text_of, texts_of};
+use given::{count_of, fault, is_given, moment_of, params_of, port_of, text_of, texts_of};
 use std::alloc::Global;
+use tasks::Unread;
 pub use tasks::{Subcommand, Task, Usage};
 
 /// The task that the words ask for, the program's own name first: the subcommand, its options and operands, each one
-/// that has to be there, and numbers within their range. Other words are answered with the fault text of `clap`.
+/// that has to be there, and numbers within their range. Other words are answered with the fault text of `clap`, and help only
+/// where they ask for it: by `help denials`, or so that `clap` answers with its help or with the version.
 pub fn task(alloc: Global, words: &[String]) -> Result<Task, Usage>
-    ensures { IfOk result (IsTaskOf (map (λ w. string_bytes w) words.now)) }
+    ensures task { IfOk result (IsTaskOf (map (λ w. string_bytes w) words.now)) }
+    ensures help { (text : _) → result ≡ Err (Usage.Help text) → AsksForHelp (map (λ w. string_bytes w) words.now) }
 {
     if help::asks_for_denials(words) {
         return Err(help::denials(alloc));
     }
     let command = release(alloc)?;
     match command.try_get_matches_from(words) {
-        Ok(matches) => task_of(alloc, &matches),
+        Ok(matches) => match task_of(alloc, &matches) {
+            Ok(task) => Ok(task),
+            Err(unread) => Err(Usage::from(unread)),
+        },
         Err(error) => Err(usage_of(alloc, &error)),
     }
 }
 
-fn task_of(alloc: Global, matches: &ArgMatches<'_>) -> Result<Task, Usage>
+fn task_of(alloc: Global, matches: &ArgMatches<'_>) -> Result<Task, Unread>
     ensures { IfOk result (Says (subcommand_rows_of matches.now)) }
 {
     match matches.subcommand() {
@@ -40,19 +46,19 @@ fn task_of(alloc: Global, matches: &ArgMatches<'_>) -> Result<Task, Usage>
     }
 }
 
-fn named_task(alloc: Global, name: &str, given: &ArgMatches<'_>) -> Result<Task, Usage>
+fn named_task(alloc: Global, name: &str, given: &ArgMatches<'_>) -> Result<Task, Unread>
     ensures { IfOk result (IsTask name.now (rows_of (found_of given.now))) }
 {
     let at = moment_of(alloc, given)?;
     let subcommand = asked(alloc, name, given)?;
     Ok(Task {
         at,
-        verbose: is_verbose(given),
+        verbose: is_given(given, "verbose"),
         subcommand,
     })
 }
 
-fn asked(alloc: Global, name: &str, given: &ArgMatches<'_>) -> Result<Subcommand, Usage>
+fn asked(alloc: Global, name: &str, given: &ArgMatches<'_>) -> Result<Subcommand, Unread>
     ensures { IfOk result (IsAsked name.now (rows_of (found_of given.now))) }
 {
     match name {
@@ -71,14 +77,14 @@ fn asked(alloc: Global, name: &str, given: &ArgMatches<'_>) -> Result<Subcommand
     }
 }
 
-fn canon_asked(alloc: Global, given: &ArgMatches<'_>) -> Result<Subcommand, Usage>
+fn canon_asked(alloc: Global, given: &ArgMatches<'_>) -> Result<Subcommand, Unread>
     ensures { IfOk result (IsAsked (codes "canon") (rows_of (found_of given.now))) }
 {
     let file = text_of(alloc, given, "file")?;
     Ok(Subcommand::Canon { file })
 }
 
-fn export_asked(alloc: Global, given: &ArgMatches<'_>) -> Result<Subcommand, Usage>
+fn export_asked(alloc: Global, given: &ArgMatches<'_>) -> Result<Subcommand, Unread>
     ensures { IfOk result (IsAsked (codes "export") (rows_of (found_of given.now))) }
 {
     let db = text_of(alloc, given, "db")?;
@@ -86,7 +92,7 @@ fn export_asked(alloc: Global, given: &ArgMatches<'_>) -> Result<Subcommand, Usa
     Ok(Subcommand::Export { db, to })
 }
 
-fn get_asked(alloc: Global, given: &ArgMatches<'_>) -> Result<Subcommand, Usage>
+fn get_asked(alloc: Global, given: &ArgMatches<'_>) -> Result<Subcommand, Unread>
     ensures { IfOk result (IsAsked (codes "get") (rows_of (found_of given.now))) }
 {
     let db = text_of(alloc, given, "db")?;
@@ -101,7 +107,7 @@ fn get_asked(alloc: Global, given: &ArgMatches<'_>) -> Result<Subcommand, Usage>
     })
 }
 
-fn init_asked(alloc: Global, given: &ArgMatches<'_>) -> Result<Subcommand, Usage>
+fn init_asked(alloc: Global, given: &ArgMatches<'_>) -> Result<Subcommand, Unread>
     ensures { IfOk result (IsAsked (codes "init") (rows_of (found_of given.now))) }
 {
     let db = text_of(alloc, given, "db")?;
@@ -109,7 +115,7 @@ fn init_asked(alloc: Global, given: &ArgMatches<'_>) -> Result<Subcommand, Usage
     Ok(Subcommand::Init { db, root })
 }
 
-fn key_asked(alloc: Global, given: &ArgMatches<'_>) -> Result<Subcommand, Usage>
+fn key_asked(alloc: Global, given: &ArgMatches<'_>) -> Result<Subcommand, Unread>
     ensures { IfOk result (IsAsked (codes "key") (rows_of (found_of given.now))) }
 {
     let seed = text_of(alloc, given, "seed")?;
@@ -117,14 +123,14 @@ fn key_asked(alloc: Global, given: &ArgMatches<'_>) -> Result<Subcommand, Usage>
     Ok(Subcommand::Key { seed, params })
 }
 
-fn prune_asked(alloc: Global, given: &ArgMatches<'_>) -> Result<Subcommand, Usage>
+fn prune_asked(alloc: Global, given: &ArgMatches<'_>) -> Result<Subcommand, Unread>
     ensures { IfOk result (IsAsked (codes "prune") (rows_of (found_of given.now))) }
 {
     let db = text_of(alloc, given, "db")?;
     Ok(Subcommand::Prune { db })
 }
 
-fn publish_asked(alloc: Global, given: &ArgMatches<'_>) -> Result<Subcommand, Usage>
+fn publish_asked(alloc: Global, given: &ArgMatches<'_>) -> Result<Subcommand, Unread>
     ensures { IfOk result (IsAsked (codes "publish") (rows_of (found_of given.now))) }
 {
     let db = text_of(alloc, given, "db")?;
@@ -132,7 +138,7 @@ fn publish_asked(alloc: Global, given: &ArgMatches<'_>) -> Result<Subcommand, Us
     Ok(Subcommand::Publish { db, documents })
 }
 
-fn put_asked(alloc: Global, given: &ArgMatches<'_>) -> Result<Subcommand, Usage>
+fn put_asked(alloc: Global, given: &ArgMatches<'_>) -> Result<Subcommand, Unread>
     ensures { IfOk result (IsAsked (codes "put") (rows_of (found_of given.now))) }
 {
     let db = text_of(alloc, given, "db")?;
@@ -140,7 +146,7 @@ fn put_asked(alloc: Global, given: &ArgMatches<'_>) -> Result<Subcommand, Usage>
     Ok(Subcommand::Put { db, file })
 }
 
-fn serve_asked(alloc: Global, given: &ArgMatches<'_>) -> Result<Subcommand, Usage>
+fn serve_asked(alloc: Global, given: &ArgMatches<'_>) -> Result<Subcommand, Unread>
     ensures { IfOk result (IsAsked (codes "serve") (rows_of (found_of given.now))) }
 {
     let db = text_of(alloc, given, "db")?;
@@ -149,22 +155,24 @@ fn serve_asked(alloc: Global, given: &ArgMatches<'_>) -> Result<Subcommand, Usag
     Ok(Subcommand::Serve { db, port, count })
 }
 
-fn sign_asked(alloc: Global, given: &ArgMatches<'_>) -> Result<Subcommand, Usage>
+fn sign_asked(alloc: Global, given: &ArgMatches<'_>) -> Result<Subcommand, Unread>
     ensures { IfOk result (IsAsked (codes "sign") (rows_of (found_of given.now))) }
 {
     let book = text_of(alloc, given, "book")?;
     let seed = text_of(alloc, given, "seed")?;
     let params = params_of(alloc, given)?;
+    let known = is_given(given, "known");
     let file = text_of(alloc, given, "file")?;
     Ok(Subcommand::Sign {
         book,
         seed,
         params,
+        known,
         file,
     })
 }
 
-fn update_asked(alloc: Global, given: &ArgMatches<'_>) -> Result<Subcommand, Usage>
+fn update_asked(alloc: Global, given: &ArgMatches<'_>) -> Result<Subcommand, Unread>
     ensures { IfOk result (IsAsked (codes "update") (rows_of (found_of given.now))) }
 {
     let db = text_of(alloc, given, "db")?;
@@ -173,7 +181,9 @@ fn update_asked(alloc: Global, given: &ArgMatches<'_>) -> Result<Subcommand, Usa
 }
 
 // The text of a fault of the command line.
-fn usage_of(alloc: Global, error: &clap::Error) -> Usage {
+fn usage_of(alloc: Global, error: &clap::Error) -> Usage
+    ensures { (text : _) → result ≡ Usage.Help text → (kind_of error.now ≡ ErrorKind.DisplayHelp) ⊎ (kind_of error.now ≡ ErrorKind.DisplayVersion) }
+{
     if error.kind() == ErrorKind::OutOfMemory {
         return Usage::OutOfMemory;
     }

@@ -72,11 +72,13 @@ pub enum Subcommand {
         port: u16,
         count: Option<u64>,
     },
-    /// `sign --book B --seed S --ots W --height H DOC`: signs a file with a leaf that the book keeps for it.
+    /// `sign --book B --seed S --ots W --height H [--known] DOC`: signs a file with a leaf that the book keeps for it, and where it is said
+    /// so, only by a book and a key that are known.
     Sign {
         book: String,
         seed: String,
         params: Params,
+        known: bool,
         file: String,
     },
     /// `update --db FILE --port P`: brings a client's own state up to date from 127.0.0.1.
@@ -100,7 +102,41 @@ pub enum Usage {
 }
 
 impl From<AllocError> for Usage {
+    ghost use Rattle.std.specs.Prelude.{◌≡◌};
+    ghost use Rattle.command_line.specs.declared.tasks.Usage.TheVariants.{OutOfMemory};
+
+    ghost from_gives = { λ _ e. e ≡ OutOfMemory };
+
     fn from(_: AllocError) -> Usage {
         Usage::OutOfMemory
+    }
+}
+
+/// Why what `clap` found is no task. It is never help.
+#[derive(Debug, Drop, Error)]
+pub enum Unread {
+    /// The fault text, with its line end.
+    #[error("{0}")]
+    Text(String),
+    #[error("out of memory")]
+    OutOfMemory,
+}
+
+impl From<AllocError> for Unread {
+    fn from(_: AllocError) -> Unread {
+        Unread::OutOfMemory
+    }
+}
+
+impl From<Unread> for Usage {
+    ghost use Rattle.command_line.specs.CommandLine.{IsRead};
+
+    ghost from_gives = { IsRead };
+
+    fn from(unread: Unread) -> Usage {
+        match unread {
+            Unread::Text(text) => Usage::Text(text),
+            Unread::OutOfMemory => Usage::OutOfMemory,
+        }
     }
 }

@@ -35,6 +35,10 @@ db_rule = record (option_rule (codes "db")) { required = true }
 abbrev pub book_rule : Rule
 book_rule = record (option_rule (codes "book")) { required = true }
 
+-- `--known`, which takes no value and may stand more than once
+abbrev pub known_rule : Rule
+known_rule = record (new_rule (codes "known")) { long = Some (codes "known"); action = Some Count }
+
 -- `--seed S`, which has to be there
 abbrev pub seed_rule : Rule
 seed_rule = record (option_rule (codes "seed")) { required = true }
@@ -119,7 +123,7 @@ abbrev pub serve_line : App
 serve_line = with_rule (with_rule (stored_line (codes "serve")) port_rule) count_rule
 
 abbrev pub sign_line : App
-sign_line = with_rule (with_key_pair (with_rule (begun_line (codes "sign")) book_rule)) (operand_rule (codes "file"))
+sign_line = with_rule (with_rule (with_key_pair (with_rule (begun_line (codes "sign")) book_rule)) known_rule) (operand_rule (codes "file"))
 
 abbrev pub update_line : App
 update_line = with_rule (stored_line (codes "update")) port_rule

@@ -5,7 +5,7 @@ ghost use Rattle.clap.specs.declared.builder.command.Command.TheViews.{out-Comma
 ghost use Rattle.command_words.specs.Subcommands.{begun_line, canon_line, export_line, get_line, init_line, key_line, prune_line, publish_line, put_line, serve_line, sign_line, stored_line, update_line, with_key_pair};
 
 use crate::options::{
-    at, book, count, db, documents, folder, height, operand, ots, out, port, seed, verbose,
+    at, book, count, db, documents, folder, height, known, operand, ots, out, port, seed, verbose,
 };
 use crate::texts;
 use clap::{Arg, Command};
@@ -112,7 +112,7 @@ pub fn serve<'a>(alloc: Global) -> Result<Command<'a>, AllocError>
     with(command, count(alloc))
 }
 
-/// `sign [--at SECONDS] [--verbose] --book B --seed S --ots W --height H DOC`
+/// `sign [--at SECONDS] [--verbose] --book B --seed S --ots W --height H [--known] DOC`
 pub fn sign<'a>(alloc: Global) -> Result<Command<'a>, AllocError>
     ensures line { IfOk result (λ c. app_of c ≡ sign_line) }
     ensures local { IfOk result (λ c. (out-Command c).has_globals ≡ false) }
@@ -121,6 +121,7 @@ pub fn sign<'a>(alloc: Global) -> Result<Command<'a>, AllocError>
     let command = begun(alloc, "sign", about, texts::SIGN)?;
     let command = with(command, book(alloc))?;
     let command = with_key(alloc, command)?;
+    let command = with(command, known(alloc))?;
     with(
         command,
         operand(alloc, "file", "DOC", "The document to sign"),

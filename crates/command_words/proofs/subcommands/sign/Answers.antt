@@ -8,4 +8,5 @@ pub returns-clause-line : goal.returns-clause-line
 returns-clause-line c =
     let one = c.in_ok-command-2.ensures.line ∙ ap₂ with_rule c.in_ok-command.ensures.line c.book.ensures.rule in
     let two = c.in_ok-command-3.ensures.line ∙ ap with_key_pair one in
-    IfOk-weaker c.with-2.result _ _ (λ r added. added ∙ ap₂ with_rule two c.operand.ensures.rule) c.with-2.ensures.line
+    let three = c.in_ok-command-4.ensures.line ∙ ap₂ with_rule two c.known.ensures.rule in
+    IfOk-weaker c.with-3.result _ _ (λ r added. added ∙ ap₂ with_rule three c.operand.ensures.rule) c.with-3.ensures.line
