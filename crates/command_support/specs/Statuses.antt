@@ -2,7 +2,7 @@
 use Rattle.std.specs.Prelude.{ℕ, None}
 use Rattle.denials.specs.declared.denial.Denial.TheVariants as denials
 use Rattle.command_support.specs.declared.fault.Fault.{Fault}
-use Rattle.command_support.specs.declared.fault.Fault.TheVariants.{Usage, Help, Denied, LeavesSpent, Memory, Database, Damaged, Network, File, Clock}
+use Rattle.command_support.specs.declared.fault.Fault.TheVariants.{Usage, Help, Denied, LeavesSpent, UnknownKey, Memory, Database, Damaged, Network, File, Clock}
 use Rattle.command_line.specs.declared.tasks.Usage.{Usage as Usages}
 use Rattle.command_line.specs.declared.tasks.Usage.TheVariants as usages
 use Rattle.canon.specs.declared.CanonFault.{CanonFault}
@@ -13,6 +13,7 @@ abbrev pub status_of : Fault → ℕ
 status_of (Help text) = 0
 status_of (Denied denial index) = 1
 status_of LeavesSpent = 1
+status_of UnknownKey = 1
 status_of (Usage text) = 2
 status_of Memory = 3
 status_of Database = 3

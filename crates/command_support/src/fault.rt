@@ -20,6 +20,8 @@ pub enum Fault {
     Denied(Denial, Option<usize>),
     /// All leaves of a key are spent.
     LeavesSpent,
+    /// The book is to be known and is not there, or the key is to be known and is not in it.
+    UnknownKey,
     Memory,
     /// The database could not be opened or used, or it has other tables than those of a store.
     Database,
@@ -37,7 +39,7 @@ impl Fault {
     {
         match self {
             Fault::Help(_) => 0,
-            Fault::Denied(_, _) | Fault::LeavesSpent => 1,
+            Fault::Denied(_, _) | Fault::LeavesSpent | Fault::UnknownKey => 1,
             Fault::Usage(_) => 2,
             Fault::Memory
             | Fault::Database
@@ -55,6 +57,7 @@ impl fmt::Display for Fault {
             Fault::Usage(text) | Fault::Help(text) => f.write_str(text.as_str()),
             Fault::Denied(denial, index) => write_denial(f, denial, *index),
             Fault::LeavesSpent => f.write_str("leaves spent\n"),
+            Fault::UnknownKey => f.write_str("unknown key\n"),
             Fault::Memory => f.write_str("fault memory\n"),
             Fault::Database => f.write_str("fault database\n"),
             Fault::Damaged => f.write_str("fault damaged\n"),

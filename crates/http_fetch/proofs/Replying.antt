@@ -1,7 +1,9 @@
 -- Laws of replies.
-use Rattle.std.proofs.Common.{◌≡◌, ℕ, ◌≤◌, ◌<◌, List, [], ◌++◌, length, take, drop, Bool, true, Option, Some, None, Ok, Err, Vec, Global, refl, sym, subst, ap, ◌∙◌, arith, append_assoc, append-nil, take-append-drop, inl, inr, length-append}
+use Rattle.std.proofs.Common.{◌≡◌, ℕ, ◌≤◌, ◌<◌, List, [], ◌++◌, length, take, drop, Bool, true, Option, Some, None, Ok, Err, Vec, suc, Global, refl, sym, subst, ap, ◌∙◌, arith, append_assoc, append-nil, take-append-drop, inl, inr, length-append}
+use Rattle.std.proofs.lemmas.Bool.{cases_lt}
 use lib.Seq.{take-append-le, take-append_seam}
 use Rattle.std.specs.Io.KnownBytes.{Consumes, IsAtEnd}
+use Rattle.std.proofs.KnownBytes.{Consumes-trans}
 use Rattle.httparse.specs.Grammar.{ResponseHead, print_response, HasNoResponse}
 use Rattle.httparse.specs.Spans.{ResponseOverflows}
 use Rattle.httparse.specs.declared.spans.ResponseSpans.{ResponseSpans}
@@ -10,8 +12,8 @@ use Rattle.sources.specs.Source.{Answer}
 use Rattle.sources.specs.declared.FetchFault.{FetchFault}
 use Rattle.sources.specs.declared.FetchFault.TheVariants.{TooLong, Broken, OutOfMemory}
 use Rattle.http_fetch.specs.Reply as replies
-use Rattle.http_fetch.specs.Reply.{Answers, Fetched, Heads, HasNoHead, headless, replied}
-use Rattle.http_fetch.specs.steps.Found.{IsFound, ReadsBody, ReadsRest, found, passes, absent, other, cut, wanting}
+use Rattle.http_fetch.specs.Reply.{Answers, Fetched, Heads, HasNoHead, TookWithin, headless, replied}
+use Rattle.http_fetch.specs.steps.Found.{IsFound, ReadsBody, ReadsRest, TookBody, found, passes, absent, other, cut, wanting}
 
 -- a text that is `p` and then something, of which `front` is a front long enough, has `p` at the front
 front_has : (front more p rest : List ℕ) → length p ≤ length front → front ++ more ≡ p ++ rest → front ≡ p ++ drop (length p) front
@@ -73,6 +75,53 @@ body_not old new before code front limit TooLong is (gave, read, long) =
     (omega (arith, long, length-append front gave, length-append front (gave ++ left new), length-append gave (left new)))
 body_not old new before code front limit Broken is (gave, read, unsound) = cut unsound
 body_not old new before code front limit OutOfMemory is h = wanting
+
+-- ---- how much is read
+
+-- nothing
+at_rest : (o : Option (List ℕ)) → Consumes o o []
+at_rest None = tt
+at_rest (Some xs) = refl
+
+pub took_none : (o : Option (List ℕ)) (front : List ℕ) (limit : ℕ) → TookBody o o front limit
+took_none o front limit = ([], record { consumes = at_rest o; few = omega (arith, length-append front []) })
+
+pub body_took : (old new : Option (List ℕ)) (before : Bool) (front : List ℕ) (limit : ℕ) (body : Vec ℕ Global) → ReadsRest old new before front limit (Ok body) → TookBody old new front limit
+body_took old new before front limit body h = (h.0, h.1)
+
+pub fault_took : (old new : Option (List ℕ)) (before : Bool) (front : List ℕ) (limit : ℕ) (fault : FetchFault) → ReadsRest old new before front limit (Err fault) → TookBody old new front limit
+fault_took old new before front limit TooLong h = (h.0, h.1)
+fault_took old new before front limit Broken h = (h.0, h.1)
+fault_took old new before front limit OutOfMemory h = h
+
+-- what came with a head within the buffer, and what was read behind it
+pub took_reply : (old mid new : Option (List ℕ)) (got : List ℕ) (spans : ResponseSpans) (front : List ℕ) (limit : ℕ) → Consumes old mid got → length got ≤ 8192
+    → ((h : ResponseHead) × IsFound got spans h) → front ≡ drop spans.len got → TookBody mid new front limit → TookWithin old new limit
+took_reply old mid new got spans front limit read fits (h, at) e (gave, more) = record {
+  taken = got ++ gave;
+  consumes = Consumes-trans _ _ _ _ _ read more.consumes;
+  few = elim (cases_lt (suc limit) (length front)) [
+    | inr fits_limit ↦ inr (h, front ++ gave, subst (λ l. Heads (got ++ gave) h (l ++ gave)) (sym e) (heads_more got gave (drop spans.len got) h at.heads), omega (arith, more.few, fits_limit))
+    | inl past ↦ inl (omega (arith, more.few, past, fits, length-append got gave, length-append front gave))
+  ];
+}
+
+pub took_head : (old new : Option (List ℕ)) (got : List ℕ) (limit : ℕ) → Consumes old new got → length got ≤ 8192 → TookWithin old new limit
+took_head old new got limit read fits = record { taken = got; consumes = read; few = inl fits }
+
+pub took_nothing : (o : Option (List ℕ)) (limit : ℕ) → TookWithin o o limit
+took_nothing o limit = record { taken = []; consumes = at_rest o; few = inl (omega arith) }
+
+-- whatever the limit
+pub took_any : (old new : Option (List ℕ)) (limit : ℕ) → TookWithin old new 0 → TookWithin old new limit
+took_any old new limit t = record {
+  taken = t.taken;
+  consumes = t.consumes;
+  few = elim t.few [
+    | inl within ↦ inl within
+    | inr some ↦ inr (some.0, some.1, some.2, omega (arith, some.3))
+  ];
+}
 
 -- ---- a reply
 

@@ -1,5 +1,6 @@
 -- What a reply answers (RFC 9112, sections 4 to 6), over the grammar of `httparse`.
-use Rattle.std.specs.Prelude.{◌≡◌, ◌≢◌, ◌⊎◌, ℕ, ◌≤◌, ◌<◌, List, length, Option, Some, None, Ok, Err}
+use Rattle.std.specs.Prelude.{◌≡◌, ◌≢◌, ◌⊎◌, ℕ, ◌≤◌, ◌<◌, List, length, suc, Option, Some, None, Ok, Err}
+use Rattle.std.specs.Io.KnownBytes.{Consumes}
 use Rattle.httparse.specs.Grammar.{ResponseHead, print_response, status_code, ReadsResponse}
 use Rattle.http_messages.specs.Head.{IsInput, head_limit, field_limit}
 use Rattle.sources.specs.Source.{Answer}
@@ -29,3 +30,9 @@ pub data Fetched (given : Option (List ℕ)) (sound : Type 0) (limit : ℕ) : An
   replied : {input : List ℕ} {answer : Answer} → IsInput given input → Answers input limit answer → Fetched given sound limit answer
   cut : (sound → ⊥) → Fetched given sound limit (Err Broken)
   wanting : Fetched given sound limit (Err OutOfMemory)
+
+-- What is taken from a reader: at most as many bytes as a head may have; or a head, and of the body no more than one byte past the limit.
+pub record TookWithin (before after : Option (List ℕ)) (limit : ℕ) : Type 0 where
+  pub taken : List ℕ
+  pub consumes : Consumes before after taken
+  pub few : (length taken ≤ head_limit) ⊎ ((h : ResponseHead) × (body : List ℕ) × Heads taken h body × (length body ≤ suc limit))

@@ -40,7 +40,10 @@ pub fn read_rest<R: Receive>(
         let most = (limit - body.len()).saturating_add(1);
         match read_some(reader, &mut piece, most) {
             Ok(0) => return Ok(body),
-            Ok(count) => body.extend_from_slice(&piece[..count])?,
+            Ok(count) => match body.extend_from_slice(&piece[..count]) {
+                Ok(()) => {}
+                Err(_) => return Err(FetchFault::OutOfMemory),
+            },
             Err(_) => return Err(FetchFault::Broken),
         }
     }

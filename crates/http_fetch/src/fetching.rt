@@ -3,9 +3,9 @@ ghost use Rattle.std.specs.Prelude.{◌≡◌, OnOk, true};
 ghost use Rattle.std.specs.Io.KnownBytes.{Appends};
 ghost use Rattle.http_messages.specs.Taken.{TookSome};
 ghost use Rattle.sources.specs.Source.{answered};
-ghost use Rattle.http_fetch.specs.Reply.{Fetched};
+ghost use Rattle.http_fetch.specs.Reply.{Fetched, TookWithin};
 ghost use Rattle.http_fetch.specs.Request.{request};
-ghost use Rattle.http_fetch.specs.steps.Found.{ReadsBody};
+ghost use Rattle.http_fetch.specs.steps.Found.{ReadsBody, TookBody};
 
 use crate::body::read_rest;
 use crate::head::read_head;
@@ -27,7 +27,8 @@ pub fn read_reply<R: Receive>(
     reader: &mut R,
     limit: usize,
 ) -> Result<Option<Vec<u8>>, FetchFault>
-    ensures { Fetched (R.remaining reader.old) (R.sound reader.old ≡ true) limit (answered result) }
+    ensures answers { Fetched (R.remaining reader.old) (R.sound reader.old ≡ true) limit (answered result) }
+    ensures took { TookWithin (R.remaining reader.old) (R.remaining reader.new) limit }
 {
     let mut buf = [0; HEAD_LIMIT];
     match read_head(reader, &mut buf) {
@@ -48,7 +49,8 @@ fn read_body<R: Receive>(
     front: &[u8],
     limit: usize,
 ) -> Result<Option<Vec<u8>>, FetchFault>
-    ensures { ReadsBody (R.remaining reader.old) (R.sound reader.old) code front.now limit (answered result) }
+    ensures reads { ReadsBody (R.remaining reader.old) (R.sound reader.old) code front.now limit (answered result) }
+    ensures took { TookBody (R.remaining reader.old) (R.remaining reader.new) front.now limit }
 {
     if code == 403 || code == 404 {
         return Ok(None);
@@ -75,6 +77,7 @@ pub fn fetch_over<R: Receive, W: Transmit>(
     ensures asks { TookSome (W.contents writer.old) (W.contents writer.new) (request host.now name.now) }
     ensures whole { OnOk result (Appends (W.contents writer.old) (W.contents writer.new) (request host.now name.now)) }
     ensures answers { Fetched (R.remaining reader.old) ((R.sound reader.old ≡ true) × (W.sound writer.old ≡ true)) limit (answered result) }
+    ensures took { TookWithin (R.remaining reader.old) (R.remaining reader.new) limit }
 {
     let text = match request_of(alloc, host, name) {
         Ok(text) => text,

@@ -3,6 +3,7 @@ ghost use Rattle.std.specs.Prelude.{◌≡◌, ◌≤◌, take, IfOk};
 ghost use Rattle.std.specs.Io.KnownBytes.{Consumes};
 ghost use Rattle.http_messages.specs.Head.{left};
 ghost use Rattle.http_messages.specs.Sound.{StaysSound};
+ghost use Rattle.http_fetch.specs.Reply.{TookWithin};
 ghost use Rattle.http_fetch.specs.steps.Found.{FoundHead};
 
 use http_messages::{FIELD_LIMIT, HEAD_LIMIT, Receive, read_at};
@@ -20,6 +21,7 @@ pub fn read_head<R: Receive>(
     ensures within { IfOk result (λ r. r.0 ≤ 8192) }
     ensures bytes { IfOk result (λ r. Consumes (R.remaining reader.old) (R.remaining reader.new)
         (take r.0 buf.new)) }
+    ensures took { TookWithin (R.remaining reader.old) (R.remaining reader.new) 0 }
     ensures sound { StaysSound (R.sound reader.old) result (R.sound reader.new) }
     ensures head { IfOk result (λ r. FoundHead (take r.0 buf.new) (left (R.remaining reader.new)) r.1) }
 {

@@ -73,8 +73,12 @@ fn perform_task<O: Write, E: Write>(
             book,
             seed,
             params,
+            known,
             file,
-        } => sign(rt, Signing::new(book, seed, *params, file), at, out, notes),
+        } => {
+            let signing = Signing::new(book, seed, *params, *known, file);
+            sign(rt, signing, at, out, notes)
+        }
         Subcommand::Update { db, port } => update(rt, db, *port, at, out, notes),
         Subcommand::Serve { db, port, count } => {
             Server::new(rt, db, *port, *count, at).run(out, notes)

@@ -9,7 +9,7 @@ ghost use Rattle.keys_roles.specs.Views.{entries_view, id_text};
 ghost use Rattle.metadata.specs.Parts.{max_signatures};
 ghost use Rattle.metadata.specs.Shape.{IsSignedBy, max_file};
 ghost use Rattle.leaf_plans.specs.Book.{key_of};
-ghost use Rattle.leaf_book.specs.Rows.{HoldsBook, IsRecorded};
+ghost use Rattle.leaf_book.specs.Rows.{HoldsWhole, IsRecorded};
 ghost use Rattle.signing.specs.Files.{IsUnsignedFile, SignsFile, others as others_of};
 ghost use Rattle.signing.specs.steps.Texts.{parts_text};
 
@@ -47,7 +47,7 @@ pub fn sign_file<S: Alter>(
     ensures signed { IfOk result (λ out. SignsFile book.old.book seed.now params file.now out.items book.new.book) }
     ensures unsigned { IfErr result (λ fault. IsUnsignedFile book.old.book seed.now params file.now fault book.new.book) }
     ensures kept { HasCleanDisk (state S.Store book.new.conn) → OnOk result (IsRecorded (state S.Store book.new.conn) book.new.book
-        × ((trees : Trees) → (state S.Store book.new.conn).may_leave trees → HoldsBook trees book.new.book)) }
+        × ((trees : Trees) → (state S.Store book.new.conn).may_leave trees → HoldsWhole trees book.new.book)) }
 {
     match KeyPair::new(alloc, seed, params) {
         Ok(pair) => sign_file_with(alloc, book, &pair, file),
@@ -65,7 +65,7 @@ pub fn sign_file_with<S: Alter>(
     ensures signed { IfOk result (λ out. SignsFile book.old.book pair.now.seed pair.now.params file.now out.items book.new.book) }
     ensures unsigned { IfErr result (λ fault. IsUnsignedFile book.old.book pair.now.seed pair.now.params file.now fault book.new.book) }
     ensures kept { HasCleanDisk (state S.Store book.new.conn) → OnOk result (IsRecorded (state S.Store book.new.conn) book.new.book
-        × ((trees : Trees) → (state S.Store book.new.conn).may_leave trees → HoldsBook trees book.new.book)) }
+        × ((trees : Trees) → (state S.Store book.new.conn).may_leave trees → HoldsWhole trees book.new.book)) }
 {
     match read_signed(alloc, file) {
         Ok(signed) => sign_parts(alloc, book, pair, &signed),
@@ -85,7 +85,7 @@ fn sign_parts<S: Alter>(
     ensures unsigned { IfErr result (λ fault. (bytes : List ℕ) → IsSignedBy bytes (entries_view file.now.signatures.items) file.now.signed.now
         → IsUnsignedFile book.old.book pair.now.seed pair.now.params bytes fault book.new.book) }
     ensures kept { HasCleanDisk (state S.Store book.new.conn) → OnOk result (IsRecorded (state S.Store book.new.conn) book.new.book
-        × ((trees : Trees) → (state S.Store book.new.conn).may_leave trees → HoldsBook trees book.new.book)) }
+        × ((trees : Trees) → (state S.Store book.new.conn).may_leave trees → HoldsWhole trees book.new.book)) }
 {
     let id = id_of(alloc, pair);
     has_digits(&id);

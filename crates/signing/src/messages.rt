@@ -7,7 +7,7 @@ ghost use Rattle.lms.specs.Keys.{public_of};
 ghost use Rattle.lms.specs.Verifies.{Verifies};
 ghost use Rattle.keys_roles.specs.Views.{id_text};
 ghost use Rattle.leaf_plans.specs.Book.{IsBook, key_of};
-ghost use Rattle.leaf_book.specs.Rows.{HoldsBook, IsRecorded};
+ghost use Rattle.leaf_book.specs.Rows.{HoldsWhole, IsRecorded};
 ghost use Rattle.signing.specs.Messages.{IsUnsigned, Signs};
 
 use keys_roles::KeyId;
@@ -35,7 +35,7 @@ pub fn sign_message<S: Alter>(
     ensures right { IsBook book.new.book }
     ensures rows { HasCleanDisk (state S.Store book.new.conn) → IsTrue (state S.Store book.new.conn).is_open → IsRecorded (state S.Store book.new.conn) book.new.book }
     ensures kept { HasCleanDisk (state S.Store book.new.conn) → OnOk result (IsTrue (state S.Store book.new.conn).is_open
-        × ((trees : Trees) → (state S.Store book.new.conn).may_leave trees → HoldsBook trees book.new.book)) }
+        × ((trees : Trees) → (state S.Store book.new.conn).may_leave trees → HoldsWhole trees book.new.book)) }
 {
     let id = match book.register_pair(pair) {
         Ok(id) => id,

@@ -26,13 +26,17 @@ pub record HasRead (old new : Option (List ℕ)) (front : List ℕ) (limit : ℕ
   pub consumes : Consumes old new gave
   pub few : length (front ++ gave) ≤ max (length front) (suc limit)
 
+-- what was read of a body that begins with `front`
+abbrev pub TookBody : Option (List ℕ) → Option (List ℕ) → List ℕ → ℕ → Type 0
+TookBody old new front limit = (gave : List ℕ) × HasRead old new front limit gave
+
 -- how the reading of a body ends
 abbrev pub ReadsRest : Option (List ℕ) → Option (List ℕ) → Bool → List ℕ → ℕ → Result (Vec ℕ Global) FetchFault → Type 0
 ReadsRest old new before front limit (Ok body) =
     (gave : List ℕ) × HasRead old new front limit gave × IsAtEnd new × (body.items ≡ front ++ gave) × (length (front ++ gave) ≤ limit)
 ReadsRest old new before front limit (Err TooLong) = (gave : List ℕ) × HasRead old new front limit gave × (limit < length (front ++ gave))
 ReadsRest old new before front limit (Err Broken) = (gave : List ℕ) × HasRead old new front limit gave × (before ≡ true → ⊥)
-ReadsRest old new before front limit (Err OutOfMemory) = Unit {0}
+ReadsRest old new before front limit (Err OutOfMemory) = TookBody old new front limit
 
 -- what a reply of a status answers, by what its reader is known to have left behind the beginning of its body
 pub data ReadsBody (given : Option (List ℕ)) (sound : Bool) (code : ℕ) (front : List ℕ) (limit : ℕ) : Answer → Type 0 where
