@@ -34,3 +34,8 @@ pub returns-clause-unsigned : goal.returns-clause-unsigned
 returns-clause-unsigned g c bytes f =
     unwritten c.args.book.now.book c.args.pair.now.seed c.args.pair.now.params bytes (entries_view c.args.file.now.signatures.items) c.args.file.now.signed.now
     c.in-Ok-sign_message.made.1.items c.sign_message.new.book.book f c.in-Ok-sign_message.ensures.signs
+
+pub returns-in-Ok-with_entry-clause-kept : goal.returns-in-Ok-with_entry-clause-kept
+returns-in-Ok-with_entry-clause-kept g c clean =
+    let kept = c.in-Ok-sign_message.ensures.kept clean in
+    (c.in-Ok-sign_message.ensures.rows clean kept.0, kept.1)

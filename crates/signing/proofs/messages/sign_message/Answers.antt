@@ -61,3 +61,8 @@ returns-in-Err-sign_with-clause-unsigned g c =
     unspent before registered after c.args.pair.now.seed c.args.pair.now.params c.args.message.now c.in-Ok-reserve.leaf
     (subst (λ (key : List ℕ). Registers before c.args.pair.now.seed c.args.pair.now.params (Ok key) registered) same c.in-Ok.ensures.registers)
     (subst (λ (key : List ℕ). Reserves registered key c.args.message.now (Ok c.in-Ok-reserve.leaf) after) same c.in-Ok-reserve.ensures.reserves)
+
+pub returns-in-Ok-sign_with-clause-kept : goal.returns-in-Ok-sign_with-clause-kept
+returns-in-Ok-sign_with-clause-kept g c clean =
+    let live = c.in-Ok-reserve.ensures.live clean in
+    (live.1, c.in-Ok-reserve.ensures.durable clean live.1)
