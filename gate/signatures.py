@@ -48,7 +48,8 @@ def signs_alike(room, width, height, seed, release):
     with open(f"{room}/seed", "w", encoding="ascii", opener=lambda name, flags: os.open(name, flags, 0o600)) as file:
         file.write(f"{seed:02x}" * 48 + "\n")
     last, kind = (1 << height) - 1, f"width {width}, height {height}"
-    want(sign(room, words, FIRST, release) == (0, signed_by(width, height, seed, 0, FIRST), b""), f"{kind}: the first leaf")
+    told = f"warning: {words[1]}: a new book\nwarning: {words[1]}: a new key ID\n".encode()
+    want(sign(room, words, FIRST, release) == (0, signed_by(width, height, seed, 0, FIRST), told), f"{kind}: the first leaf")
     take(words[1], range(1, last))
     want(sign(room, words, LAST, release) == (0, signed_by(width, height, seed, last, LAST), b""), f"{kind}: the last leaf")
     want(sign(room, words, BEYOND, release) == (1, b"", b"leaves spent\n"), f"{kind}: one more")

@@ -7,14 +7,29 @@ from documents import MAXIMUM_LENGTH, read_envelope
 
 
 class Book:
-    """The leaf that each message has, for each key."""
+    """The leaf that each message has, for each key. It is made by the first command that opens it, and told then."""
 
-    def __init__(self):
-        self.leaves = {}
+    def __init__(self, path):
+        self.path, self.is_made, self.leaves = path, False, {}
+
+    def opened(self):
+        """What is told where the book is made."""
+        told = b"" if self.is_made else self.told("a new book")
+        self.is_made = True
+        return told
+
+    def registered(self, key):
+        """What is told where the key is put into the book."""
+        told = b"" if key.id in self.leaves else self.told("a new key ID")
+        self.leaves.setdefault(key.id, {})
+        return told
+
+    def told(self, fact):
+        return f"warning: {self.path}: {fact}\n".encode()
 
     def reserve(self, key, message):
         """The leaf that the message has, else the least that no message has, and None where each has one."""
-        leaves = self.leaves.setdefault(key.id, {})
+        leaves = self.leaves[key.id]
         if message not in leaves:
             free = set(range(1 << key.height)) - set(leaves.values())
             if not free:
@@ -44,14 +59,23 @@ def with_entry(signatures, key, signature, signed):
     return text
 
 
-def sign(book, key, text):
-    """What is denied of the file, or of the result, is denied before a leaf is reserved."""
+UNKNOWN = DENIED, b"", b"unknown key\n"
+
+
+def sign(book, key, text, known=False):
+    """What is denied of the file, or of the result, is denied before a leaf is reserved. Where the book and the key have to be known, none
+    is made and no key is put into it."""
+    if known and not (book.is_made and key.id in book.leaves):
+        return UNKNOWN
+    told = book.opened()
     try:
         signatures, _, signed = read_envelope(text)
         with_entry(signatures, key, key.sign_with(0, b""), signed)
     except Denied as denied:
-        return denied_line(denied)
+        status, printed, line = denied_line(denied)
+        return status, printed, told + line
+    told += book.registered(key)
     leaf = book.reserve(key, signed)
     if leaf is None:
-        return DENIED, b"", b"leaves spent\n"
-    return DONE, with_entry(signatures, key, key.sign_with(leaf, signed), signed), b""
+        return DENIED, b"", told + b"leaves spent\n"
+    return DONE, with_entry(signatures, key, key.sign_with(leaf, signed), signed), told

@@ -75,29 +75,35 @@ def compare_keys(session, _random):
 
 def compare_by_hand(session, _random):
     for number, key in enumerate(KEYS[:8]):
-        book, path = leaf_book.Book(), session.folder / f"book {number}"
+        path = session.folder / f"book {number}"
+        book = leaf_book.Book(path)
         file = session.folder / "file"
         for text in by_hand(key):
             file.write_bytes(text)
             words = ["sign", "--book", str(path), *words_of(session, key), str(file)]
+            if not book.leaves:
+                session.check("sign: unknown", leaf_book.sign(book, key, text, known=True), session.run(*words, "--known"), text)
+                session.check("sign: no book is made", book.is_made, path.exists(), text)
             wanted = leaf_book.sign(book, key, text)
             session.check("sign", wanted, session.run(*words), text)
             if wanted[0] == 0:
                 file.write_bytes(wanted[1])
-                session.check("sign again", wanted, session.run(*words), text)
+                session.check("sign again", leaf_book.sign(book, key, text, known=True), session.run(*words, "--known"), text)
         session.check("sign: rows of the book", book.rows(), kept(path))
 
 
 def compare_histories(session, random, count):
     """Several keys over one book, until some have no leaf left; a file that is signed by one is signed by others."""
-    book, path = leaf_book.Book(), session.folder / "book of several"
+    path = session.folder / "book of several"
+    book = leaf_book.Book(path)
     file, files = session.folder / "file", [file_of([], {"_type": "first"})]
     for number in range(count):
         key = random.choice([*KEYS[:5], LARGE])
         text = random.choice(files) if random.random() < 0.4 else file_of([], {"_type": "x", "n": number})
         file.write_bytes(text)
-        wanted = leaf_book.sign(book, key, text)
-        session.check("sign: random", wanted, session.run("sign", "--book", str(path), *words_of(session, key), str(file)), text)
+        known = ["--known"] if random.random() < 0.3 else []
+        wanted = leaf_book.sign(book, key, text, bool(known))
+        session.check("sign: random", wanted, session.run("sign", *known, "--book", str(path), *words_of(session, key), str(file)), text)
         if wanted[0] == 0:
             files.append(wanted[1])
     session.check("sign: rows of the book", book.rows(), kept(path))

@@ -58,6 +58,7 @@ documents_are_signed() {
     documents_at_the_limits
     faults_of_signing
     a_book_with_a_further_table
+    books_that_are_known
     leaves_are_spent
 }
 
@@ -136,6 +137,42 @@ a_book_with_a_further_table() {
     "$release" sign --book "$folder/further" --seed "$seed" --ots 8 --height 5 "$signed" >"$folder/again"
     same "signed again with a further table" "$signed" "$folder/again"
     rows "$folder/further" 'SELECT a FROM further' '1\n'
+}
+
+# told FILE FACT ..: what was told is that of the file the facts are, in this order, and nothing else.
+told() {
+    local file=$1
+    : >"$folder/told.wanted"
+    for fact in "${@:2}"; do printf 'warning: %s: %s\n' "$file" "$fact" >>"$folder/told.wanted"; done
+    same "what is told of $file" "$folder/told.wanted" "$folder/told"
+}
+
+# A book that is made, and a key that is put into it, are told. Where both have to be known, none is made and no key put into it.
+books_that_are_known() {
+    local new=$folder/new.book other=$folder/unknown.seed
+    local one=(--book "$new" --seed "$seed" --ots 4 --height 5)
+    (umask 077 && seed 5 "$other")
+    document 0 '{"_type":"x"}' >"$unsigned"
+    wants 1 '' 'unknown key\n' sign --known "${one[@]}" "$unsigned"
+    [ ! -e "$new" ] || fail "a book that has to be known is made"
+    : >"$new"
+    wants 1 '' 'unknown key\n' sign "${one[@]}" --known "$unsigned"
+    [ ! -s "$new" ] || fail "a book is made in an empty file"
+    "$release" sign "${one[@]}" "$unsigned" >"$folder/one" 2>"$folder/told" || fail "the first signature of a book"
+    told "$new" 'a new book' 'a new key ID'
+    "$release" sign "${one[@]}" --known "$unsigned" >"$folder/again" 2>"$folder/told" || fail "a known key"
+    same "signed by a known key" "$folder/one" "$folder/again"
+    told "$new"
+    document 0 '{"_type":"y"}' >"$unsigned"
+    wants 1 '' 'unknown key\n' sign --book "$new" --seed "$other" --ots 4 --height 5 --known "$unsigned"
+    wants 1 '' 'unknown key\n' sign --book "$new" --seed "$seed" --ots 8 --height 5 --known "$unsigned"
+    rows "$new" 'SELECT (SELECT count(*) FROM signer), (SELECT count(*) FROM leaf)' '1|1\n'
+    "$release" sign --book "$new" --seed "$other" --ots 4 --height 5 "$unsigned" >/dev/null 2>"$folder/told" || fail "a second key"
+    told "$new" 'a new key ID'
+    document 0 '{"a":2}' >"$unsigned"
+    wants 1 '' "$(printf 'warning: %s: a new book' "$folder/denied.book")\ndenied 3 WrongShape\n" sign --book "$folder/denied.book" --seed "$seed" --ots 4 --height 5 "$unsigned"
+    wants 1 '' 'unknown key\n' sign --known --book "$folder/denied.book" --seed "$seed" --ots 4 --height 5 "$unsigned"
+    wants 3 '' 'fault database\n' sign --known --book "$folder/other" --seed "$seed" --ots 8 --height 5 "$signed"
 }
 
 # Three of 32 leaves are taken so far. When all are, a document that has one is signed again, and no other.
