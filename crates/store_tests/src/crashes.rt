@@ -1,86 +1,242 @@
-// A store over two files in memory, which are handed back after a command, and opened again after a crash.
-use crate::root::ROOT;
-use metadata::{Moment, digest_of, read_date_time};
-use sqlite::{Connection, FileStore, Files};
+// A store over two files in memory, each of which stops at each of its calls in turn, and is opened again after the crash.
+use crate::documents::{ROOT, SNAPSHOT, TARGETS, TIMESTAMP};
+use metadata::{digest_of, read_date_time};
+use sqlite::types::ValueRef;
+use sqlite::{Connection, FileStore, Files, Row};
 use sqlite_disk::{Crash, Fuse, Memory};
 use sqlite_pager::Options;
 use std::alloc::Global;
 use std::process::Abort;
 use std::test::Fail;
-use store::{Command, Reply, Store, StoreFault, apply_and_close};
+use store::{Command, Moment, Offer, Reply, RoleName, Store};
 
 type Disks = FileStore<Fuse<Memory>>;
 
-// 2030-01-01T00:00:00Z, a year before the root expires.
-fn moment(rt: &impl Abort) -> Moment {
-    read_date_time("2030-01-01T00:00:00Z").expect(rt, "a moment")
+type Document<'a> = (Offer, &'a [u8]);
+
+#[derive(Clone, Copy)]
+enum Step {
+    Init,
+    // the document at this place
+    Offer(usize),
+    Batch,
+    Put,
+    Prune,
 }
 
-// Whether the root begins the trust.
-fn begins(store: &mut Store<Disks>, now: Moment) -> Result<bool, StoreFault> {
-    let reply = store.apply(Command::Init(ROOT.as_bytes()), now)?;
-    Ok(matches!(reply, Reply::Begun))
+// Each document alone, and all as one batch. The prune takes the target file away, which no document lists.
+const ALONE: [Step; 6] = [
+    Step::Init,
+    Step::Offer(0),
+    Step::Offer(1),
+    Step::Offer(2),
+    Step::Put,
+    Step::Prune,
+];
+
+const TOGETHER: [Step; 4] = [Step::Init, Step::Batch, Step::Put, Step::Prune];
+
+// The rows of each of the five tables.
+const QUERIES: [&str; 5] = [
+    "SELECT version, bytes FROM root ORDER BY version",
+    "SELECT slot, version, bytes FROM current ORDER BY slot",
+    "SELECT role, version, bytes FROM shelf ORDER BY role, version",
+    "SELECT digest, bytes FROM blob ORDER BY digest",
+    "SELECT version FROM schema",
+];
+
+fn command<'a>(step: Step, documents: &'a [Document<'a>]) -> Command<'a> {
+    match step {
+        Step::Init => Command::Init(ROOT.as_bytes()),
+        Step::Offer(at) if at < documents.len() => Command::Offer(&documents[at].0, documents[at].1),
+        Step::Offer(_) | Step::Batch => Command::Batch(documents),
+        Step::Put => Command::PutBlob(digest_of(b"abc"), b"abc"),
+        Step::Prune => Command::Prune,
+    }
 }
 
-// Whether the blob is there already.
-fn holds(store: &mut Store<Disks>, now: Moment) -> Result<bool, StoreFault> {
-    let reply = store.apply(Command::PutBlob(digest_of(b"abc"), b"abc"), now)?;
-    Ok(matches!(reply, Reply::Stored(false)))
+// What the commands left: how many were made, and the files.
+#[derive(Drop)]
+struct Left {
+    made: usize,
+    files: Files<Fuse<Memory>>,
 }
 
-// The store of these files, if no call of the disks fails.
-fn opened(alloc: Global, files: Files<Fuse<Memory>>) -> Option<Store<Disks>> {
+// The store of these files, or the files.
+fn opened(
+    alloc: Global,
+    files: Files<Fuse<Memory>>,
+) -> Result<Store<Disks>, Option<Files<Fuse<Memory>>>> {
     if !files.may_be_used() {
-        return None;
+        return Err(Some(files));
     }
-    match Connection::open_files(alloc, files, Options::new(1)) {
-        Ok(conn) => Store::open(alloc, conn).ok(),
-        Err(_) => None,
-    }
-}
-
-// A store with a root over new files, if the log does not fail before. It fails from so many calls on.
-fn begun_over(alloc: Global, calls: u64, now: Moment) -> Option<Store<Disks>> {
-    let log = Fuse::new(Memory::new(alloc), calls);
-    let db = Fuse::new(Memory::new(alloc), u64::MAX);
-    let mut store = opened(alloc, Files { log, db })?;
-    match begins(&mut store, now) {
-        Ok(true) => Some(store),
-        _ => None,
+    let conn = match Connection::open_files(alloc, files, Options::new(1)) {
+        Ok(conn) => conn,
+        Err((_, left)) => return Err(Some(left.into_files())),
+    };
+    match Store::open_over(alloc, conn) {
+        Ok(store) => Ok(store),
+        Err(unopened) => match unopened.conn {
+            Some(conn) => Err(Some(conn.into_store().close())),
+            None => Err(None),
+        },
     }
 }
 
-// Whether the next open after a crash finds the blob.
-fn holds_blob(
-    rt: &(impl Abort + AllocGlobal),
-    mut files: Files<Fuse<Memory>>,
-) -> Result<bool, Fail> {
+// Makes the commands over these files, until one is not made.
+fn run(
+    alloc: Global,
+    files: Files<Fuse<Memory>>,
+    steps: &[Step],
+    documents: &[Document<'_>],
+    now: Moment,
+) -> Result<Left, Fail> {
+    let mut store = match opened(alloc, files) {
+        Ok(store) => store,
+        Err(Some(files)) => return Ok(Left { made: 0, files }),
+        Err(None) => return Err(Fail::from("no files")),
+    };
+    let mut made = 0;
+    for step in steps {
+        match store.apply(command(*step, documents), now) {
+            Ok(Reply::Denied(_, _)) => return Err(Fail::from("denied")),
+            Ok(_) => made += 1,
+            Err(_) => break,
+        }
+    }
+    let files = store.into_connection().into_store().close();
+    Ok(Left { made, files })
+}
+
+// The rows that the next open after a crash finds.
+fn rows_after(alloc: Global, mut files: Files<Fuse<Memory>>) -> Result<Vec<Row>, Fail> {
     files.log.crash();
     files.db.crash();
-    let mut store = opened(rt.alloc(), files).expect(rt, "a store");
-    Ok(holds(&mut store, moment(rt))?)
-}
-
-// Whether a blob is stored before the log fails. If it is, the next open finds it.
-fn puts(rt: &(impl Abort + AllocGlobal), calls: u64) -> Result<bool, Fail> {
-    let now = moment(rt);
-    let Some(store) = begun_over(rt.alloc(), calls, now) else {
-        return Ok(false);
+    let Ok(store) = opened(alloc, files) else {
+        return Err(Fail::from("no store"));
     };
-    let (result, files) = apply_and_close(store, Command::PutBlob(digest_of(b"abc"), b"abc"), now);
-    let done = matches!(result, Ok(Reply::Stored(true)));
-    assert!(rt; holds_blob(rt, files)? || !done, "{calls}");
-    Ok(done)
+    let mut conn = store.into_connection();
+    let mut rows = Vec::new(alloc);
+    for query in &QUERIES {
+        for row in conn.query_all(query, &[])? {
+            rows.push(row)?;
+        }
+    }
+    Ok(rows)
 }
 
-// The log fails at each of its calls in turn, until none is left.
-#[test]
-fn a_crash_at_each_call(rt: HostRuntime) -> Result<(), Fail> {
-    for calls in 0..1_000u64 {
-        if puts(&rt, calls)? {
-            assert!(rt; calls > 10, "{calls}");
+fn is_same_value(one: ValueRef<'_>, other: ValueRef<'_>) -> bool {
+    match (one, other) {
+        (ValueRef::Int(a), ValueRef::Int(b)) => a == b,
+        (ValueRef::Text(a), ValueRef::Text(b)) => a == b,
+        (ValueRef::Blob(a), ValueRef::Blob(b)) => a == b,
+        _ => false,
+    }
+}
+
+fn is_same_row(one: &Row, other: &Row) -> bool {
+    for at in 0..one.column_count() {
+        match (one.get_ref(at), other.get_ref(at)) {
+            (Ok(a), Ok(b)) if is_same_value(a, b) => {}
+            _ => return false,
+        }
+    }
+    one.column_count() == other.column_count()
+}
+
+fn are_same(one: &[Row], other: &[Row]) -> bool {
+    for at in 0..one.len() {
+        if at >= other.len() || !is_same_row(&one[at], &other[at]) {
+            return false;
+        }
+    }
+    one.len() == other.len()
+}
+
+// New files, which stop after so many calls of the log and of the database.
+fn new_files(alloc: Global, log: u64, db: u64) -> Files<Fuse<Memory>> {
+    Files {
+        log: Fuse::new(Memory::new(alloc), log),
+        db: Fuse::new(Memory::new(alloc), db),
+    }
+}
+
+fn files_that_stop(alloc: Global, stops_log: bool, calls: u64) -> Files<Fuse<Memory>> {
+    if stops_log {
+        new_files(alloc, calls, u64::MAX)
+    } else {
+        new_files(alloc, u64::MAX, calls)
+    }
+}
+
+// The rows behind each number of commands, where nothing stops.
+fn wanted(
+    alloc: Global,
+    steps: &[Step],
+    documents: &[Document<'_>],
+    now: Moment,
+) -> Result<Vec<Vec<Row>>, Fail> {
+    let mut wanted = Vec::new(alloc);
+    for count in 0..steps.len() + 1 {
+        let left = run(
+            alloc,
+            new_files(alloc, u64::MAX, u64::MAX),
+            &steps[..count],
+            documents,
+            now,
+        )?;
+        wanted.push(rows_after(alloc, left.files)?)?;
+    }
+    Ok(wanted)
+}
+
+// The file stops at each of its calls in turn, until none is left. Behind each stop the next open finds the rows before the command that was
+// not made, or those behind it.
+fn stops_at_each_call(
+    rt: &(impl Abort + AllocGlobal),
+    steps: &[Step],
+    stops_log: bool,
+) -> Result<(), Fail> {
+    let alloc = rt.alloc();
+    let now = read_date_time("2030-01-01T00:00:00Z").expect(rt, "a moment");
+    let role = RoleName::read(alloc, "targets")?.expect(rt, "a role");
+    let documents = [
+        (Offer::Timestamp, TIMESTAMP.as_bytes()),
+        (Offer::Snapshot, SNAPSHOT.as_bytes()),
+        (Offer::Targets(role), TARGETS.as_bytes()),
+    ];
+    let wanted = wanted(alloc, steps, &documents, now)?;
+    for calls in 0..2_000u64 {
+        let files = files_that_stop(alloc, stops_log, calls);
+        let Left { made, files } = run(alloc, files, steps, &documents, now)?;
+        let found = rows_after(alloc, files)?;
+        let before = made < wanted.len() && are_same(&found, &wanted[made]);
+        let after = made + 1 < wanted.len() && are_same(&found, &wanted[made + 1]);
+        assert!(rt; before || after, "{calls} calls, {made} commands");
+        if made == steps.len() {
+            assert!(rt; before, "{calls} calls");
             return Ok(());
         }
     }
-    Err(Fail::from("never stored"))
+    Err(Fail::from("never at the end"))
+}
+
+#[test]
+fn the_log_stops_in_each_command(rt: HostRuntime) -> Result<(), Fail> {
+    stops_at_each_call(&rt, &ALONE, true)
+}
+
+#[test]
+fn the_database_stops_in_each_command(rt: HostRuntime) -> Result<(), Fail> {
+    stops_at_each_call(&rt, &ALONE, false)
+}
+
+#[test]
+fn the_log_stops_in_a_batch(rt: HostRuntime) -> Result<(), Fail> {
+    stops_at_each_call(&rt, &TOGETHER, true)
+}
+
+#[test]
+fn the_database_stops_in_a_batch(rt: HostRuntime) -> Result<(), Fail> {
+    stops_at_each_call(&rt, &TOGETHER, false)
 }

@@ -4,4 +4,4 @@
 #[cfg(test)]
 mod crashes;
 #[cfg(test)]
-mod root;
+mod documents;
