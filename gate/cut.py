@@ -12,7 +12,7 @@ import subprocess
 import sys
 import tempfile
 
-from served import RELEASE, Copies, Server, Wrong, put, want
+from served import HELLO, RELEASE, Copies, Server, Wrong, batch, put, want
 
 SHIM = r"""
 #define _GNU_SOURCE
@@ -100,12 +100,55 @@ def seams(server):
         want(server.ask(request) == HELD, f"{number} bytes a call")
 
 
+# A request for each kind of reply, which changes nothing the second time, and how many bytes a call moves: fewer calls where there is more to move.
+KINDS = {
+    "a fault": (b"GET /nope HTTP/1.1\r\n\r\n", 3),
+    "a method": (b"GET /batch HTTP/1.1\r\n\r\n", 3),
+    "no such metadata": (b"GET /metadata/9.root.json HTTP/1.1\r\n\r\n", 3),
+    "metadata": (b"GET /metadata/1.root.json HTTP/1.1\r\n\r\n", 97),
+    "a target": (HELLO, 3),
+    "a denied target": (b"GET /targets/none HTTP/1.1\r\n\r\n", 3),
+    "a batch": (b"POST /batch HTTP/1.1\r\nContent-Length: %d\r\n\r\n" % len(batch()) + batch(), 211),
+    "a denied batch": (b"POST /batch HTTP/1.1\r\nContent-Length: 12\r\n\r\ntimestamp 0\n", 3),
+    "a prune": (b"POST /prune HTTP/1.1\r\nContent-Length: 0\r\n\r\n", 3),
+    "a denied upload": (put(b"").replace(b"Content-Length: 0", b"Content-Length: 1") + b"x", 3),
+}
+
+
+def each_read(server, request, room):
+    """Each read of a request fails once, and the request is made again: the reply is always the same."""
+    want(server.ask(request) == b"", "the first read fails, and there is a reply")
+    reply = server.ask(request)
+    for number in range(2, -(-len(request) // room) + 1):
+        want(server.ask(request) == b"", f"read {number} fails, and there is a reply")
+        want(server.ask(request) == reply, f"behind read {number}, which failed")
+
+
+def each_write(server, request, room):
+    """Each write of a reply is cut once, and the request is made again."""
+    want(server.ask(request) == b"", "the first write is cut, and something came")
+    reply = server.ask(request)
+    want(reply.startswith(b"HTTP/1.1 "), f"a reply {reply!r}")
+    for number in range(2, -(-len(reply) // room) + 2):
+        want(server.ask(request) == reply[:(number - 1) * room], f"write {number} is cut")
+        want(server.ask(request) == reply, f"behind write {number}, which was cut")
+
+
+def of_kind(case, kind):
+    request, room = KINDS[kind]
+    return lambda server: case(server, request, room), str(room)
+
+
 CASES = {
     "reads that fail": (reads, {"CUT_SIDE": "reads", "CUT_ROOM": str(ROOM)}),
     "writes that fail": (writes, {"CUT_SIDE": "writes", "CUT_ROOM": str(ROOM)}),
     "writes that take nothing": (writes, {"CUT_SIDE": "writes", "CUT_ROOM": str(ROOM), "CUT_TAKES_NOTHING": "1"}),
     "seams": (seams, {"CUT_SIDE": "writes"}),
 }
+for kind in KINDS:
+    for side, case in (("reads", each_read), ("writes", each_write)):
+        made, most = of_kind(case, kind)
+        CASES[f"{side} of {kind}"] = made, {"CUT_SIDE": side, "CUT_ROOM": most}
 
 
 def held(name, copies, shim, release):
