@@ -21,6 +21,7 @@ pub mod MetadataNames
 pub mod MissedFiles
 pub mod MoreRootsAndRows
 pub mod NewFiles
+pub mod OfferedAgain
 pub mod OffersTell
 pub mod OneJudgement
 pub mod OneMoreBlob
@@ -32,9 +33,11 @@ pub mod RisingRows
 pub mod RootChains
 pub mod RowsInOrder
 pub mod RowsOfOneState
+pub mod SentAgain
 pub mod ServedFrom
 pub mod ShapedOnce
 pub mod ShelfPlaces
 pub mod TargetFiles
 pub mod TargetListings
 pub mod ValidSteps
+pub mod VouchedAgain

@@ -6,6 +6,7 @@ pub mod Held
 pub mod Misses
 pub mod Room
 pub mod Knowing
+pub mod Resending
 pub mod Runs
 pub mod Serving
 pub mod State

@@ -1,4 +1,5 @@
 //! Laws of the trust machine, in functions that do nothing.
+ghost use Rattle.std.specs.List.{AllByRecursion};
 ghost use Rattle.std.specs.Prelude.{◌≡◌, ◌≢◌, ◌<◌, ◌≤◌, ◌+◌, ◌++◌, [], ◌∷◌, ℕ, List, Option, Some, None, Result, Ok, Err, IfSome, IsNone, IsSome, length, map, codes, nat_eq, option_map, option_and_then, if◌then◌else◌};
 ghost use Rattle.limits.specs.Limits.{blob_limit, most_held};
 ghost use Rattle.sha2.specs.Sha256.{sha256};
@@ -13,10 +14,14 @@ ghost use Rattle.denials.specs.Orders.{Denial, RoleMissing, BlobMissing, Denied,
 ghost use Rattle.machine.specs.Misses.{IsPart, IsThere, MissesRole, MissesBlob, IsProperListing};
 ghost use Rattle.machine.specs.State.{Trusted, State, FollowsRoot, MeetsTop, NamesSnapshot, blob_at, IsRootChain, IsTrusted, IsState, dotted, metadata_of, nothing};
 ghost use Rattle.machine.specs.Commands.{AfterRoot, GrantAlike, Listed, listed, NoDrop, NoRollback, Offer, RootOffer, SnapshotOffer, TargetsOffer, TimestampOffer, Batched, init, offer, batch, put_blob, prune, grants};
+ghost use Rattle.machine.specs.Answers.{AnswersBatch};
 ghost use Rattle.machine.specs.Contents.{contents_of, root_rows};
 ghost use Rattle.machine.specs.Effects.{Effects, applied};
 ghost use Rattle.machine.specs.Held.{IsHeld, held_of, held_with};
-ghost use Rattle.machine.specs.Runs.{Command, Target, Reply, Refused, Outcome, IsGranted, Steps, Runs, StaysCoherent};
+ghost use Rattle.machine.specs.Resending.{IsAllSame, IsInOrder};
+ghost use Rattle.machine.specs.Runs.{Batch, BatchDone, Command, Target, Reply, Refused, Outcome, IsGranted, Steps, Runs, StaysCoherent, with_trusted};
+ghost use Rattle.machine.specs.declared.outcome.Batched as answered;
+ghost use Rattle.machine.specs.declared.refusal.BatchRefusal.{BatchRefusal};
 
 use delegations::{search_grows, search_is_sound};
 use layouts::one_verdict;
@@ -195,6 +200,24 @@ pub fn missed_files()
 {
     search_is_sound();
     search_grows();
+    one_document();
+    one_shape();
+}
+
+/// A law, which does nothing: a batch that was accepted and whose reply was lost may be sent again. At the same moment each of its
+/// documents is the same, none is accepted, and what is trusted stays as it is: where they are at most one root, then at most one
+/// timestamp, at most one snapshot, then targets documents.
+pub fn sent_again()
+    ensures offers { (T : Trusted) (os : List (Offer × Bytes)) (now : ℕ) (B : Batched) → IsInOrder os → batch T os now (Ok B)
+        → AllByRecursion (λ o. offer B.trusted o.0 o.1 now (Err Same)) os }
+    ensures batches { (T : Trusted) (os : List (Offer × Bytes)) (now : ℕ) (B : Batched) → IsInOrder os → batch T os now (Ok B)
+        → batch B.trusted os now (Ok (record { trusted = B.trusted; accepted = 0; same = length os })) }
+    ensures steps { (S U : State) (os : List (Offer × Bytes)) (now accepted same : ℕ) → IsInOrder os → Steps S (Batch os) now (U, BatchDone accepted same)
+        → Steps U (Batch os) now (U, BatchDone 0 (length os)) }
+    ensures answers { (S : State) (os : List (Offer × Bytes)) (now : ℕ) (B : Batched) (r : Result answered.Batched BatchRefusal) → IsInOrder os → batch S.trusted os now (Ok B)
+        → AnswersBatch (with_trusted S B.trusted) (batch B.trusted os now) r → IsAllSame (with_trusted S B.trusted) (length os) r }
+{
+    snapshot_names();
     one_document();
     one_shape();
 }
