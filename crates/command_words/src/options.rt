@@ -83,7 +83,9 @@ pub(crate) fn known<'a>(alloc: Global) -> Arg<'a>
 {
     Arg::new(alloc, "known")
         .long("known")
-        .help("Refuse a book that is not there, and a key that it does not have, before a leaf is spent")
+        .help(
+            "Refuse a book that is not there, and a key that it does not have, before a leaf is spent",
+        )
         .action(ArgAction::Count)
 }
 
