@@ -25,6 +25,7 @@ pub mod OffersTell
 pub mod OneJudgement
 pub mod OneMoreBlob
 pub mod OrderSteps
+pub mod PrunedAnswers
 pub mod PrunedEffects
 pub mod PrunedStates
 pub mod PutInRoom
@@ -35,6 +36,7 @@ pub mod RowsOfOneState
 pub mod ServedFrom
 pub mod ShapedOnce
 pub mod ShelfPlaces
+pub mod ShortFiles
 pub mod TargetFiles
 pub mod TargetListings
 pub mod ValidSteps
