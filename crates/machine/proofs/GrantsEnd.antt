@@ -124,7 +124,8 @@ allows-never : (S : State) (V : Shelf) (now : ℕ) (l : Listing) (o : Option Lay
 allows-never S V now l None = give-never tt
 allows-never S V now l (Some r) =
     then-never _ _ (support-never S V now r.path) (λ b. then-never _ _ (each-never _ r.links (support-never S V now))
-    (λ bs. then-never _ _ (read-never layout_form b) (λ layout. then-never _ _ (each-never _ bs (read-never link_form)) (λ links. holds-never layout r links l.digest now))))
+    (λ bs. then-never _ _ (check-never _ _) (λ _. then-never _ _ (read-never layout_form b)
+    (λ layout. then-never _ _ (each-never _ bs (read-never link_form)) (λ links. holds-never layout r links l.digest now)))))
 
 grants-never : (S : State) (path : Bytes) (asked : Option Bytes) (now : ℕ) → NeverSame (grants S path asked now)
 grants-never S path asked now =

@@ -26,6 +26,7 @@ pub mod OffersTell
 pub mod OneJudgement
 pub mod OneMoreBlob
 pub mod OrderSteps
+pub mod PrunedAnswers
 pub mod PrunedEffects
 pub mod PrunedStates
 pub mod PutInRoom
@@ -37,6 +38,7 @@ pub mod SentAgain
 pub mod ServedFrom
 pub mod ShapedOnce
 pub mod ShelfPlaces
+pub mod ShortFiles
 pub mod TargetFiles
 pub mod TargetListings
 pub mod ValidSteps

@@ -1,9 +1,8 @@
 -- What is found by bytes that are loaded.
 use Rattle.std.proofs.Common.{◌≡◌, ◌⊎◌, ◌∙◌, inl, inr, ℕ, ◌<◌, List, [], ◌∷◌, true, Option, Some, None, Result, Ok, Err, length, refl, sym, ap, subst}
-use Rattle.std.proofs.lemmas.Bool.{ltb-true}
-use Rattle.std.specs.Prelude.{◌↔◌, ◌≢◌, IsTrue, IsSome, option_map, unwrap_or, nat_lt}
+use Rattle.std.specs.Prelude.{◌↔◌, ◌≢◌, IsTrue, IsSome, option_map}
 use Rattle.metadata.specs.File.{Bytes, File, Form, IsFileOf}
-use Rattle.metadata.specs.Shape.{IsShapeFault, max_file}
+use Rattle.metadata.specs.Shape.{IsShapeFault}
 use Rattle.metadata.specs.Shaped.{faulty, reads, shaped}
 use Rattle.metadata.specs.declared.documents.ShapeFault.{ShapeFault}
 use Rattle.metadata.specs.declared.documents.ShapeFault.TheVariants as shapes
@@ -29,7 +28,6 @@ use Rattle.machine.specs.declared.serving.GetFault.{GetFault}
 use Rattle.machine.specs.declared.serving.GetFault.TheVariants.{Denied, Load, OutOfMemory}
 use Rattle.machine.specs.declared.serving.LoadFault.TheVariants as loads
 use Rattle.machine.proofs.EachInTurn.{Follows, follows_ends}
-use Rattle.machine.proofs.HeldStates.{same_length}
 use Rattle.machine.proofs.ServedFrom.{loaded_bytes, none_missing}
 
 -- ---- answers
@@ -153,9 +151,6 @@ is_ill form view b c shapes.BadKeyId f (inl no_memory) is same = absurd cc
 is_ill form view b c shapes.BadKeyId f (inr h) is same = as_fault no.layout_shape f is (other_shape form b c shapes.BadKeyId h same)
 is_ill form view b c shapes.OutOfMemory f h is same = subst (λ (x : GetFault). Finds (read_as form c) view (Err x)) (sym is) forgoes
 
-pub is_long : {A X : Type 0} (form : Form A) (view : X → File A) (c : Bytes) → max_file < length c → read_as form c (Err (orders.Denied (Plain no.layout_shape)))
-is_long form view c long = other_shape form c c shapes.TooLong long refl
-
 -- such answers are by the layout
 number_of : {P : Type 0} (n : ℕ) (f : GetFault) → IsTrue (is_by_layout (Plain n)) → IsFaultOf n f → P → ToldFault P f
 number_of n (Denied d) by is p = (p, subst (λ x. IsTrue (is_by_layout x)) (sym is) by)
@@ -222,14 +217,3 @@ pub each_finds : {A B X Y : Type 0} (f : A → Order B) {view : X → B} {wide :
 each_finds f whole rest later x done e at follows (denies h) = denies (follows_ends f whole rest later x done _ at h follows)
 each_finds f whole rest later x done e at follows (fails n) = fails n
 each_finds f whole rest later x done e at follows forgoes = forgoes
-
--- the file is too long
-pub long_file : {H : Held} (S : State) (digest : Bytes) → held_of S ≡ H → nat_lt max_file (unwrap_or (length_at H.blobs digest) 0) ≡ true → max_file < length (bytes_at S digest)
-long_file {H} S digest is h =
-    let same : unwrap_or (length_at H.blobs digest) 0 ≡ length (bytes_at S digest) =
-    ap (λ (K : Held). unwrap_or (length_at K.blobs digest) 0) (sym is) ∙ (ap (λ (o : Option ℕ). unwrap_or o 0) (same_length S.blobs digest) ∙ at (blob_at S.blobs digest)) in
-    ltb-true max_file (length (bytes_at S digest)) (ap (λ (n : ℕ). nat_lt max_file n) (sym same) ∙ h)
-  where
-    at : (o : Option Bytes) → unwrap_or (option_map length o) 0 ≡ length (unwrap_or o [])
-    at (Some b) = refl
-    at None = refl

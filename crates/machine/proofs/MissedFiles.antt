@@ -180,7 +180,9 @@ holds-fine layout r links digest now =
     (λ _ s h. rules-fine h.chosen layout.body.steps r.step r.product digest s h.judged))))
 
 files-fine : (l : Listing) (r : LayoutReference) (now : ℕ) (b : Bytes) (bs : List Bytes) → Fine (files_hold l r now b bs)
-files-fine l r now b bs = then-fine _ _ (read-fine layout_form b) (λ layout. then-fine _ _ (each-fine _ bs (read-fine link_form)) (λ links. holds-fine layout r links l.digest now))
+files-fine l r now b bs =
+    then-fine _ _ (check-fine _ _) (λ _. then-fine _ _ (read-fine layout_form b)
+    (λ layout. then-fine _ _ (each-fine _ bs (read-fine link_form)) (λ links. holds-fine layout r links l.digest now)))
 
 -- ---- a search says of no blob that it is missing
 

@@ -97,7 +97,7 @@ find-definite V (e ∷ es) path now none h =
 pub search-definite : (V : Shelf) (path : Bytes) (now : ℕ) → Definite (search V path now)
 search-definite V path now = find-definite V _ path now _ (stop-definite _)
 
-blob_of-definite : (S : State) (path : Bytes) (l : Listing) → Definite (blob_of S path l)
+pub blob_of-definite : (S : State) (path : Bytes) (l : Listing) → Definite (blob_of S path l)
 blob_of-definite S path l =
     line (need_or-definite _ _) (λ blob. line (check-definite _ _) (λ _. give-definite blob))
 
@@ -120,7 +120,7 @@ support_answer-definite (Err (Denied (BlobMissing path digest len))) = stop-defi
 supporting-definite : {A : Type 0} (m : Order A) → Definite m → Definite (supporting m)
 supporting-definite m one = judged-definite m support_answer one support_answer-definite
 
-support-definite : (S : State) (V : Shelf) (now : ℕ) (path : Bytes) → Definite (support S V now path)
+pub support-definite : (S : State) (V : Shelf) (now : ℕ) (path : Bytes) → Definite (support S V now path)
 support-definite S V now path =
     line (supporting-definite _ (search-definite V path now)) (λ found.
     line (supporting-definite _ (blob_of-definite S path found.listing)) (λ blob.
@@ -142,9 +142,10 @@ module _ (law : Shapes) (verdict : OneVerdict) where
 
   files-definite : (l : Listing) (reference : LayoutReference) (now : ℕ) (b : Bytes) (bs : List Bytes) → Definite (files_hold l reference now b bs)
   files-definite l reference now b bs =
+      line (check-definite _ _) (λ _.
       line (read-definite _ layout-tells b) (λ layout.
       line (each-definite (read_as link_form) bs (read-definite _ link-tells)) (λ links.
-      verdict layout reference.owners reference.keys links reference.step reference.product l.digest now))
+      verdict layout reference.owners reference.keys links reference.step reference.product l.digest now)))
 
   reference-definite : (S : State) (V : Shelf) (now : ℕ) (l : Listing) (reference : Option LayoutReference) → Definite (reference_allows S V now l reference)
   reference-definite S V now l None = give-definite tt

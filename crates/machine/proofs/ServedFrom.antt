@@ -3,14 +3,15 @@ use Rattle.std.proofs.Common.{◌≡◌, List, [], ◌∷◌, Bool, true, false,
 use Rattle.std.proofs.lemmas.Bool.{true≢false}
 use Rattle.std.proofs.lemmas.List.Elements.{recursion_from_All}
 use Rattle.std.proofs.lemmas.Slice.Eq.{bytes_eq-Decides}
-use Rattle.std.specs.Prelude.{◌↔◌, bytes_eq, unwrap_or, IsSome}
+use Rattle.std.specs.Prelude.{◌↔◌, bytes_eq, unwrap_or, IfOk, IsSome}
 use Rattle.std.specs.List.{AllByRecursion}
+use Rattle.sha2.specs.Sha256.{sha256}
 use Rattle.metadata.specs.File.{Bytes}
 use Rattle.denials.specs.Orders.{Order}
 use Rattle.delegations.specs.Rows.{value_at}
 use Rattle.machine.specs.Held.{Held, StandsFor, held_of, length_at}
 use Rattle.machine.specs.Serving.{Serves, serves, fails}
-use Rattle.machine.specs.State.{State, blob_at}
+use Rattle.machine.specs.State.{State, IsBlob, IsState, blob_at}
 use Rattle.machine.specs.steps.Permitting.{IsLoaded, bytes_at}
 use Rattle.machine.specs.declared.serving.Served.{Served}
 use Rattle.machine.specs.declared.serving.LoadFault.TheVariants.{Missing, Database}
@@ -28,7 +29,7 @@ pub bytes_there : {H : Held} (S : State) (digest : Bytes) → held_of S ≡ H �
 bytes_there S digest is h = some_there (blob_at S.blobs digest) ((is_there S digest (ap (λ (H : Held). H.blobs) is)).0 h)
 
 -- what is so of each blob is so of that under a digest
-found_so : (P : Bytes → Bytes → Type 0) (rows : List (Bytes × Bytes)) (digest b : Bytes) → AllByRecursion (λ row. P row.0 row.1) rows
+pub found_so : (P : Bytes → Bytes → Type 0) (rows : List (Bytes × Bytes)) (digest b : Bytes) → AllByRecursion (λ row. P row.0 row.1) rows
     → value_at bytes_eq rows digest ≡ Some b → P digest b
 found_so P [] digest b all e = absurd cc
 found_so P (row ∷ rows) digest b all e = at (bytes_eq row.0 digest) refl (found_so P rows digest b all.1)
@@ -52,7 +53,7 @@ none_missing {Holds} digest S there stands missing = missing (bytes_at S digest)
 
 pub loaded_bytes : {honest : Type 0} {Holds : Bytes → Bytes → Type 0} {H : Held} (digest : Bytes) (s : Served) (S : State)
     → IsLoaded honest Holds digest (Ok s) → IsSome (length_at H.blobs digest) → honest → StandsFor H Holds S → s.bytes.items ≡ bytes_at S digest
-loaded_bytes {Holds = Holds} digest s S loaded there true_so stands = (same_bytes {Holds = Holds} digest S there stands s.bytes.items).0 (loaded.1 true_so)
+loaded_bytes {Holds = Holds} digest s S loaded there true_so stands = (same_bytes {Holds = Holds} digest S there stands s.bytes.items).0 (loaded.2 true_so)
 
 pub served_so : {honest : Type 0} {Holds : Bytes → Bytes → Type 0} {H : Held} {m : Order Bytes} (digest : Bytes) (r : Result Served GetFault) (S : State)
     → IsLoaded honest Holds digest r → IsSome (length_at H.blobs digest) → honest → StandsFor H Holds S → m (Ok (bytes_at S digest)) → Serves S m r
@@ -68,3 +69,17 @@ served_so {honest} {Holds} {H} {m} digest r S loaded there true_so stands given 
     by_result (Err (Load loads.OutOfMemory)) l = fails (λ e. absurd cc)
     by_result (Err (Denied d)) l = absurd l
     by_result (Err OutOfMemory) l = absurd l
+
+-- what was loaded has its digest, whatever it was loaded from
+pub loaded_digest : (honest : Type 0) (Holds : Bytes → Bytes → Type 0) (digest : Bytes) (r : Result Served GetFault) → IsLoaded honest Holds digest r → IfOk r (λ s. sha256 s.bytes.items ≡ s.digest.0)
+loaded_digest honest Holds digest (Ok s) l = l.1
+loaded_digest honest Holds digest (Err fault) l = tt
+
+-- and so has what a state has under it
+pub own_digest : (S : State) (digest b : Bytes) → IsState S → blob_at S.blobs digest ≡ Some b → sha256 b ≡ digest
+own_digest S digest b valid e =
+    found_so (λ d x. sha256 x ≡ d) S.blobs digest b (each S.blobs (recursion_from_All IsBlob S.blobs valid.blobs)) e
+  where
+    each : (rows : List (Bytes × Bytes)) → AllByRecursion IsBlob rows → AllByRecursion (λ row. sha256 row.1 ≡ row.0) rows
+    each [] all = tt
+    each (row ∷ rows) all = (all.0.digest, each rows all.1)

@@ -102,3 +102,7 @@ some_layout f None h = h
 pub no_layout_there : {A : Type 0} (o : Option A) → (IsSome o → ⊥) → IsNone o
 no_layout_there (Some a) h = absurd (h refl)
 no_layout_there None h = refl
+
+-- what is no path of a target is listed nowhere
+pub no_path : (T : Trusted) {path : Bytes} {now : ℕ} {at : Listed} → (IsTargetPath path → ⊥) → listed T path now (Ok at) → ⊥
+no_path T none (pass (holds is) h) = none is

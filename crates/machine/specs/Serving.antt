@@ -1,5 +1,6 @@
 -- Bytes by their digests, wherever they are, and what a request for a target answers from them.
 use Rattle.std.specs.Prelude.{◌≡◌, ◌≢◌, ◌++◌, ℕ, Bool, false, ◌&&◌, ◌||◌, ◌==◌, nat_le, Some, Result, Ok, Err, IsSome, IsTrue}
+use Rattle.sha2.specs.Sha256.{sha256}
 use Rattle.metadata.specs.File.{Bytes}
 use Rattle.denials.specs.Numbers as no
 use Rattle.denials.specs.Orders as orders
@@ -9,16 +10,17 @@ use Rattle.denials.specs.declared.denial.Denial.{Denial}
 use Rattle.machine.specs.Commands.{Listed, listed}
 use Rattle.machine.specs.Held.{Held, OfEachState}
 use Rattle.machine.specs.State.{Trusted, State, blob_at}
+use Rattle.machine.specs.Supports.{HasLongSupport, blob_of}
 use Rattle.machine.specs.declared.serving.Served.{Served}
 use Rattle.machine.specs.declared.serving.LoadFault.{LoadFault}
 use Rattle.machine.specs.declared.serving.LoadFault.TheVariants.{Missing}
 use Rattle.machine.specs.declared.serving.GetFault.{GetFault}
 use Rattle.machine.specs.declared.serving.GetFault.TheVariants.{Denied, Load, OutOfMemory}
 
--- a call for the bytes of a digest: they stand behind what was there, and where they are missing there are none, unless an answer was a
--- wrong one. On a fault, what was there is as before
+-- a call for the bytes of a digest: bytes that have it stand behind what was there. They are those that are held, and where they are
+-- missing none are, unless an answer was a wrong one. On a fault, what was there is as before
 abbrev pub Leaves : Type 0 → (Bytes → Bytes → Type 0) → Bytes → Bytes → Result (Unit {0}) LoadFault → Bytes → Type 0
-Leaves honest Holds digest old (Ok _) new = honest → (bytes : Bytes) × Holds digest bytes × (new ≡ old ++ bytes)
+Leaves honest Holds digest old (Ok _) new = (bytes : Bytes) × (new ≡ old ++ bytes) × (sha256 bytes ≡ digest) × (honest → Holds digest bytes)
 Leaves honest Holds digest old (Err Missing) new = (new ≡ old) × (honest → (bytes : Bytes) → Holds digest bytes → ⊥)
 Leaves honest Holds digest old (Err fault) new = new ≡ old
 
@@ -50,3 +52,33 @@ pub data IsRefused (H : Held) (m : State → Order Bytes) (path : Bytes) (now : 
 abbrev pub Refuses : Held → (State → Order Bytes) → Bytes → ℕ → Type 0 → Type 0 → Result Served GetFault → Type 0
 Refuses H m path now unloaded loaded (Err (Denied d)) = IsRefused H m path now unloaded loaded d
 Refuses H m path now unloaded loaded _ = Unit {0}
+
+-- the target is listed and held, and its layout or a link of it, all found and held and without layouts, is too long for a document
+pub record HasLongFile (S : State) (path : Bytes) (now : ℕ) : Type 0 where
+  pub at : Listed
+  pub bytes : Bytes
+  pub lists : listed S.trusted path now (Ok at)
+  pub there : blob_of S path at.listing (Ok bytes)
+  pub long : HasLongSupport S at.shelf now at.listing.layout
+
+-- the denial of a layout or a link that is no document, or want of memory
+abbrev pub IsShapeDenial : {A : Type 0} → Result A GetFault → Type 0
+IsShapeDenial (Err (Denied d)) = denial_view d ≡ orders.Plain no.layout_shape
+IsShapeDenial (Err OutOfMemory) = Unit {0}
+IsShapeDenial r = ⊥
+
+-- a file that is too long is told by its length, which is held: then that is the denial, and nothing is loaded
+abbrev pub RefusesLong : {A : Type 0} → Held → Bytes → ℕ → Type 0 → Result A GetFault → Type 0
+RefusesLong H path now unloaded r = OfEachState H (λ S. HasLongFile S path now → unloaded × IsShapeDenial r)
+
+-- no answer of the rules: bytes were not loaded, or memory was refused
+abbrev pub IsFault : Result Served GetFault → Type 0
+IsFault (Err (Load fault)) = Unit {0}
+IsFault (Err OutOfMemory) = Unit {0}
+IsFault r = ⊥
+
+-- the same file with the same digest, or the same denial
+abbrev pub IsSameAnswer : Result Served GetFault → Result Served GetFault → Type 0
+IsSameAnswer (Ok s) (Ok t) = (s.digest.0 ≡ t.digest.0) × (s.bytes.items ≡ t.bytes.items)
+IsSameAnswer (Err (Denied d)) (Err (Denied e)) = denial_view d ≡ denial_view e
+IsSameAnswer r q = ⊥

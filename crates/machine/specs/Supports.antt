@@ -1,8 +1,10 @@
 -- What a target with a layout is judged by: the layout and its links are targets themselves, none of which has a layout
 -- (in-toto 1.0, section 5.2; this project's profile).
-use Rattle.std.specs.Prelude.{◌≡◌, ℕ, length, List, Option, Some, None, Ok, Err, IsNone}
+use Rattle.std.specs.Prelude.{◌≡◌, ℕ, ◌≤◌, length, List, ◌∷◌, Option, Some, None, Ok, Err, IsNone}
+use Rattle.std.specs.List.{AllByRecursion}
 use Rattle.metadata.specs.Documents.{Listing, LayoutReference}
 use Rattle.metadata.specs.File.{Bytes, File, Form, layout_form, link_form}
+use Rattle.metadata.specs.Shape.{max_file}
 use Rattle.metadata.specs.Shaped.{shaped}
 use Rattle.denials.specs.Numbers as no
 use Rattle.denials.specs.Orders.{BlobMissing, Denied, Judged, Order, Plain, ◌>>=◌, ◌>>◌, give, stop, denied, check, need_or, each, judged}
@@ -34,9 +36,14 @@ layout_answer (Err s) = denied no.layout_shape
 abbrev pub read_as : {A : Type 0} → Form A → Bytes → Order (File A)
 read_as form b = judged (shaped form b) layout_answer
 
--- what the layout and its links are, and what they say
+-- the layout and its links are each short enough for a document
+abbrev pub AreShort : Bytes → List Bytes → Type 0
+AreShort layout_bytes link_bytes = AllByRecursion (λ b. length b ≤ max_file) (layout_bytes ∷ link_bytes)
+
+-- what the layout and its links are, and what they say. Their lengths come first, since these are known before any bytes are
 abbrev pub files_hold : Listing → LayoutReference → ℕ → Bytes → List Bytes → Order (Unit {0})
 files_hold listing reference now layout_bytes link_bytes = do
+  check no.layout_shape (AreShort layout_bytes link_bytes)
   layout ← read_as layout_form layout_bytes
   links ← each (read_as link_form) link_bytes
   layout_holds layout reference.owners reference.keys links reference.step reference.product listing.digest now
@@ -61,3 +68,15 @@ module _ (S : State) (V : Shelf) (now : ℕ) where
   abbrev pub reference_allows : Listing → Option LayoutReference → Order (Unit {0})
   reference_allows listing None = give tt
   reference_allows listing (Some reference) = reference_holds listing reference
+
+  -- the layout and its links are found and held, none has a layout, and one is too long for a document
+  pub record IsLongSupport (reference : LayoutReference) : Type 0 where
+    pub layout_bytes : Bytes
+    pub link_bytes : List Bytes
+    pub layout : support reference.path (Ok layout_bytes)
+    pub links : each support reference.links (Ok link_bytes)
+    pub long : AreShort layout_bytes link_bytes → ⊥
+
+  abbrev pub HasLongSupport : Option LayoutReference → Type 0
+  HasLongSupport None = ⊥
+  HasLongSupport (Some reference) = IsLongSupport reference

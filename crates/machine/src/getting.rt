@@ -1,10 +1,11 @@
 //! What a target is (TUF 1.0, section 5.7; in-toto 1.0, section 5.2).
-ghost use Rattle.std.specs.Prelude.{◌≡◌, ◌⊎◌, ◌-◌, ◌≤◌, ◌<◌, ◌^◌, None, Some, Err, IfOk, IsSome, OnOk, option_map};
+ghost use Rattle.std.specs.Prelude.{◌≡◌, ◌⊎◌, ◌+◌, ◌-◌, ◌≤◌, ◌<◌, ◌^◌, None, Some, Err, IfOk, IsSome, OnOk, option_map};
+ghost use Rattle.sha2.specs.Sha256.{sha256};
 ghost use Rattle.machine.specs.Answers.{Gives};
 ghost use Rattle.machine.specs.Commands as commands;
 ghost use Rattle.machine.specs.Held.{StandsFor, held_of, length_at};
 ghost use Rattle.machine.specs.Knowing.{ChecksFew, WantsFew};
-ghost use Rattle.machine.specs.Serving.{HasLayout, Refuses, Serves};
+ghost use Rattle.machine.specs.Serving.{HasLayout, Refuses, RefusesLong, Serves};
 ghost use Rattle.machine.specs.State as trust;
 ghost use Rattle.machine.specs.State.{blob_at};
 ghost use Rattle.machine.specs.steps.Permitting.{IsLentSo, Reads, Stands, bytes_at};
@@ -40,8 +41,9 @@ pub fn get<'a>(
     get_counted(alloc, state, path, now, &mut Steps::new())
 }
 
-/// The same, with one tick for each signature that is checked in a search. For a target without a layout these are at most as many
-/// as its search meets of which nothing is known, and none where the pairs that searches may meet are at most 2,048.
+/// The same, with one tick for each signature that is checked in a search. For a target without a layout these are at most 512, of 32
+/// documents with 16 signatures each, and at most as many as its search meets of which nothing is known. None is checked where the pairs
+/// that searches may meet are at most 2,048, whether the target has a layout or not.
 pub fn get_counted<'a>(
     alloc: Global,
     state: &'a State,
@@ -54,6 +56,7 @@ pub fn get_counted<'a>(
     ensures grows { checks.old ≤ checks.new }
     ensures few { (HasLayout state.now.state.trusted path.now now → ⊥)
         → ChecksFew state.now.state.trusted.root state.now.state.trusted.snapshot state.now.state.trusted.shelf state.now.verdicts path.now now (checks.new - checks.old) }
+    ensures most { (HasLayout state.now.state.trusted path.now now → ⊥) → checks.new ≤ checks.old + 512 }
     ensures free { WantsFew state.now.state.trusted → checks.new ≡ checks.old }
 {
     state.is_valid();
@@ -78,7 +81,15 @@ pub fn target<'a>(
 {
     state.is_valid();
     let mut own = state;
-    match permitted_text(alloc, state.held(), &mut own, path, asked, now) {
+    match permitted_text(
+        alloc,
+        state.held(),
+        &mut own,
+        path,
+        asked,
+        now,
+        &mut Steps::new(),
+    ) {
         Ok(digest) => Ok(lent(state, digest)),
         Err(fault) => Err(lent_refusal(fault)),
     }
@@ -96,6 +107,8 @@ pub fn get_from<B: Blobs>(
 ) -> Result<Served, GetFault>
     ensures answer { B.IsHonest blobs.new → (S : trust.State) → StandsFor held.now.held (B.Holds blobs.old) S → Serves S (commands.grants S path.now None now) result }
     ensures denial { Refuses held.now.held (λ S. commands.grants S path.now None now) path.now now (blobs.new ≡ blobs.old) (B.HasLoaded blobs.new) result }
+    ensures long { RefusesLong held.now.held path.now now (blobs.new ≡ blobs.old) result }
+    ensures digest { IfOk result (λ s. sha256 s.bytes.items ≡ s.digest.0) }
     ensures becomes { (blobs.new ≡ blobs.old) ⊎ B.MayBecome blobs.old blobs.new }
     ensures loaded { OnOk result (B.HasLoaded blobs.new) }
 {
@@ -114,11 +127,14 @@ pub fn get_from_counted<B: Blobs>(
     requires { checks.old < 2 ^ 63 }
     ensures answer { B.IsHonest blobs.new → (S : trust.State) → StandsFor held.now.held (B.Holds blobs.old) S → Serves S (commands.grants S path.now None now) result }
     ensures denial { Refuses held.now.held (λ S. commands.grants S path.now None now) path.now now (blobs.new ≡ blobs.old) (B.HasLoaded blobs.new) result }
+    ensures long { RefusesLong held.now.held path.now now (blobs.new ≡ blobs.old) result }
+    ensures digest { IfOk result (λ s. sha256 s.bytes.items ≡ s.digest.0) }
     ensures becomes { (blobs.new ≡ blobs.old) ⊎ B.MayBecome blobs.old blobs.new }
     ensures loaded { OnOk result (B.HasLoaded blobs.new) }
     ensures grows { checks.old ≤ checks.new }
     ensures few { (HasLayout held.now.held.trusted path.now now → ⊥)
         → ChecksFew held.now.held.trusted.root held.now.held.trusted.snapshot held.now.held.trusted.shelf held.now.verdicts path.now now (checks.new - checks.old) }
+    ensures most { (HasLayout held.now.held.trusted path.now now → ⊥) → checks.new ≤ checks.old + 512 }
     ensures free { WantsFew held.now.held.trusted → checks.new ≡ checks.old }
 {
     match permitted(alloc, held, blobs, path, None, now, checks) {
@@ -139,10 +155,39 @@ pub fn target_from<B: Blobs>(
     ensures answer { B.IsHonest blobs.new → (S : trust.State) → StandsFor held.now.held (B.Holds blobs.old) S
         → Serves S (commands.grants S path.now (option_map (λ d. d.0) asked) now) result }
     ensures denial { Refuses held.now.held (λ S. commands.grants S path.now (option_map (λ d. d.0) asked) now) path.now now (blobs.new ≡ blobs.old) (B.HasLoaded blobs.new) result }
+    ensures long { RefusesLong held.now.held path.now now (blobs.new ≡ blobs.old) result }
+    ensures digest { IfOk result (λ s. sha256 s.bytes.items ≡ s.digest.0) }
     ensures becomes { (blobs.new ≡ blobs.old) ⊎ B.MayBecome blobs.old blobs.new }
     ensures loaded { OnOk result (B.HasLoaded blobs.new) }
 {
-    match permitted_text(alloc, held, blobs, path, asked, now) {
+    target_from_counted(alloc, held, blobs, path, asked, now, &mut Steps::new())
+}
+
+/// The same, with the ticks of `get_counted`. A text that is no path of a target checks nothing.
+pub fn target_from_counted<B: Blobs>(
+    alloc: Global,
+    held: &Held,
+    blobs: &mut B,
+    path: &str,
+    asked: Option<Digest>,
+    now: Moment,
+    checks: &mut Steps,
+) -> Result<Served, GetFault>
+    requires { checks.old < 2 ^ 63 }
+    ensures answer { B.IsHonest blobs.new → (S : trust.State) → StandsFor held.now.held (B.Holds blobs.old) S
+        → Serves S (commands.grants S path.now (option_map (λ d. d.0) asked) now) result }
+    ensures denial { Refuses held.now.held (λ S. commands.grants S path.now (option_map (λ d. d.0) asked) now) path.now now (blobs.new ≡ blobs.old) (B.HasLoaded blobs.new) result }
+    ensures long { RefusesLong held.now.held path.now now (blobs.new ≡ blobs.old) result }
+    ensures digest { IfOk result (λ s. sha256 s.bytes.items ≡ s.digest.0) }
+    ensures becomes { (blobs.new ≡ blobs.old) ⊎ B.MayBecome blobs.old blobs.new }
+    ensures loaded { OnOk result (B.HasLoaded blobs.new) }
+    ensures grows { checks.old ≤ checks.new }
+    ensures few { (HasLayout held.now.held.trusted path.now now → ⊥)
+        → ChecksFew held.now.held.trusted.root held.now.held.trusted.snapshot held.now.held.trusted.shelf held.now.verdicts path.now now (checks.new - checks.old) }
+    ensures most { (HasLayout held.now.held.trusted path.now now → ⊥) → checks.new ≤ checks.old + 512 }
+    ensures free { WantsFew held.now.held.trusted → checks.new ≡ checks.old }
+{
+    match permitted_text(alloc, held, blobs, path, asked, now, checks) {
         Ok(digest) => load(alloc, blobs, digest),
         Err(fault) => Err(fault),
     }
@@ -156,16 +201,24 @@ fn permitted_text<B: Blobs>(
     path: &str,
     asked: Option<Digest>,
     now: Moment,
+    checks: &mut Steps,
 ) -> Result<Digest, GetFault>
+    requires { checks.old < 2 ^ 63 }
     ensures stands { Stands held.now.held (B.IsHonest blobs.new) (B.Holds blobs.old) (blobs.new ≡ blobs.old) (B.HasLoaded blobs.new × HasLayout held.now.held.trusted path.now now)
         (λ S. commands.grants S path.now (option_map (λ d. d.0) asked) now) (λ S d. bytes_at S d.0) result }
     ensures reads { Reads B.IsHonest B.Holds B.MayBecome blobs.old blobs.new }
+    ensures long { RefusesLong held.now.held path.now now (blobs.new ≡ blobs.old) result }
     ensures held { IfOk result (λ d. IsSome (length_at held.now.held.blobs d.0)) }
+    ensures grows { checks.old ≤ checks.new }
+    ensures few { (HasLayout held.now.held.trusted path.now now → ⊥)
+        → ChecksFew held.now.held.trusted.root held.now.held.trusted.snapshot held.now.held.trusted.shelf held.now.verdicts path.now now (checks.new - checks.old) }
+    ensures most { (HasLayout held.now.held.trusted path.now now → ⊥) → checks.new ≤ checks.old + 512 }
+    ensures free { WantsFew held.now.held.trusted → checks.new ≡ checks.old }
 {
     let Some(path) = TargetPath::read(alloc, path)? else {
         return Err(GetFault::Denied(Denial::BadPath));
     };
-    permitted(alloc, held, blobs, &path, asked, now, &mut Steps::new())
+    permitted(alloc, held, blobs, &path, asked, now, checks)
 }
 
 // The digest of the file of a target, which is held with the length that the listing says, which its layout allows, if it has one, and
@@ -183,10 +236,12 @@ fn permitted<B: Blobs>(
     ensures stands { Stands held.now.held (B.IsHonest blobs.new) (B.Holds blobs.old) (blobs.new ≡ blobs.old) (B.HasLoaded blobs.new × HasLayout held.now.held.trusted path.now now)
         (λ S. commands.grants S path.now (option_map (λ d. d.0) asked) now) (λ S d. bytes_at S d.0) result }
     ensures reads { Reads B.IsHonest B.Holds B.MayBecome blobs.old blobs.new }
+    ensures long { RefusesLong held.now.held path.now now (blobs.new ≡ blobs.old) result }
     ensures held { IfOk result (λ d. IsSome (length_at held.now.held.blobs d.0)) }
     ensures grows { checks.old ≤ checks.new }
     ensures few { (HasLayout held.now.held.trusted path.now now → ⊥)
         → ChecksFew held.now.held.trusted.root held.now.held.trusted.snapshot held.now.held.trusted.shelf held.now.verdicts path.now now (checks.new - checks.old) }
+    ensures most { (HasLayout held.now.held.trusted path.now now → ⊥) → checks.new ≤ checks.old + 512 }
     ensures free { WantsFew held.now.held.trusted → checks.new ≡ checks.old }
 {
     let at = find_listing(alloc, held, path, now, checks)?;

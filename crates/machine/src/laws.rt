@@ -20,8 +20,11 @@ ghost use Rattle.machine.specs.Effects.{Effects, applied};
 ghost use Rattle.machine.specs.Held.{IsHeld, held_of, held_with};
 ghost use Rattle.machine.specs.Resending.{IsAllSame, IsInOrder};
 ghost use Rattle.machine.specs.Runs.{Batch, BatchDone, Command, Target, Reply, Refused, Outcome, IsGranted, Steps, Runs, StaysCoherent, with_trusted};
+ghost use Rattle.machine.specs.Serving.{IsFault, IsSameAnswer, Serves};
 ghost use Rattle.machine.specs.declared.outcome.Batched as answered;
 ghost use Rattle.machine.specs.declared.refusal.BatchRefusal.{BatchRefusal};
+ghost use Rattle.machine.specs.declared.serving.Served.{Served};
+ghost use Rattle.machine.specs.declared.serving.GetFault.{GetFault};
 
 use delegations::{search_grows, search_is_sound};
 use layouts::one_verdict;
@@ -68,11 +71,16 @@ pub fn stays_coherent()
     ensures { StaysCoherent }
 {}
 
-/// A law, which does nothing: a prune changes no answer. Each request for a target has the same end before it and after it.
+/// A law, which does nothing: a prune changes no answer. Each request for a target has the same end before it and after it. So what is
+/// answered by `get_from` and `target_from` is the same file under the same digest, or the same denial, unless it is a fault.
 pub fn prune_keeps_answers()
-    ensures { (S T : State) → prune S (Ok T) → GrantAlike S T }
+    ensures grants { (S T : State) → prune S (Ok T) → GrantAlike S T }
+    ensures answers { (S T : State) → IsState S → prune S (Ok T) → (path : Bytes) (asked : Option Bytes) (now : ℕ) (before after : Result Served GetFault)
+        → Serves S (grants S path asked now) before → Serves T (grants T path asked now) after → (IsFault before → ⊥) → (IsFault after → ⊥)
+        → IsSameAnswer before after }
 {
     search_is_sound();
+    one_judgement();
 }
 
 /// A law, which does nothing: new roots leave the rows of those before as they are, and stand behind them.

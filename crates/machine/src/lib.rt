@@ -41,7 +41,9 @@ pub use delegations::{
 };
 pub use denials::Denial;
 pub use effects::{Blob, Changes, Effects, Gone};
-pub use getting::{get, get_counted, get_from, get_from_counted, target, target_from};
+pub use getting::{
+    get, get_counted, get_from, get_from_counted, target, target_from, target_from_counted,
+};
 pub use held::Held;
 pub use laws::{
     accepts_new, chains_go_on, granted_blobs, held_follows, missed_files, names_find,

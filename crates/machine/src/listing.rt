@@ -1,5 +1,5 @@
 //! Where what is trusted lists a path (TUF 1.0, section 5.6.7), and whether the file is held.
-ghost use Rattle.std.specs.Prelude.{◌≡◌, ◌↔◌, ◌-◌, ◌≤◌, ◌<◌, ◌^◌, IfOk, IfSome, IsSome, IsTrue, option_map};
+ghost use Rattle.std.specs.Prelude.{◌≡◌, ◌↔◌, ◌+◌, ◌-◌, ◌≤◌, ◌<◌, ◌^◌, IfOk, IfSome, IsSome, IsTrue, option_map};
 ghost use Rattle.delegations.specs.Delegation.{before};
 ghost use Rattle.delegations.specs.Rows.{Rises, place_before};
 ghost use Rattle.delegations.specs.Search.{search};
@@ -50,6 +50,7 @@ pub(crate) fn find_listing<'a>(
     ensures known { IfOk result (λ at. AreTrue (searches.shelf_view at.shelf).rows held.now.verdicts) }
     ensures wanted { IfOk result (λ at. WantsFew held.now.held.trusted → AreFew (searches.shelf_view at.shelf) × IsComplete (searches.shelf_view at.shelf) held.now.verdicts) }
     ensures grows { checks.old ≤ checks.new }
+    ensures most { checks.new ≤ checks.old + 512 }
     ensures few { ChecksFew held.now.held.trusted.root held.now.held.trusted.snapshot held.now.held.trusted.shelf held.now.verdicts path.now now (checks.new - checks.old) }
     ensures free { WantsFew held.now.held.trusted → checks.new ≡ checks.old }
 {
@@ -92,6 +93,7 @@ pub(crate) fn find<'a>(
     requires room { checks.old < 2 ^ 63 }
     ensures answer { Gives (search (searches.shelf_view shelf.now) path.now now) searches.found_view result }
     ensures grows { checks.old ≤ checks.new }
+    ensures most { checks.new ≤ checks.old + 512 }
     ensures costs { Costs (searches.shelf_view shelf.now) known.now path.now now (checks.new - checks.old) }
     ensures free { AreFew (searches.shelf_view shelf.now) → IsComplete (searches.shelf_view shelf.now) known.now → checks.new ≡ checks.old }
 {

@@ -1,5 +1,6 @@
 //! Bytes of blobs that are elsewhere, and what a request for a target answers from them.
-ghost use Rattle.std.specs.Prelude.{◌≡◌, ◌↔◌, OnOk};
+ghost use Rattle.std.specs.Prelude.{◌≡◌, ◌↔◌, IfOk, OnOk};
+ghost use Rattle.sha2.specs.Sha256.{sha256};
 ghost use Rattle.metadata.specs.File.{Bytes};
 ghost use Rattle.machine.specs.Serving.{Leaves};
 ghost use Rattle.machine.specs.steps.Permitting.{IsLoaded, Reads};
@@ -41,7 +42,7 @@ pub trait Blobs {
     /// What is so of it once bytes were loaded.
     ghost HasLoaded: { Self → Type 0 };
 
-    /// Puts the bytes with this digest behind what is there. On a fault, what is there is as before.
+    /// Puts bytes that have this digest behind what is there. On a fault, what is there is as before.
     fn load(&mut self, digest: &Digest, out: &mut Vec<u8>) -> Result<(), LoadFault>
         ensures leaves { Leaves (IsHonest self.new) (Holds self.old) digest.now.0 out.old.items result out.new.items }
         ensures stays { IsHonest self.new → (digest bytes : Bytes) → Holds self.old digest bytes ↔ Holds self.new digest bytes }
@@ -165,6 +166,7 @@ pub(crate) fn load<B: Blobs>(
     digest: Digest,
 ) -> Result<Served, GetFault>
     ensures loads { IsLoaded (B.IsHonest blobs.new) (B.Holds blobs.old) digest.0 result }
+    ensures digest { IfOk result (λ s. sha256 s.bytes.items ≡ s.digest.0) }
     ensures reads { Reads B.IsHonest B.Holds B.MayBecome blobs.old blobs.new }
     ensures loaded { OnOk result (B.HasLoaded blobs.new) }
 {

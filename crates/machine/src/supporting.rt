@@ -1,6 +1,6 @@
 //! The files that a target's layout needs, and whether the layout allows the target (in-toto 1.0, section 5.2).
-ghost use Rattle.std.specs.Prelude.{◌≡◌, ◌↔◌, ◌≤◌, map, nat_lt, unwrap_or, IfOk, IsNone, IsSome, IsTrue, OnOk};
-ghost use Rattle.std.specs.List.{AllByRecursion};
+ghost use Rattle.std.specs.Prelude.{◌≡◌, ◌↔◌, ◌≤◌, ◌∷◌, false, map, IfOk, IsNone, IsSome, IsTrue};
+ghost use Rattle.std.specs.List.{AllByRecursion, list_all};
 ghost use Rattle.contents.specs.Contents.{lengths_of};
 ghost use Rattle.delegations.specs.Delegation.{before};
 ghost use Rattle.delegations.specs.Rows.{Rises};
@@ -11,14 +11,15 @@ ghost use Rattle.denials.specs.Orders.{each};
 ghost use Rattle.denials.specs.Views.{denial_view};
 ghost use Rattle.metadata.specs.File.{layout_form, link_form};
 ghost use Rattle.metadata.specs.FileViews.{layout_file, link_file};
-ghost use Rattle.metadata.specs.Shape.{max_file};
 ghost use Rattle.metadata.specs.Views.{listing_view, reference_view};
 ghost use Rattle.machine.specs.Answers.{Gives};
+ghost use Rattle.machine.specs.Held as holding;
 ghost use Rattle.machine.specs.Held.{OfEachState, StandsFor, length_at};
+ghost use Rattle.machine.specs.Serving.{IsShapeDenial};
 ghost use Rattle.machine.specs.State as trust;
 ghost use Rattle.machine.specs.Supports as supports;
 ghost use Rattle.machine.specs.Views.{length_views};
-ghost use Rattle.machine.specs.steps.Permitting.{Finds, IsShapeAnswer, IsSupportOf, Reads, Stands, Told, all_bytes_at, bytes_at, names_missing};
+ghost use Rattle.machine.specs.steps.Permitting.{Finds, IsShapeAnswer, IsSupportOf, Reads, Stands, Told, all_bytes_at, bytes_at, is_short_in, names_missing};
 
 use crate::blobs::length_of;
 use crate::held::Held;
@@ -40,7 +41,7 @@ use std::alloc::Global;
 const MOST: usize = 262_144;
 
 /// Whether the layout of a listing, if it has one, allows the file. Its bytes and those of its links are loaded once all of them are
-/// found and none has a layout, and are dropped when it is judged.
+/// found, none has a layout and none is too long for a document, and are dropped when it is judged.
 pub(crate) fn judge_layout<B: Blobs>(
     alloc: Global,
     held: &Held,
@@ -53,6 +54,7 @@ pub(crate) fn judge_layout<B: Blobs>(
     ensures stands { Stands held.now.held (B.IsHonest blobs.new) (B.Holds blobs.old) (blobs.new ≡ blobs.old) (B.HasLoaded blobs.new × IsSome at.now.listing.now.layout)
         (λ S. supports.reference_allows S (shelf_view at.now.shelf) now (listing_view at.now.listing.now) (listing_view at.now.listing.now).layout) (λ S u. u) result }
     ensures reads { Reads B.IsHonest B.Holds B.MayBecome blobs.old blobs.new }
+    ensures long { OfEachState held.now.held (λ S. supports.HasLongSupport S (shelf_view at.now.shelf) now (listing_view at.now.listing.now).layout → (blobs.new ≡ blobs.old) × IsShapeDenial result) }
     ensures plain { IsNone at.now.listing.now.layout → blobs.new ≡ blobs.old }
     ensures unticked { IsNone at.now.listing.now.layout → checks.new ≡ checks.old }
     ensures grows { checks.old ≤ checks.new }
@@ -218,10 +220,14 @@ fn judge_files<B: Blobs>(
     ensures stands { Stands held.now.held (B.IsHonest blobs.new) (B.Holds blobs.old) (blobs.new ≡ blobs.old) (B.HasLoaded blobs.new)
         (λ S. supports.files_hold (listing_view listing.now) (reference_view reference.now) now (bytes_at S files.entry.0.0) (all_bytes_at S files.entry.1.now)) (λ S u. u) result }
     ensures reads { Reads B.IsHonest B.Holds B.MayBecome blobs.old blobs.new }
+    ensures long { list_all (is_short_in held.now.held.blobs) (files.entry.0 ∷ files.entry.1.now) ≡ false → (blobs.new ≡ blobs.old) × IsShapeDenial result }
 {
     let (layout, links) = files;
-    let layout = read_layout(alloc, held, blobs, layout)?;
-    let links = read_links(alloc, held, blobs, links)?;
+    if !are_short(held, layout, links) {
+        return Err(GetFault::Denied(Denial::LayoutShape));
+    }
+    let layout = read_layout(alloc, blobs, layout)?;
+    let links = read_links(alloc, blobs, links)?;
     check_layout(
         alloc,
         &layout,
@@ -235,22 +241,44 @@ fn judge_files<B: Blobs>(
     Ok(())
 }
 
+// Whether a layout and its links, which have these digests, are each short enough for a document.
+fn are_short(held: &Held, layout: Digest, links: &[Digest]) -> bool
+    ensures { result ≡ list_all (is_short_in held.now.held.blobs) (layout ∷ links.now) }
+{
+    if !is_short(held, layout) {
+        return false;
+    }
+    let mut rest = links;
+    'links: while let Some((link, later)) = rest.split_first() {
+        if !is_short(held, *link) {
+            return false;
+        }
+        rest = later;
+    }
+    true
+}
+
+// Whether the file with this digest is short enough for a document.
+fn is_short(held: &Held, digest: Digest) -> bool
+    ensures { result ≡ is_short_in held.now.held.blobs digest }
+{
+    match length_of(held.lengths(), &digest) {
+        Some(length) => length <= MOST,
+        None => true,
+    }
+}
+
 // The layout with this digest.
 fn read_layout<B: Blobs>(
     alloc: Global,
-    held: &Held,
     blobs: &mut B,
     digest: Digest,
 ) -> Result<File<Layout>, GetFault>
-    requires { IsSome (length_at held.now.held.blobs digest.0) }
-    ensures stands { Stands held.now.held (B.IsHonest blobs.new) (B.Holds blobs.old) (blobs.new ≡ blobs.old) (B.HasLoaded blobs.new)
-        (λ S. supports.read_as layout_form (bytes_at S digest.0)) (λ S f. layout_file f) result }
+    ensures finds { B.IsHonest blobs.new → (H : holding.Held) (S : trust.State) → StandsFor H (B.Holds blobs.old) S → IsSome (length_at H.blobs digest.0)
+        → Finds (supports.read_as layout_form (bytes_at S digest.0)) layout_file result }
     ensures reads { Reads B.IsHonest B.Holds B.MayBecome blobs.old blobs.new }
-    ensures loaded { OnOk result (B.HasLoaded blobs.new) }
+    ensures told { Told (B.HasLoaded blobs.new) result }
 {
-    if is_too_long(held, digest) {
-        return Err(GetFault::Denied(Denial::LayoutShape));
-    }
     let file = load(alloc, blobs, digest)?;
     match read_layout_file(alloc, &file.bytes) {
         Ok(layout) => Ok(layout),
@@ -261,12 +289,10 @@ fn read_layout<B: Blobs>(
 // The links with these digests.
 fn read_links<B: Blobs>(
     alloc: Global,
-    held: &Held,
     blobs: &mut B,
     digests: &[Digest],
 ) -> Result<Vec<File<Link>>, GetFault>
-    requires { AllByRecursion (λ d. IsSome (length_at held.now.held.blobs d.0)) digests.now }
-    ensures finds { B.IsHonest blobs.new → (S : trust.State) → StandsFor held.now.held (B.Holds blobs.old) S
+    ensures finds { B.IsHonest blobs.new → (H : holding.Held) (S : trust.State) → StandsFor H (B.Holds blobs.old) S → AllByRecursion (λ d. IsSome (length_at H.blobs d.0)) digests.now
         → Finds (each (supports.read_as link_form) (all_bytes_at S digests.now)) (λ ls. map link_file ls.items) result }
     ensures reads { Reads B.IsHonest B.Holds B.MayBecome blobs.old blobs.new }
     ensures told { B.HasLoaded blobs.old → Told (B.HasLoaded blobs.new) result }
@@ -274,7 +300,7 @@ fn read_links<B: Blobs>(
     let mut links = Vec::new(alloc);
     let mut rest = digests;
     'digests: while let Some((digest, later)) = rest.split_first() {
-        let link = read_link(alloc, held, blobs, *digest)?;
+        let link = read_link(alloc, blobs, *digest)?;
         links.push(link)?;
         rest = later;
     }
@@ -284,33 +310,18 @@ fn read_links<B: Blobs>(
 // The link with this digest.
 fn read_link<B: Blobs>(
     alloc: Global,
-    held: &Held,
     blobs: &mut B,
     digest: Digest,
 ) -> Result<File<Link>, GetFault>
-    requires { IsSome (length_at held.now.held.blobs digest.0) }
-    ensures finds { B.IsHonest blobs.new → (S : trust.State) → StandsFor held.now.held (B.Holds blobs.old) S
+    ensures finds { B.IsHonest blobs.new → (H : holding.Held) (S : trust.State) → StandsFor H (B.Holds blobs.old) S → IsSome (length_at H.blobs digest.0)
         → Finds (supports.read_as link_form (bytes_at S digest.0)) link_file result }
     ensures reads { Reads B.IsHonest B.Holds B.MayBecome blobs.old blobs.new }
-    ensures told { B.HasLoaded blobs.old → Told (B.HasLoaded blobs.new) result }
+    ensures told { Told (B.HasLoaded blobs.new) result }
 {
-    if is_too_long(held, digest) {
-        return Err(GetFault::Denied(Denial::LayoutShape));
-    }
     let file = load(alloc, blobs, digest)?;
     match read_link_file(alloc, &file.bytes) {
         Ok(link) => Ok(link),
         Err(fault) => Err(shape_answer(fault)),
-    }
-}
-
-// Whether the file with this digest is too long for a document.
-fn is_too_long(held: &Held, digest: Digest) -> bool
-    ensures { result ≡ nat_lt max_file (unwrap_or (length_at held.now.held.blobs digest.0) 0) }
-{
-    match length_of(held.lengths(), &digest) {
-        Some(length) => length > MOST,
-        None => false,
     }
 }
 

@@ -1,5 +1,7 @@
 -- What the parts of a request for a target say of the bytes that they do not see, and of those that they load.
-use Rattle.std.specs.Prelude.{◌≡◌, ◌≢◌, ◌↔◌, ◌⊎◌, ℕ, Bool, true, false, cond, List, [], map, unwrap_or, Result, Ok, Err, IsTrue}
+use Rattle.std.specs.Prelude.{◌≡◌, ◌≢◌, ◌↔◌, ◌⊎◌, ℕ, nat_le, Bool, true, false, cond, List, [], map, unwrap_or, Result, Ok, Err, IsTrue}
+use Rattle.sha2.specs.Sha256.{sha256}
+use Rattle.metadata.specs.Shape.{max_file}
 use Rattle.metadata.specs.File.{Bytes, fault_number}
 use Rattle.metadata.specs.declared.documents.ShapeFault.{ShapeFault}
 use Rattle.metadata.specs.declared.documents.ShapeFault.TheVariants as shapes
@@ -16,7 +18,7 @@ use Rattle.layouts.specs.declared.faults.LayoutFault.{LayoutFault}
 use Rattle.layouts.specs.declared.faults.LayoutFault.TheVariants as verdicts
 use Rattle.path_patterns.specs.declared.Digest.{Digest}
 use Rattle.machine.specs.Commands as commands
-use Rattle.machine.specs.Held.{Held, OfEachState, StandsFor}
+use Rattle.machine.specs.Held.{Held, OfEachState, StandsFor, length_at}
 use Rattle.machine.specs.Serving.{is_by_layout}
 use Rattle.machine.specs.State.{State, blob_at}
 use Rattle.machine.specs.declared.listing.Listed.{Listed}
@@ -38,9 +40,13 @@ bytes_at S digest = unwrap_or (blob_at S.blobs digest) []
 abbrev pub all_bytes_at : State → List Digest → List Bytes
 all_bytes_at S digests = map (λ d. bytes_at S d.0) digests
 
+-- the held length of the file with this digest, if it is held, is one of a document
+abbrev pub is_short_in : List (Bytes × ℕ) → Digest → Bool
+is_short_in lengths d = nat_le (unwrap_or (length_at lengths d.0) 0) max_file
+
 -- the bytes that were loaded, or why none were
 abbrev pub IsLoaded : Type 0 → (Bytes → Bytes → Type 0) → Bytes → Result Served GetFault → Type 0
-IsLoaded honest Holds digest (Ok s) = (s.digest.0 ≡ digest) × (honest → Holds digest s.bytes.items)
+IsLoaded honest Holds digest (Ok s) = (s.digest.0 ≡ digest) × (sha256 s.bytes.items ≡ s.digest.0) × (honest → Holds digest s.bytes.items)
 IsLoaded honest Holds digest (Err (Load Missing)) = honest → (bytes : Bytes) → Holds digest bytes → ⊥
 IsLoaded honest Holds digest (Err (Load fault)) = Unit {0}
 IsLoaded honest Holds digest (Err (Denied d)) = ⊥

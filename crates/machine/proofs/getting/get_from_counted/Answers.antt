@@ -1,6 +1,7 @@
 use Rattle.machine.proofs.GrantedFrom.{finds_serves, load_refuses, refuses_so}
 use Rattle.machine.proofs.LoadedFiles.{became_by, found_by, stands_so, still_stands}
 use Rattle.machine.proofs.ServedFrom.{served_so}
+use Rattle.machine.proofs.ShortFiles.{shape_denial}
 use Rattle.machine.proofs.getting.get_from_counted.Goals as goal
 
 pub returns-in-Ok-clause-answer : goal.returns-in-Ok-clause-answer
@@ -22,3 +23,9 @@ returns-in-Ok-clause-becomes g c = became_by g.met.B.Blobs.becomes_on _ _ _ c.pe
 
 pub returns-in-Err-clause-becomes : goal.returns-in-Err-clause-becomes
 returns-in-Err-clause-becomes g c = c.permitted.ensures.reads.becomes
+
+pub returns-in-Ok-clause-long : goal.returns-in-Ok-clause-long
+returns-in-Ok-clause-long g c S valid is long = absurd (c.in-Ok.ensures.long S valid is long).1
+
+pub returns-in-Err-clause-long : goal.returns-in-Err-clause-long
+returns-in-Err-clause-long g c S valid is long = let refused = c.in-Err.ensures.long S valid is long in (refused.0, shape_denial (Unit {0}) (Unit {0}) c.in-Err.fault refused.1)

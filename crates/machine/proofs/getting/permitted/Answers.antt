@@ -3,15 +3,18 @@ use Rattle.std.proofs.lemmas.Result.{err_from_is_err_and}
 use Rattle.std.specs.Prelude.{option_map}
 use Rattle.metadata.specs.Views.{listing_view}
 use Rattle.denials.specs.Orders.{decide, fails as failing, given, holds, pass}
-use Rattle.machine.specs.Commands.{listed}
+use Rattle.machine.specs.Commands.{Listed, listed}
 use Rattle.machine.specs.Held.{Held, held_of}
 use Rattle.machine.specs.Knowing.{ChecksFew}
 use Rattle.machine.specs.Serving.{HasLayout}
 use Rattle.machine.specs.State.{State, Trusted}
+use Rattle.machine.specs.Supports.{HasLongSupport, blob_of}
 use Rattle.machine.specs.steps.Permitting.{at_once, bytes_at, denies, finds, listed_view}
 use Rattle.machine.proofs.HeldStates.{lengths_are}
 use Rattle.machine.proofs.LoadedFiles.{finds_behind, finds_in, found_by, reads_none, refused_in, stands_by, told_err}
+use Rattle.machine.proofs.OneJudgement.{blob_of-definite, listed-definite}
 use Rattle.machine.proofs.OrderSteps.{given_by, no, yes}
+use Rattle.machine.proofs.ShortFiles.{not_refused, one_given, shape_denial}
 use Rattle.machine.proofs.TargetFiles.{lists_at, no_layout_there, refuses_at, some_layout}
 use Rattle.machine.proofs.getting.permitted.Goals as goal
 
@@ -110,3 +113,50 @@ returns-clause-free g c wants =
 
 pub returns-clause-reads : goal.returns-clause-reads
 returns-clause-reads g c = c.judge_layout.ensures.reads
+
+pub returns-in_err-at-clause-long : goal.returns-in_err-at-clause-long
+returns-in_err-at-clause-long g c S valid is long =
+    let p = err_from_is_err_and c.from_residual.result c.from_residual.ensures.1 in
+    rw (p.1) (refl, not_refused (Unit {0}) c.in_err-at.field-0.0 p.0 (listed-definite S.trusted c.args.path.now c.args.now) long.lists p.2 (refuses_at S is c.in_err-at.ensures.answer))
+
+pub returns-in_err-digest-clause-long : goal.returns-in_err-digest-clause-long
+returns-in_err-digest-clause-long g c S valid is long =
+    let p = err_from_is_err_and c.from_residual-in_err-digest.result c.from_residual-in_err-digest.ensures.1 in
+    let at = one_given (listed-definite S.trusted c.args.path.now c.args.now) long.lists (lists_at S is (given_by c.in_ok-at.ensures.answer)) in
+    let there = subst (λ (l : Listed). blob_of S c.args.path.now l.listing (Ok long.bytes)) at long.there in
+    rw (p.1) (refl, not_refused (Unit {0}) c.in_err-digest.field-0.0 p.0 (blob_of-definite S c.args.path.now (listing_view c.in_ok-at.at.listing.now)) there p.2 (c.in_err-digest.ensures.answer S (lengths_are S is c.lengths.ensures.view)))
+
+pub returns-in_err-judge_layout-clause-long : goal.returns-in_err-judge_layout-clause-long
+returns-in_err-judge_layout-clause-long g c S valid is long =
+    let p = err_from_is_err_and c.from_residual-in_err-judge_layout.result c.from_residual-in_err-judge_layout.ensures.1 in
+    let at = one_given (listed-definite S.trusted c.args.path.now c.args.now) long.lists (lists_at S is (given_by c.in_ok-at.ensures.answer)) in
+    let refused = c.in_err-judge_layout.ensures.long S valid is (subst (λ (l : Listed). HasLongSupport S l.shelf c.args.now l.listing.layout) at long.long) in
+    rw (p.1, p.2) (refused.0, shape_denial (Unit {0}) (Unit {0}) c.in_err-judge_layout.field-0.0 refused.1)
+
+pub returns-then-not-is_asked-clause-long : goal.returns-then-not-is_asked-clause-long
+returns-then-not-is_asked-clause-long g c S valid is long =
+    let at = one_given (listed-definite S.trusted c.args.path.now c.args.now) long.lists (lists_at S is (given_by c.in_ok-at.ensures.answer)) in
+    absurd (c.in_ok-judge_layout.ensures.long S valid is (subst (λ (l : Listed). HasLongSupport S l.shelf c.args.now l.listing.layout) at long.long)).1
+
+pub returns-clause-long : goal.returns-clause-long
+returns-clause-long g c S valid is long =
+    let at = one_given (listed-definite S.trusted c.args.path.now c.args.now) long.lists (lists_at S is (given_by c.in_ok-at.ensures.answer)) in
+    absurd (c.in_ok-judge_layout.ensures.long S valid is (subst (λ (l : Listed). HasLongSupport S l.shelf c.args.now l.listing.layout) at long.long)).1
+
+pub returns-in_err-judge_layout-clause-most : goal.returns-in_err-judge_layout-clause-most
+returns-in_err-judge_layout-clause-most g c none =
+    let lists = given_by c.in_ok-at.ensures.answer in
+    let plain = no_layout_there c.in_ok-at.at.listing.now.layout (λ there. none (record { at = listed_view c.in_ok-at.at; lists = lists; layout = some_layout _ c.in_ok-at.at.listing.now.layout there })) in
+    omega (arith, c.judge_layout.ensures.unticked plain, c.find_listing.ensures.most)
+
+pub returns-then-not-is_asked-clause-most : goal.returns-then-not-is_asked-clause-most
+returns-then-not-is_asked-clause-most g c none =
+    let lists = given_by c.in_ok-at.ensures.answer in
+    let plain = no_layout_there c.in_ok-at.at.listing.now.layout (λ there. none (record { at = listed_view c.in_ok-at.at; lists = lists; layout = some_layout _ c.in_ok-at.at.listing.now.layout there })) in
+    omega (arith, c.judge_layout.ensures.unticked plain, c.find_listing.ensures.most)
+
+pub returns-clause-most : goal.returns-clause-most
+returns-clause-most g c none =
+    let lists = given_by c.in_ok-at.ensures.answer in
+    let plain = no_layout_there c.in_ok-at.at.listing.now.layout (λ there. none (record { at = listed_view c.in_ok-at.at; lists = lists; layout = some_layout _ c.in_ok-at.at.listing.now.layout there })) in
+    omega (arith, c.judge_layout.ensures.unticked plain, c.find_listing.ensures.most)

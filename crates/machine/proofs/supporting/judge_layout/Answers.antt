@@ -6,10 +6,14 @@ use Rattle.metadata.specs.declared.documents.LayoutReference.{LayoutReference}
 use Rattle.denials.specs.Orders.{each, given}
 use Rattle.delegations.specs.Views.{shelf_view}
 use Rattle.path_patterns.specs.declared.Digest.{Digest}
-use Rattle.machine.specs.Supports.{reference_allows, support}
+use Rattle.metadata.specs.File.{Bytes}
+use Rattle.layouts.proofs.DefiniteOrders.{each-definite}
+use Rattle.machine.specs.Supports.{AreShort, HasLongSupport, reference_allows, support}
 use Rattle.machine.specs.steps.Permitting.{Finds, all_bytes_at, at_once, bytes_at, finds}
 use Rattle.machine.proofs.LoadedFiles.{finds_behind, refused_in, stands_by, told_more}
+use Rattle.machine.proofs.OneJudgement.{support-definite}
 use Rattle.machine.proofs.OrderSteps.{given_by}
+use Rattle.machine.proofs.ShortFiles.{not_refused, one_given, told_long}
 use Rattle.machine.proofs.supporting.judge_layout.Goals as goal
 
 pub returns-in_default-clause-stands : goal.returns-in_default-clause-stands
@@ -48,3 +52,31 @@ returns-clause-stands g c =
     (finds_behind (all_bytes_at S c.in_ok-links.links.items) (rw (c.deref.ensures.value) at (given_by (c.in_ok-links.ensures.answer S valid is)))
     (rw (c.deref-2.ensures.value) at h))))
     c.judge_files.ensures.stands
+
+pub returns-in_default-clause-long : goal.returns-in_default-clause-long
+returns-in_default-clause-long g c S valid is long =
+    let V = shelf_view c.args.at.now.shelf in
+    absurd (subst (λ (o : Option LayoutReference). HasLongSupport S V c.args.now (option_map reference_view o)) c.in_default.is long)
+
+pub returns-in_err-layout-clause-long : goal.returns-in_err-layout-clause-long
+returns-in_err-layout-clause-long g c S valid is long =
+    let p = err_from_is_err_and c.from_residual.result c.from_residual.ensures.1 in
+    let V = shelf_view c.args.at.now.shelf in
+    let needs = subst (λ (o : Option LayoutReference). HasLongSupport S V c.args.now (option_map reference_view o)) c.in-Some.is long in
+    rw (p.1) (refl, not_refused (Unit {0}) c.in_err-layout.field-0.0 p.0 (support-definite S V c.args.now _) needs.layout p.2 (c.in_err-layout.ensures.answer S valid is))
+
+pub returns-in_err-links-clause-long : goal.returns-in_err-links-clause-long
+returns-in_err-links-clause-long g c S valid is long =
+    let p = err_from_is_err_and c.from_residual-in_err-links.result c.from_residual-in_err-links.ensures.1 in
+    let V = shelf_view c.args.at.now.shelf in
+    let needs = subst (λ (o : Option LayoutReference). HasLongSupport S V c.args.now (option_map reference_view o)) c.in-Some.is long in
+    rw (p.1) (refl, not_refused (Unit {0}) c.in_err-links.field-0.0 p.0 (each-definite _ _ (support-definite S V c.args.now)) needs.links p.2 (rw (c.deref.ensures.value) at (c.in_err-links.ensures.answer S valid is)))
+
+pub returns-clause-long : goal.returns-clause-long
+returns-clause-long g c S valid is long =
+    let V = shelf_view c.args.at.now.shelf in
+    let needs = subst (λ (o : Option LayoutReference). HasLongSupport S V c.args.now (option_map reference_view o)) c.in-Some.is long in
+    let layout = one_given (support-definite S V c.args.now _) needs.layout (given_by (c.in_ok-layout.ensures.answer S valid is)) in
+    let links = one_given (each-definite _ _ (support-definite S V c.args.now)) needs.links (rw (c.deref.ensures.value) at (given_by (c.in_ok-links.ensures.answer S valid is))) in
+    c.judge_files.ensures.long (rw (c.deref-2.ensures.value) (told_long S is c.in_ok-layout.layout c.in_ok-links.links.items
+    (λ short. needs.long (subst (λ (b : Bytes). AreShort b needs.link_bytes) (sym layout) (subst (λ (bs : List Bytes). AreShort (bytes_at S c.in_ok-layout.layout.0) bs) (sym links) short)))))

@@ -18,21 +18,19 @@ use Rattle.machine.proofs.supporting.read_links.Goals as goal
 
 pub digests-init : goal.digests-init
 digests-init g c = record {
-  finds = λ honest S stands. rw (c.new-links.ensures.items) (follows_first (read_as link_form) (all_bytes_at S c.args.digests.now));
+  finds = λ honest H S stands there. (rw (c.new-links.ensures.items) (follows_first (read_as link_form) (all_bytes_at S c.args.digests.now)), there);
   reads = reads_none _;
   loaded = λ h. h;
-  there = c.requires;
 }
 
-pub read_link-requires : goal.read_link-requires
-read_link-requires g c = (subst (λ (ds : List Digest). AllByRecursion (λ d. IsSome (length_at c.args.held.now.held.blobs d.0)) ds) c.in-Some.ensures.cases.0 c.digests.invariant.there).0
-
 pub returns-in_err-link-clause-finds : goal.returns-in_err-link-clause-finds
-returns-in_err-link-clause-finds g c honest S stands =
+returns-in_err-link-clause-finds g c honest H S stands there =
     let p = err_from_is_err_and c.from_residual.result c.from_residual.ensures.1 in
     let before = c.read_link.ensures.reads.was honest in
+    let (follows, left) = c.digests.invariant.finds before H S stands there in
+    let here = subst (λ (ds : List Digest). AllByRecursion (λ d. IsSome (length_at H.blobs d.0)) ds) c.in-Some.ensures.cases.0 left in
     rw (p.1, p.2) (each_finds (read_as link_form) (all_bytes_at S c.args.digests.now) (all_bytes_at S c.digests.rest.now) (all_bytes_at S c.in-Some.later.now) _ _ c.in_err-link.field-0.0 (ap (all_bytes_at S) c.in-Some.ensures.cases.0)
-    (c.digests.invariant.finds before S stands) (c.in_err-link.ensures.finds honest S (still_stands (c.digests.invariant.reads.stays before) stands)))
+    follows (c.in_err-link.ensures.finds honest H S (still_stands (c.digests.invariant.reads.stays before) stands) here.0))
 
 pub returns-in_err-link-clause-reads : goal.returns-in_err-link-clause-reads
 returns-in_err-link-clause-reads g c = reads_then g.met.B.Blobs.becomes_on _ _ _ c.digests.invariant.reads c.read_link.ensures.reads
@@ -40,30 +38,31 @@ returns-in_err-link-clause-reads g c = reads_then g.met.B.Blobs.becomes_on _ _ _
 pub returns-in_err-link-clause-told : goal.returns-in_err-link-clause-told
 returns-in_err-link-clause-told g c was =
     let p = err_from_is_err_and c.from_residual.result c.from_residual.ensures.1 in
-    rw (p.1, p.2) (told_err c.in_err-link.field-0.0 (λ h. h) (c.in_err-link.ensures.told (c.digests.invariant.loaded was)))
+    rw (p.1, p.2) (told_err c.in_err-link.field-0.0 (λ h. h) c.in_err-link.ensures.told)
 
 pub digests-preserved : goal.digests-preserved
 digests-preserved g c =
     let later = c.in-Some.later.now in
     record {
-      finds = λ honest S stands.
+      finds = λ honest H S stands there.
           let before = c.read_link.ensures.reads.was honest in
-          subst (λ (ls : List (plain.File Link)). Follows (read_as link_form) (all_bytes_at S c.args.digests.now) (all_bytes_at S later) ls)
+          let (follows, left) = c.digests.invariant.finds before H S stands there in
+          let here = subst (λ (ds : List Digest). AllByRecursion (λ d. IsSome (length_at H.blobs d.0)) ds) c.in-Some.ensures.cases.0 left in
+          (subst (λ (ls : List (plain.File Link)). Follows (read_as link_form) (all_bytes_at S c.args.digests.now) (all_bytes_at S later) ls)
           (sym (ap (map link_file) c.in_ok-push.ensures.items ∙ map-append link_file c.digests.links.items (c.in_ok-link.link ∷ [])))
           (follows_next (read_as link_form) (all_bytes_at S c.args.digests.now) (all_bytes_at S c.digests.rest.now) (all_bytes_at S later) _ (map link_file c.digests.links.items) (link_file c.in_ok-link.link)
-          (ap (all_bytes_at S) c.in-Some.ensures.cases.0) (found_by (c.in_ok-link.ensures.finds honest S (still_stands (c.digests.invariant.reads.stays before) stands))) (c.digests.invariant.finds before S stands));
+          (ap (all_bytes_at S) c.in-Some.ensures.cases.0) (found_by (c.in_ok-link.ensures.finds honest H S (still_stands (c.digests.invariant.reads.stays before) stands) here.0)) follows), here.1);
       reads = reads_then g.met.B.Blobs.becomes_on _ _ _ c.digests.invariant.reads c.read_link.ensures.reads;
-      loaded = λ was. c.in_ok-link.ensures.told (c.digests.invariant.loaded was);
-      there = (subst (λ (ds : List Digest). AllByRecursion (λ d. IsSome (length_at c.args.held.now.held.blobs d.0)) ds) c.in-Some.ensures.cases.0 c.digests.invariant.there).1;
+      loaded = λ was. c.in_ok-link.ensures.told;
     }
 
 pub returns-clause-finds : goal.returns-clause-finds
-returns-clause-finds g c honest S stands =
+returns-clause-finds g c honest H S stands there =
     finds (follows_end (read_as link_form) (all_bytes_at S c.args.digests.now) (all_bytes_at S c.digests.rest.now) (map link_file c.digests.links.items)
-    (ap (all_bytes_at S) (none_left c.digests.rest.now c.in_default.ensures.cases)) (c.digests.invariant.finds honest S stands))
+    (ap (all_bytes_at S) (none_left c.digests.rest.now c.in_default.ensures.cases)) (c.digests.invariant.finds honest H S stands there).0)
 
 pub returns-in_err-push-clause-finds : goal.returns-in_err-push-clause-finds
-returns-in_err-push-clause-finds g c honest S stands =
+returns-in_err-push-clause-finds g c honest H S stands there =
     let p = err_from_is_err_and c.from_residual-in_err-push.result c.from_residual-in_err-push.ensures.1 in
     rw (p.1, p.2) (forgoes)
 

@@ -41,7 +41,7 @@ pub returns-clause-alike : goal.returns-clause-alike
 returns-clause-alike c S valid is =
     let there : IsSome S.trusted.root =
     root_is root_file c.trusted.result.now.root S.trusted.root (ap (λ (T : Trusted). T.root) (same_trusted_held S is c.trusted.ensures.view)) c.if-is_none.ensures in
-    c.prune_keeps_answers.ensures S _ (prune_makes c.args.self.now.held (effects_view c.in_ok-effects.effects) S is c.in_ok-effects.ensures.made there)
+    c.prune_keeps_answers.ensures.grants S _ (prune_makes c.args.self.now.held (effects_view c.in_ok-effects.effects) S is c.in_ok-effects.ensures.made there)
 
 pub returns-clause-counts : goal.returns-clause-counts
 returns-clause-counts c S valid is =
