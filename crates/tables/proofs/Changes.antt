@@ -1,9 +1,10 @@
 -- What a change makes of the cells of the tables.
-use Rattle.std.proofs.Common.{◌≡◌, ℕ, List, [], ◌∷◌, ◌++◌, false, Some, None, Option, map, refl, sym, ap, subst, ◌∙◌, codes, ◌<◌, zero, suc, inl, inr, Result, Ok, Err, IfErr, OnErr, IsTrue, length, arith, true≢false}
+use Rattle.std.proofs.Common.{◌≡◌, ℕ, List, [], ◌∷◌, ◌++◌, false, Some, None, Option, map, refl, sym, subst, ◌∙◌, codes, ◌<◌, zero, suc, inl, inr, Result, Ok, Err, IfErr, OnErr, IsTrue, length, arith, true≢false}
 use Rattle.std.proofs.lemmas.List.{map-append}
 use Rattle.sqlite_rules.specs.Lists.{Has}
+use Rattle.sqlite_trees.specs.Tree.{Trees}
 use Rattle.sqlite.specs.Order.{Row}
-use Rattle.sqlite.specs.Effect.{Database}
+use Rattle.sqlite.specs.Effect.{Database, IsDatabase}
 use Rattle.sqlite.specs.Steps.{FailsToCommit}
 use Rattle.sqlite.specs.declared.error.Error.{Error}
 use Rattle.sqlite.specs.State.{IsRolledBack, KeepsCommit, State, Shows}
@@ -15,7 +16,7 @@ use Rattle.sql_tables.specs.Rows.{AreRows}
 use Rattle.sql_tables.specs.Described.{at_place, tree_from}
 use Rattle.tables.specs.Schema.{HasFive, five}
 use Rattle.tables.specs.steps.Writing.{listed, Cells, IsInside, cells_of}
-use Rattle.tables.specs.Tables.{HoldsTables, IsStore, root_row, slot_row, slot_rows, current_rows, shelf_row, blob_row, with_root, with_row, with_blob, with_timestamp, with_snapshot, after, after_all}
+use Rattle.tables.specs.Tables.{HoldsTables, HoldsWhole, IsStore, root_row, slot_row, slot_rows, current_rows, shelf_row, blob_row, with_root, with_row, with_blob, with_timestamp, with_snapshot, after, after_all}
 use Rattle.tables.proofs.Beginnings.{five_after}
 use Rattle.sql_tables.specs.Writing.{without_text}
 use Rattle.sql_tables.proofs.Statements.{text_test, turned, turned_back}
@@ -50,7 +51,7 @@ without_snapshot None (Some y) = rw (text_test snapshot_slot snapshot_slot) refl
 without_snapshot (Some x) (Some y) = rw (text_test timestamp_slot snapshot_slot, text_test snapshot_slot snapshot_slot) refl
 
 with_current : (s : State) (c : Cells) (rows : List Row) → IsInside s c → ((x : Row) → Has c.current x → Has rows x) → ((x : Row) → Has rows x → Has c.current x) → IsInside s (record c { current = rows })
-with_current s c rows is there back = same_inside five 1 (omega arith) s (listed c) rows is (omega arith) there back
+with_current s c rows is there back = record { tables = same_inside five 1 (omega arith) s (listed c) rows is.tables (omega arith) there back; sound = is.sound }
 
 pub new_timestamp : (s : State) (t : Contents) (r : ℕ × List ℕ)
     → IsInside s (record (cells_of t) { current = without_text timestamp_slot (current_rows t.timestamp t.snapshot) ++ slot_row timestamp_slot r ∷ [] }) → IsInside s (cells_of (with_timestamp r t))
@@ -71,15 +72,19 @@ after_all_more (x ∷ cs) c t = after_all_more cs c (after x t)
 
 pub to_tables : {s : State} {t : Contents} → IsInside s (cells_of t) → HoldsTables s.now.trees t
 to_tables is = record {
-  root = is.holds 0 (omega arith);
-  current = is.holds 1 (omega arith);
-  shelf = is.holds 2 (omega arith);
-  blob = is.holds 3 (omega arith);
-  version = is.holds 4 (omega arith);
+  root = is.tables.holds 0 (omega arith);
+  current = is.tables.holds 1 (omega arith);
+  shelf = is.tables.holds 2 (omega arith);
+  blob = is.tables.holds 3 (omega arith);
+  version = is.tables.holds 4 (omega arith);
 }
 
-pub inside : (s : State) (t : Contents) → IsTrue s.is_open → IsTrue s.in_transaction → HasFive s.now.schema → HoldsTables s.now.trees t → IsInside s (cells_of t)
-inside s t is_open within schema holds = record { is_open = is_open; inside = within; schema = schema; holds = each }
+-- what a commit of it writes
+pub to_whole : {s : State} {t : Contents} → IsInside s (cells_of t) → (trees : Trees) → trees ≡ s.now.trees → HoldsWhole trees t
+to_whole {s} {t} is trees same = (s.now, sym same, is.sound, is.tables.schema, subst (λ (d : Trees). HoldsTables d t) (sym same) (to_tables is))
+
+pub inside : (s : State) (t : Contents) → IsTrue s.is_open → IsTrue s.in_transaction → IsDatabase s.now → HasFive s.now.schema → HoldsTables s.now.trees t → IsInside s (cells_of t)
+inside s t is_open within sound schema holds = record { tables = record { is_open = is_open; inside = within; schema = schema; holds = each }; sound = sound }
   where
     each : (n : ℕ) → n < length five → AreRows (shown_of (at_place five n)) (s.now.trees (tree_from 0 five n)) (cells_at (listed (cells_of t)) n)
     each zero few = holds.root
@@ -92,7 +97,7 @@ inside s t is_open within schema holds = record { is_open = is_open; inside = wi
 pub committed : (tx end : State) (t : Contents) → IsInside tx (cells_of t) → Shows tx end tx.now tx.now false → IsStore end t
 committed tx end t is shows = record {
   is_open = shows.is_open;
-  schema = five_after shows.now_is is.schema;
+  schema = five_after shows.now_is is.tables.schema;
   settled = shows.now_is ∙ sym shows.committed_is;
   holds = subst (λ (d : Database). HoldsTables d.trees t) (sym shows.now_is) (to_tables is);
 }

@@ -20,6 +20,7 @@ use Rattle.sqlite.specs.declared.types.Value.TheVariants.{Null, Int}
 use Rattle.sqlite_rules.specs.Edit.{edit_of}
 use Rattle.sqlite_rules.specs.declared.error.Rowids.TheVariants.{Chosen}
 use Rattle.sqlite_sql.specs.Ops.{unary}
+use Rattle.tables.proofs.Statements.{sound_after}
 use Rattle.tables.specs.steps.Writing.{IsInside, no_cells}
 
 -- what the text of each means
@@ -58,10 +59,13 @@ unfolding unary value_cmp lib.Ieee.is_nan lib.Ieee.lt
 version_row db = refl
 
 pub begins : (old new : State) (count : ℕ) → IsTrue old.is_open → IsTrue old.in_transaction → HasFive old.now.schema → AreBare old.now.trees → ExecutesInside 0 insert_version [] old new (Ok count) → IsInside new no_cells
-begins old new count is_open within schema bare =
+begins old new count is_open within schema bare h =
     let row : Row = Int (pos 1) ∷ Null ∷ [] in
     let cells : List (List Row) = [] ∷ [] ∷ [] ∷ [] ∷ [] ∷ [] in
-    adds five 4 (omega arith) insert_version version_values 2 version_is old new [] row (pos 1) count cells (bare_inside five old is_open within schema bare cells (refl, (refl, (refl, (refl, (refl, tt)))))) (omega arith) (version_row old.now.trees) refl
+    record {
+      tables = adds five 4 (omega arith) insert_version version_values 2 version_is old new [] row (pos 1) count cells (bare_inside five old is_open within schema bare cells (refl, (refl, (refl, (refl, (refl, tt)))))) (omega arith) (version_row old.now.trees) refl h;
+      sound = sound_after insert_version _ version_is old new _ count schema (λ text w. w.sound) h;
+    }
 
 -- tables that were just made are there, and empty as what they were made of
 pub made_five : (rows : Trees) (s : State) → IsMade rows the_schema s → HasFive s.now.schema

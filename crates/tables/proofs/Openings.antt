@@ -1,5 +1,5 @@
 -- What an opening and a look at the connection leave.
-use Rattle.std.proofs.Common.{◌≡◌, ◌⊎◌, inl, inr, IsTrue, IfOk, OnOk, Result, Ok, Err, Bool, true, sym, ap, subst, arith, ◌∙◌}
+use Rattle.std.proofs.Common.{◌≡◌, ◌⊎◌, inl, inr, IsTrue, IfOk, OnOk, Result, Ok, Err, Bool, true, sym, subst, arith, ◌∙◌}
 use Rattle.sqlite.specs.Effect.{Database}
 use Rattle.sqlite.specs.State.{State, HasCleanDisk, IsUnchanged, IsRolledBack, Survives}
 use Rattle.sqlite.proofs.StateLemmas.{survives_then}
@@ -7,7 +7,7 @@ use Rattle.sqlite_trees.specs.Tree.{Trees}
 use Rattle.tables.specs.Schema.{HasFive}
 use Rattle.tables.proofs.Beginnings.{five_after}
 use Rattle.contents.specs.Contents.{Contents, no_rows}
-use Rattle.tables.specs.Tables.{AreBare, HoldsTables, IsStore}
+use Rattle.tables.specs.Tables.{AreBare, HoldsTables, HoldsWhole, IsStore}
 
 pub loaded_store : (old new : State) (t : Contents) → IsUnchanged old new → old.now ≡ old.committed → HasFive old.now.schema → HoldsTables old.now.trees t → IsStore new t
 loaded_store old new t same settled schema holds = record {
@@ -51,17 +51,16 @@ both_ok P H Q (Err e) p q = tt
 -- ---- the row of `schema` is put behind a look at the tables
 
 abbrev pub Begins : State → Trees → Type 0
-Begins s trees = IsTrue s.is_open → HasFive s.now.schema → AreBare s.now.trees × HoldsTables trees no_rows
+Begins s trees = HasFive s.now.schema → IsTrue s.is_open × AreBare s.now.trees × HoldsWhole trees no_rows
 
 pub began : (old mid end : State) (is_bare : Bool) → (HasCleanDisk mid → HasFive old.now.schema → IsUnchanged old mid) → (HasCleanDisk mid → HasFive old.now.schema → is_bare ≡ true → AreBare old.now.trees)
-    → Survives old mid (λ _. ⊥) → Survives mid end (λ trees. IsTrue mid.is_open → HasFive mid.now.schema → (is_bare ≡ true) × (AreBare mid.now.trees → HoldsTables trees no_rows)) → Survives old end (Begins old)
+    → Survives old mid (λ _. ⊥) → Survives mid end (λ trees. (is_bare ≡ true) × IsTrue mid.is_open × (HasFive mid.now.schema → AreBare mid.now.trees → HoldsWhole trees no_rows)) → Survives old end (Begins old)
 began old mid end is_bare unchanged empty quiet writes =
-    let Q = λ (trees : Trees). IsTrue mid.is_open → HasFive mid.now.schema → (is_bare ≡ true) × (AreBare mid.now.trees → HoldsTables trees no_rows) in
+    let Q = λ (trees : Trees). (is_bare ≡ true) × IsTrue mid.is_open × (HasFive mid.now.schema → AreBare mid.now.trees → HoldsWhole trees no_rows) in
     survives_then old mid end (λ _. ⊥) Q (Begins old) (λ _ db none. absurd none)
-    (λ clean db h is_open schema.
+    (λ clean db h schema.
     let early : HasCleanDisk mid = omega (arith, clean, writes.clean) in
     let same : IsUnchanged old mid = unchanged early schema in
-    let done = h same.0.is_open (five_after same.0.now_is schema) in
-    let bare = empty early schema done.0 in
-    (bare, done.1 (subst (λ (d : Database). AreBare d.trees) (sym same.0.now_is) bare)))
+    let bare = empty early schema h.0 in
+    (same.0.was_open, bare, h.2 (five_after same.0.now_is schema) (subst (λ (d : Database). AreBare d.trees) (sym same.0.now_is) bare)))
     quiet writes

@@ -23,6 +23,7 @@ use Rattle.sql_tables.proofs.AnswerLemmas.{passes}
 use Rattle.sql_tables.proofs.Editing.{drops}
 use Rattle.sql_tables.proofs.ItemLemmas.{int_nat}
 use Rattle.sql_tables.proofs.Statements.{and-true, text_test, true_if}
+use Rattle.tables.proofs.Statements.{sound_after}
 use Rattle.tables.proofs.Texts.{by_text, by_text_and_number, delete_blob, delete_blob_is, delete_row, delete_row_is}
 
 nat_test : (m n : ℕ) → is_eq (nat_cmp m n) ≡ (m == n)
@@ -48,13 +49,19 @@ both_are text n r = ap (λ b. has_text text (shelf_cells r) && b) (and-true _ �
 
 pub drops_row : (old new : State) (role : List ℕ) (version : ℕ) (count : ℕ) (c : Cells) → IsInside old c → ExecutesInside 0 delete_row (Text role ∷ Int (pos version) ∷ []) old new (Ok count)
     → IsInside new (record c { shelf = filter (λ x. not (has_both role version x)) c.shelf })
-drops_row old new role version count c is = drops five 2 (omega arith) delete_row by_text_and_number delete_row_is old new (Text role ∷ Int (pos version) ∷ []) (has_both role version) count (listed c) is (omega arith) (both_are role version)
+drops_row old new role version count c is h = record {
+  tables = drops five 2 (omega arith) delete_row by_text_and_number delete_row_is old new (Text role ∷ Int (pos version) ∷ []) (has_both role version) count (listed c) is.tables (omega arith) (both_are role version) h;
+  sound = sound_after delete_row _ delete_row_is old new _ count is.tables.schema (λ text w. w.sound) h;
+}
 
 pub text_is : (text : List ℕ) (r : Row) → passes by_text (Text text ∷ []) r ≡ has_text text (blob_cells r)
 text_is text r = and-true _
 
 pub drops_blob : (old new : State) (digits : List ℕ) (count : ℕ) (c : Cells) → IsInside old c → ExecutesInside 0 delete_blob (Text digits ∷ []) old new (Ok count) → IsInside new (record c { blob = without_text digits c.blob })
-drops_blob old new digits count c is = drops five 3 (omega arith) delete_blob by_text delete_blob_is old new (Text digits ∷ []) (has_text digits) count (listed c) is (omega arith) (text_is digits)
+drops_blob old new digits count c is h = record {
+  tables = drops five 3 (omega arith) delete_blob by_text delete_blob_is old new (Text digits ∷ []) (has_text digits) count (listed c) is.tables (omega arith) (text_is digits) h;
+  sound = sound_after delete_blob _ delete_blob_is old new _ count is.tables.schema (λ text w. w.sound) h;
+}
 
 -- ---- the rows that are left
 

@@ -1,5 +1,5 @@
 -- The five tables as data, and the schema that they are.
-use Rattle.std.specs.Prelude.{◌≡◌, [], ◌∷◌, codes, take, List, ℕ}
+use Rattle.std.specs.Prelude.{[], ◌∷◌, codes, take, List, ℕ}
 use Rattle.sqlite.specs.Schema.{Schema}
 use Rattle.sqlite.specs.Kind.TheVariants.{Integer, Text, Any}
 use Rattle.sql_tables.specs.Described.{Description, HasAll, IsBeginning as BeginsWith, schema_of}

@@ -11,7 +11,7 @@ use Rattle.sqlite_rules.specs.Lists.{Has}
 use Rattle.sqlite.specs.declared.types.Value.TheVariants.{Int, Text, Blob}
 use Rattle.sqlite.specs.Order.{Row}
 use Rattle.sqlite_trees.specs.Tree.{Trees}
-use Rattle.sqlite.specs.Effect.{Database}
+use Rattle.sqlite.specs.Effect.{Database, IsDatabase}
 use Rattle.sqlite.specs.State.{State}
 use Rattle.tables.specs.declared.change.Change.{Change}
 use Rattle.tables.specs.declared.change.Change.TheVariants.{PutRoot, Emptied, PutTimestamp, PutSnapshot, PutRow, PutBlob, RowGone, BlobGone}
@@ -57,6 +57,10 @@ pub record HoldsTables (trees : Trees) (t : Contents) : Type 0 where
   pub shelf : AreRows shelf_cells (trees 3) (map shelf_row t.shelf)
   pub blob : AreRows blob_cells (trees 5) (map blob_row t.blobs)
   pub version : AreRows version_cells (trees 7) (version_row ∷ [])
+
+-- The same, and all five tables are there: so say the trees themselves, which list them. No other opening of these trees finds fewer.
+abbrev pub HoldsWhole : Trees → Contents → Type 0
+HoldsWhole trees t = (db : Database) × (db.trees ≡ trees) × IsDatabase db × HasFive db.schema × HoldsTables trees t
 
 -- between two transactions: the connection is open, the five tables are there, and hold these rows
 pub record IsStore (s : State) (t : Contents) : Type 0 where

@@ -6,7 +6,7 @@ ghost use Rattle.sqlite.specs.Held.{state};
 ghost use Rattle.tables.specs.Schema.{the_schema, beginning, five};
 ghost use Rattle.sql_tables.specs.Described.{LacksRest};
 ghost use Rattle.contents.specs.Contents.{no_rows};
-ghost use Rattle.tables.specs.Tables.{AreBare, HoldsTables, IsStore};
+ghost use Rattle.tables.specs.Tables.{AreBare, HoldsWhole, IsStore};
 ghost use Rattle.sql_tables.specs.Schema.{counted};
 ghost use Rattle.tables.specs.steps.Writing.{IsInside, no_cells};
 ghost use Rattle.sql_tables.specs.Making.{IsMade};
@@ -57,8 +57,8 @@ pub(crate) fn complete<S: Alter>(conn: &mut Connection<S>, count: usize) -> Resu
         × (bare ≡ false → AreBare (counted (beginning count) (state S.Store conn.old).now.trees) → ⊥)) }
     ensures was_open { HasCleanDisk (state S.Store conn.new) → OnOk result (IsTrue (state S.Store conn.old).is_open) }
     ensures kept { HasCleanDisk (state S.Store conn.new) → (state S.Store conn.old).now.schema ≡ beginning count → IfOk result (λ bare. bare ≡ false → KeepsCommit (state S.Store conn.old) (state S.Store conn.new)) }
-    ensures crash { Survives (state S.Store conn.old) (state S.Store conn.new) (λ trees. IsTrue (state S.Store conn.old).is_open → (state S.Store conn.old).now.schema ≡ beginning count
-        → AreBare (counted (beginning count) (state S.Store conn.old).now.trees) × HoldsTables trees no_rows) }
+    ensures crash { Survives (state S.Store conn.old) (state S.Store conn.new) (λ trees. IsTrue (state S.Store conn.old).is_open × ((state S.Store conn.old).now.schema ≡ beginning count
+        → AreBare (counted (beginning count) (state S.Store conn.old).now.trees) × HoldsWhole trees no_rows)) }
 {
     let mut tx = conn.transaction();
     if !fill(&mut tx, count)? {

@@ -6,7 +6,7 @@ ghost use Rattle.sqlite_trees.specs.Tree.{Trees};
 ghost use Rattle.tables.specs.Schema.{the_schema, beginning, five, HasFive};
 ghost use Rattle.sql_tables.specs.Described.{LacksRest};
 ghost use Rattle.contents.specs.Contents.{no_rows};
-ghost use Rattle.tables.specs.Tables.{IsStore, HoldsTables, AreBare};
+ghost use Rattle.tables.specs.Tables.{IsStore, HoldsWhole, AreBare};
 ghost use Rattle.tables.specs.steps.Writing.{IsInside, no_cells};
 ghost use Rattle.tables.specs.Opening.{IsSettled};
 ghost use Rattle.sql_tables.specs.Making.{IsMade, Makes};
@@ -32,6 +32,7 @@ pub(crate) fn put_version<S: Alter>(tx: &mut Transaction<'_, S>) -> Result<(), E
     ensures same_reference { tx.new.conn.ghost_name ≡ tx.old.conn.ghost_name }
     ensures wrote { HasCleanDisk (state S.Store tx.new.conn.now) → IsTrue (state S.Store tx.old.conn.now).is_open → IsTrue (state S.Store tx.old.conn.now).in_transaction
         → HasFive (state S.Store tx.old.conn.now).now.schema → AreBare (state S.Store tx.old.conn.now).now.trees → OnOk result (IsInside (state S.Store tx.new.conn.now) no_cells) }
+    ensures was_open { HasCleanDisk (state S.Store tx.new.conn.now) → IsTrue (state S.Store tx.old.conn.now).in_transaction → OnOk result (IsTrue (state S.Store tx.old.conn.now).is_open) }
     ensures kept { HasCleanDisk (state S.Store tx.new.conn.now) → KeepsCommit (state S.Store tx.old.conn.now) (state S.Store tx.new.conn.now) }
     ensures survives { Survives (state S.Store tx.old.conn.now) (state S.Store tx.new.conn.now) (λ _. ⊥) }
 {
@@ -45,7 +46,7 @@ pub(crate) fn begin<S: Alter>(conn: &mut Connection<S>) -> Result<(), Error>
     ensures autocommit { conn.new.in_transaction ≡ false }
     ensures wrote { HasCleanDisk (state S.Store conn.new) → HasFive (state S.Store conn.old).now.schema → AreBare (state S.Store conn.old).now.trees → OnOk result (IsStore (state S.Store conn.new) no_rows) }
     ensures was_open { HasCleanDisk (state S.Store conn.new) → IsTrue (state S.Store conn.new).is_open → IsTrue (state S.Store conn.old).is_open }
-    ensures crash { Survives (state S.Store conn.old) (state S.Store conn.new) (λ trees. IsTrue (state S.Store conn.old).is_open → HasFive (state S.Store conn.old).now.schema → AreBare (state S.Store conn.old).now.trees → HoldsTables trees no_rows) }
+    ensures crash { Survives (state S.Store conn.old) (state S.Store conn.new) (λ trees. IsTrue (state S.Store conn.old).is_open × (HasFive (state S.Store conn.old).now.schema → AreBare (state S.Store conn.old).now.trees → HoldsWhole trees no_rows)) }
 {
     let mut tx = conn.transaction();
     put_version(&mut tx)?;

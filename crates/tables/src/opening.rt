@@ -5,7 +5,7 @@ ghost use Rattle.sqlite.specs.Held.{state};
 ghost use Rattle.tables.specs.Schema.{beginning, HasFive, IsBeginning};
 ghost use Rattle.contents.specs.Contents as plain;
 ghost use Rattle.contents.specs.Contents.{contents_with, no_rows};
-ghost use Rattle.tables.specs.Tables.{HoldsTables, HaveDigests, IsStore, IsFit, AreBare, Stands, StandsFor};
+ghost use Rattle.tables.specs.Tables.{HoldsTables, HoldsWhole, HaveDigests, IsStore, IsFit, AreBare, Stands, StandsFor};
 ghost use Rattle.sql_tables.specs.Schema.{counted};
 ghost use Rattle.tables.specs.Opening.{IsReadAs, IsSettled, StandsEmpty};
 ghost use Rattle.tables.specs.steps.Loading.{IsUnbegun};
@@ -52,8 +52,8 @@ fn begin_bare<S: Alter>(conn: &mut Connection<S>, is_bare: bool) -> Result<(), S
     ensures begun { HasCleanDisk (state S.Store conn.new) → HasFive (state S.Store conn.old).now.schema → AreBare (state S.Store conn.old).now.trees → OnOk result (IsStore (state S.Store conn.new) no_rows) }
     ensures damaged { result ≡ Err StoreFault.Damaged → is_bare ≡ false }
     ensures told { is_bare ≡ false → (result ≡ Err StoreFault.Damaged) × (conn.new ≡ conn.old) }
-    ensures crash { Survives (state S.Store conn.old) (state S.Store conn.new) (λ trees. IsTrue (state S.Store conn.old).is_open → HasFive (state S.Store conn.old).now.schema
-        → (is_bare ≡ true) × (AreBare (state S.Store conn.old).now.trees → HoldsTables trees no_rows)) }
+    ensures crash { Survives (state S.Store conn.old) (state S.Store conn.new) (λ trees. (is_bare ≡ true) × IsTrue (state S.Store conn.old).is_open
+        × (HasFive (state S.Store conn.old).now.schema → AreBare (state S.Store conn.old).now.trees → HoldsWhole trees no_rows)) }
 {
     if !is_bare {
         return Err(StoreFault::Damaged);
@@ -74,8 +74,8 @@ fn load<S: Alter>(alloc: Global, conn: &mut Connection<S>) -> Result<Rows, Store
     ensures damaged { HasCleanDisk (state S.Store conn.new) → HasFive (state S.Store conn.old).now.schema → IsLive (state S.Store conn.old) → result ≡ Err StoreFault.Damaged
         → (t : plain.Contents) → IsFit t → HaveDigests t → StandsFor (state S.Store conn.old).now.trees t → ⊥ }
     ensures kept { HasCleanDisk (state S.Store conn.new) → HasFive (state S.Store conn.old).now.schema → result ≡ Err StoreFault.Damaged → KeepsCommit (state S.Store conn.old) (state S.Store conn.new) }
-    ensures crash { IsLive (state S.Store conn.old) → Survives (state S.Store conn.old) (state S.Store conn.new) (λ trees. IsTrue (state S.Store conn.old).is_open → HasFive (state S.Store conn.old).now.schema
-        → AreBare (state S.Store conn.old).now.trees × HoldsTables trees no_rows) }
+    ensures crash { IsLive (state S.Store conn.old) → Survives (state S.Store conn.old) (state S.Store conn.new) (λ trees. HasFive (state S.Store conn.old).now.schema
+        → IsTrue (state S.Store conn.old).is_open × AreBare (state S.Store conn.old).now.trees × HoldsWhole trees no_rows) }
 {
     let (rows, is_begun) = gather(alloc, conn)?;
     if is_begun {
@@ -102,8 +102,8 @@ fn complete_bare<S: Alter>(
     ensures damaged { HasCleanDisk (state S.Store conn.new) → (state S.Store conn.old).now.schema ≡ beginning count → result ≡ Err StoreFault.Damaged
         → (t : plain.Contents) → StandsFor (counted (beginning count) (state S.Store conn.old).now.trees) t → ⊥ }
     ensures kept { HasCleanDisk (state S.Store conn.new) → (state S.Store conn.old).now.schema ≡ beginning count → result ≡ Err StoreFault.Damaged → KeepsCommit (state S.Store conn.old) (state S.Store conn.new) }
-    ensures crash { Survives (state S.Store conn.old) (state S.Store conn.new) (λ trees. IsTrue (state S.Store conn.old).is_open → (state S.Store conn.old).now.schema ≡ beginning count
-        → AreBare (counted (beginning count) (state S.Store conn.old).now.trees) × HoldsTables trees no_rows) }
+    ensures crash { Survives (state S.Store conn.old) (state S.Store conn.new) (λ trees. IsTrue (state S.Store conn.old).is_open × ((state S.Store conn.old).now.schema ≡ beginning count
+        → AreBare (counted (beginning count) (state S.Store conn.old).now.trees) × HoldsWhole trees no_rows)) }
 {
     if complete(conn, count)? {
         Ok((MetadataRows::empty(alloc), Vec::new(alloc)))
@@ -146,7 +146,7 @@ pub fn prepare<S: Alter>(
     ensures damaged { HasCleanDisk (state S.Store conn.new) → result ≡ Err StoreFault.Damaged
         → IsBeginning conn.old.schema × ((t : plain.Contents) → IsFit t → HaveDigests t → Stands (state S.Store conn.old).now t → ⊥) }
     ensures kept { HasCleanDisk (state S.Store conn.new) → result ≡ Err StoreFault.Damaged → KeepsCommit (state S.Store conn.old) (state S.Store conn.new) }
-    ensures crash { Survives (state S.Store conn.old) (state S.Store conn.new) (λ trees. IsTrue (state S.Store conn.old).is_open → StandsEmpty (state S.Store conn.old) × HoldsTables trees no_rows) }
+    ensures crash { Survives (state S.Store conn.old) (state S.Store conn.new) (λ trees. IsTrue (state S.Store conn.old).is_open × StandsEmpty (state S.Store conn.old) × HoldsWhole trees no_rows) }
 {
     let Some(count) = beginning_of(conn.schema()) else {
         return Err(StoreFault::Database);

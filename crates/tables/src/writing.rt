@@ -4,7 +4,7 @@ ghost use Rattle.sqlite.specs.State.{HasCleanDisk, KeepsCommit, Survives};
 ghost use Rattle.sqlite.specs.Held.{state};
 ghost use Rattle.sqlite.specs.declared.types.Value.TheVariants.{Text, Blob};
 ghost use Rattle.contents.specs.Contents.{Contents};
-ghost use Rattle.tables.specs.Tables.{IsStore, HoldsTables, after, after_all, slot_row, with_root, with_row, with_blob, with_timestamp, with_snapshot, without_blob, without_row, emptied};
+ghost use Rattle.tables.specs.Tables.{IsStore, HoldsWhole, after, after_all, slot_row, with_root, with_row, with_blob, with_timestamp, with_snapshot, without_blob, without_row, emptied};
 ghost use Rattle.tables.specs.steps.Writing.{Cells, IsInside, cells_of};
 ghost use Rattle.sql_tables.specs.Writing.{without_text};
 
@@ -237,8 +237,9 @@ fn write_changes<S: Alter>(conn: &mut Connection<S>, changes: &[Change<'_>]) -> 
     ensures wrote { HasCleanDisk (state S.Store conn.new) → (t : Contents) → IsStore (state S.Store conn.old) t → OnOk result (IsStore (state S.Store conn.new) (after_all changes.now t)) }
     ensures kept { HasCleanDisk (state S.Store conn.new) → IsTrue (state S.Store conn.new).is_open → (t : Contents) → IsStore (state S.Store conn.old) t → OnErr result (IsStore (state S.Store conn.new) t) }
     ensures was_open { HasCleanDisk (state S.Store conn.new) → IsTrue (state S.Store conn.new).is_open → IsTrue (state S.Store conn.old).is_open }
-    ensures crash { Survives (state S.Store conn.old) (state S.Store conn.new) (λ trees. (t : Contents) → IsStore (state S.Store conn.old) t → HoldsTables trees (after_all changes.now t)) }
+    ensures crash { Survives (state S.Store conn.old) (state S.Store conn.new) (λ trees. (t : Contents) → IsStore (state S.Store conn.old) t → HoldsWhole trees (after_all changes.now t)) }
 {
+    let _ = conn.schema();
     let mut tx = conn.transaction();
     'writes: for change in changes {
         write(&mut tx, change)?;
@@ -260,7 +261,7 @@ pub fn write_all<S: Alter>(
     ensures wrote { HasCleanDisk (state S.Store conn.new) → (t : Contents) → IsStore (state S.Store conn.old) t → OnOk result (IsStore (state S.Store conn.new) (after_all changes.now t)) }
     ensures kept { HasCleanDisk (state S.Store conn.new) → IsTrue (state S.Store conn.new).is_open → (t : Contents) → IsStore (state S.Store conn.old) t → OnErr result (IsStore (state S.Store conn.new) t) }
     ensures was_open { HasCleanDisk (state S.Store conn.new) → IsTrue (state S.Store conn.new).is_open → IsTrue (state S.Store conn.old).is_open }
-    ensures crash { Survives (state S.Store conn.old) (state S.Store conn.new) (λ trees. (t : Contents) → IsStore (state S.Store conn.old) t → HoldsTables trees (after_all changes.now t)) }
+    ensures crash { Survives (state S.Store conn.old) (state S.Store conn.new) (λ trees. (t : Contents) → IsStore (state S.Store conn.old) t → HoldsWhole trees (after_all changes.now t)) }
     ensures fault { result ≢ Err StoreFault.Damaged }
 {
     write_changes(conn, changes)?;

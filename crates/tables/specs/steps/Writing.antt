@@ -1,6 +1,7 @@
 -- What the tables hold inside a transaction, cell by cell.
 use Rattle.std.specs.Prelude.{List, [], ◌∷◌, map}
 use Rattle.sqlite.specs.Order.{Row}
+use Rattle.sqlite.specs.Effect.{IsDatabase}
 use Rattle.sqlite.specs.State.{State}
 use Rattle.tables.specs.Schema.{five}
 use Rattle.sql_tables.specs.Inside as of_list
@@ -30,5 +31,6 @@ abbrev pub listed : Cells → List (List Row)
 listed c = c.root ∷ c.current ∷ c.shelf ∷ c.blob ∷ (version_row ∷ []) ∷ []
 
 -- inside the transaction that changes them
-abbrev pub IsInside : State → Cells → Type 0
-IsInside s c = of_list.IsInside five s (listed c)
+pub record IsInside (s : State) (c : Cells) : Type 0 where
+  pub tables : of_list.IsInside five s (listed c)
+  pub sound : IsDatabase s.now

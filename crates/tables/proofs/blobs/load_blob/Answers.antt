@@ -3,7 +3,7 @@ use Rattle.hex.specs.Hex.{encode_lower}
 use Rattle.sqlite.specs.declared.types.Value.TheVariants.{Text}
 use Rattle.sqlite.specs.Held.{state}
 use Rattle.sqlite.specs.Order.{Row}
-use Rattle.sqlite.specs.State.{HasCleanDisk, Shown}
+use Rattle.sqlite.specs.State.{Shown}
 use Rattle.tables.specs.steps.Loading.{HasBytes, one_text}
 use Rattle.tables.proofs.One.{one_of, one_there}
 use Rattle.tables.proofs.blobs.load_blob.Goals as goal

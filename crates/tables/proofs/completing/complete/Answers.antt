@@ -6,11 +6,11 @@ use Rattle.sqlite.proofs.StateLemmas.{survives_then}
 use Rattle.sqlite.proofs.Callers.{survives_begin}
 use Rattle.tables.specs.Schema.{beginning, five}
 use Rattle.contents.specs.Contents.{no_rows}
-use Rattle.tables.specs.Tables.{AreBare, HoldsTables, IsStore}
+use Rattle.tables.specs.Tables.{AreBare, HoldsWhole, IsStore}
 use Rattle.sql_tables.specs.Schema.{counted}
 use Rattle.sql_tables.specs.Making.{IsMade}
 use Rattle.sql_tables.proofs.Beginnings.{as_counted, lacks}
-use Rattle.tables.proofs.Changes.{committed, to_tables}
+use Rattle.tables.proofs.Changes.{committed, to_whole}
 use Rattle.sql_tables.proofs.Calls.{keeps_then}
 use Rattle.tables.proofs.completing.complete.Goals as goal
 
@@ -75,16 +75,20 @@ returns-clause-crash g c =
     let tx = state g.S.Store c.fill.new.tx.conn.now in
     let end = c.commit.new.self.0 in
     let rows = counted (beginning c.args.count) old.now.trees in
-    let P = λ (trees : Trees). IsTrue old.is_open → old.now.schema ≡ beginning c.args.count → AreBare rows × HoldsTables trees no_rows in
+    let P = λ (trees : Trees). IsTrue old.is_open × (old.now.schema ≡ beginning c.args.count → AreBare rows × HoldsWhole trees no_rows) in
     let first : Survives old tx (λ _. ⊥) = survives_begin g.S.Store c.args.conn.now tx (λ _. ⊥) (subst (λ h. Survives (state g.S.Store h) tx (λ _. ⊥)) c.transaction-tx.ensures.begun c.fill.ensures.survives) in
     let begun : IsTrue old.is_open → old.now.schema ≡ beginning c.args.count → IsMade rows (beginning c.args.count) (state g.S.Store c.transaction-tx.result.conn.now) =
     λ is_open schema. subst (λ h. IsMade rows (beginning c.args.count) (state g.S.Store h)) (sym c.transaction-tx.ensures.begun)
     (record { is_open = is_open; inside = refl; schema_is = schema; holds = as_counted (beginning c.args.count) old.now.trees }) in
     let all = survives_then old tx (state g.S.Store end) (λ _. ⊥) (λ db. db ≡ tx.now.trees) P (λ _ db none. absurd none)
-    (λ clean db is is_open schema.
+    (λ clean db is.
     let early : HasCleanDisk tx = omega (arith, clean, c.commit.ensures.survives.clean) in
-    let made = (c.in_ok-fill.ensures.made early rows (lacks five c.args.count old.now.trees) (begun is_open schema)).0 c.if-not-branch.false in
-    (made.0, subst (λ (d : Trees). HoldsTables d no_rows) (sym is) (to_tables made.1)))
+    let is_open = subst (λ h. IsTrue (state g.S.Store h).is_open) c.transaction-tx.ensures.begun (c.in_ok-fill.ensures.was_open early) in (
+      is_open,
+      λ schema.
+          let made = (c.in_ok-fill.ensures.made early rows (lacks five c.args.count old.now.trees) (begun is_open schema)).0 c.if-not-branch.false in
+          (made.0, to_whole made.1 db is),
+    ))
     first c.commit.ensures.survives in
     let same : end ≡ c.conn-2-1.given.0 = search rules in
     subst (λ h. Survives old (state g.S.Store h) P) same all
@@ -95,16 +99,20 @@ returns-in_err-commit-clause-crash g c =
     let tx = state g.S.Store c.fill.new.tx.conn.now in
     let end = c.commit.new.self.0 in
     let rows = counted (beginning c.args.count) old.now.trees in
-    let P = λ (trees : Trees). IsTrue old.is_open → old.now.schema ≡ beginning c.args.count → AreBare rows × HoldsTables trees no_rows in
+    let P = λ (trees : Trees). IsTrue old.is_open × (old.now.schema ≡ beginning c.args.count → AreBare rows × HoldsWhole trees no_rows) in
     let first : Survives old tx (λ _. ⊥) = survives_begin g.S.Store c.args.conn.now tx (λ _. ⊥) (subst (λ h. Survives (state g.S.Store h) tx (λ _. ⊥)) c.transaction-tx.ensures.begun c.fill.ensures.survives) in
     let begun : IsTrue old.is_open → old.now.schema ≡ beginning c.args.count → IsMade rows (beginning c.args.count) (state g.S.Store c.transaction-tx.result.conn.now) =
     λ is_open schema. subst (λ h. IsMade rows (beginning c.args.count) (state g.S.Store h)) (sym c.transaction-tx.ensures.begun)
     (record { is_open = is_open; inside = refl; schema_is = schema; holds = as_counted (beginning c.args.count) old.now.trees }) in
     let all = survives_then old tx (state g.S.Store end) (λ _. ⊥) (λ db. db ≡ tx.now.trees) P (λ _ db none. absurd none)
-    (λ clean db is is_open schema.
+    (λ clean db is.
     let early : HasCleanDisk tx = omega (arith, clean, c.commit.ensures.survives.clean) in
-    let made = (c.in_ok-fill.ensures.made early rows (lacks five c.args.count old.now.trees) (begun is_open schema)).0 c.if-not-branch.false in
-    (made.0, subst (λ (d : Trees). HoldsTables d no_rows) (sym is) (to_tables made.1)))
+    let is_open = subst (λ h. IsTrue (state g.S.Store h).is_open) c.transaction-tx.ensures.begun (c.in_ok-fill.ensures.was_open early) in (
+      is_open,
+      λ schema.
+          let made = (c.in_ok-fill.ensures.made early rows (lacks five c.args.count old.now.trees) (begun is_open schema)).0 c.if-not-branch.false in
+          (made.0, to_whole made.1 db is),
+    ))
     first c.commit.ensures.survives in
     let same : end ≡ c.conn-2-1.given.0 = search rules in
     subst (λ h. Survives old (state g.S.Store h) P) same all

@@ -2,6 +2,9 @@ use Rattle.sqlite.specs.Held.{state}
 use Rattle.tables.proofs.MakingLemmas.{begins}
 use Rattle.tables.proofs.making.put_version.Goals as goal
 
+pub returns-clause-was_open : goal.returns-clause-was_open
+returns-clause-was_open g c clean within = (c.in_ok-execute.ensures.runs clean within).1.was_open
+
 pub returns-clause-wrote : goal.returns-clause-wrote
 returns-clause-wrote g c clean is_open within schema bare =
     begins (state g.S.Store c.args.tx.now.conn.now) (state g.S.Store c.execute.new.self.conn.now) c.in_ok-execute.field-0 is_open within schema bare (c.in_ok-execute.ensures.runs clean within)

@@ -4,13 +4,13 @@ use Rattle.sqlite.specs.Held.{state}
 use Rattle.sqlite.proofs.StateLemmas.{survives_weaker}
 use Rattle.tables.specs.Schema.{HasFive}
 use Rattle.contents.specs.Contents.{no_rows}
-use Rattle.tables.specs.Tables.{AreBare, HoldsTables}
+use Rattle.tables.specs.Tables.{AreBare, HoldsWhole}
 use Rattle.tables.proofs.opening.begin_bare.Goals as goal
 
 pub returns-in_err-begin-clause-crash : goal.returns-in_err-begin-clause-crash
 returns-in_err-begin-clause-crash g c =
     let old = state g.S.Store c.args.conn.now in
     let new = state g.S.Store c.begin.new.conn in
-    survives_weaker old new _ (λ (trees : Trees). IsTrue old.is_open → HasFive old.now.schema → (c.args.is_bare ≡ true) × (AreBare old.now.trees → HoldsTables trees no_rows))
-    (λ _ db h is_open schema. (c.if-not-is_bare.false, λ bare. h is_open schema bare))
+    survives_weaker old new _ (λ (trees : Trees). (c.args.is_bare ≡ true) × IsTrue old.is_open × (HasFive old.now.schema → AreBare old.now.trees → HoldsWhole trees no_rows))
+    (λ _ db h. (c.if-not-is_bare.false, h.0, h.1))
     c.in_err-begin.ensures.crash

@@ -7,9 +7,9 @@ use Rattle.sqlite.proofs.StateLemmas.{survives_then}
 use Rattle.tables.specs.declared.change.Change.{Change}
 use Rattle.tables.specs.declared.change.Change.TheVariants.{PutRoot}
 use Rattle.contents.specs.Contents.{Contents}
-use Rattle.tables.specs.Tables.{IsStore, HoldsTables, after_all}
+use Rattle.tables.specs.Tables.{IsStore, HoldsWhole, after_all}
 use Rattle.tables.specs.steps.Writing.{IsInside, cells_of}
-use Rattle.tables.proofs.Changes.{after_all_more, committed, err_then, fails_back, inside, kept_back, on_err, to_tables}
+use Rattle.tables.proofs.Changes.{after_all_more, committed, err_then, fails_back, inside, kept_back, on_err, to_whole}
 use Rattle.sql_tables.proofs.Calls.{OnOk_then, keeps_then}
 use Rattle.tables.proofs.writing.write_changes.Goals as goal
 
@@ -17,7 +17,7 @@ pub writes-init : goal.writes-init
 writes-init g c =
     let was = c.args.conn.now in
     let began : (t : Contents) → IsStore (state g.S.Store was) t → IsInside (state g.S.Store c.transaction-tx.result.conn.now) (cells_of t) =
-    λ t is. subst (λ h. IsInside (state g.S.Store h) (cells_of t)) (sym c.transaction-tx.ensures.begun) (inside _ t is.is_open refl is.schema is.holds) in
+    λ t is. subst (λ h. IsInside (state g.S.Store h) (cells_of t)) (sym c.transaction-tx.ensures.begun) (inside _ t is.is_open refl (c.schema.ensures.live is.is_open).0 is.schema is.holds) in
     (search rules, search rules, search rules, λ clean t is. began t is)
 
 pub writes-preserved : goal.writes-preserved
@@ -53,10 +53,10 @@ returns-clause-crash g c =
     let old = state g.S.Store c.args.conn.now in
     let tx = state g.S.Store c.writes.tx.conn.now in
     let end = c.commit.new.self.0 in
-    let P = λ (trees : Trees). (t : Contents) → IsStore old t → HoldsTables trees (after_all c.args.changes.now t) in
+    let P = λ (trees : Trees). (t : Contents) → IsStore old t → HoldsWhole trees (after_all c.args.changes.now t) in
     let whole : take c.writes.change-index c.args.changes.now ≡ c.args.changes.now = take_all c.writes.change-index c.args.changes.now (omega arith) in
     let all = survives_then old tx (state g.S.Store end) (λ _. ⊥) (λ db. db ≡ tx.now.trees) P (λ _ db none. absurd none)
-    (λ clean db is t store. subst (λ es. HoldsTables db (after_all es t)) whole (subst (λ (d : Trees). HoldsTables d (after_all (take c.writes.change-index c.args.changes.now) t)) (sym is) (to_tables (c.writes.invariant.3 (omega (arith, c.commit.ensures.survives.clean)) t store))))
+    (λ clean db is t store. subst (λ es. HoldsWhole db (after_all es t)) whole (to_whole (c.writes.invariant.3 (omega (arith, c.commit.ensures.survives.clean)) t store) db is))
     c.writes.invariant.1 c.commit.ensures.survives in
     let same : end ≡ c.conn-2-1.given.0 = search rules in
     subst (λ h. Survives old (state g.S.Store h) P) same all
@@ -81,4 +81,4 @@ returns-clause-kept g c clean stays t is =
     let late : HasCleanDisk (state g.S.Store end) = subst (λ h. HasCleanDisk (state g.S.Store h)) (sym same) clean in
     let early : HasCleanDisk tx = omega (arith, late, c.commit.ensures.survives.clean) in
     subst (λ h. OnErr c.commit.result (IsStore (state g.S.Store h) t)) same
-    (err_then c.commit.result (c.commit.ensures.err late) (λ e fails. kept_back old tx (state g.S.Store end) t (subst (λ h. IsTrue (state g.S.Store h).is_open) (sym same) stays) (c.writes.invariant.2 early) (fails_back tx (state g.S.Store end) e (c.writes.invariant.3 early t is).inside fails) is))
+    (err_then c.commit.result (c.commit.ensures.err late) (λ e fails. kept_back old tx (state g.S.Store end) t (subst (λ h. IsTrue (state g.S.Store h).is_open) (sym same) stays) (c.writes.invariant.2 early) (fails_back tx (state g.S.Store end) e (c.writes.invariant.3 early t is).tables.inside fails) is))
