@@ -48,7 +48,10 @@ const QUERIES: [&str; 5] = [
 fn command<'a>(step: Step, documents: &'a [Document<'a>]) -> Command<'a> {
     match step {
         Step::Init => Command::Init(ROOT.as_bytes()),
-        Step::Offer(at) if at < documents.len() => Command::Offer(&documents[at].0, documents[at].1),
+        Step::Offer(at) if at < documents.len() => Command::Offer(
+            &documents[at].0,
+            documents[at].1,
+        ),
         Step::Offer(_) | Step::Batch => Command::Batch(documents),
         Step::Put => Command::PutBlob(digest_of(b"abc"), b"abc"),
         Step::Prune => Command::Prune,
