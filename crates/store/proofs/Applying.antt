@@ -22,7 +22,7 @@ use Rattle.machine.specs.declared.refusal.Refusal.{Refusal}
 use Rattle.machine.specs.declared.refusal.Refusal.TheVariants as refusals
 use Rattle.machine.specs.declared.refusal.BatchRefusal.{BatchRefusal}
 use Rattle.machine.specs.declared.refusal.BatchRefusal.TheVariants as batches
-use Rattle.tables.specs.Tables.{HoldsTables}
+use Rattle.tables.specs.Tables.{HoldsWhole}
 use Rattle.store.specs.Applies.{Replies}
 use Rattle.store.specs.Standing.{IsStateOf, StandsAt, seen}
 use Rattle.store.specs.steps.Doing.{Does, DoesAt}
@@ -96,12 +96,12 @@ replies_if trusted S T c now (Ok reply) h = step_replies trusted S c now T (repl
 replies_if trusted S T c now (Err fault) h = tt
 
 abbrev Left : State → database.State → Type 0
-Left S old = HasCleanDisk old → IsTrue old.is_open → (trees : Trees) → old.may_leave trees → HoldsTables trees (rows_of S)
+Left S old = HasCleanDisk old → IsTrue old.is_open → (trees : Trees) → old.may_leave trees → HoldsWhole trees (rows_of S)
 
 -- what rests of each state at which a store stands
 abbrev pub Resting : Kept → database.State → Type 0
 Resting kept old =
-    HasCleanDisk old → IsTrue old.is_open → (U : State) → StandsAt (seen kept old) U → (trees : Trees) → old.may_leave trees → HoldsTables trees (rows_of U)
+    HasCleanDisk old → IsTrue old.is_open → (U : State) → StandsAt (seen kept old) U → (trees : Trees) → old.may_leave trees → HoldsWhole trees (rows_of U)
 
 -- nothing was written
 still : (S : State) (old : database.State) (c : Command) (now : ℕ) (r : Result Answer StoreFault) → Left S old
@@ -116,7 +116,7 @@ still S old c now r left step sound = record {
 }
 
 abbrev Crash : State → State → database.State → database.State → Type 0
-Crash S U old new = HasCleanDisk new → IsTrue old.is_open → (trees : Trees) → new.may_leave trees → HoldsTables trees (rows_of S) ⊎ HoldsTables trees (rows_of U)
+Crash S U old new = HasCleanDisk new → IsTrue old.is_open → (trees : Trees) → new.may_leave trees → HoldsWhole trees (rows_of S) ⊎ HoldsWhole trees (rows_of U)
 
 -- the step was made, and written
 made : (S T : State) (old new : database.State) (c : Command) (now : ℕ) (e : Effects) (reply : Answer) → T ≡ applied S (effects_view e)
@@ -153,7 +153,7 @@ still_at kept old c now r rests step sound S at = (S, at, still S old c now r (�
 abbrev CrashAt : Kept → database.State → database.State → Effects → Type 0
 CrashAt kept old new e =
     HasCleanDisk new → IsTrue old.is_open → (U : State) → StandsAt (seen kept old) U → (trees : Trees) → new.may_leave trees
-    → HoldsTables trees (rows_of U) ⊎ HoldsTables trees (rows_of (applied U (effects_view e)))
+    → HoldsWhole trees (rows_of U) ⊎ HoldsWhole trees (rows_of (applied U (effects_view e)))
 
 pub made_at : (kept left : Kept) (old new : database.State) (c : Command) (now : ℕ) (e : Effects) (reply : Answer)
     → ((S : State) → StandsAt (seen kept old) S → StandsAt (seen left new) (applied S (effects_view e)))

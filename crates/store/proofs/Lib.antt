@@ -5,5 +5,6 @@ pub mod Holding
 pub mod Applying
 pub mod Fitting
 pub mod Loads
+pub mod Reopening
 pub mod Standings
 pub mod Targets

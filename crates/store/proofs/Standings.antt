@@ -8,7 +8,7 @@ use Rattle.sqlite_trees.specs.Tree.{Trees}
 use Rattle.machine.specs.State.{State}
 use Rattle.machine.specs.Held.{Held, OfEachState}
 use Rattle.machine.specs.Runs.{Command}
-use Rattle.tables.specs.Tables.{HoldsTables, IsStore}
+use Rattle.tables.specs.Tables.{HoldsWhole, IsStore}
 use Rattle.tables.specs.declared.faults.StoreFault.{StoreFault}
 use Rattle.tables.specs.declared.faults.StoreFault.TheVariants.{Damaged, Database, OutOfMemory}
 use Rattle.store.specs.Applies.{Applies, HoldsReply, Makes}
@@ -75,7 +75,7 @@ makes kept left old new c now (Err Damaged) does there (S, at) = let (T, to, her
 -- what a call does to what is kept, as it is said to callers
 pub applies : (kept left : Kept) (old new : database.State) (c : Command) (now : ℕ) (r : Result Answer StoreFault) → DoesAt kept left old new c now r
     → (HasCleanDisk new → OnOk r (IsTrue old.is_open)) → (S : State) × StandsAt (seen kept old) S
-    → (HasCleanDisk new → IsTrue new.is_open → (T : State) → StandsAt (seen left new) T → (trees : Trees) → new.may_leave trees → HoldsTables trees (rows_of T))
+    → (HasCleanDisk new → IsTrue new.is_open → (T : State) → StandsAt (seen left new) T → (trees : Trees) → new.may_leave trees → HoldsWhole trees (rows_of T))
     → Applies kept left old new c now r
 applies kept left old new c now r does there stands rests = record {
   makes = makes kept left old new c now r does there stands;

@@ -18,7 +18,7 @@ use Rattle.machine.specs.declared.serving.Served.{Served}
 use Rattle.machine.specs.declared.serving.GetFault.{GetFault}
 use Rattle.machine.specs.declared.serving.GetFault.TheVariants as gets
 use Rattle.machine.specs.declared.serving.LoadFault.TheVariants as loads
-use Rattle.tables.specs.Tables.{HoldsTables}
+use Rattle.tables.specs.Tables.{HoldsWhole}
 use Rattle.tables.specs.declared.faults.StoreFault.{StoreFault}
 use Rattle.tables.specs.declared.faults.StoreFault.TheVariants.{Damaged, Database, OutOfMemory}
 use Rattle.store.specs.Applies.{Replies}

@@ -6,7 +6,7 @@ use Rattle.sqlite_trees.specs.Tree.{Trees}
 use Rattle.machine.specs.State.{State}
 use Rattle.machine.specs.Runs.{Command, Reply, Steps, Target, FileBytes, Refused}
 use Rattle.machine.specs.Serving.{HasLayout, is_by_layout}
-use Rattle.tables.specs.Tables.{HoldsTables}
+use Rattle.tables.specs.Tables.{HoldsWhole}
 use Rattle.store.specs.Standing.{Holds, IsClean, Keeps, Moves, Standing, StandsAt, seen}
 use Rattle.store.specs.StateRows.{Kept, rows_of}
 use Rattle.store.specs.Views.{reply_view}
@@ -14,13 +14,17 @@ use Rattle.tables.specs.declared.faults.StoreFault.{StoreFault}
 use Rattle.tables.specs.declared.faults.StoreFault.TheVariants.{Damaged, Database, OutOfMemory}
 use Rattle.store.specs.declared.command.Reply.{Reply as Answer}
 
--- the tables hold the rows of the state that the command leaves
+-- the trees hold the rows of the state that the command leaves, in all five tables
 abbrev pub HoldsStep : State → Command → ℕ → Trees → Type 0
-HoldsStep S command now trees = (U : State) × (reply : Reply) × Steps S command now (U, reply) × HoldsTables trees (rows_of U)
+HoldsStep S command now trees = (U : State) × (reply : Reply) × Steps S command now (U, reply) × HoldsWhole trees (rows_of U)
 
 -- the same, and with this reply
 abbrev pub HoldsReply : State → Command → ℕ → Reply → Trees → Type 0
-HoldsReply S command now reply trees = (U : State) × Steps S command now (U, reply) × HoldsTables trees (rows_of U)
+HoldsReply S command now reply trees = (U : State) × Steps S command now (U, reply) × HoldsWhole trees (rows_of U)
+
+-- the state from before the command, or one that its step leads to
+abbrev pub IsEither : State → Command → ℕ → State → Type 0
+IsEither S command now T = (T ≡ S) ⊎ ((reply : Reply) × Steps S command now (T, reply))
 
 -- The step of the machine with its reply. The bytes of a target are read when they are asked for, and so are those of its layout and
 -- links, so where the answers of the disk are not to be trusted, it is not known that they are those of the step.
@@ -39,10 +43,10 @@ Makes A B command now (Err Database) = Keeps A B
 Makes A B command now (Err Damaged) = ⊥
 
 -- A command is made. A crash inside the call leaves the rows from before it or those from after it, and a crash after the call those of
--- the state at which the store then stands.
+-- the state at which the store then stands, each in trees that list all five tables.
 pub record Applies (kept left : Kept) (old new : database.State) (command : Command) (now : ℕ) (r : Result Answer StoreFault) : Type 0 where
   pub makes : Makes (seen kept old) (seen left new) command now r
   pub crash : HasCleanDisk new → IsTrue old.is_open → (S : State) → StandsAt (seen kept old) S
-      → (trees : Trees) → new.may_leave trees → HoldsTables trees (rows_of S) ⊎ HoldsStep S command now trees
+      → (trees : Trees) → new.may_leave trees → HoldsWhole trees (rows_of S) ⊎ HoldsStep S command now trees
   pub durable : HasCleanDisk new → IsTrue new.is_open → (T : State) → StandsAt (seen left new) T
-      → (trees : Trees) → new.may_leave trees → HoldsTables trees (rows_of T)
+      → (trees : Trees) → new.may_leave trees → HoldsWhole trees (rows_of T)

@@ -1,5 +1,5 @@
 -- Where a store stands: a state that it stands for, and the rows of that state in the tables.
-use Rattle.std.specs.Prelude.{◌≡◌, Bool, IsTrue}
+use Rattle.std.specs.Prelude.{◌≡◌, Bool, IsTrue, Ok}
 use Rattle.sqlite.specs.Effect.{Database}
 use Rattle.sqlite.specs.State as connection
 use Rattle.sqlite_trees.specs.View.{doubt}
@@ -7,7 +7,7 @@ use Rattle.machine.specs.State.{State, IsState}
 use Rattle.machine.specs.Held.{held_of}
 use Rattle.tables.specs.Schema.{HasFive}
 use Rattle.tables.specs.Tables.{HoldsTables}
-use Rattle.store.specs.StateRows.{Kept, TreesStand, rows_of}
+use Rattle.store.specs.StateRows.{Kept, OpensTo, rows_of}
 
 -- what a store keeps in memory, and what its connection shows of the database
 pub record Standing : Type 0 where
@@ -55,6 +55,6 @@ pub record Holds (A B : Standing) : Type 0 where
   pub clean : IsClean B → IsClean A
   pub is_open : IsClean B → IsTrue A.is_open × IsTrue B.is_open
 
--- What an open gives: the connection is open, and the store stands at a state whose rows the database stood for.
+-- What an open gives: the connection is open, and the store stands at a state for which the database stood.
 abbrev pub Opens : connection.State → Standing → Type 0
-Opens old A = (S : State) × StandsAt A S × (IsClean A → IsTrue A.is_open × TreesStand old.committed.trees (rows_of S))
+Opens old A = (S : State) × StandsAt A S × (IsClean A → IsTrue A.is_open × OpensTo old.committed.trees (Ok S))

@@ -1,5 +1,5 @@
 -- What a store is to its callers, and the rows of a state.
-use Rattle.std.specs.Prelude.{◌≡◌, [], refl, IsTrue}
+use Rattle.std.specs.Prelude.{◌≡◌, ◌≢◌, ⊤, false, [], refl, Result, Ok, Err, IfOk, IsTrue}
 use Rattle.std.specs.Coded.{Coded, code_by, coded×}
 use Rattle.sqlite.specs.Held.{Held as Connection, held_code}
 use Rattle.machine.specs.State.{State, IsState}
@@ -10,8 +10,10 @@ use Rattle.contents.specs.Contents.{Contents, no_rows}
 use Rattle.sqlite.specs.Effect.{Database, IsDatabase}
 use Rattle.sqlite_trees.specs.Tree.{Trees}
 use Rattle.tables.specs.Schema.{IsBeginning}
-use Rattle.tables.specs.Tables.{HoldsTables, Stands}
+use Rattle.tables.specs.Tables.{HoldsWhole, Stands}
 use Rattle.tables.specs.Opening.{StandsEmpty}
+use Rattle.tables.specs.declared.faults.StoreFault.{StoreFault}
+use Rattle.tables.specs.declared.faults.StoreFault.TheVariants as faults
 use Rattle.sqlite.specs.State as database
 
 -- what a store keeps in memory: its state but for the bytes of the target files
@@ -41,6 +43,24 @@ abbrev pub HoldsNoState : Trees → Type 0
 HoldsNoState trees =
     (db : Database) × (db.trees ≡ trees) × IsDatabase db × IsBeginning db.schema × ((S : State) → IsState S → Stands db (rows_of S) → ⊥)
 
--- What an opening writes: where the tables stood without a row, they hold those of the empty state.
+-- What an opening of a database of these trees answers: a state for which they stand, and `Damaged` where they stand for none. Of when it
+-- is another fault nothing is said.
+abbrev pub OpensTo : Trees → Result State StoreFault → Type 0
+OpensTo trees (Ok S) = IsState S × TreesStand trees (rows_of S)
+OpensTo trees (Err faults.Damaged) = HoldsNoState trees
+OpensTo trees (Err faults.Database) = ⊤
+OpensTo trees (Err faults.OutOfMemory) = ⊤
+
+-- But for a fault of the database or want of memory, each opening of these trees answers such a state. It is never `Damaged`.
+abbrev pub Reopens : Trees → (State → Type 0) → Type 0
+Reopens trees IsFound = (r : Result State StoreFault) → OpensTo trees r → (r ≢ Err faults.Damaged) × IfOk r (λ S. ∥ IsFound S ∥₁)
+
+-- What an opening writes: the connection was open, its tables stood without a row, and all five hold the rows of the empty state.
 abbrev pub Begins : database.State → Trees → Type 0
-Begins s trees = IsTrue s.is_open → StandsEmpty s × HoldsTables trees no_rows
+Begins s trees = IsTrue s.is_open × StandsEmpty s × HoldsWhole trees no_rows
+
+-- What a connection shows stands for the state: what was committed, while it is open, and once it is shut whatever a crash may leave.
+pub record RestsAt (s : database.State) (S : State) : Type 0 where
+  pub valid : IsState S
+  pub committed : IsTrue s.is_open → TreesStand s.committed.trees (rows_of S)
+  pub left : s.is_open ≡ false → (trees : Trees) → s.may_leave trees → TreesStand trees (rows_of S)

@@ -10,7 +10,7 @@ ghost use Rattle.machine.specs.Views.{blob_views, digest_views, effects_view};
 ghost use Rattle.machine.specs.State as trust;
 ghost use Rattle.machine.specs.State.{IsState};
 ghost use Rattle.machine.specs.Effects.{applied};
-ghost use Rattle.tables.specs.Tables.{HoldsTables, IsStore, after_all};
+ghost use Rattle.tables.specs.Tables.{HoldsWhole, IsStore, after_all};
 ghost use Rattle.contents.specs.Contents.{Contents};
 ghost use Rattle.store.specs.StateRows.{rows_of};
 ghost use Rattle.store.specs.steps.Changed.{blobs_gone, changed, emptied_if, last_version, more_blobs, more_roots, more_rows, new_roots, new_snapshot, new_timestamp, rows_gone};
@@ -177,7 +177,7 @@ pub(crate) fn write<S: Alter>(
     ensures was_open { HasCleanDisk (state S.Store conn.new) → IsTrue (state S.Store conn.new).is_open → IsTrue (state S.Store conn.old).is_open }
     ensures crash { Survives (state S.Store conn.old) (state S.Store conn.new)
         (λ trees. (U : trust.State) → IsState U → IsState (applied U (effects_view effects.now))
-        → IsStore (state S.Store conn.old) (rows_of U) → HoldsTables trees (rows_of (applied U (effects_view effects.now)))) }
+        → IsStore (state S.Store conn.old) (rows_of U) → HoldsWhole trees (rows_of (applied U (effects_view effects.now)))) }
     ensures fault { result ≢ Err StoreFault.Damaged }
 {
     rows_stay();

@@ -6,16 +6,19 @@ ghost use Rattle.sqlite_wal.specs.Files.{outcomes};
 ghost use Rattle.sqlite_wal.specs.Reads.{AreClean};
 ghost use Rattle.sqlite_wal.specs.Recovery.{Image};
 ghost use Rattle.machine.specs.State.{State};
-ghost use Rattle.tables.specs.Tables.{HoldsTables};
-ghost use Rattle.store.specs.Applies.{HoldsReply, HoldsStep};
+ghost use Rattle.machine.specs.Runs.{Steps};
+ghost use Rattle.tables.specs.Tables.{HoldsWhole};
+ghost use Rattle.store.specs.Applies.{HoldsReply, HoldsStep, IsEither};
 ghost use Rattle.store.specs.Standing.{StandsAt, seen};
-ghost use Rattle.store.specs.StateRows.{Begins, rows_of};
+ghost use Rattle.store.specs.StateRows.{Begins, Reopens, RestsAt, rows_of};
 ghost use Rattle.sql_tables.specs.Opening.{IsFound};
 ghost use Rattle.store.specs.Views.{command_view, reply_view};
 
 use crate::command::{Command, Reply};
+use crate::laws::{leaves_committed, trees_tell_state};
 use crate::opening::Unopened;
 use crate::store::Store;
+use machine::{nothing_is_valid, stays_valid};
 use metadata::Moment;
 use sql_tables::close;
 use sqlite::{Connection, FileStore, Files};
@@ -35,12 +38,22 @@ pub fn apply_and_close<D: Disk + Drop>(
     ensures before_or_after { AreClean D.Disk result.1.log result.1.db → IsTrue (file_state store.conn).is_open
         → (U : State) → StandsAt (seen store.kept (file_state store.conn)) U
         → (left : Image) → outcomes D.Disk result.1.log result.1.db left → (found : Trees) → IsFound left found
-        → ∥ HoldsTables found (rows_of U) ⊎ HoldsStep U (command_view command.entry) now found ∥₁ }
+        → ∥ HoldsWhole found (rows_of U) ⊎ HoldsStep U (command_view command.entry) now found ∥₁ }
     ensures after { AreClean D.Disk result.1.log result.1.db
         → (U : State) → StandsAt (seen store.kept (file_state store.conn)) U
         → (left : Image) → outcomes D.Disk result.1.log result.1.db left → (found : Trees) → IsFound left found
         → IfOk result.0 (λ reply. ∥ HoldsReply U (command_view command.entry) now (reply_view reply) found ∥₁) }
+    ensures reopened { AreClean D.Disk result.1.log result.1.db → IsTrue (file_state store.conn).is_open
+        → (U : State) → StandsAt (seen store.kept (file_state store.conn)) U
+        → (left : Image) → outcomes D.Disk result.1.log result.1.db left → (found : Trees) → IsFound left found
+        → Reopens found (IsEither U (command_view command.entry) now) }
+    ensures reopened_after { AreClean D.Disk result.1.log result.1.db
+        → (U : State) → StandsAt (seen store.kept (file_state store.conn)) U
+        → (left : Image) → outcomes D.Disk result.1.log result.1.db left → (found : Trees) → IsFound left found
+        → IfOk result.0 (λ reply. Reopens found (λ V. Steps U (command_view command.entry) now (V, reply_view reply))) }
 {
+    stays_valid();
+    trees_tell_state();
     let result = store.apply(command, now);
     let conn = store.into_connection();
     (result, close(conn))
@@ -56,7 +69,14 @@ pub fn open_and_close<D: Disk + Drop>(
     ensures crash { conn.in_transaction ≡ false → IsSomeAnd result.1 (λ files. AreClean D.Disk files.log files.db
         → (left : Image) → outcomes D.Disk files.log files.db left → (found : Trees) → IsFound left found
         → ∥ (file_state conn).may_leave found ⊎ Begins (file_state conn) found ∥₁) }
+    ensures reopened { conn.in_transaction ≡ false → IsSomeAnd result.1 (λ files. AreClean D.Disk files.log files.db
+        → (U : State) → RestsAt (file_state conn) U
+        → (left : Image) → outcomes D.Disk files.log files.db left → (found : Trees) → IsFound left found
+        → Reopens found (λ V. V ≡ U)) }
 {
+    nothing_is_valid();
+    trees_tell_state();
+    leaves_committed(&conn);
     match Store::open_over(alloc, conn) {
         Ok(store) => (Ok(()), Some(close(store.into_connection()))),
         Err(unopened) => {

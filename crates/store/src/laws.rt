@@ -1,14 +1,19 @@
-//! What is known of the state that a store stands for.
-ghost use Rattle.std.specs.Prelude.{◌≡◌, IsTrue};
+//! What is known of the state that a store stands for, and of what a crash leaves.
+ghost use Rattle.std.specs.Prelude.{◌≡◌, false, IsTrue};
+ghost use Rattle.contents.specs.Contents.{Contents};
 ghost use Rattle.sqlite.specs.Held.{state};
-ghost use Rattle.sqlite.specs.State.{HasCleanDisk};
+ghost use Rattle.sqlite.specs.State.{HasCleanDisk, IsLive};
+ghost use Rattle.sqlite_trees.specs.Tree.{Trees};
 ghost use Rattle.machine.specs.State as trust;
 ghost use Rattle.machine.specs.State.{IsState};
+ghost use Rattle.tables.specs.Opening.{IsSettled};
+ghost use Rattle.tables.specs.Tables.{HoldsWhole, IsStore};
 ghost use Rattle.store.specs.Standing.{StandsAt, seen};
+ghost use Rattle.store.specs.StateRows.{HoldsNoState, TreesStand, rows_of};
 
 use crate::store::Store;
 use metadata::{one_document, one_shape};
-use sqlite::Alter;
+use sqlite::{Alter, Connection};
 use tables::one_contents;
 
 /// A law, which does nothing: a store stands at a state, which is a valid one; and while the connection is open, and unless a wrong
@@ -24,4 +29,33 @@ pub fn stands<S: Alter>(store: &Store<S>)
     one_shape();
     one_contents();
     store.rests();
+}
+
+/// A law, which does nothing: trees stand for the rows of one state or of none, whichever database they are read as. Those that hold the
+/// rows of a state in all five tables, as a crash leaves them, stand for that state.
+pub fn trees_tell_state()
+    ensures whole { (trees : Trees) (t : Contents) → HoldsWhole trees t → TreesStand trees t }
+    ensures once { (trees : Trees) (U V : trust.State) → IsState U → IsState V → TreesStand trees (rows_of U) → TreesStand trees (rows_of V) → V ≡ U }
+    ensures sound { (trees : Trees) (U : trust.State) → IsState U → TreesStand trees (rows_of U) → HoldsNoState trees → ⊥ }
+{
+    one_document();
+    one_shape();
+}
+
+// A law, which does nothing: while a connection is open a crash leaves just what was committed, and between two transactions that is
+// what it sees.
+pub(crate) fn leaves_committed<S: Alter>(conn: &Connection<S>)
+    ensures left { IsTrue (state S.Store conn.now).is_open → (trees : Trees) → (state S.Store conn.now).may_leave trees → trees ≡ (state S.Store conn.now).committed.trees }
+    ensures settled { conn.now.in_transaction ≡ false → IsSettled (state S.Store conn.now) }
+    ensures live { IsLive (state S.Store conn.now) }
+{
+    let _ = conn.is_autocommit();
+    let _ = conn.schema();
+}
+
+// A law, which does nothing: a crash leaves just the rows that the tables hold, and all five tables.
+pub(crate) fn leaves_rows<S: Alter>(conn: &Connection<S>)
+    ensures { (t : Contents) → IsTrue (state S.Store conn.now).is_open → IsStore (state S.Store conn.now) t → (trees : Trees) → (state S.Store conn.now).may_leave trees → HoldsWhole trees t }
+{
+    leaves_committed(conn);
 }

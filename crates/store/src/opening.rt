@@ -1,13 +1,13 @@
 //! Opening a store: the rows that stand in the tables become a state.
-ghost use Rattle.std.specs.Prelude.{◌≡◌, ◌<◌, ℕ, false, Err, MatchResult, IfErr, IfOk, OnOk, IsSomeAnd, IsTrue};
+ghost use Rattle.std.specs.Prelude.{◌≡◌, ◌≢◌, false, Err, MatchOption, MatchResult, IfErr, IfOk, OnOk, IsSomeAnd, IsTrue};
 ghost use Rattle.sqlite.specs.Held.{state};
 ghost use Rattle.sqlite.specs.State.{HasCleanDisk, IsLive, Survives};
-ghost use Rattle.tables.specs.Opening.{IsSettled, StandsEmpty};
-ghost use Rattle.tables.specs.Schema.{IsBeginning, beginning};
-ghost use Rattle.tables.specs.Tables.{HoldsTables, IsStore, Stands};
-ghost use Rattle.contents.specs.Contents.{no_rows};
-ghost use Rattle.store.specs.Standing.{IsStateOf, Opens, seen};
-ghost use Rattle.store.specs.StateRows.{Begins, HoldsNoState, rows_of};
+ghost use Rattle.sqlite_trees.specs.Tree.{Trees};
+ghost use Rattle.tables.specs.Opening.{IsSettled};
+ghost use Rattle.tables.specs.Schema.{IsBeginning};
+ghost use Rattle.tables.specs.Tables.{HoldsWhole, IsStore, Stands};
+ghost use Rattle.store.specs.Standing.{IsStateOf, Opens, StandsAt, seen};
+ghost use Rattle.store.specs.StateRows.{Begins, OpensTo, rows_of};
 ghost use Rattle.machine.specs.State as trust;
 ghost use Rattle.machine.specs.State.{IsState};
 
@@ -39,8 +39,10 @@ impl<S: Alter + Drop> Store<S> {
     /// - `OutOfMemory`: memory was refused.
     pub fn open(alloc: Global, conn: Connection<S>) -> Result<Store<S>, StoreFault>
         ensures opened { IfOk result (λ s. Opens (state S.Store conn) (seen s.kept (state S.Store s.conn))) }
-        ensures damaged { ((c : _) → HasCleanDisk (state S.Store c)) → result ≡ Err StoreFault.Damaged → HoldsNoState (state S.Store conn).committed.trees }
+        ensures fault { ((c : _) → HasCleanDisk (state S.Store c)) → IfErr result (λ fault. OpensTo (state S.Store conn).committed.trees (Err fault)) }
         ensures crash { conn.in_transaction ≡ false → IfOk result (λ s. Survives (state S.Store conn) (state S.Store s.conn) (λ trees. Begins (state S.Store conn) trees)) }
+        ensures durable { IfOk result (λ s. HasCleanDisk (state S.Store s.conn) → (U : trust.State) → StandsAt (seen s.kept (state S.Store s.conn)) U
+            → (trees : Trees) → (state S.Store s.conn).may_leave trees → HoldsWhole trees (rows_of U)) }
     {
         match Store::open_over(alloc, conn) {
             Ok(store) => Ok(store),
@@ -54,9 +56,11 @@ impl<S: Alter + Drop> Store<S> {
     /// where the tables stood empty.
     pub fn open_over(alloc: Global, conn: Connection<S>) -> Result<Store<S>, Unopened<S>>
         ensures opened { IfOk result (λ s. Opens (state S.Store conn) (seen s.kept (state S.Store s.conn))) }
-        ensures damaged { IfErr result (λ u. u.fault ≡ StoreFault.Damaged → IsSomeAnd u.conn (λ c. HasCleanDisk (state S.Store c) → HoldsNoState (state S.Store conn).committed.trees)) }
+        ensures fault { IfErr result (λ u. MatchOption u.conn (u.fault ≢ StoreFault.Damaged) (λ c. HasCleanDisk (state S.Store c) → OpensTo (state S.Store conn).committed.trees (Err u.fault))) }
         ensures crash { conn.in_transaction ≡ false → MatchResult result (λ s. Survives (state S.Store conn) (state S.Store s.conn) (λ trees. Begins (state S.Store conn) trees))
             (λ u. IsSomeAnd u.conn (λ c. Survives (state S.Store conn) (state S.Store c) (λ trees. Begins (state S.Store conn) trees))) }
+        ensures durable { IfOk result (λ s. HasCleanDisk (state S.Store s.conn) → (U : trust.State) → StandsAt (seen s.kept (state S.Store s.conn)) U
+            → (trees : Trees) → (state S.Store s.conn).may_leave trees → HoldsWhole trees (rows_of U)) }
     {
         let mut conn = match renew(alloc, conn) {
             Ok(conn) => conn,
@@ -65,7 +69,11 @@ impl<S: Alter + Drop> Store<S> {
             }
         };
         match read_state(alloc, &mut conn) {
-            Ok(held) => Ok(Store::over(alloc, StoredRows::new(conn), held)),
+            Ok(held) => {
+                let store = Store::over(alloc, StoredRows::new(conn), held);
+                store.rests();
+                Ok(store)
+            }
             Err(fault) => Err(Unopened {
                 fault,
                 conn: Some(conn),
@@ -85,7 +93,7 @@ fn read_state<S: Alter>(alloc: Global, conn: &mut Connection<S>) -> Result<Held,
         → Stands (state S.Store conn.old).now (rows_of U) × IsStore (state S.Store conn.new) (rows_of U))) }
     ensures damaged { HasCleanDisk (state S.Store conn.new) → IsSettled (state S.Store conn.old)
         → result ≡ Err StoreFault.Damaged → IsTrue (state S.Store conn.old).is_open × IsBeginning conn.old.schema × ((U : trust.State) → IsState U → Stands (state S.Store conn.old).now (rows_of U) → ⊥) }
-    ensures crash { Survives (state S.Store conn.old) (state S.Store conn.new) (λ trees. IsTrue (state S.Store conn.old).is_open → StandsEmpty (state S.Store conn.old) × HoldsTables trees no_rows) }
+    ensures crash { Survives (state S.Store conn.old) (state S.Store conn.new) (λ trees. Begins (state S.Store conn.old) trees) }
 {
     one_document();
     one_shape();

@@ -3,7 +3,7 @@ ghost use Rattle.std.specs.Prelude.{◌≡◌, ◌≢◌, ◌⊎◌, ◌<◌, �
 ghost use Rattle.sqlite.specs.Held.{state};
 ghost use Rattle.sqlite.specs.State.{HasCleanDisk, Survives};
 ghost use Rattle.sqlite_trees.specs.Tree.{Trees};
-ghost use Rattle.tables.specs.Tables.{HoldsTables, IsStore};
+ghost use Rattle.tables.specs.Tables.{HoldsWhole, IsStore};
 ghost use Rattle.machine.specs.State as trust;
 ghost use Rattle.machine.specs.State.{IsSnapshotDue, IsState};
 ghost use Rattle.machine.specs.Effects.{applied};
@@ -300,7 +300,7 @@ impl<S: Alter> Store<S> {
     pub(crate) fn rests(&self)
         ensures somewhere { (U : trust.State) × StandsAt (seen self.now.kept (state S.Store self.now.conn)) U }
         ensures left { HasCleanDisk (state S.Store self.now.conn) → IsTrue (state S.Store self.now.conn).is_open → (U : trust.State) → StandsAt (seen self.now.kept (state S.Store self.now.conn)) U
-            → (trees : Trees) → (state S.Store self.now.conn).may_leave trees → HoldsTables trees (rows_of U) }
+            → (trees : Trees) → (state S.Store self.now.conn).may_leave trees → HoldsWhole trees (rows_of U) }
     {
         self.rows.rests();
     }
@@ -317,7 +317,7 @@ impl<S: Alter> Store<S> {
         ensures kept { (U : trust.State) → StandsAt (seen self.old.kept (state S.Store self.old.conn)) U → OnErr result (StandsAt (seen self.new.kept (state S.Store self.new.conn)) U) }
         ensures live { HasCleanDisk (state S.Store self.new.conn) → IsTrue (state S.Store self.old.conn).is_open → OnOk result (IsTrue (state S.Store self.new.conn).is_open) }
         ensures crash { HasCleanDisk (state S.Store self.new.conn) → IsTrue (state S.Store self.old.conn).is_open → (U : trust.State) → StandsAt (seen self.old.kept (state S.Store self.old.conn)) U
-            → (trees : Trees) → (state S.Store self.new.conn).may_leave trees → HoldsTables trees (rows_of U) ⊎ HoldsTables trees (rows_of (applied U (effects_view effects))) }
+            → (trees : Trees) → (state S.Store self.new.conn).may_leave trees → HoldsWhole trees (rows_of U) ⊎ HoldsWhole trees (rows_of (applied U (effects_view effects))) }
         ensures sound { result ≢ Err StoreFault.Damaged }
         ensures clean { HasCleanDisk (state S.Store self.new.conn) → HasCleanDisk (state S.Store self.old.conn) }
     {

@@ -9,10 +9,11 @@ ghost use Rattle.machine.specs.State.{IsState};
 ghost use Rattle.machine.specs.Effects.{applied};
 ghost use Rattle.machine.specs.Views.{effects_view};
 ghost use Rattle.contents.specs.Contents.{Contents};
-ghost use Rattle.tables.specs.Tables.{HoldsTables, IsStore};
+ghost use Rattle.tables.specs.Tables.{HoldsWhole, IsStore};
 ghost use Rattle.store.specs.StateRows.{rows_of};
 
 use crate::changes::write;
+use crate::laws::leaves_rows;
 use machine::{Blobs, Effects, LoadFault};
 use path_patterns::Digest;
 use sqlite::{Alter, Connection};
@@ -78,17 +79,17 @@ impl<S: Alter> StoredRows<S> {
         ensures was_open { HasCleanDisk (state S.Store self.new) → IsTrue (state S.Store self.new).is_open → IsTrue (state S.Store self.old).is_open }
         ensures crash { Survives (state S.Store self.old) (state S.Store self.new)
             (λ trees. (U : trust.State) → IsState U → IsState (applied U (effects_view effects.now))
-            → IsStore (state S.Store self.old) (rows_of U) → HoldsTables trees (rows_of (applied U (effects_view effects.now)))) }
+            → IsStore (state S.Store self.old) (rows_of U) → HoldsWhole trees (rows_of (applied U (effects_view effects.now)))) }
         ensures fault { result ≢ Err StoreFault.Damaged }
     {
         write(alloc, &mut self.conn, effects)
     }
 
-    /// A law, which does nothing: a crash leaves just the rows that the tables hold.
+    /// A law, which does nothing: a crash leaves just the rows that the tables hold, and all five tables.
     pub fn rests(&self)
-        ensures { (t : Contents) → IsTrue (state S.Store self.now).is_open → IsStore (state S.Store self.now) t → (trees : Trees) → (state S.Store self.now).may_leave trees → HoldsTables trees t }
+        ensures { (t : Contents) → IsTrue (state S.Store self.now).is_open → IsStore (state S.Store self.now) t → (trees : Trees) → (state S.Store self.now).may_leave trees → HoldsWhole trees t }
     {
-        let _ = &self.conn;
+        leaves_rows(&self.conn);
     }
 }
 

@@ -5,7 +5,7 @@ use Rattle.sqlite.specs.State.{HasCleanDisk}
 use Rattle.sqlite_trees.specs.Tree.{Trees}
 use Rattle.machine.specs.State.{State}
 use Rattle.machine.specs.Runs.{Command}
-use Rattle.tables.specs.Tables.{HoldsTables}
+use Rattle.tables.specs.Tables.{HoldsWhole}
 use Rattle.store.specs.Applies.{HoldsStep, Replies}
 use Rattle.store.specs.Standing.{StandsAt, seen}
 use Rattle.store.specs.StateRows.{Kept, rows_of}
@@ -22,7 +22,7 @@ pub record Does (S T : State) (old new : database.State) (command : Command) (no
   pub sound : r ≡ Err Damaged → ⊥
   pub clean : HasCleanDisk new → HasCleanDisk old
   pub live : HasCleanDisk new → IsTrue old.is_open → OnOk r (IsTrue new.is_open)
-  pub crash : HasCleanDisk new → IsTrue old.is_open → (trees : Trees) → new.may_leave trees → HoldsTables trees (rows_of S) ⊎ HoldsStep S command now trees
+  pub crash : HasCleanDisk new → IsTrue old.is_open → (trees : Trees) → new.may_leave trees → HoldsWhole trees (rows_of S) ⊎ HoldsStep S command now trees
 
 -- for each state at which a store stands there is one at which it then stands, and this was done
 abbrev pub DoesAt : Kept → Kept → database.State → database.State → Command → ℕ → Result Answer StoreFault → Type 0

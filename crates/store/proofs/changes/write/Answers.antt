@@ -7,7 +7,7 @@ use Rattle.machine.specs.Views.{effects_view}
 use Rattle.tables.specs.Tables.{AreSame, IsStore, after_all}
 use Rattle.store.specs.StateRows.{rows_of}
 use Rattle.store.specs.steps.Changed.{changed}
-use Rattle.store.proofs.Holding.{holds_as, store_as}
+use Rattle.store.proofs.Holding.{whole_as, store_as}
 use Rattle.store.proofs.Fitting.{are_digests}
 use Rattle.store.proofs.SameRows.{changed_is}
 use Rattle.store.proofs.changes.write.Goals as goal
@@ -38,4 +38,4 @@ returns-clause-crash g c =
     survives_weaker _ _ _ _ (λ clean db wrote U valid then is.
     let made : after_all c.deref.result.now (rows_of U) ≡ changed E (rows_of U) = ap (λ l. after_all l (rows_of U)) c.deref.ensures.value ∙ c.in_ok-changes.ensures (rows_of U) in
     let same = changed_is U E (are_digests U.blobs valid.blobs) valid then (c.rows_stay.ensures U E valid then) in
-    holds_as db _ _ (subst (λ T. AreSame T (rows_of (applied U E))) (sym made) same) (wrote (rows_of U) is)) c.write_all.ensures.crash
+    whole_as db _ _ (subst (λ T. AreSame T (rows_of (applied U E))) (sym made) same) (wrote (rows_of U) is)) c.write_all.ensures.crash

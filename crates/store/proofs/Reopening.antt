@@ -1,0 +1,108 @@
+-- What the next opening answers over trees that were left.
+use Rattle.std.proofs.Common.{◌≡◌, ◌⊎◌, ◌∙◌, inl, inr, ℕ, true, false, Ok, Err, Result, refl, sym, ap, subst, if◌then◌else◌, []}
+use Rattle.std.specs.Prelude.{IfOk, IsTrue}
+use Rattle.std.proofs.Math.Logic.{∥∥₁_elim, ∥∥₁_map}
+use Rattle.sqlite.specs.Effect.{Database, IsDatabase}
+use Rattle.sqlite.specs.Table.{Table}
+use Rattle.sqlite.specs.Schema.{Schema}
+use Rattle.sqlite.specs.State as database
+use Rattle.sqlite.specs.State.{IsLive}
+use Rattle.sqlite_trees.specs.Tree.{Trees}
+use Rattle.contents.specs.Contents.{Contents, no_rows}
+use Rattle.machine.proofs.RowsOfOneState.{one_state}
+use Rattle.machine.proofs.ShapedOnce.{Shapes}
+use Rattle.machine.specs.Runs.{Command, Reply, Steps}
+use Rattle.machine.specs.State.{State, IsState, nothing}
+use Rattle.sql_tables.proofs.Listed.{same_tables}
+use Rattle.sql_tables.specs.Opening.{IsSettled}
+use Rattle.sql_tables.specs.Schema.{counted, is_there}
+use Rattle.tables.proofs.Beginnings.{to_counted}
+use Rattle.tables.proofs.SetLemmas.{one_set}
+use Rattle.tables.specs.Opening.{StandsEmpty}
+use Rattle.tables.specs.Tables.{HoldsWhole, IsStore, StandsFor, HoldsTables}
+use Rattle.tables.specs.declared.faults.StoreFault.{StoreFault}
+use Rattle.tables.specs.declared.faults.StoreFault.TheVariants.{Damaged, OutOfMemory}
+use Rattle.tables.specs.declared.faults.StoreFault.TheVariants as faults
+use Rattle.store.proofs.Fitting.{one_stands, state_fits, state_rises}
+use Rattle.store.specs.Applies.{HoldsReply, HoldsStep, IsEither}
+use Rattle.store.specs.StateRows.{Begins, HoldsNoState, OpensTo, Reopens, RestsAt, TreesStand, rows_of}
+
+-- ---- all five tables
+
+pub whole_stands : (trees : Trees) (t : Contents) → HoldsWhole trees t → TreesStand trees t
+whole_stands trees t (db, same, sound, five, holds) =
+    (db, same, sound, ((5, inr (refl, five)), to_counted db.schema db.trees t five (inl (subst (λ (d : Trees). HoldsTables d t) (sym same) holds))))
+
+pub store_whole : (s : database.State) (t : Contents) → IsTrue s.is_open → IsLive s → IsStore s t → (trees : Trees) → trees ≡ s.committed.trees → HoldsWhole trees t
+store_whole s t there live is trees left =
+    let same : trees ≡ s.now.trees = left ∙ sym (ap (λ (d : Database). d.trees) is.settled) in
+    (s.now, sym same, (live there).0, is.schema, subst (λ (d : Trees). HoldsTables d t) (sym same) is.holds)
+
+-- ---- trees tell their state
+
+-- what is counted hangs on the tables and the trees alone
+counted_alike : (d e : Database) → d.schema.tables ≡ e.schema.tables → d.trees ≡ e.trees → counted d.schema d.trees ≡ counted e.schema e.trees
+counted_alike d e tables trees = λ i tree. if is_there (tables i) tree then trees i tree else []
+
+-- two readings of the same trees
+alike : (d e : Database) → IsDatabase d → IsDatabase e → d.trees ≡ e.trees → counted d.schema d.trees ≡ counted e.schema e.trees
+alike d e one two same = counted_alike d e (same_tables d e one two same) same
+
+module _ (law : Shapes) where
+  pub stands_once : (trees : Trees) (U V : State) → IsState U → IsState V → TreesStand trees (rows_of U) → TreesStand trees (rows_of V) → V ≡ U
+  stands_once trees U V valid valid' (d, d_is, d_sound, d_stands) (e, e_is, e_sound, e_stands) =
+      let there = subst (λ (x : Trees). StandsFor x (rows_of U)) (alike d e d_sound e_sound (d_is ∙ sym e_is)) d_stands.1 in
+      one_state law V U valid' valid
+      (one_stands (counted e.schema e.trees) (rows_of V) (rows_of U) (one_set (counted e.schema e.trees)) (state_fits law V valid') (state_fits law U valid) (state_rises law V valid') (state_rises law U valid) e_stands.1 there)
+
+  pub never_damaged : (trees : Trees) (U : State) → IsState U → TreesStand trees (rows_of U) → HoldsNoState trees → ⊥
+  never_damaged trees U valid (d, d_is, d_sound, d_stands) (e, e_is, e_sound, begins, none) =
+      none U valid (begins, subst (λ (x : Trees). StandsFor x (rows_of U)) (alike d e d_sound e_sound (d_is ∙ sym e_is)) d_stands.1)
+
+-- ---- what the next opening answers
+
+module _ (once : (trees : Trees) (U V : State) → IsState U → IsState V → TreesStand trees (rows_of U) → TreesStand trees (rows_of V) → V ≡ U)
+    (sound : (trees : Trees) (U : State) → IsState U → TreesStand trees (rows_of U) → HoldsNoState trees → ⊥) where
+  abbrev Found : (State → Type 0) → Trees → Type 0
+  Found IsFound trees = (U : State) × IsState U × TreesStand trees (rows_of U) × IsFound U
+
+  pub reopens : (IsFound : State → Type 0) (trees : Trees) → ∥ Found IsFound trees ∥₁ → Reopens trees IsFound
+  reopens IsFound trees found (Ok V) opens = (
+    (λ same. let k : ◌≡◌ {A = Result State StoreFault} (Ok V) (Err Damaged) = same in cc),
+    ∥∥₁_map found (λ it. subst IsFound (sym (once trees it.0 V it.1 opens.0 it.2 opens.1)) it.3),
+  )
+  reopens IsFound trees found (Err faults.Damaged) opens = absurd (∥∥₁_elim found (λ x y. absurd x) (λ it. sound trees it.0 it.1 it.2 opens))
+  reopens IsFound trees found (Err faults.Database) opens = ((λ same. let k : ◌≡◌ {A = Result State StoreFault} (Err faults.Database) (Err Damaged) = same in cc), tt)
+  reopens IsFound trees found (Err faults.OutOfMemory) opens = ((λ same. let k : ◌≡◌ {A = Result State StoreFault} (Err OutOfMemory) (Err Damaged) = same in cc), tt)
+
+  -- after a command, or in it
+  pub reopens_either : (steps : (S T : State) (c : Command) (now : ℕ) (reply : Reply) → IsState S → Steps S c now (T, reply) → IsState T) (U : State) (c : Command) (now : ℕ) (trees : Trees)
+      → IsState U → ∥ HoldsWhole trees (rows_of U) ⊎ HoldsStep U c now trees ∥₁ → Reopens trees (IsEither U c now)
+  reopens_either steps U c now trees valid left = reopens (IsEither U c now) trees (∥∥₁_map left of)
+    where
+      of : HoldsWhole trees (rows_of U) ⊎ HoldsStep U c now trees → Found (IsEither U c now) trees
+      of (inl before) = (U, valid, whole_stands trees (rows_of U) before, inl refl)
+      of (inr (T, reply, step, after)) = (T, steps U T c now reply valid step, whole_stands trees (rows_of T) after, inr (reply, step))
+
+  pub reopens_reply : (steps : (S T : State) (c : Command) (now : ℕ) (reply : Reply) → IsState S → Steps S c now (T, reply) → IsState T) (U : State) (c : Command) (now : ℕ) (reply : Reply) (trees : Trees)
+      → IsState U → ∥ HoldsReply U c now reply trees ∥₁ → Reopens trees (λ V. Steps U c now (V, reply))
+  reopens_reply steps U c now reply trees valid left = reopens (λ V. Steps U c now (V, reply)) trees (∥∥₁_map left of)
+    where
+      of : HoldsReply U c now reply trees → Found (λ V. Steps U c now (V, reply)) trees
+      of (T, step, after) = (T, steps U T c now reply valid step, whole_stands trees (rows_of T) after, step)
+
+  -- after an opening, or in it
+  pub reopens_same : IsState nothing → (s : database.State) (U : State) (trees : Trees) → (IsTrue s.is_open → (d : Trees) → s.may_leave d → d ≡ s.committed.trees) → IsSettled s → IsLive s
+      → RestsAt s U → ∥ s.may_leave trees ⊎ Begins s trees ∥₁ → Reopens trees (λ V. V ≡ U)
+  reopens_same valid s U trees committed settled live rests left = reopens (λ V. V ≡ U) trees (∥∥₁_map left of)
+    where
+      at_rest : (b : _) → s.is_open ≡ b → s.may_leave trees → TreesStand trees (rows_of U)
+      at_rest true is may = subst (λ (d : Trees). TreesStand d (rows_of U)) (sym (committed is trees may)) (rests.committed is)
+      at_rest false is may = rests.left is trees may
+
+      of : s.may_leave trees ⊎ Begins s trees → Found (λ V. V ≡ U) trees
+      of (inl may) = (U, rests.valid, at_rest s.is_open refl may, refl)
+      of (inr (there, empty, whole)) =
+          let none : TreesStand s.committed.trees (rows_of nothing) = (s.now, ap (λ (d : Database). d.trees) (settled there), (live there).0, (empty.0, inr (empty.1, refl))) in
+          let same : U ≡ nothing = once s.committed.trees nothing U valid rests.valid none (rests.committed there) in
+          (U, rests.valid, subst (λ (V : State). TreesStand trees (rows_of V)) (sym same) (whole_stands trees no_rows whole), refl)
