@@ -7,3 +7,4 @@ pub mod Fitting
 pub mod Loads
 pub mod Standings
 pub mod Targets
+pub mod Ticking
