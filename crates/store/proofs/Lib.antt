@@ -8,3 +8,4 @@ pub mod Loads
 pub mod Reopening
 pub mod Standings
 pub mod Targets
+pub mod Ticking

@@ -1,5 +1,6 @@
 pub mod Applies
 pub mod Standing
 pub mod StateRows
+pub mod Ticks
 pub mod Views
 pub mod steps

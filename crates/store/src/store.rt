@@ -1,5 +1,6 @@
 //! A store: a state of the trust machine, whose rows the tables hold.
-ghost use Rattle.std.specs.Prelude.{◌≡◌, ◌≢◌, ◌⊎◌, ◌<◌, ◌≤◌, ◌^◌, Err, IsTrue, None, OnErr, OnOk, option_map};
+ghost use Rattle.std.specs.Prelude.{◌≡◌, ◌≢◌, ◌⊎◌, ◌<◌, ◌≤◌, ◌^◌, Err, IfOk, IsTrue, None, OnErr, OnOk, option_map};
+ghost use Rattle.sha2.specs.Sha256.{sha256};
 ghost use Rattle.sqlite.specs.Held.{state};
 ghost use Rattle.sqlite.specs.State.{HasCleanDisk, Survives};
 ghost use Rattle.sqlite_trees.specs.Tree.{Trees};
@@ -8,11 +9,13 @@ ghost use Rattle.machine.specs.State as trust;
 ghost use Rattle.machine.specs.State.{IsSnapshotDue, IsState};
 ghost use Rattle.machine.specs.Effects.{applied};
 ghost use Rattle.machine.specs.Held.{held_with};
-ghost use Rattle.machine.specs.Knowing.{IsKnown, WantsFew};
+ghost use Rattle.machine.specs.Knowing.{IsKnown};
 ghost use Rattle.machine.specs.Views.{documents_view, effects_view, offer_view};
 ghost use Rattle.machine.specs.Runs as steps;
 ghost use Rattle.machine.specs.Commands as commands;
 ghost use Rattle.machine.specs.Serving.{Refuses, Serves};
+ghost use Rattle.delegations.specs.Verdicts.{Table};
+ghost use Rattle.store.specs.Ticks.{Ticks, TicksFew};
 ghost use Rattle.store.specs.Applies.{Applies};
 ghost use Rattle.store.specs.Standing.{IsStateOf, Keeps, StandsAt, seen};
 ghost use Rattle.store.specs.steps.Doing.{DoesAt};
@@ -25,7 +28,7 @@ use crate::command::{Command, Reply};
 use crate::stored_rows::StoredRows;
 use machine::{
     BatchRefusal, Batched, Effects, GetFault, Held, LoadFault, Offer, Outcome, Refusal, Served,
-    Steps, get_from_counted, held_follows, target_from,
+    Steps, get_from_counted, held_follows, target_from_counted,
 };
 use metadata::Moment;
 use path_patterns::{Digest, TargetPath};
@@ -72,6 +75,22 @@ impl<S: Alter> Store<S> {
     pub fn apply(&mut self, command: Command<'_>, now: Moment) -> Result<Reply, StoreFault>
         ensures { Applies self.old.kept self.new.kept (state S.Store self.old.conn) (state S.Store self.new.conn) (command_view command.entry) now result }
     {
+        self.apply_counted(command, now, &mut Steps::new())
+    }
+
+    /// The same, with one tick for each signature that a request for a target checks in its searches. For a target without a layout these
+    /// are at most 512, and none where the pairs that searches may meet are at most 2,048. No other command makes a tick.
+    pub fn apply_counted(
+        &mut self,
+        command: Command<'_>,
+        now: Moment,
+        checks: &mut Steps,
+    ) -> Result<Reply, StoreFault>
+        requires { checks.old < 2 ^ 63 }
+        ensures applies { Applies self.old.kept self.new.kept (state S.Store self.old.conn) (state S.Store self.new.conn) (command_view command.entry) now result }
+        ensures ticks { Ticks self.old.kept.trusted (command_view command.entry) now checks.old checks.new }
+    {
+        self.is_known();
         self.rests();
         match self.touch() {
             Ok(()) => {}
@@ -80,7 +99,7 @@ impl<S: Alter> Store<S> {
                 return Err(fault);
             }
         }
-        let result = self.make(command, now);
+        let result = self.make(command, now, checks);
         self.rests();
         result
     }
@@ -121,9 +140,10 @@ impl<S: Alter> Store<S> {
             (HasCleanDisk (state S.Store self.new.conn) → IsTrue (state S.Store self.new.conn).is_open) result }
         ensures answer { HasCleanDisk (state S.Store self.new.conn) → IsTrue (state S.Store self.new.conn).is_open → (U : trust.State) → StandsAt (seen self.old.kept (state S.Store self.old.conn)) U
             → Serves U (commands.grants U path.now None now) result }
-        ensures grows { checks.old ≤ checks.new }
-        ensures free { WantsFew self.old.kept.trusted → checks.new ≡ checks.old }
+        ensures digest { IfOk result (λ s. sha256 s.bytes.items ≡ s.digest.0) }
+        ensures ticks { TicksFew self.old.kept.trusted path.now now checks.old checks.new }
     {
+        self.held.is_known();
         get_from_counted(self.alloc, &self.held, &mut self.rows, path, now, checks)
     }
 
@@ -135,8 +155,15 @@ impl<S: Alter> Store<S> {
     }
 
     // Makes a command, over a connection that is open.
-    fn make(&mut self, command: Command<'_>, now: Moment) -> Result<Reply, StoreFault>
-        ensures { DoesAt self.old.kept self.new.kept (state S.Store self.old.conn) (state S.Store self.new.conn) (command_view command.entry) now result }
+    fn make(
+        &mut self,
+        command: Command<'_>,
+        now: Moment,
+        checks: &mut Steps,
+    ) -> Result<Reply, StoreFault>
+        requires { checks.old < 2 ^ 63 }
+        ensures does { DoesAt self.old.kept self.new.kept (state S.Store self.old.conn) (state S.Store self.new.conn) (command_view command.entry) now result }
+        ensures ticks { Ticks self.old.kept.trusted (command_view command.entry) now checks.old checks.new }
     {
         match command {
             Command::Init(bytes) => self.begin(bytes, now),
@@ -145,7 +172,7 @@ impl<S: Alter> Store<S> {
             Command::PutBlob(digest, bytes) => self.put(digest, bytes, now),
             Command::Prune => self.prune(now),
             Command::Metadata(name) => self.metadata(name, now),
-            Command::Target(path, asked) => self.target(path, asked, now),
+            Command::Target(path, asked) => self.target(path, asked, now, checks),
         }
     }
 
@@ -249,11 +276,14 @@ impl<S: Alter> Store<S> {
         path: &str,
         asked: Option<Digest>,
         now: Moment,
+        checks: &mut Steps,
     ) -> Result<Reply, StoreFault>
-        ensures { DoesAt self.old.kept self.new.kept (state S.Store self.old.conn) (state S.Store self.new.conn) (steps.Target path.now (option_map (λ d. d.0) asked)) now result }
+        requires { checks.old < 2 ^ 63 }
+        ensures does { DoesAt self.old.kept self.new.kept (state S.Store self.old.conn) (state S.Store self.new.conn) (steps.Target path.now (option_map (λ d. d.0) asked)) now result }
+        ensures ticks { TicksFew self.old.kept.trusted path.now now checks.old checks.new }
     {
         self.rests();
-        match self.load_target(path, asked, now) {
+        match self.load_target(path, asked, now, checks) {
             Ok(served) => Ok(Reply::Bytes(served.bytes)),
             Err(fault) => unserved(fault),
         }
@@ -265,7 +295,9 @@ impl<S: Alter> Store<S> {
         path: &str,
         asked: Option<Digest>,
         now: Moment,
+        checks: &mut Steps,
     ) -> Result<Served, GetFault>
+        requires { checks.old < 2 ^ 63 }
         ensures same { self.new.kept ≡ self.old.kept }
         ensures reads { ReadsOnly (state S.Store self.old.conn) (state S.Store self.new.conn) }
         ensures denial { Refuses self.old.kept (λ U. commands.grants U path.now (option_map (λ d. d.0) asked) now) path.now now
@@ -273,8 +305,18 @@ impl<S: Alter> Store<S> {
         ensures there { HasCleanDisk (state S.Store self.new.conn) → OnOk result (IsTrue (state S.Store self.new.conn).is_open) }
         ensures answer { HasCleanDisk (state S.Store self.new.conn) → IsTrue (state S.Store self.new.conn).is_open → (U : trust.State) → StandsAt (seen self.old.kept (state S.Store self.old.conn)) U
             → Serves U (commands.grants U path.now (option_map (λ d. d.0) asked) now) result }
+        ensures ticks { TicksFew self.old.kept.trusted path.now now checks.old checks.new }
     {
-        target_from(self.alloc, &self.held, &mut self.rows, path, asked, now)
+        self.held.is_known();
+        target_from_counted(
+            self.alloc,
+            &self.held,
+            &mut self.rows,
+            path,
+            asked,
+            now,
+            checks,
+        )
     }
 
     // A store over rows that are those of a state of which this is held.
@@ -303,6 +345,13 @@ impl<S: Alter> Store<S> {
             → (trees : Trees) → (state S.Store self.now.conn).may_leave trees → HoldsWhole trees (rows_of U) }
     {
         self.rows.rests();
+    }
+
+    // A law, which does nothing: something is known of the signatures on the shelf, which is true and is all that a search may meet.
+    fn is_known(&self)
+        ensures { (known : Table) × IsKnown self.now.kept.trusted known }
+    {
+        self.held.is_known();
     }
 
     fn alloc(&self) -> Global {

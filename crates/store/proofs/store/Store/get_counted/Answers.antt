@@ -7,6 +7,7 @@ use Rattle.machine.specs.Serving.{Refuses}
 use Rattle.machine.specs.State.{State}
 use Rattle.store.specs.Standing.{StandsAt, seen}
 use Rattle.store.specs.StateRows.{rows_of}
+use Rattle.store.specs.Ticks.{TicksFew}
 use Rattle.store.proofs.Fitting.{blobs_keyed}
 use Rattle.store.proofs.Loads.{holds_blobs}
 use Rattle.store.proofs.Standings.{reads_if, stands_on, store_at}
@@ -51,3 +52,9 @@ returns-clause-denial g c =
     let new = state g.S.Store c.get_from_counted.new.blobs in
     subst (λ s. Refuses s.kept (λ (U : State). grants U c.args.path.now None c.args.now) c.args.path.now c.args.now (IsTrue (state g.S.Store s.conn).is_open → IsTrue new.is_open) (HasCleanDisk new → IsTrue new.is_open) c.get_from_counted.result) c.self.view_is
     (refuses_map _ _ _ _ _ _ _ _ c.get_from_counted.result (λ same was. subst (λ k. IsTrue (state g.S.Store k).is_open) (sym same) was) (λ l. l) c.get_from_counted.ensures.denial)
+
+pub returns-clause-ticks : goal.returns-clause-ticks
+returns-clause-ticks g c =
+    let e = c.get_from_counted.ensures in
+    subst (λ s. TicksFew s.kept.trusted c.args.path.now c.args.now c.args.checks.now c.get_from_counted.new.checks) c.self.view_is
+    (record { grows = e.grows; most = e.most; few = λ none. (_, c.is_known.ensures, e.few none); free = e.free })

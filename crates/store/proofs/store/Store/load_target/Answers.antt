@@ -7,6 +7,7 @@ use Rattle.machine.specs.Serving.{Refuses}
 use Rattle.machine.specs.State.{State}
 use Rattle.store.specs.Standing.{StandsAt, seen}
 use Rattle.store.specs.StateRows.{rows_of}
+use Rattle.store.specs.Ticks.{TicksFew}
 use Rattle.store.specs.steps.Loading.{ReadsOnly}
 use Rattle.store.proofs.Fitting.{blobs_keyed}
 use Rattle.store.proofs.Loads.{holds_blobs}
@@ -17,7 +18,7 @@ use Rattle.store.proofs.store.Store.load_target.Goals as goal
 pub invariant_of-self : goal.invariant_of-self
 invariant_of-self g c =
     let (U, of, rows) = c.self.invariant in
-    let reads = reads_if (λ k. state g.S.Store k) c.self.inside.rows c.target_from.new.blobs c.target_from.ensures.becomes in (
+    let reads = reads_if (λ k. state g.S.Store k) c.self.inside.rows c.target_from_counted.new.blobs c.target_from_counted.ensures.becomes in (
       U,
       of,
       (λ clean there. reads.kept clean there (rows_of U) (rows (omega (arith, clean, reads.survives.clean)) (reads.was_open clean there))),
@@ -27,9 +28,9 @@ pub returns-clause-answer : goal.returns-clause-answer
 returns-clause-answer g c clean there U at =
     let inside = c.self.inside in
     let within = subst (λ s. StandsAt (seen s.kept (state g.S.Store s.conn)) U) (sym c.self.view_is) at in
-    let reads = reads_if (λ k. state g.S.Store k) inside.rows c.target_from.new.blobs c.target_from.ensures.becomes in
+    let reads = reads_if (λ k. state g.S.Store k) inside.rows c.target_from_counted.new.blobs c.target_from_counted.ensures.becomes in
     let is = store_at inside.held.held (state g.S.Store inside.rows) U within (omega (arith, clean, reads.survives.clean)) (reads.was_open clean there) in
-    c.target_from.ensures.answer (clean, there) U (record {
+    c.target_from_counted.ensures.answer (clean, there) U (record {
       valid = at.state.valid;
       held = within.state.held;
       blobs = holds_blobs (state g.S.Store inside.rows) U at.state.valid (blobs_keyed U at.state.valid) is;
@@ -37,6 +38,12 @@ returns-clause-answer g c clean there U at =
 
 pub returns-clause-denial : goal.returns-clause-denial
 returns-clause-denial g c =
-    let new = state g.S.Store c.target_from.new.blobs in
-    subst (λ s. Refuses s.kept (λ (U : State). grants U c.args.path.now (option_map (λ d. d.0) c.args.asked) c.args.now) c.args.path.now c.args.now (IsTrue (state g.S.Store s.conn).is_open → IsTrue new.is_open) (HasCleanDisk new → IsTrue new.is_open) c.target_from.result) c.self.view_is
-    (refuses_map _ _ _ _ _ _ _ _ c.target_from.result (λ same was. subst (λ k. IsTrue (state g.S.Store k).is_open) (sym same) was) (λ l. l) c.target_from.ensures.denial)
+    let new = state g.S.Store c.target_from_counted.new.blobs in
+    subst (λ s. Refuses s.kept (λ (U : State). grants U c.args.path.now (option_map (λ d. d.0) c.args.asked) c.args.now) c.args.path.now c.args.now (IsTrue (state g.S.Store s.conn).is_open → IsTrue new.is_open) (HasCleanDisk new → IsTrue new.is_open) c.target_from_counted.result) c.self.view_is
+    (refuses_map _ _ _ _ _ _ _ _ c.target_from_counted.result (λ same was. subst (λ k. IsTrue (state g.S.Store k).is_open) (sym same) was) (λ l. l) c.target_from_counted.ensures.denial)
+
+pub returns-clause-ticks : goal.returns-clause-ticks
+returns-clause-ticks g c =
+    let e = c.target_from_counted.ensures in
+    subst (λ s. TicksFew s.kept.trusted c.args.path.now c.args.now c.args.checks.now c.target_from_counted.new.checks) c.self.view_is
+    (record { grows = e.grows; most = e.most; few = λ none. (_, c.is_known.ensures, e.few none); free = e.free })

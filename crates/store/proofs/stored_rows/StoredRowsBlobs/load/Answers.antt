@@ -23,11 +23,16 @@ returns-clause-leaves g c =
     c.self.invariant.1 (omega (arith, clean, c.load_blob.ensures.survives.clean)) (c.load_blob.ensures.was_open clean there) in
     subst (λ k. Leaves (HasCleanDisk new × IsTrue new.is_open) (λ digest bytes. HasFile (state g.S.Store k) digest bytes) digest c.args.out.now.items c.match-load_blob.result c.load_blob.new.out.items) c.self.view_is
     (elim c.match-load_blob.branch [
-      | in-Ok-true w ↦ subst Left (sym w.result-is) (λ sure.
-          let (bytes, same, right, stands) = w.in-Ok-true.ensures.found w.in-Ok-true.field-0-test in
-          let (t, is) = rows sure.0 sure.1 in
-          let (x, has, digits, own) = stands sure.0 t is in
-          (bytes, file_of old t is digest bytes x has digits own right, same))
+      | in-Ok-true w ↦ subst Left (sym w.result-is) (
+          let (bytes, same, right, stands) = w.in-Ok-true.ensures.found w.in-Ok-true.field-0-test in (
+            bytes,
+            same,
+            right,
+            (λ sure.
+                let (t, is) = rows sure.0 sure.1 in
+                let (x, has, digits, own) = stands sure.0 t is in
+                file_of old t is digest bytes x has digits own right),
+          ))
       | in-Ok-false w ↦ subst Left (sym w.result-is) (
         w.in-Ok-false.ensures.unfound w.in-Ok-false.field-0-test,
         (λ sure bytes file.
