@@ -1,4 +1,4 @@
-use Rattle.std.proofs.Common.{◌≡◌, ◌∙◌, ◌∷◌, ◌++◌, [], List, map, ap, arith, subst, sym}
+use Rattle.std.proofs.Common.{◌∙◌, ◌∷◌, [], List, map, ap, subst, sym}
 use Rattle.std.proofs.lemmas.List.{map-append}
 use Rattle.std.proofs.lemmas.Result.{err_from_is_err_and}
 use Rattle.std.specs.Prelude.{IsSome}
@@ -11,7 +11,7 @@ use Rattle.layouts.proofs.Lists.{none_left}
 use Rattle.path_patterns.specs.declared.Digest.{Digest}
 use Rattle.machine.specs.Held.{length_at}
 use Rattle.machine.specs.Supports.{read_as}
-use Rattle.machine.specs.steps.Permitting.{all_bytes_at, bytes_at, finds, forgoes}
+use Rattle.machine.specs.steps.Permitting.{all_bytes_at, finds, forgoes}
 use Rattle.machine.proofs.EachInTurn.{Follows, follows_end, follows_first, follows_next}
 use Rattle.machine.proofs.LoadedFiles.{each_finds, found_by, reads_none, reads_then, still_stands, told_err}
 use Rattle.machine.proofs.supporting.read_links.Goals as goal
