@@ -1,34 +1,30 @@
 -- What is found by bytes that are loaded.
-use Rattle.std.proofs.Common.{◌≡◌, ◌⊎◌, ◌∙◌, inl, inr, ℕ, ◌<◌, List, [], ◌∷◌, true, Option, Some, None, Result, Ok, Err, length, refl, sym, ap, subst}
-use Rattle.std.specs.Prelude.{◌↔◌, ◌≢◌, IsTrue, IsSome, option_map}
+use Rattle.std.proofs.Common.{◌≡◌, ◌⊎◌, ◌∙◌, inl, inr, ℕ, List, ◌∷◌, Result, Ok, Err, refl, sym, subst}
+use Rattle.std.specs.Prelude.{◌↔◌, IsTrue, IsSome}
 use Rattle.metadata.specs.File.{Bytes, File, Form, IsFileOf}
 use Rattle.metadata.specs.Shape.{IsShapeFault}
-use Rattle.metadata.specs.Shaped.{faulty, reads, shaped}
+use Rattle.metadata.specs.Shaped.{faulty, reads}
 use Rattle.metadata.specs.declared.documents.ShapeFault.{ShapeFault}
 use Rattle.metadata.specs.declared.documents.ShapeFault.TheVariants as shapes
 use Rattle.denials.specs.Numbers as no
 use Rattle.denials.specs.Orders as orders
 use Rattle.denials.specs.Orders.{Order, Plain, ◌>>=◌, decide, each, given, judges, pass, stopped}
-use Rattle.denials.specs.Views.{denial_view}
-use Rattle.denials.specs.declared.denial.Denial.{Denial}
-use Rattle.layouts.specs.Faults as layouts
 use Rattle.layouts.specs.Faults.{IsDeniedBy}
 use Rattle.layouts.specs.declared.faults.LayoutFault.{LayoutFault}
 use Rattle.layouts.specs.declared.faults.LayoutFault.TheVariants as verdicts
-use Rattle.machine.specs.Answers.{Gives, gives, denies as denied, forgoes as forgone}
-use Rattle.machine.specs.Held.{Held, OfEachState, StandsFor, held_of, length_at}
+use Rattle.machine.specs.Answers.{Gives, denies as denied, forgoes as forgone}
+use Rattle.machine.specs.Held.{Held, StandsFor, held_of, length_at}
 use Rattle.machine.specs.Serving.{is_by_layout}
-use Rattle.machine.specs.State.{State, IsState, blob_at}
+use Rattle.machine.specs.State.{State, IsState}
 use Rattle.machine.specs.Supports.{read_as}
-use Rattle.machine.specs.steps.Permitting.{Finds, IsFaultOf, IsLayoutAnswer, IsLentSo, IsLoaded, IsRefusedSo, IsShapeAnswer, Reads, Stands, Told, ToldFault, at_once, by_bytes, bytes_at, denies, fails, finds, forgoes}
+use Rattle.machine.specs.steps.Permitting.{Finds, IsFaultOf, IsLayoutAnswer, IsLentSo, IsLoaded, IsRefusedSo, IsShapeAnswer, Reads, Stands, Told, ToldFault, at_once, by_bytes, denies, fails, finds, forgoes}
 use Rattle.machine.specs.declared.refusal.Refusal.{Refusal}
 use Rattle.machine.specs.declared.refusal.Refusal.TheVariants as refusals
-use Rattle.machine.specs.declared.serving.Served.{Served}
 use Rattle.machine.specs.declared.serving.GetFault.{GetFault}
 use Rattle.machine.specs.declared.serving.GetFault.TheVariants.{Denied, Load, OutOfMemory}
 use Rattle.machine.specs.declared.serving.LoadFault.TheVariants as loads
 use Rattle.machine.proofs.EachInTurn.{Follows, follows_ends}
-use Rattle.machine.proofs.ServedFrom.{loaded_bytes, none_missing}
+use Rattle.machine.proofs.ServedFrom.{none_missing}
 
 -- ---- answers
 

@@ -5,7 +5,6 @@ use Rattle.std.specs.List.{AllByRecursion, list_all}
 use Rattle.std.specs.Prelude.{option_map, unwrap_or}
 use Rattle.metadata.specs.File.{Bytes}
 use Rattle.metadata.specs.Shape.{max_file}
-use Rattle.denials.specs.Numbers as no
 use Rattle.denials.specs.Orders as orders
 use Rattle.denials.specs.Orders.{Judged, Order, Plain, check, fails}
 use Rattle.denials.specs.Views.{denial_view}

@@ -96,8 +96,9 @@ pub fn target<'a>(
 }
 
 /// What `get` finds, where the blobs are elsewhere: the file, with its digest. Its rules are judged by digest and length before any
-/// bytes are loaded. A layout and its links are loaded only where each of them is there and has no layout; any other denial loads
-/// nothing. What was loaded of them is dropped before the file is loaded.
+/// bytes are loaded. A layout and its links are loaded only where each of them is there, has no layout and is no longer than 262,144
+/// bytes; any other denial loads nothing. What was loaded of them is dropped before the file is loaded. What is served has the digest,
+/// whatever the bytes were loaded from.
 pub fn get_from<B: Blobs>(
     alloc: Global,
     held: &Held,

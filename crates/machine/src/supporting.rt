@@ -308,11 +308,7 @@ fn read_links<B: Blobs>(
 }
 
 // The link with this digest.
-fn read_link<B: Blobs>(
-    alloc: Global,
-    blobs: &mut B,
-    digest: Digest,
-) -> Result<File<Link>, GetFault>
+fn read_link<B: Blobs>(alloc: Global, blobs: &mut B, digest: Digest) -> Result<File<Link>, GetFault>
     ensures finds { B.IsHonest blobs.new → (H : holding.Held) (S : trust.State) → StandsFor H (B.Holds blobs.old) S → IsSome (length_at H.blobs digest.0)
         → Finds (supports.read_as link_form (bytes_at S digest.0)) link_file result }
     ensures reads { Reads B.IsHonest B.Holds B.MayBecome blobs.old blobs.new }

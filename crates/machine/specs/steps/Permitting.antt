@@ -2,7 +2,7 @@
 use Rattle.std.specs.Prelude.{◌≡◌, ◌≢◌, ◌↔◌, ◌⊎◌, ℕ, nat_le, Bool, true, false, cond, List, [], map, unwrap_or, Result, Ok, Err, IsTrue}
 use Rattle.sha2.specs.Sha256.{sha256}
 use Rattle.metadata.specs.Shape.{max_file}
-use Rattle.metadata.specs.File.{Bytes, fault_number}
+use Rattle.metadata.specs.File.{Bytes}
 use Rattle.metadata.specs.declared.documents.ShapeFault.{ShapeFault}
 use Rattle.metadata.specs.declared.documents.ShapeFault.TheVariants as shapes
 use Rattle.metadata.specs.Views.{listing_view}

@@ -1,13 +1,10 @@
-use Rattle.std.proofs.Common.{◌≡◌, ◌∙◌, ◌-◌, ℕ, Ok, Err, ap, arith, refl, subst, sym}
+use Rattle.std.proofs.Common.{◌∙◌, ◌-◌, ℕ, Ok, Err, arith, refl, subst, sym}
 use Rattle.std.proofs.lemmas.Result.{err_from_is_err_and}
-use Rattle.std.specs.Prelude.{option_map}
 use Rattle.metadata.specs.Views.{listing_view}
 use Rattle.denials.specs.Orders.{decide, fails as failing, given, holds, pass}
-use Rattle.machine.specs.Commands.{Listed, listed}
-use Rattle.machine.specs.Held.{Held, held_of}
+use Rattle.machine.specs.Commands.{Listed}
 use Rattle.machine.specs.Knowing.{ChecksFew}
-use Rattle.machine.specs.Serving.{HasLayout}
-use Rattle.machine.specs.State.{State, Trusted}
+use Rattle.machine.specs.State.{Trusted}
 use Rattle.machine.specs.Supports.{HasLongSupport, blob_of}
 use Rattle.machine.specs.steps.Permitting.{at_once, bytes_at, denies, finds, listed_view}
 use Rattle.machine.proofs.HeldStates.{lengths_are}

@@ -1,8 +1,7 @@
-use Rattle.std.proofs.Common.{◌≡◌, ◌∙◌, List, Ok, Err, ap, false, not, refl, sym, subst, true}
-use Rattle.std.proofs.lemmas.Bool.{true≢false}
+use Rattle.std.proofs.Common.{List, Ok, refl, sym, subst}
 use Rattle.std.proofs.lemmas.Result.{err_from_is_err_and}
 use Rattle.keys_roles.specs.Views.{rule_view, table_view}
-use Rattle.metadata.specs.FileViews.{layout_file, link_file}
+use Rattle.metadata.specs.FileViews.{layout_file}
 use Rattle.metadata.specs.declared.file.File.{File}
 use Rattle.metadata.specs.declared.links.Link.{Link}
 use Rattle.denials.specs.Orders.{Order, decide, fails, holds}

@@ -1,14 +1,13 @@
-use Rattle.std.proofs.Common.{◌≡◌, Option, Ok, Err, List, ap, is_some, refl, subst, sym}
+use Rattle.std.proofs.Common.{Option, Ok, Err, List, ap, is_some, refl, subst, sym}
 use Rattle.std.proofs.lemmas.Result.{err_from_is_err_and}
 use Rattle.std.specs.Prelude.{option_map}
 use Rattle.metadata.specs.Views.{listing_view, reference_view}
 use Rattle.metadata.specs.declared.documents.LayoutReference.{LayoutReference}
-use Rattle.denials.specs.Orders.{each, given}
+use Rattle.denials.specs.Orders.{given}
 use Rattle.delegations.specs.Views.{shelf_view}
-use Rattle.path_patterns.specs.declared.Digest.{Digest}
 use Rattle.metadata.specs.File.{Bytes}
 use Rattle.layouts.proofs.DefiniteOrders.{each-definite}
-use Rattle.machine.specs.Supports.{AreShort, HasLongSupport, reference_allows, support}
+use Rattle.machine.specs.Supports.{AreShort, HasLongSupport, reference_allows}
 use Rattle.machine.specs.steps.Permitting.{Finds, all_bytes_at, at_once, bytes_at, finds}
 use Rattle.machine.proofs.LoadedFiles.{finds_behind, refused_in, stands_by, told_more}
 use Rattle.machine.proofs.OneJudgement.{support-definite}

@@ -1,4 +1,4 @@
-use Rattle.std.proofs.Common.{◌≡◌, ◌∙◌, ◌∷◌, ◌++◌, [], List, map, ap, arith, subst, sym}
+use Rattle.std.proofs.Common.{◌∙◌, ◌∷◌, [], List, map, ap, subst, sym}
 use Rattle.std.proofs.lemmas.List.{map-append}
 use Rattle.std.proofs.lemmas.Result.{err_from_is_err_and}
 use Rattle.std.specs.Prelude.{IsSome}
@@ -11,7 +11,7 @@ use Rattle.layouts.proofs.Lists.{none_left}
 use Rattle.path_patterns.specs.declared.Digest.{Digest}
 use Rattle.machine.specs.Held.{length_at}
 use Rattle.machine.specs.Supports.{read_as}
-use Rattle.machine.specs.steps.Permitting.{all_bytes_at, bytes_at, finds, forgoes}
+use Rattle.machine.specs.steps.Permitting.{all_bytes_at, finds, forgoes}
 use Rattle.machine.proofs.EachInTurn.{Follows, follows_end, follows_first, follows_next}
 use Rattle.machine.proofs.LoadedFiles.{each_finds, found_by, reads_none, reads_then, still_stands, told_err}
 use Rattle.machine.proofs.supporting.read_links.Goals as goal
@@ -47,11 +47,13 @@ digests-preserved g c =
       finds = λ honest H S stands there.
           let before = c.read_link.ensures.reads.was honest in
           let (follows, left) = c.digests.invariant.finds before H S stands there in
-          let here = subst (λ (ds : List Digest). AllByRecursion (λ d. IsSome (length_at H.blobs d.0)) ds) c.in-Some.ensures.cases.0 left in
-          (subst (λ (ls : List (plain.File Link)). Follows (read_as link_form) (all_bytes_at S c.args.digests.now) (all_bytes_at S later) ls)
-          (sym (ap (map link_file) c.in_ok-push.ensures.items ∙ map-append link_file c.digests.links.items (c.in_ok-link.link ∷ [])))
-          (follows_next (read_as link_form) (all_bytes_at S c.args.digests.now) (all_bytes_at S c.digests.rest.now) (all_bytes_at S later) _ (map link_file c.digests.links.items) (link_file c.in_ok-link.link)
-          (ap (all_bytes_at S) c.in-Some.ensures.cases.0) (found_by (c.in_ok-link.ensures.finds honest H S (still_stands (c.digests.invariant.reads.stays before) stands) here.0)) follows), here.1);
+          let here = subst (λ (ds : List Digest). AllByRecursion (λ d. IsSome (length_at H.blobs d.0)) ds) c.in-Some.ensures.cases.0 left in (
+            subst (λ (ls : List (plain.File Link)). Follows (read_as link_form) (all_bytes_at S c.args.digests.now) (all_bytes_at S later) ls)
+                (sym (ap (map link_file) c.in_ok-push.ensures.items ∙ map-append link_file c.digests.links.items (c.in_ok-link.link ∷ [])))
+                (follows_next (read_as link_form) (all_bytes_at S c.args.digests.now) (all_bytes_at S c.digests.rest.now) (all_bytes_at S later) _ (map link_file c.digests.links.items) (link_file c.in_ok-link.link)
+                (ap (all_bytes_at S) c.in-Some.ensures.cases.0) (found_by (c.in_ok-link.ensures.finds honest H S (still_stands (c.digests.invariant.reads.stays before) stands) here.0)) follows),
+            here.1,
+          );
       reads = reads_then g.met.B.Blobs.becomes_on _ _ _ c.digests.invariant.reads c.read_link.ensures.reads;
       loaded = λ was. c.in_ok-link.ensures.told;
     }
