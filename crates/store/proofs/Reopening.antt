@@ -1,10 +1,8 @@
 -- What the next opening answers over trees that were left.
 use Rattle.std.proofs.Common.{◌≡◌, ◌⊎◌, ◌∙◌, inl, inr, ℕ, true, false, Ok, Err, Result, refl, sym, ap, subst, if◌then◌else◌, []}
-use Rattle.std.specs.Prelude.{IfOk, IsTrue}
+use Rattle.std.specs.Prelude.{IsTrue}
 use Rattle.std.proofs.Math.Logic.{∥∥₁_elim, ∥∥₁_map}
 use Rattle.sqlite.specs.Effect.{Database, IsDatabase}
-use Rattle.sqlite.specs.Table.{Table}
-use Rattle.sqlite.specs.Schema.{Schema}
 use Rattle.sqlite.specs.State as database
 use Rattle.sqlite.specs.State.{IsLive}
 use Rattle.sqlite_trees.specs.Tree.{Trees}
@@ -18,14 +16,12 @@ use Rattle.sql_tables.specs.Opening.{IsSettled}
 use Rattle.sql_tables.specs.Schema.{counted, is_there}
 use Rattle.tables.proofs.Beginnings.{to_counted}
 use Rattle.tables.proofs.SetLemmas.{one_set}
-use Rattle.tables.specs.Opening.{StandsEmpty}
 use Rattle.tables.specs.Tables.{HoldsWhole, IsStore, StandsFor, HoldsTables}
 use Rattle.tables.specs.declared.faults.StoreFault.{StoreFault}
-use Rattle.tables.specs.declared.faults.StoreFault.TheVariants.{Damaged, OutOfMemory}
 use Rattle.tables.specs.declared.faults.StoreFault.TheVariants as faults
 use Rattle.store.proofs.Fitting.{one_stands, state_fits, state_rises}
 use Rattle.store.specs.Applies.{HoldsReply, HoldsStep, IsEither}
-use Rattle.store.specs.StateRows.{Begins, HoldsNoState, OpensTo, Reopens, RestsAt, TreesStand, rows_of}
+use Rattle.store.specs.StateRows.{Begins, HoldsNoState, Reopens, RestsAt, TreesStand, rows_of}
 
 -- ---- all five tables
 
@@ -68,12 +64,12 @@ module _ (once : (trees : Trees) (U V : State) → IsState U → IsState V → T
 
   pub reopens : (IsFound : State → Type 0) (trees : Trees) → ∥ Found IsFound trees ∥₁ → Reopens trees IsFound
   reopens IsFound trees found (Ok V) opens = (
-    (λ same. let k : ◌≡◌ {A = Result State StoreFault} (Ok V) (Err Damaged) = same in cc),
+    (λ same. let k : ◌≡◌ {A = Result State StoreFault} (Ok V) (Err faults.Damaged) = same in cc),
     ∥∥₁_map found (λ it. subst IsFound (sym (once trees it.0 V it.1 opens.0 it.2 opens.1)) it.3),
   )
   reopens IsFound trees found (Err faults.Damaged) opens = absurd (∥∥₁_elim found (λ x y. absurd x) (λ it. sound trees it.0 it.1 it.2 opens))
-  reopens IsFound trees found (Err faults.Database) opens = ((λ same. let k : ◌≡◌ {A = Result State StoreFault} (Err faults.Database) (Err Damaged) = same in cc), tt)
-  reopens IsFound trees found (Err faults.OutOfMemory) opens = ((λ same. let k : ◌≡◌ {A = Result State StoreFault} (Err OutOfMemory) (Err Damaged) = same in cc), tt)
+  reopens IsFound trees found (Err faults.Database) opens = ((λ same. let k : ◌≡◌ {A = Result State StoreFault} (Err faults.Database) (Err faults.Damaged) = same in cc), tt)
+  reopens IsFound trees found (Err faults.OutOfMemory) opens = ((λ same. let k : ◌≡◌ {A = Result State StoreFault} (Err faults.OutOfMemory) (Err faults.Damaged) = same in cc), tt)
 
   -- after a command, or in it
   pub reopens_either : (steps : (S T : State) (c : Command) (now : ℕ) (reply : Reply) → IsState S → Steps S c now (T, reply) → IsState T) (U : State) (c : Command) (now : ℕ) (trees : Trees)

@@ -3,7 +3,6 @@ use Rattle.std.proofs.Common.{◌≡◌, ◌∙◌, inl, inr, ℕ, Option, None,
 use Rattle.std.specs.Prelude.{IfOk, IsTrue, OnOk}
 use Rattle.sqlite.specs.State as database
 use Rattle.sqlite.specs.State.{HasCleanDisk}
-use Rattle.sqlite_trees.specs.Tree.{Trees}
 use Rattle.metadata.specs.File.{Bytes}
 use Rattle.denials.specs.Orders as orders
 use Rattle.denials.specs.Orders.{Order}
@@ -18,12 +17,11 @@ use Rattle.machine.specs.declared.serving.Served.{Served}
 use Rattle.machine.specs.declared.serving.GetFault.{GetFault}
 use Rattle.machine.specs.declared.serving.GetFault.TheVariants as gets
 use Rattle.machine.specs.declared.serving.LoadFault.TheVariants as loads
-use Rattle.tables.specs.Tables.{HoldsWhole}
 use Rattle.tables.specs.declared.faults.StoreFault.{StoreFault}
 use Rattle.tables.specs.declared.faults.StoreFault.TheVariants.{Damaged, Database, OutOfMemory}
 use Rattle.store.specs.Applies.{Replies}
 use Rattle.store.specs.Standing.{IsStateOf, StandsAt, seen}
-use Rattle.store.specs.StateRows.{Kept, rows_of}
+use Rattle.store.specs.StateRows.{Kept}
 use Rattle.store.specs.Views.{reply_view}
 use Rattle.store.specs.declared.command.Reply.{Reply as Answer}
 use Rattle.store.specs.declared.command.Reply.TheVariants as answers
