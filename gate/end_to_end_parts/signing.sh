@@ -65,7 +65,8 @@ documents_are_signed() {
 # A document signed twice, or its own output signed, is the same.
 a_document_is_signed() {
     document 2 '{"_type":"x","a":1}' >"$unsigned"
-    "$release" sign "${words[@]}" "$unsigned" >"$signed" || fail "sign"
+    "$release" sign "${words[@]}" "$unsigned" >"$signed" 2>"$folder/told" || fail "sign"
+    told "$book" 'a new book' 'a new key ID'
     [ "$(wc -c <"$signed")" = $(($(wc -c <"$unsigned") + 1 + 85 + 2 * 1292)) ] || fail "the length of a signed document"
     grep -q '^{"signatures":\[{"keyid":"0*1","sig":"00"},{"keyid":"0*2","sig":"00"},{"keyid":"[0-9a-f]*","sig":"0000000000000004[0-9a-f]*"}\],"signed":{"_type":"x","a":1}}$' "$signed" ||
         fail "a signed document"
@@ -80,7 +81,7 @@ a_document_is_signed() {
 # by LEAF SEED NUMBER: the document of this number is signed by this leaf of the seed's key. A signature begins with the number of its leaf.
 by() {
     document 0 "{\"_type\":\"x\",\"n\":$3}" >"$unsigned"
-    "$release" sign --book "$folder/leaves" --seed "$2" --ots 4 --height 5 "$unsigned" >"$folder/one" || fail "document $3"
+    "$release" sign --book "$folder/leaves" --seed "$2" --ots 4 --height 5 "$unsigned" >"$folder/one" 2>>"$folder/told_of_leaves" || fail "document $3"
     printf '"sig":"%08x\n' "$1" >"$folder/leaf.wanted"
     grep -o '"sig":"[0-9a-f]\{8\}' "$folder/one" >"$folder/leaf"
     same "the leaf of document $3" "$folder/leaf.wanted" "$folder/leaf"
