@@ -87,11 +87,11 @@ fn opened(
 }
 
 // Makes the commands over these files, until one is not made.
-fn run(
+fn run<'a>(
     alloc: Global,
     files: Files<Fuse<Memory>>,
     steps: &[Step],
-    documents: &[Document<'_>],
+    documents: &'a [Document<'a>],
     now: Moment,
 ) -> Result<Left, Fail> {
     let mut store = match opened(alloc, files) {
@@ -99,11 +99,11 @@ fn run(
         Err(Some(files)) => return Ok(Left { made: 0, files }),
         Err(None) => return Err(Fail::from("no files")),
     };
-    let mut made = 0;
+    let mut made: usize = 0;
     for step in steps {
         match store.apply(command(*step, documents), now) {
             Ok(Reply::Denied(_, _)) => return Err(Fail::from("denied")),
-            Ok(_) => made += 1,
+            Ok(_) => made = made.saturating_add(1),
             Err(_) => break,
         }
     }
@@ -173,18 +173,18 @@ fn files_that_stop(alloc: Global, stops_log: bool, calls: u64) -> Files<Fuse<Mem
 }
 
 // The rows behind each number of commands, where nothing stops.
-fn wanted(
+fn wanted<'a>(
     alloc: Global,
     steps: &[Step],
-    documents: &[Document<'_>],
+    documents: &'a [Document<'a>],
     now: Moment,
 ) -> Result<Vec<Vec<Row>>, Fail> {
     let mut wanted = Vec::new(alloc);
-    for count in 0..steps.len() + 1 {
+    for count in 0..steps.len().saturating_add(1) {
         let left = run(
             alloc,
             new_files(alloc, u64::MAX, u64::MAX),
-            &steps[..count],
+            &steps[..count.min(steps.len())],
             documents,
             now,
         )?;
@@ -213,8 +213,9 @@ fn stops_at_each_call(
         let files = files_that_stop(alloc, stops_log, calls);
         let Left { made, files } = run(alloc, files, steps, &documents, now)?;
         let found = rows_after(alloc, files)?;
+        let next = made.saturating_add(1);
         let before = made < wanted.len() && are_same(&found, &wanted[made]);
-        let after = made + 1 < wanted.len() && are_same(&found, &wanted[made + 1]);
+        let after = next < wanted.len() && are_same(&found, &wanted[next]);
         assert!(rt; before || after, "{calls} calls, {made} commands");
         if made == steps.len() {
             assert!(rt; before, "{calls} calls");
