@@ -2,9 +2,10 @@
 """What the standards say of most lines of the stored run, written apart from the crates.
 
     straight.py    reads `stdin` and `stdout` of crates/verdicts, and compares each line of the one but `json`, `document` and `rules` with
-                   the line of the other. LMS (RFC 8554): the verdict and the hashes by section 5.4.2, the id as SHA-256
-                   of the key's canonical object, the key and the signature by sections 4 and 5 and appendix A. Dates:
-                   Python's calendar. Names: TUF 1.0, section 6.2. Patterns and prefixes: TUF 1.0, section 4.5
+                   the line of the other. LMS (RFC 8554): the verdict and the hashes by section 5.4.2, that of the hierarchical
+                   scheme by section 6.3, the id as SHA-256 of the key's canonical object, the key and the signature by
+                   sections 4 and 5 and appendix A. Dates: Python's calendar. Names: TUF 1.0, section 6.2. Patterns and
+                   prefixes: TUF 1.0, section 4.5
 
 It prints how many lines agree, and each that does not.
 """
@@ -85,6 +86,27 @@ def verdict(public, signature, message):
         node //= 2
         here = digest(identifier, u32(node), b"\x83\x83", *pair)
     return f"{'valid' if here == root else 'invalid'} {hashes}"
+
+
+def down(signed_keys, public, message, rest):
+    """So many signed keys, each behind the signature of the key before it, and then a signature of the message."""
+    if signed_keys == 0:
+        return verdict(public, rest, message).startswith("valid")
+    w = OTS_OF_CODE.get(int.from_bytes(public[4:8], "big"))
+    height = HEIGHT_OF_CODE.get(int.from_bytes(public[:4], "big"))
+    if height is None or w is None:
+        return False
+    end = 12 + 32 * (OTS[w][1] + 1) + 32 * height
+    signature, key, later = rest[:end], rest[end:end + 56], rest[end + 56:]
+    return verdict(public, signature, key).startswith("valid") and down(signed_keys - 1, key, message, later)
+
+
+def hierarchical(public, signature, message):
+    """Section 6.3: the key is u32 L and the top key, the signature u32 (L - 1) and the levels."""
+    levels = int.from_bytes(public[:4], "big")
+    if len(public) != 60 or not 1 <= levels <= 8 or signature[:4] != u32(levels - 1):
+        return "invalid"
+    return "valid" if down(levels - 1, public[4:], message, signature[4:]) else "invalid"
 
 
 def key_id(public):
@@ -183,6 +205,8 @@ def expected(line):
     kind, *words = line.split(" ")
     if kind == "lms":
         return verdict(*map(bytes_of, words))
+    if kind == "hss":
+        return hierarchical(*map(bytes_of, words))
     if kind == "key":
         return key_id(*map(bytes_of, words))
     if kind == "sign":

@@ -1,5 +1,6 @@
 pub mod Nodes
 pub mod Readings
+pub mod HssReadings
 pub mod Placed
 pub mod Counts
 pub mod Bytes

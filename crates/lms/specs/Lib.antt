@@ -5,4 +5,5 @@ pub mod Chains
 pub mod Tree
 pub mod Verifies
 pub mod Keys
+pub mod Hss
 pub mod steps

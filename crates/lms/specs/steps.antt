@@ -1,3 +1,4 @@
 -- What the code does step by step. Contracts of private functions alone cite these.
 pub mod Lanes
 pub mod Leaves
+pub mod Levels

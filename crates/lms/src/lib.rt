@@ -1,9 +1,9 @@
 //! Leighton-Micali hash-based signatures (RFC 8554) with SHA-256 and 32-byte hashes: the parameter sets
 //! LMOTS_SHA256_N32_W1, W2, W4 and W8 under LMS_SHA256_M32_H5, H10, H15, H20 and H25.
 //!
-//! `verify` tells whether a signature is one of a message under a public key, at all of them. `public_of` and `sign`
-//! make the key and the signatures of a seed at heights 5 and 10. The definitions are those of the RFC by its
-//! sections, in specs/.
+//! `verify` tells whether a signature is one of a message under a public key, at all of them, and `verify_hss` the same of
+//! the hierarchical scheme over them, of up to eight levels. `public_of` and `sign` make the key and the signatures of a
+//! seed at heights 5 and 10. The definitions are those of the RFC by its sections, in specs/.
 #![tactic(auto)]
 
 ghost use Rattle.std.specs.Prelude.{◌≡◌, ◌<◌, ◌^◌, ℕ, List, length};
@@ -71,6 +71,7 @@ pub enum SignFault {
 mod arrays;
 mod chains;
 mod hashes;
+mod hss;
 mod key_pairs;
 mod keys;
 mod lanes;
@@ -81,6 +82,7 @@ mod steps;
 mod tree;
 mod verifying;
 
+pub use hss::{verify_hss, verify_hss_counted};
 pub use key_pairs::KeyPair;
 pub use keys::public_of;
 pub use signing::sign;

@@ -28,8 +28,8 @@ pub struct Signature<'a> {
     pub path: &'a [[u8; 32]],
 }
 
-// The first `N` bytes, and the rest.
-fn front<const N: usize>(bytes: &[u8]) -> (&[u8; N], &[u8])
+/// The first `N` bytes, and the rest.
+pub fn front<const N: usize>(bytes: &[u8]) -> (&[u8; N], &[u8])
     requires { N ≤ length bytes.now }
     ensures whole { bytes.now ≡ result.0.now ++ result.1.now }
     ensures front_len { length result.0.now ≡ N }
@@ -38,8 +38,8 @@ fn front<const N: usize>(bytes: &[u8]) -> (&[u8; N], &[u8])
     bytes.split_first_chunk::<N>().unwrap()
 }
 
-// The number that the bytes begin with, and the rest.
-fn word(bytes: &[u8]) -> (u32, &[u8])
+/// The number that the bytes begin with, and the rest.
+pub fn word(bytes: &[u8]) -> (u32, &[u8])
     requires { 4 ≤ length bytes.now }
     ensures whole { bytes.now ≡ u32 result.0 ++ result.1.now }
     ensures range { result.0 < 2 ^ 32 }

@@ -39,4 +39,12 @@ impl Steps {
     {
         self.taken += 1;
     }
+
+    /// The steps of another counter besides.
+    pub(crate) fn add(&mut self, more: &Steps)
+        requires { self.old + more.now < 2 ^ 64 }
+        ensures { self.new ≡ self.old + more.now }
+    {
+        self.taken += more.taken;
+    }
 }
