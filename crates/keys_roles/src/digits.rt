@@ -8,8 +8,8 @@ use crate::Key;
 use lms::{Steps, verify};
 use path_patterns::are_hex_digits;
 
-// The bytes of the longest signature.
-const LONGEST: usize = 9324;
+// The bytes of the longest signature, one of eight levels.
+const LONGEST: usize = 74_988;
 
 /// Whether the digits are those of a signature of the message under the key, with one tick if that takes a check of a
 /// signature.

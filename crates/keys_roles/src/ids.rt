@@ -5,7 +5,7 @@ ghost use Rattle.std.specs.Str.{bytes_eq};
 ghost use Rattle.sha2.specs.Sha256.{sha256};
 ghost use Rattle.hex.specs.Hex.{encode_lower};
 ghost use Rattle.keys_roles.specs.Plain.{look_up, lms};
-ghost use Rattle.keys_roles.specs.Keys.{key_bytes, id_of, top_key};
+ghost use Rattle.keys_roles.specs.Keys.{key_bytes, id_of, top_key as top_key_of};
 ghost use Rattle.keys_roles.specs.steps.Counting.{IsIn};
 ghost use Rattle.keys_roles.specs.Views.{id_text, key_view, ids_view, rows_view};
 
@@ -83,9 +83,10 @@ fn digest_around(front: &[u8], digits: &[u8], back: &[u8]) -> [u8; 32]
     hasher.finalize()
 }
 
-/// The LMS public key by which keys are counted.
-pub(crate) fn top(key: &Key) -> &[u8; 56]
-    ensures { result.now ≡ top_key (key_view key.now) }
+/// The top key of a key: the LMS public key (RFC 8554, section 5.3) by which keys are counted, 56 bytes. That of an LMS key is
+/// the key itself.
+pub fn top_key(key: &Key) -> &[u8; 56]
+    ensures { result.now ≡ top_key_of (key_view key.now) }
 {
     match key {
         Key::Lms(public) => public,

@@ -52,7 +52,7 @@ mod rotation;
 mod verdicts;
 
 pub use digits::read_digits;
-pub use ids::{key_id, key_object};
+pub use ids::{key_id, key_object, top_key};
 pub use lms::Steps;
 pub use meeting::{meets, meets_counted, meets_with, meets_with_counted};
 pub use rotation::same_rule;

@@ -5,7 +5,7 @@ ghost use Rattle.keys_roles.specs.Verdicts.{AreVerdicts, named_key, pairs, unkno
 ghost use Rattle.keys_roles.specs.steps.Counting.{IsIn, CountsBy, IsTaken, TellOf};
 ghost use Rattle.keys_roles.specs.Views.{rule_view, table_view, entry_view, entries_view, verdict_views};
 
-use crate::ids::top;
+use crate::ids::top_key;
 use crate::verdicts::{named, verdict};
 use crate::{KeyTable, RoleRule, Signature, Verdict};
 use lms::Steps;
@@ -151,7 +151,7 @@ fn counted(
     let (place, entry) = entry;
     let key = named(rule, table, &entry.keyid)?;
     if verdict(key, signed, place, entry, known, steps) {
-        Some(*top(key))
+        Some(*top_key(key))
     } else {
         None
     }

@@ -1,11 +1,10 @@
 // Who has signed a link.
 ghost use Rattle.std.specs.Prelude.{◌≡◌, ◌↔◌, ℕ, List, Some, IfOk, bytes_eq, option_map};
-ghost use Rattle.keys_roles.specs.Keys.{top_key};
 ghost use Rattle.keys_roles.specs.Plain.{look_up};
 ghost use Rattle.keys_roles.specs.Views.{id_text, key_view, rows_view, table_view};
 ghost use Rattle.layouts.specs.steps.Gathering.{IsSigner};
 
-use keys_roles::{Key, KeyId, KeyTable, RoleRule, meets};
+use keys_roles::{Key, KeyId, KeyTable, RoleRule, meets, top_key};
 use metadata::Source;
 use path_patterns::{Digest, one_digest};
 use std::alloc::{AllocError, Global};
@@ -29,18 +28,9 @@ pub(crate) fn signer(
         threshold: 1,
     };
     if meets(&rule, keys, source.signed(), source.signatures()) {
-        Ok(Some(top_of(key)))
+        Ok(Some(*top_key(key)))
     } else {
         Ok(None)
-    }
-}
-
-// The public key by which a key is counted.
-fn top_of(key: &Key) -> [u8; 56]
-    ensures { result ≡ top_key (key_view key.now) }
-{
-    match key {
-        Key::Lms(public) => *public,
     }
 }
 

@@ -16,6 +16,6 @@ returns-then-verdict-clause-found c =
       key = key_view c.in_ok-key.key.now;
       of_rule = named.0;
       of_table = named.1;
-      is_top = sym c.top.ensures;
+      is_top = sym c.top_key.ensures;
       signs = c.verdict.ensures.told.0 c.if-verdict.true;
     }

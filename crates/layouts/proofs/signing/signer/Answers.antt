@@ -22,8 +22,8 @@ returns-then-meets c =
     let one = moved keys _ id signed c.signed.result.now entries (entries_view c.signatures.result.now) c.meets.result ids c.signed.ensures c.signatures.ensures.value c.meets.ensures in
     let s = signed_by keys signed entries id (one.0 c.if-meets.true) key at in
     λ top. (
-      (λ e. subst (λ (z : List ℕ). IsSigner keys signed entries id z) (sym c.top_of.ensures ∙ some_once c.top_of.result top e) s),
-      (λ h. ap Some (c.top_of.ensures ∙ one_top keys signed entries id top key at h)),
+      (λ e. subst (λ (z : List ℕ). IsSigner keys signed entries id z) (sym c.top_key.ensures ∙ some_once c.top_key.result.now top e) s),
+      (λ h. ap Some (c.top_key.ensures ∙ one_top keys signed entries id top key at h)),
     )
 
 pub returns : goal.returns
