@@ -9,6 +9,7 @@ NAMES = dict(enumerate(
     RoleLength RoleHash RoleVersion RoleThreshold RoleExpired VersionTaken RoleMissing TooManyRoles NotFound BadPath
     BlobMissing BlobLength DigestMismatch Full SupportDenied LayoutNested LayoutShape LayoutThreshold LayoutExpired
     StepThreshold LinksDisagree Disallowed Required ProductMismatch Incoherent
+    LayoutRequired ProfileLowered
     """.split(),
     1,
 ))

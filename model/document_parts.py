@@ -7,7 +7,8 @@ from denials import deny_unless
 from names import LARGEST_NUMBER, is_hex, is_whole
 
 MAXIMUM_SIGNATURES = 16
-MAXIMUM_SIGNATURE_LENGTH = 9324
+# One of eight levels: u32, eight of the longest LMS signatures, and seven public keys between them.
+MAXIMUM_SIGNATURE_LENGTH = 4 + 8 * 9324 + 7 * 56
 MAXIMUM_KEYS = 256
 MAXIMUM_RULE_KEYS = 16
 
@@ -54,6 +55,11 @@ def key_id(public):
     """TUF 1.0, section 4.2: the SHA-256 of the key object's canonical form."""
     key = {"keytype": "lms", "keyval": {"public": public}, "scheme": "lms-sha256"}
     return hashlib.sha256(canonical_json.write(key)).hexdigest()
+
+
+def top_key(public):
+    """The LMS public key by which a key is counted."""
+    return public
 
 
 def read_signatures(value):
@@ -110,5 +116,6 @@ def read_rule(value, keys, ids="keyids"):
     shape(type(keyids) is list and 1 <= len(keyids) <= MAXIMUM_RULE_KEYS)
     shape(all(type(keyid) is str for keyid in keyids) and len(set(keyids)) == len(keyids))
     shape(all(keyid in keys for keyid in keyids))
+    shape(len({top_key(keys[keyid]) for keyid in keyids}) == len(keyids))
     shape(is_whole(threshold, 1, len(keyids)))
     return Rule(keyids, threshold, keys)

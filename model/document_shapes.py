@@ -235,7 +235,7 @@ class Cases:
         held = self.envelope["signatures"]
         digits = held[0]["sig"]
         others = [digits[:-1], digits[:-2], digits + "0", digits + "00", digits.upper(), " " + digits]
-        others += ["0" * 18646, "0" * 18648, "0" * 18649, "0" * 18650, "00" * 4647, "", "0", "00", "g0"]
+        others += ["0" * 18648, "0" * 18650, "0" * 149974, "0" * 149976, "0" * 149977, "0" * 149978, "00" * 4647, "", "0", "00", "g0"]
         others.append(digits.replace("0", "O", 1))
         for text in others:
             self.spell(f"signature of {len(text)} digits", with_value(self.envelope, ("signatures", 0, "sig"), text))

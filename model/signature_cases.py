@@ -74,8 +74,8 @@ def odd_signatures(random, key, message):
     edges += [len(good) - 32, len(good) - 1]
     for place in edges + [random.randrange(len(good)) for _ in range(25)]:
         yield f"bit of byte {place}", replaced(good, place, bytes([good[place] ^ 1 << random.randrange(8)]))
-    lengths = [b"", good[:-1], good + b"\0", good[:-32], good + good[-32:], bytes(len(good)), bytes(9324)]
-    for signature in [*lengths, good * 2 if len(good) * 2 <= 9324 else good[:5]]:
+    lengths = [b"", good[:-1], good + b"\0", good[:-32], good + good[-32:], bytes(len(good)), bytes(9324), bytes(74988)]
+    for signature in [*lengths, good * 2 if len(good) * 2 <= 74988 else good[:5]]:
         yield f"{len(signature)} bytes", signature
     yield "two elements exchanged", replaced(good, 40, good[72:104] + good[40:72])
     for signature in further_chains(key, message, good):

@@ -47,8 +47,8 @@ def by_hand(key):
     yield file_of([entry(key.id), entry(key.id)], {"_type": "twice"})
     yield file_of([entry(key.id.upper())], {"_type": "upper"})
     yield file_of([entry(key.id, "0")], {"_type": "odd"})
-    yield file_of([entry(key.id, "00" * 9324)], {"_type": "long"})
-    yield file_of([entry(key.id, "00" * 9325)], {"_type": "longer"})
+    yield file_of([entry(key.id, "00" * 74988)], {"_type": "long"})
+    yield file_of([entry(key.id, "00" * 74989)], {"_type": "longer"})
     yield b'{"signatures":[],"signed":{"b":1,"_type":"x"}}'
     yield b'{"signatures":[], "signed":{"_type":"x"}}'
     yield b'{"signatures":[],"signed":{"_type":"x"},"z":1}'

@@ -1,7 +1,7 @@
 -- A client behind a server agrees with it, over an honest source.
 use Rattle.std.proofs.Common.{◌≡◌, ◌≢◌, ◌⊎◌, inl, inr, ℕ, ◌≤◌, List, [], ◌∷◌, ◌++◌, length, Some, Result, Ok, Err, refl, sym, ap, ◌∙◌, subst, arith}
 use Rattle.path_patterns.specs.Grammar.{IsTargetPath}
-use Rattle.metadata.specs.Documents.{MetaFile, Root, Snapshot, Targets}
+use Rattle.metadata.specs.Documents.{MetaFile, Profile, Root, Snapshot, Targets}
 use Rattle.metadata.specs.File.{Bytes, File, Name}
 use Rattle.denials.specs.Orders as orders
 use Rattle.delegations.specs.Rows.{Rows, entry_of, row_at}
@@ -27,9 +27,9 @@ use Rattle.client.proofs.Standing.{none_some, some_one}
 no_row : (shelf : Rows) (role : Name) (v : ℕ) (f : File Targets) → shelf ≡ [] → row_at shelf role v ≡ Some f → ⊥
 no_row shelf role v f e h = none_some f (subst (λ (rows : Rows). row_at rows role v ≡ Some f) e h)
 
-not_empty : (xs front more : List Bytes) → xs ≡ front ++ more → front ≢ [] → xs ≢ []
+not_empty : (xs front more : List (Profile × Bytes)) → xs ≡ front ++ more → front ≢ [] → xs ≢ []
 not_empty xs [] more e some none = some refl
-not_empty xs (c ∷ front) more e some none = let k : ◌≡◌ {A = List Bytes} [] (c ∷ (front ++ more)) = sym none ∙ e in cc
+not_empty xs (c ∷ front) more e some none = let k : ◌≡◌ {A = List (Profile × Bytes)} [] (c ∷ (front ++ more)) = sym none ∙ e in cc
 
 err_ok : (fault : Fault) → ◌≡◌ {A = Result (Unit {0}) Fault} (Err fault) (Ok tt) → ⊥
 err_ok fault e = cc

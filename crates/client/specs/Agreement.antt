@@ -1,5 +1,6 @@
 -- Agreement: a client behind a server gets a target exactly where the server grants it.
 use Rattle.std.specs.Prelude.{◌≡◌, ◌≢◌, ◌≤◌, ℕ, List, [], ◌∷◌, length, codes, Some, None, Result, Ok, Err, IfOk}
+use Rattle.metadata.specs.Documents.{Profile}
 use Rattle.metadata.specs.File.{Bytes}
 use Rattle.denials.specs.Orders as orders
 use Rattle.path_patterns.specs.Grammar.{IsTargetPath}
@@ -64,5 +65,5 @@ ClientAgrees = (trusted : Type 0) (Src : Type 0) (gives : Gives Src) (Is : Src �
 
 -- a client that trusts the server's first root alone is behind it, where at most 64 roots follow
 abbrev pub AnchorIsBehind : Type 0
-AnchorIsBehind = (C S : State) (first : Bytes) (later : List Bytes) (now : ℕ)
-    → init nothing first (Ok C) → S.trusted.roots ≡ first ∷ later → length later ≤ 64 → Behind C S now
+AnchorIsBehind = (C S : State) (profile : Profile) (first : Bytes) (later : List (Profile × Bytes)) (now : ℕ)
+    → IsState S → init nothing first (Ok C) → S.trusted.roots ≡ (profile, first) ∷ later → length later ≤ 64 → Behind C S now

@@ -1,16 +1,16 @@
 -- When a client's state is behind a server's, so that an update and a fetch bring it all that the server grants.
 use Rattle.std.specs.Prelude.{◌≡◌, ◌≢◌, ◌⊎◌, ℕ, ◌<◌, ◌≤◌, List, [], ◌∷◌, ◌++◌, length, Some, None, Ok, IfSome, IsSomeAnd}
 use Rattle.std.specs.List.{AllByRecursion}
-use Rattle.metadata.specs.Documents.{Timestamp, Snapshot, Targets, MetaFile}
+use Rattle.metadata.specs.Documents.{Profile, Timestamp, Snapshot, Targets, MetaFile}
 use Rattle.metadata.specs.File.{Bytes, Name, File}
 use Rattle.delegations.specs.Rows.{entry_of, row_at}
 use Rattle.machine.specs.State.{Trusted, State, NamesSnapshot, blob_at}
 use Rattle.machine.specs.Commands.{offer_root}
 
--- what is trusted after these roots, offered in order
-pub data AfterRoots : Trusted → List Bytes → Trusted → Type 0 where
+-- what is trusted after these roots, offered in order, of each the bytes
+pub data AfterRoots : Trusted → List (Profile × Bytes) → Trusted → Type 0 where
   none : {C : Trusted} → AfterRoots C [] C
-  one : {C D E : Trusted} {b : Bytes} {bs : List Bytes} → offer_root C b (Ok D) → AfterRoots D bs E → AfterRoots C (b ∷ bs) E
+  one : {C D E : Trusted} {b : Profile × Bytes} {bs : List (Profile × Bytes)} → offer_root C b.1 (Ok D) → AfterRoots D bs E → AfterRoots C (b ∷ bs) E
 
 -- roots are trusted, and nothing else
 pub record IsBare (C : Trusted) : Type 0 where
@@ -51,7 +51,7 @@ pub record IsOlder (C S : Trusted) (now : ℕ) : Type 0 where
 -- the later roots the client trusts nothing else, or is older.
 pub record Behind (C S : State) (now : ℕ) : Type 0 where
   pub rooted : C.trusted.roots ≢ []
-  pub later : List Bytes
+  pub later : List (Profile × Bytes)
   pub beginning : S.trusted.roots ≡ C.trusted.roots ++ later
   pub few : length later ≤ 64
   pub blobs_shared : (digest b : Bytes) → blob_at C.blobs digest ≡ Some b → blob_at S.blobs digest ≡ Some b

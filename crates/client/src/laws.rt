@@ -7,13 +7,16 @@ use machine::{
     accepts_new, chains_go_on, granted_blobs, missed_files, names_find, offers_tell, one_chain,
     one_judgement, roots_are_taken, stays_valid,
 };
-use metadata::snapshot_names;
+use metadata::{one_document, one_shape, snapshot_names};
 use path_patterns::names_undo;
 
 /// A law, which does nothing: a client that trusts a server's first root alone, where at most 64 roots follow, is behind the server.
 pub fn anchor_is_behind()
     ensures { AnchorIsBehind }
-{}
+{
+    one_document();
+    one_shape();
+}
 
 // The laws of the crates below, by what they speak of.
 pub(crate) fn laws()

@@ -116,4 +116,6 @@ pub const DENIALS: &str = concat!(
     "49  Required               An artifact that a rule requires is not there\n",
     "50  ProductMismatch        The target is not the step's product\n",
     "51  Incoherent             What a batch leaves does not belong together\n",
+    "52  LayoutRequired         The root requires a layout for the path, and the listing has none\n",
+    "53  ProfileLowered         The trusted root has profile 2, and the new one profile 1\n",
 );

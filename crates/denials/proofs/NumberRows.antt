@@ -6,7 +6,7 @@ use Rattle.std.proofs.lemmas.Slice.Eq.{bytes_eq-Decides}
 use Rattle.denials.specs.Numbers as no
 use Rattle.denials.specs.Orders.{number, RoleMissing, BlobMissing}
 
-row_names : length no.names ≡ 51
+row_names : length no.names ≡ 53
 row_names = refl
 
 row_too_long : no.name_of no.too_long ≡ codes "TooLong"
@@ -161,6 +161,12 @@ row_product_mismatch = refl
 
 row_incoherent : no.name_of no.incoherent ≡ codes "Incoherent"
 row_incoherent = refl
+
+row_layout_required : no.name_of no.layout_required ≡ codes "LayoutRequired"
+row_layout_required = refl
+
+row_profile_lowered : no.name_of no.profile_lowered ≡ codes "ProfileLowered"
+row_profile_lowered = refl
 
 row_missing_role : (role : List ℕ) (version : ℕ) → number (RoleMissing role version) ≡ no.role_missing
 row_missing_role role version = refl

@@ -58,3 +58,5 @@ denial_view denials.Disallowed = Plain no.disallowed
 denial_view denials.Required = Plain no.required
 denial_view denials.ProductMismatch = Plain no.product_mismatch
 denial_view denials.Incoherent = Plain no.incoherent
+denial_view denials.LayoutRequired = Plain no.layout_required
+denial_view denials.ProfileLowered = Plain no.profile_lowered

@@ -117,10 +117,14 @@ pub enum Denial {
     ProductMismatch,
     /// What a batch leaves does not belong together.
     Incoherent,
+    /// The root requires a layout for the path, and the listing has none.
+    LayoutRequired,
+    /// The trusted root has profile 2, and the new one profile 1.
+    ProfileLowered,
 }
 
 impl Denial {
-    /// The number of the rule, from 1 to 51. It takes no memory.
+    /// The number of the rule, from 1 to 53. It takes no memory.
     pub fn number(&self) -> u8
         ensures { result ≡ orders.number (denial_view self.now) }
     {
@@ -176,6 +180,8 @@ impl Denial {
             Denial::Required => 49,
             Denial::ProductMismatch => 50,
             Denial::Incoherent => 51,
+            Denial::LayoutRequired => 52,
+            Denial::ProfileLowered => 53,
         }
     }
 
@@ -235,6 +241,8 @@ impl Denial {
             Denial::Required => "Required",
             Denial::ProductMismatch => "ProductMismatch",
             Denial::Incoherent => "Incoherent",
+            Denial::LayoutRequired => "LayoutRequired",
+            Denial::ProfileLowered => "ProfileLowered",
         }
     }
 

@@ -11,7 +11,7 @@ use Rattle.std.proofs.lemmas.List.Elements.{All-head, All-tail}
 use Rattle.std.proofs.lemmas.Str.Parse.{IsNumeralModel, numerals_by_value, tells_digits, not_in_digits}
 use Rattle.keys_roles.specs.Plain.{look_up}
 use Rattle.metadata.specs.Bodies.{IsListable}
-use Rattle.metadata.specs.Documents.{Root, Timestamp, Snapshot, Targets}
+use Rattle.metadata.specs.Documents.{Profile, Root, Timestamp, Snapshot, Targets}
 use Rattle.metadata.specs.File.{Bytes, Name, File, IsFileOf, root_form, snapshot_form, targets_form}
 use Rattle.metadata.specs.Parts.{last_number}
 use Rattle.delegations.proofs.KeyOrder.{place_one}
@@ -109,21 +109,21 @@ AreSmall T k n = (j : ℕ) → k ≤ j → j < k + n → root_version T j ≤ la
 later_small : (T : Trusted) (k n : ℕ) → AreSmall T k (suc n) → AreSmall T (suc k) n
 later_small T k n small j above below = small j (omega arith) (omega arith)
 
-roots_stamp : (T : Trusted) (k : ℕ) (bs : List Bytes) → AreSmall T k (length bs) → look_up (root_files T k bs) (codes "timestamp.json") ≡ None
+roots_stamp : (T : Trusted) (k : ℕ) (bs : List (Profile × Bytes)) → AreSmall T k (length bs) → look_up (root_files T k bs) (codes "timestamp.json") ≡ None
 roots_stamp T k [] small = refl
 roots_stamp T k (b ∷ bs) small =
     let n : ℕ = root_version T k in
     rw (unlike (dotted n (codes "root")) (codes "timestamp.json") (λ e. no_timestamp n (codes "root") (small k (omega arith) (omega arith)) (sym e)))
     (roots_stamp T (suc k) bs (later_small T k (length bs) small))
 
-roots_other : (T : Trusted) (k : ℕ) (bs : List Bytes) (n : ℕ) (a : Bytes) → AreSmall T k (length bs) → n ≤ last_number → (codes "root" ≡ a → ⊥)
+roots_other : (T : Trusted) (k : ℕ) (bs : List (Profile × Bytes)) (n : ℕ) (a : Bytes) → AreSmall T k (length bs) → n ≤ last_number → (codes "root" ≡ a → ⊥)
     → look_up (root_files T k bs) (dotted n a) ≡ None
 roots_other T k [] n a small h none = refl
 roots_other T k (b ∷ bs) n a small h none =
     rw (tells (root_version T k) n (codes "root") a (small k (omega arith) (omega arith)) h ∙ other_name (root_version T k) n (codes "root") a none)
     (roots_other T (suc k) bs n a (later_small T k (length bs) small) h none)
 
-roots_found : (T : Trusted) (k : ℕ) (bs : List Bytes) (n : ℕ) → AreSmall T k (length bs) → n ≤ last_number
+roots_found : (T : Trusted) (k : ℕ) (bs : List (Profile × Bytes)) (n : ℕ) → AreSmall T k (length bs) → n ≤ last_number
     → look_up (root_files T k bs) (dotted n (codes "root")) ≡ value_at nat_eq (root_rows T k bs) n
 roots_found T k [] n small h = refl
 roots_found T k (b ∷ bs) n small h =
@@ -131,8 +131,8 @@ roots_found T k (b ∷ bs) n small h =
     let test : bytes_eq (dotted v (codes "root")) (dotted n (codes "root")) ≡ nat_eq v n =
     tells v n (codes "root") (codes "root") (small k (omega arith) (omega arith)) h ∙ same_name v n (codes "root") in
     let more = roots_found T (suc k) bs n (later_small T k (length bs) small) h in
-    ap (λ (t : Bool). cond t (Some b) (look_up (root_files T (suc k) bs) (dotted n (codes "root")))) test
-    ∙ ap (λ (o : Option Bytes). cond (nat_eq v n) (Some b) o) more
+    ap (λ (t : Bool). cond t (Some b.1) (look_up (root_files T (suc k) bs) (dotted n (codes "root")))) test
+    ∙ ap (λ (o : Option Bytes). cond (nat_eq v n) (Some b.1) o) more
 
 -- ---- the snapshot's file
 
@@ -192,7 +192,7 @@ shelf_found (row ∷ rows) n a all h =
 
 -- ---- all files of a valid state
 
-pub root_small : {bs : List Bytes} {root : File Root} → IsRootChain bs root → root.body.version ≤ last_number
+pub root_small : {bs : List (Profile × Bytes)} {root : File Root} → IsRootChain bs root → root.body.version ≤ last_number
 root_small (first {root = root} doc is meets) = doc.read.body.head.1.2.2
 root_small (then {new = new} chain doc follows) = doc.read.body.head.1.2.2
 

@@ -8,7 +8,7 @@ use Rattle.metadata.specs.Documents.{Root}
 use Rattle.metadata.specs.File.{Bytes, File}
 use Rattle.delegations.specs.Delegation.{before}
 use Rattle.delegations.specs.Rows.{Place, Rises, Rows, place_before, same_place, with_row, with_rows}
-use Rattle.machine.specs.State.{Trusted, IsHeldUnder, IsState, nothing, nothing_trusted}
+use Rattle.machine.specs.State.{Trusted, IsHeldUnder, IsState, kept_root, nothing, nothing_trusted}
 use Rattle.limits.specs.Limits.{most_held}
 use Rattle.machine.specs.Effects.{Effects, applied, last_or, renewed, with_blobs}
 use Rattle.machine.specs.steps.Loading.{AreBlobs, IsBare, AreShelfRows, laid}
@@ -26,7 +26,7 @@ not_none W x (y ∷ ys) = not_none W y ys
 
 abbrev trusted_with : List (File Root) → Effects → Trusted
 trusted_with roots E = record {
-  roots = map (λ r. r.bytes) roots;
+  roots = map kept_root roots;
   root = last_or None roots;
   timestamp = E.timestamp;
   snapshot = E.snapshot;

@@ -2,7 +2,7 @@
 use Rattle.std.proofs.Common.{◌≡◌, ℕ, List, [], ◌∷◌, Option, Some, None, Ok, Err, refl, sym, ap, ◌∙◌, subst}
 use Rattle.std.specs.Prelude.{take, cond, nat_lt, length}
 use Rattle.metadata.specs.File.{Bytes, File, Form, Name, layout_form, link_form}
-use Rattle.metadata.specs.Documents.{Layout, LayoutReference, Listing, Step}
+use Rattle.metadata.specs.Documents.{Layout, LayoutReference, Listing, Root, Step}
 use Rattle.metadata.specs.Links.{Link}
 use Rattle.metadata.specs.Rules.{ArtifactRule, Side, materials, products}
 use Rattle.metadata.specs.Shaped.{shaped}
@@ -14,7 +14,7 @@ use Rattle.denials.specs.Orders.{Denial, Plain, RoleMissing, BlobMissing, Denied
 use Rattle.delegations.specs.Delegation.{Edge}
 use Rattle.delegations.specs.Search.{Found, Shelf, search, find_in, found_or, visit, listing_of, visited, most_visits, shelf_of}
 use Rattle.machine.specs.State.{State, Trusted}
-use Rattle.machine.specs.Supports.{blob_of, files_hold, layout_answer, read_as, reference_allows, reference_holds, support, support_answer, supporting}
+use Rattle.machine.specs.Supports.{blob_of, files_hold, layout_answer, read_as, reference_allows, reference_holds, searched, support, support_answer, supporting}
 use Rattle.machine.specs.Commands.{grants, listed, live_snapshot}
 use Rattle.machine.specs.Runs.{Command, Init, Batch, OfferOne, PutBlob, Prune, Metadata, Target, Reply, FileBytes, Absent, Refused, IsGranted, Steps, leads, Leads, settled, batch_outcome, Outcome}
 
@@ -60,6 +60,9 @@ search-never V path now h =
     let why : Denial = Plain (cond (nat_lt most_visits (length (visited V path))) no.too_many_roles no.not_found) in
     find-never V (take most_visits (visited V path)) path now (stop {A = Found} (Denied why)) (stop-never {A = Found} why) h
 
+searched-never : (root : Root) (V : Shelf) (path : Bytes) (now : ℕ) → NeverSame (searched root V path now)
+searched-never root V path now = then-never _ _ (search-never V path now) (λ found. then-never _ _ (check-never _ _) (λ _. give-never found))
+
 pub live-never : (S : State) (root : _) (now : ℕ) → NeverSame (live_snapshot S.trusted.timestamp S.trusted.snapshot root now)
 live-never S root now =
     then-never _ _ (then-never _ _ (check-never _ _) (λ _. then-never _ _ (need-never _ _) (λ stamp. then-never _ _ (check-never _ _) (λ _. give-never _))))
@@ -68,7 +71,7 @@ live-never S root now =
 listed-never : (S : State) (path : Bytes) (now : ℕ) → NeverSame (listed S.trusted path now)
 listed-never S path now =
     then-never _ _ (check-never _ _) (λ _. then-never _ _ (need-never _ _) (λ root. then-never _ _ (live-never S root now)
-    (λ snap. then-never _ _ (search-never (shelf_of root snap S.trusted.shelf) path now) (λ found. give-never _))))
+    (λ snap. then-never _ _ (searched-never root.body (shelf_of root snap S.trusted.shelf) path now) (λ found. give-never _))))
 
 blob-never : (S : State) (path : Bytes) (l : Listing) → NeverSame (blob_of S path l)
 blob-never S path l = then-never _ _ (need-never _ _) (λ blob. then-never _ _ (check-never _ _) (λ _. give-never _))
@@ -115,21 +118,21 @@ holds-never layout r links digest now =
     (λ _. then-never _ _ (all-never _ layout.body.steps (λ s. check-never _ _)) (λ _. then-never _ _ (all-never _ layout.body.steps (λ s. check-never _ _))
     (λ _ h. rules-never h.chosen layout.body.steps r.step r.product digest h.judged))))
 
-support-never : (S : State) (V : Shelf) (now : ℕ) (path : Bytes) → NeverSame (support S V now path)
-support-never S V now path =
-    then-never _ _ (supporting-never _ (search-never V path now)) (λ found. then-never _ _ (supporting-never _ (blob-never S path found.listing))
+support-never : (S : State) (root : Root) (V : Shelf) (now : ℕ) (path : Bytes) → NeverSame (support S root V now path)
+support-never S root V now path =
+    then-never _ _ (supporting-never _ (searched-never root V path now)) (λ found. then-never _ _ (supporting-never _ (blob-never S path found.listing))
     (λ blob. then-never _ _ (check-never _ _) (λ _. give-never blob)))
 
-allows-never : (S : State) (V : Shelf) (now : ℕ) (l : Listing) (o : Option LayoutReference) → NeverSame (reference_allows S V now l o)
-allows-never S V now l None = give-never tt
-allows-never S V now l (Some r) =
-    then-never _ _ (support-never S V now r.path) (λ b. then-never _ _ (each-never _ r.links (support-never S V now))
+allows-never : (S : State) (root : Root) (V : Shelf) (now : ℕ) (l : Listing) (o : Option LayoutReference) → NeverSame (reference_allows S root V now l o)
+allows-never S root V now l None = give-never tt
+allows-never S root V now l (Some r) =
+    then-never _ _ (support-never S root V now r.path) (λ b. then-never _ _ (each-never _ r.links (support-never S root V now))
     (λ bs. then-never _ _ (check-never _ _) (λ _. then-never _ _ (read-never layout_form b)
     (λ layout. then-never _ _ (each-never _ bs (read-never link_form)) (λ links. holds-never layout r links l.digest now)))))
 
 grants-never : (S : State) (path : Bytes) (asked : Option Bytes) (now : ℕ) → NeverSame (grants S path asked now)
 grants-never S path asked now =
-    then-never _ _ (listed-never S path now) (λ at. then-never _ _ (blob-never S path at.listing) (λ blob. then-never _ _ (allows-never S at.shelf now at.listing at.listing.layout)
+    then-never _ _ (listed-never S path now) (λ at. then-never _ _ (blob-never S path at.listing) (λ blob. then-never _ _ (allows-never S at.root at.shelf now at.listing at.listing.layout)
     (λ _. then-never _ _ (check-never _ _) (λ _. give-never blob))))
 
 -- ---- the reply

@@ -1,4 +1,5 @@
 pub mod AnswersMakeStates
+pub mod AsBefore
 pub mod BatchOneByOne
 pub mod Carrying
 pub mod ChainsGoOn
@@ -34,6 +35,7 @@ pub mod RisingRows
 pub mod RootChains
 pub mod RowsInOrder
 pub mod RowsOfOneState
+pub mod Searched
 pub mod SentAgain
 pub mod ServedFrom
 pub mod ShapedOnce

@@ -6,13 +6,13 @@ use Rattle.std.proofs.lemmas.Slice.Eq.{bytes_eq-Decides}
 use Rattle.std.specs.List.{AllByRecursion, list_any}
 use Rattle.keys_roles.specs.Plain.{look_up}
 use Rattle.keys_roles.specs.Rules.{AreDistinct}
-use Rattle.keys_roles.specs.Verdicts.{AreVerdicts, Pair, Verdict, is_known}
+use Rattle.keys_roles.specs.Verdicts.{Pair}
 use Rattle.metadata.specs.Documents.{MetaFile, Root, Snapshot, Targets}
 use Rattle.metadata.specs.File.{Name, File}
 use Rattle.delegations.specs.Delegation.{Edge}
 use Rattle.delegations.specs.Rows.{Place, Rows, row_at, same_place, value_at}
 use Rattle.delegations.specs.Search.{Shelf, doc, shelf_of, top_edge}
-use Rattle.delegations.specs.Verdicts.{known_at, AreFew, AreListed, AreOfRows, AreTrue, IsComplete, IsEdge, IsWanted, Table, onward, top}
+use Rattle.delegations.specs.Verdicts.{AreFew, AreListed, AreOfRows, AreTrue, IsComplete, IsEdge, IsWanted, Table, onward, top}
 use Rattle.delegations.proofs.KeyOrder.{place_one}
 use Rattle.machine.specs.Commands.{is_listed, kept_rows}
 use Rattle.machine.specs.Knowing.{IsKnown}
@@ -66,11 +66,12 @@ listed_by (m ∷ ms) role v apart = at (bytes_eq m.0 role) refl (nat_eq m.1.vers
 -- ---- the table
 
 true_still : (p : Place → Bool) (rows : Rows) (t : Table) → AreTrue rows t → AreTrue (filter (λ row. p row.0) rows) t
-true_still p rows t h role version file is = at (p (role, version)) refl
+true_still p rows [] h = tt
+true_still p rows (row ∷ t) h = (λ file is. h.0 file (still (p row.0) refl file is), true_still p rows t h.1)
   where
-    at : (b : Bool) → p (role, version) ≡ b → AreVerdicts file.signed file.entries (known_at t (role, version))
-    at true e = h role version file (sym (value_kept same_place place_one p rows (role, version) e) ∙ is)
-    at false e = absurd (none (sym (value_gone same_place place_one p rows (role, version) e) ∙ is))
+    still : (b : Bool) → p row.0 ≡ b → (file : File Targets) → row_at (filter (λ r. p r.0) rows) row.0.0 row.0.1 ≡ Some file → row_at rows row.0.0 row.0.1 ≡ Some file
+    still true e file is = sym (value_kept same_place place_one p rows row.0 e) ∙ is
+    still false e file is = absurd (none (sym (value_gone same_place place_one p rows row.0 e) ∙ is))
       where
         none : None ≡ Some file → ⊥
         none k = cc

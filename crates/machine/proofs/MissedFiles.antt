@@ -20,10 +20,11 @@ use Rattle.delegations.specs.Rows.{Rows}
 use Rattle.machine.specs.State.{IsShelfRow, IsState, State, blob_at}
 use Rattle.machine.specs.Commands.{Listed, grants, listed, live_snapshot, live_timestamp}
 use Rattle.machine.specs.Misses.{IsFound, IsPart, IsProperListing, IsThere, MissesBlob, MissesRole, support_paths}
-use Rattle.machine.specs.Supports.{blob_of, files_hold, layout_answer, read_as, reference_allows, support, support_answer, supporting}
+use Rattle.machine.specs.Supports.{blob_of, files_hold, layout_answer, read_as, reference_allows, searched, support, support_answer, supporting}
 use Rattle.machine.proofs.LinesGive.{given_by, live_gives, needed}
-use Rattle.machine.proofs.OneJudgement.{search-definite}
+use Rattle.machine.proofs.OneJudgement.{searched-definite}
 use Rattle.machine.proofs.PrunedStates.{Sound}
+use Rattle.machine.proofs.Searched.{searched_alike, searched_finds, searched_misses}
 use Rattle.machine.proofs.TargetListings.{search_proper}
 
 abbrev pub Grows : Type 0
@@ -82,28 +83,28 @@ module _ (grows : Grows) (D S : State) (part : IsPart D S) where
     has : HasRowsOf V W
     has = record { top = refl; listing = refl; rows = λ role entry file is there. part.rows snap held role entry file is there }
 
-    found_alike : (path : Bytes) (j : Judged Found) → IsThere j → search V path now j → search W path now j
-    found_alike path j fine h = grows V W path now j has (not_role j fine) h
+    found_alike : (path : Bytes) (j : Judged Found) → IsThere j → searched root.body V path now j → searched root.body W path now j
+    found_alike path j fine h = searched_alike root.body V W path now (λ i there k. grows V W path now i has (not_role i there) k) j fine h
 
-    support_alike : (path : Bytes) (r : Judged Bytes) → IsThere r → support D V now path r → support S W now path r
+    support_alike : (path : Bytes) (r : Judged Bytes) → IsThere r → support D root.body V now path r → support S root.body W now path r
     support_alike path _ fine (decide (judges {j} h k)) = decide (judges (found_alike path j (there_before j _ k fine) h) k)
     support_alike path _ fine (pass {a = found} (judges {j} h k) (decide (judges {j = i} m n))) =
         pass (judges (found_alike path j (there_before j (Ok found) k tt) h) k) (decide (judges (blob_alike path found.listing i (there_before i _ n fine) m) n))
     support_alike path r fine (pass {a = found} (judges {j} h k) (pass {a = b} (judges {j = i} m n) l)) =
         pass (judges (found_alike path j (there_before j (Ok found) k tt) h) k) (pass (judges (blob_alike path found.listing i (there_before i (Ok b) n tt) m) n) l)
 
-    reference_alike : (l : Listing) (o : Option LayoutReference) (r : Judged (Unit {0})) → IsThere r → reference_allows D V now l o r → reference_allows S W now l o r
+    reference_alike : (l : Listing) (o : Option LayoutReference) (r : Judged (Unit {0})) → IsThere r → reference_allows D root.body V now l o r → reference_allows S root.body W now l o r
     reference_alike l None r fine h = h
     reference_alike l (Some reference) _ fine (decide h) = decide (support_alike reference.path _ fine h)
     reference_alike l (Some reference) _ fine (pass {a = b} h (decide k)) =
-        pass (support_alike reference.path (Ok b) tt h) (decide (each_alike (support D V now) (support S W now) support_alike reference.links _ fine k))
+        pass (support_alike reference.path (Ok b) tt h) (decide (each_alike (support D root.body V now) (support S root.body W now) support_alike reference.links _ fine k))
     reference_alike l (Some reference) _ fine (pass {a = b} h (pass {a = bs} k n)) =
-        pass (support_alike reference.path (Ok b) tt h) (pass (each_alike (support D V now) (support S W now) support_alike reference.links (Ok bs) tt k) n)
+        pass (support_alike reference.path (Ok b) tt h) (pass (each_alike (support D root.body V now) (support S root.body W now) support_alike reference.links (Ok bs) tt k) n)
 
     -- what follows a listing that is found
     abbrev served : State → Shelf → Bytes → Listing → Option Bytes → Order Bytes
     served X Y path l asked =
-        blob_of X path l >>= λ blob. reference_allows X Y now l l.layout >> (check no.digest_mismatch (IfSome asked (λ digest. l.digest ≡ digest)) >> give blob)
+        blob_of X path l >>= λ blob. reference_allows X root.body Y now l l.layout >> (check no.digest_mismatch (IfSome asked (λ digest. l.digest ≡ digest)) >> give blob)
 
     served_alike : (path : Bytes) (l : Listing) (asked : Option Bytes) (r : Judged Bytes) → IsThere r → served D V path l asked r → served S W path l asked r
     served_alike path l asked _ fine (decide h) = decide (blob_alike path l _ fine h)
@@ -224,6 +225,9 @@ find-none U (e ∷ es) path now n at digest len h =
 search-no-blob : (V : Shelf) (path : Bytes) (now : ℕ) → NoBlob (search V path now)
 search-no-blob V path now = find-none V (take most_visits (visited V path)) path now _
 
+searched-no-blob : (root : Root) (V : Shelf) (path : Bytes) (now : ℕ) → NoBlob (searched root V path now)
+searched-no-blob root V path now = then-none _ _ (search-no-blob V path now) (λ found. then-none _ _ (check-none _ _) (λ _. give-none found))
+
 -- ---- what is missed
 
 -- a stop that says what is missing
@@ -240,9 +244,9 @@ answered (Err (Denied (BlobMissing path digest len))) _ is stopped = refl
 
 module _ (X : State) where
   -- the blob that is missing, of a path whose listing was found
-  pub record LacksBlob (V : Shelf) (now : ℕ) (s : Stop) (path : Bytes) : Type 0 where
+  pub record LacksBlob (root : Root) (V : Shelf) (now : ℕ) (s : Stop) (path : Bytes) : Type 0 where
     pub found : Found
-    pub finds : search V path now (Ok found)
+    pub finds : searched root V path now (Ok found)
     pub is : s ≡ Denied (BlobMissing path found.listing.digest found.listing.len)
     pub absent : blob_at X.blobs found.listing.digest ≡ None
 
@@ -254,15 +258,15 @@ module _ (X : State) where
   blob_lacks path l (Some b) s is (pass h (pass k g)) = elim g [ ]
 
   -- a search, or a blob
-  abbrev pub Lacks : Shelf → ℕ → Stop → Bytes → Type 0
-  Lacks V now s path = search V path now (Err s) ⊎ LacksBlob V now s path
+  abbrev pub Lacks : Root → Shelf → ℕ → Stop → Bytes → Type 0
+  Lacks root V now s path = searched root V path now (Err s) ⊎ LacksBlob root V now s path
 
-  module _ (V : Shelf) (now : ℕ) (s : Stop) (is : Misses s) where
-    support_lacks : (path : Bytes) → support X V now path (Err s) → Lacks V now s path
-    support_lacks path (decide (judges {j} h k)) = inl (subst (λ (i : Judged Found). search V path now i) (answered j s is k) h)
+  module _ (root : Root) (V : Shelf) (now : ℕ) (s : Stop) (is : Misses s) where
+    support_lacks : (path : Bytes) → support X root V now path (Err s) → Lacks root V now s path
+    support_lacks path (decide (judges {j} h k)) = inl (subst (λ (i : Judged Found). searched root V path now i) (answered j s is k) h)
     support_lacks path (pass {a = found} (judges {j} h k) (decide (judges {j = i} m n))) =
         let lacks = blob_lacks path found.listing (blob_at X.blobs found.listing.digest) s is (subst (λ (r : Judged Bytes). blob_of X path found.listing r) (answered i s is n) m) in
-        inr (record { found = found; finds = subst (λ (r : Judged Found). search V path now r) (found_is j found k) h; is = lacks.0; absent = lacks.1 })
+        inr (record { found = found; finds = subst (λ (r : Judged Found). searched root V path now r) (found_is j found k) h; is = lacks.0; absent = lacks.1 })
       where
         found_is : (j : Judged Found) (found : Found) → support_answer j (Ok found) → j ≡ Ok found
         found_is (Ok a) _ given = refl
@@ -273,13 +277,13 @@ module _ (X : State) where
     support_lacks path (pass h (pass k (decide c))) = absurd (is (check-fine _ _ s c))
     support_lacks path (pass h (pass k (pass c g))) = elim g [ ]
 
-    each_lacks : (paths : Names) → each (support X V now) paths (Err s) → (path : Bytes) × IsIn paths path × Lacks V now s path
+    each_lacks : (paths : Names) → each (support X root V now) paths (Err s) → (path : Bytes) × IsIn paths path × Lacks root V now s path
     each_lacks [] h = elim h [ ]
     each_lacks (path ∷ paths) (decide h) = (path, inl refl, support_lacks path h)
     each_lacks (path ∷ paths) (pass h (decide k)) = let rest = each_lacks paths k in (rest.0, inr rest.1, rest.2)
     each_lacks (path ∷ paths) (pass h (pass k g)) = elim g [ ]
 
-    reference_lacks : (l : Listing) (o : Option LayoutReference) → reference_allows X V now l o (Err s) → (path : Bytes) × IsIn (support_paths o) path × Lacks V now s path
+    reference_lacks : (l : Listing) (o : Option LayoutReference) → reference_allows X root V now l o (Err s) → (path : Bytes) × IsIn (support_paths o) path × Lacks root V now s path
     reference_lacks l None h = elim h [ ]
     reference_lacks l (Some r) (decide h) = (r.path, inl refl, support_lacks r.path h)
     reference_lacks l (Some r) (pass h (decide k)) = let rest = each_lacks r.links k in (rest.0, inr rest.1, rest.2)
@@ -294,9 +298,9 @@ pub record Granted (X : State) (path : Bytes) (asked : Option Bytes) (now : ℕ)
   pub found : Found
   pub trusts : X.trusted.root ≡ Some root
   pub live : live_snapshot X.trusted.timestamp X.trusted.snapshot root now (Ok snap)
-  pub finds : search (shelf_of root snap X.trusted.shelf) path now (Ok found)
+  pub finds : searched root.body (shelf_of root snap X.trusted.shelf) path now (Ok found)
   pub blob : blob_of X path found.listing (Ok b)
-  pub allows : reference_allows X (shelf_of root snap X.trusted.shelf) now found.listing found.listing.layout (Ok tt)
+  pub allows : reference_allows X root.body (shelf_of root snap X.trusted.shelf) now found.listing found.listing.layout (Ok tt)
   pub is_asked : IfSome asked (λ digest. found.listing.digest ≡ digest)
 
 pub granted_tells : (X : State) (path : Bytes) (asked : Option Bytes) (now : ℕ) (b : Bytes) → grants X path asked now (Ok b) → Granted X path asked now b
@@ -321,20 +325,20 @@ granted_so X path asked now b g =
     pass (pass (holds g.is_path) (pass (needs X.trusted.root g.root g.trusts) (pass g.live (pass g.finds given)))) (pass g.blob (pass g.allows (pass (holds g.is_asked) given)))
 
 -- each file that a layout needs is there
-module _ (X : State) (V : Shelf) (now : ℕ) where
-  each_gives : (paths : Names) (bs : List Bytes) → each (support X V now) paths (Ok bs) → (path : Bytes) → IsIn paths path → (b : Bytes) × support X V now path (Ok b)
+module _ (X : State) (root : Root) (V : Shelf) (now : ℕ) where
+  each_gives : (paths : Names) (bs : List Bytes) → each (support X root V now) paths (Ok bs) → (path : Bytes) → IsIn paths path → (b : Bytes) × support X root V now path (Ok b)
   each_gives [] bs h path i = absurd i
-  each_gives (x ∷ xs) _ (pass {a = y} h (pass {a = ys} k given)) path (inl e) = (y, subst (λ (p : Bytes). support X V now p (Ok y)) e h)
+  each_gives (x ∷ xs) _ (pass {a = y} h (pass {a = ys} k given)) path (inl e) = (y, subst (λ (p : Bytes). support X root V now p (Ok y)) e h)
   each_gives (x ∷ xs) _ (pass {a = y} h (pass {a = ys} k given)) path (inr i) = each_gives xs ys k path i
 
-  reference_gives : (l : Listing) (o : Option LayoutReference) → reference_allows X V now l o (Ok tt) → (path : Bytes) → IsIn (support_paths o) path → (b : Bytes) × support X V now path (Ok b)
+  reference_gives : (l : Listing) (o : Option LayoutReference) → reference_allows X root V now l o (Ok tt) → (path : Bytes) → IsIn (support_paths o) path → (b : Bytes) × support X root V now path (Ok b)
   reference_gives l None h path i = absurd i
-  reference_gives l (Some r) (pass {a = b} h (pass {a = bs} k f)) path (inl e) = (b, subst (λ (p : Bytes). support X V now p (Ok b)) e h)
+  reference_gives l (Some r) (pass {a = b} h (pass {a = bs} k f)) path (inl e) = (b, subst (λ (p : Bytes). support X root V now p (Ok b)) e h)
   reference_gives l (Some r) (pass {a = b} h (pass {a = bs} k f)) path (inr i) = each_gives r.links bs k path i
 
   pub record Supports (path b : Bytes) : Type 0 where
     pub found : Found
-    pub finds : search V path now (Ok found)
+    pub finds : searched root V path now (Ok found)
     pub blob : blob_of X path found.listing (Ok b)
     pub plain : IsNone found.listing.layout
 
@@ -345,15 +349,15 @@ module _ (X : State) (V : Shelf) (now : ℕ) where
   answered_so (Err (Denied (RoleMissing role version))) a k = elim k [ ]
   answered_so (Err (Denied (BlobMissing path digest len))) a k = elim k [ ]
 
-  support_gives : (path b : Bytes) → support X V now path (Ok b) → Supports path b
+  support_gives : (path b : Bytes) → support X root V now path (Ok b) → Supports path b
   support_gives path _ (pass {a = found} (judges {j} h k) (pass {a = c} (judges {j = i} m n) (pass (holds none) given))) = record {
     found = found;
-    finds = subst (λ (r : Judged Found). search V path now r) (answered_so j found k) h;
+    finds = subst (λ (r : Judged Found). searched root V path now r) (answered_so j found k) h;
     blob = subst (λ (r : Judged Bytes). blob_of X path found.listing r) (answered_so i c n) m;
     plain = none;
   }
 
-  no_layout : (l : Listing) (o : Option LayoutReference) → IsNone o → reference_allows X V now l o (Ok tt)
+  no_layout : (l : Listing) (o : Option LayoutReference) → IsNone o → reference_allows X root V now l o (Ok tt)
   no_layout l None h = given
   no_layout l (Some r) h = let k : ◌≡◌ {A = Bool} true false = h in cc
 
@@ -384,26 +388,26 @@ module _ (grows : Grows) (D S : State) (part : IsPart D S) (path : Bytes) (now :
 
     -- what S grants it finds on this shelf
     granted_here : (asked : Option Bytes) (b : Bytes) → (g : Granted S path asked now b)
-        → search its path now (Ok g.found) × reference_allows S its now g.found.listing g.found.listing.layout (Ok tt)
+        → searched root.body its path now (Ok g.found) × reference_allows S root.body its now g.found.listing g.found.listing.layout (Ok tt)
     granted_here asked b g =
         let r : g.root ≡ root = some_root g.root root (sym g.trusts ∙ root_there root trusts) in
         let s : g.snap ≡ snap = some_snap g.snap snap (sym (given_by (λ (s : File Snapshot). S.trusted.snapshot ≡ Some s) _ g.snap (live_gives S.trusted g.root now) g.live) ∙ held) in
-        subst (λ (x : File Snapshot). search (shelf_of root x S.trusted.shelf) path now (Ok g.found) × reference_allows S (shelf_of root x S.trusted.shelf) now g.found.listing g.found.listing.layout (Ok tt)) s
-        (subst (λ (x : File Root). search (shelf_of x g.snap S.trusted.shelf) path now (Ok g.found) × reference_allows S (shelf_of x g.snap S.trusted.shelf) now g.found.listing g.found.listing.layout (Ok tt)) r (g.finds, g.allows))
+        subst (λ (x : File Snapshot). searched root.body (shelf_of root x S.trusted.shelf) path now (Ok g.found) × reference_allows S root.body (shelf_of root x S.trusted.shelf) now g.found.listing g.found.listing.layout (Ok tt)) s
+        (subst (λ (x : File Root). searched x.body (shelf_of x g.snap S.trusted.shelf) path now (Ok g.found) × reference_allows S x.body (shelf_of x g.snap S.trusted.shelf) now g.found.listing g.found.listing.layout (Ok tt)) r (g.finds, g.allows))
 
-    module _ (found : Found) (finds : search own path now (Ok found)) where
-      its_finds : search its path now (Ok found)
+    module _ (found : Found) (finds : searched root.body own path now (Ok found)) where
+      its_finds : searched root.body its path now (Ok found)
       its_finds = found_alike grows D S part root snap now held path (Ok found) tt finds
 
       -- where S grants the target, it has each file that the layout needs
-      supports_here : (b : Bytes) → grants S path None now (Ok b) → (p : Bytes) → IsIn (support_paths found.listing.layout) p → (c : Bytes) × Supports S its now p c
+      supports_here : (b : Bytes) → grants S path None now (Ok b) → (p : Bytes) → IsIn (support_paths found.listing.layout) p → (c : Bytes) × Supports S root.body its now p c
       supports_here b h p i =
           let g = granted_tells S path None now b h in
           let here = granted_here None b g in
-          let same : g.found ≡ found = ok_found g.found found (search-definite its path now (Ok g.found) (Ok found) here.0 its_finds) in
-          let allows : reference_allows S its now found.listing found.listing.layout (Ok tt) = subst (λ (x : Found). reference_allows S its now x.listing x.listing.layout (Ok tt)) same here.1 in
-          let one = reference_gives S its now found.listing found.listing.layout allows p i in
-          (one.0, support_gives S its now p one.0 one.1)
+          let same : g.found ≡ found = ok_found g.found found (searched-definite root.body its path now (Ok g.found) (Ok found) here.0 its_finds) in
+          let allows : reference_allows S root.body its now found.listing found.listing.layout (Ok tt) = subst (λ (x : Found). reference_allows S root.body its now x.listing x.listing.layout (Ok tt)) same here.1 in
+          let one = reference_gives S root.body its now found.listing found.listing.layout allows p i in
+          (one.0, support_gives S root.body its now p one.0 one.1)
 
   pub misses_role : (role : Name) (version : ℕ) → grants D path None now (Err (Denied (RoleMissing role version))) → MissesRole D S path now role version
   misses_role role version (decide (decide c)) = absurd (check-fine _ _ _ c)
@@ -417,30 +421,30 @@ module _ (grows : Grows) (D S : State) (part : IsPart D S) (path : Bytes) (now :
         trusts = trusts;
         live = l;
         at = path;
-        misses = m;
+        misses = searched_misses root.body (shelf_of root snap D.trusted.shelf) path now _ (λ f. f) m;
         finds = λ b g.
-            let t = granted_tells S path None now b g in (t.found, (granted_here root snap trusts l None b t).0);
+            let t = granted_tells S path None now b g in (t.found, searched_finds root.body (shelf_of root snap S.trusted.shelf) path now t.found (granted_here root snap trusts l None b t).0);
       }
   misses_role role version (decide (pass h (pass k (pass l (pass m n))))) = elim n [ ]
   misses_role role version (pass (pass h (pass {a = root} k (pass {a = snap} l (pass {a = found} m given)))) (decide n)) =
       let e = (blob_lacks D path found.listing (blob_at D.blobs found.listing.digest) _ (λ f. f) n).0 in absurd cc
   misses_role role version (pass (pass h (pass {a = root} k (pass {a = snap} l (pass {a = found} m given)))) (pass n (decide q))) =
       let trusts = needed _ D.trusted.root root k in
-      let lacks = reference_lacks D (shelf_of root snap D.trusted.shelf) now (Denied (RoleMissing role version)) (λ f. f) found.listing found.listing.layout q in
+      let lacks = reference_lacks D root.body (shelf_of root snap D.trusted.shelf) now (Denied (RoleMissing role version)) (λ f. f) found.listing found.listing.layout q in
       by root snap trusts l found m lacks.0 lacks.1 lacks.2
     where
       by : (root : File Root) (snap : File Snapshot) (trusts : D.trusted.root ≡ Some root) (live : live_snapshot D.trusted.timestamp D.trusted.snapshot root now (Ok snap)) (found : Found)
-          → search (shelf_of root snap D.trusted.shelf) path now (Ok found) → (p : Bytes) → IsIn (support_paths found.listing.layout) p
-          → Lacks D (shelf_of root snap D.trusted.shelf) now (Denied (RoleMissing role version)) p → MissesRole D S path now role version
+          → searched root.body (shelf_of root snap D.trusted.shelf) path now (Ok found) → (p : Bytes) → IsIn (support_paths found.listing.layout) p
+          → Lacks D root.body (shelf_of root snap D.trusted.shelf) now (Denied (RoleMissing role version)) p → MissesRole D S path now role version
       by root snap trusts live found m p i (inl s) = record {
         root = root;
         snap = snap;
         trusts = trusts;
         live = live;
         at = p;
-        misses = s;
+        misses = searched_misses root.body (shelf_of root snap D.trusted.shelf) p now _ (λ f. f) s;
         finds = λ b g.
-            let one = supports_here root snap trusts live found m b g p i in (one.1.found, one.1.finds);
+            let one = supports_here root snap trusts live found m b g p i in (one.1.found, searched_finds root.body (shelf_of root snap S.trusted.shelf) p now one.1.found one.1.finds);
       }
       by root snap trusts live found m p i (inr k) = let e = k.is in absurd cc
   misses_role role version (pass (pass h (pass {a = root} k (pass {a = snap} l (pass {a = found} m given)))) (pass n (pass q (decide c)))) = absurd (check-fine _ _ _ c)
@@ -452,15 +456,15 @@ module _ (grows : Grows) (D S : State) (part : IsPart D S) (path : Bytes) (now :
 
   -- at a shelf of S, a listing of a path
   lists_at : (root : File Root) (snap : File Snapshot) → D.trusted.root ≡ Some root → live_snapshot D.trusted.timestamp D.trusted.snapshot root now (Ok snap)
-      → (p : Bytes) (found : Found) → IsTargetPath p → search (shelf_of root snap S.trusted.shelf) p now (Ok found)
-      → listed S.trusted p now (Ok (record { shelf = shelf_of root snap S.trusted.shelf; listing = found.listing }))
+      → (p : Bytes) (found : Found) → IsTargetPath p → searched root.body (shelf_of root snap S.trusted.shelf) p now (Ok found)
+      → listed S.trusted p now (Ok (record { root = root.body; shelf = shelf_of root snap S.trusted.shelf; listing = found.listing }))
   lists_at root snap trusts live p found is finds =
       pass (holds is) (pass (needs S.trusted.root root (root_there root trusts)) (pass (live_alike grows D S part root now (Ok snap) live) (pass finds given)))
 
   module _ (has : HasPaths) (at digest : Bytes) (len : ℕ) where
     -- of the target itself
     own_blob : (root : File Root) (snap : File Snapshot) → D.trusted.root ≡ Some root → live_snapshot D.trusted.timestamp D.trusted.snapshot root now (Ok snap)
-        → IsTargetPath path → (found : Found) → search (shelf_of root snap D.trusted.shelf) path now (Ok found)
+        → IsTargetPath path → (found : Found) → searched root.body (shelf_of root snap D.trusted.shelf) path now (Ok found)
         → Denied (BlobMissing at digest len) ≡ Denied (BlobMissing path found.listing.digest found.listing.len) → blob_at D.blobs found.listing.digest ≡ None → MissesBlob D S path now at digest len
     own_blob root snap trusts live is found m e none =
         let here : at ≡ path = cc in
@@ -468,11 +472,11 @@ module _ (grows : Grows) (D S : State) (part : IsPart D S) (path : Bytes) (now :
         let long : found.listing.len ≡ len = cc in
         let lists = lists_at root snap trusts live path found is (its_finds root snap trusts live found m) in
         record {
-          listing = record { shelf = shelf_of root snap S.trusted.shelf; listing = found.listing };
+          listing = record { root = root.body; shelf = shelf_of root snap S.trusted.shelf; listing = found.listing };
           lists = lists;
           among = inl (sym here);
-          own = record { shelf = shelf_of root snap S.trusted.shelf; listing = found.listing };
-          lists_own = subst (λ (p : Bytes). listed S.trusted p now (Ok (record { shelf = shelf_of root snap S.trusted.shelf; listing = found.listing }))) (sym here) lists;
+          own = record { root = root.body; shelf = shelf_of root snap S.trusted.shelf; listing = found.listing };
+          lists_own = subst (λ (p : Bytes). listed S.trusted p now (Ok (record { root = root.body; shelf = shelf_of root snap S.trusted.shelf; listing = found.listing }))) (sym here) lists;
           its_digest = hash;
           its_length = long;
           absent = subst (λ (d : Bytes). blob_at D.blobs d ≡ None) hash none;
@@ -480,11 +484,11 @@ module _ (grows : Grows) (D S : State) (part : IsPart D S) (path : Bytes) (now :
         }
       where
         asked_too : (root : File Root) (snap : File Snapshot) (trusts : D.trusted.root ≡ Some root) (live : live_snapshot D.trusted.timestamp D.trusted.snapshot root now (Ok snap)) (found : Found)
-            → search (shelf_of root snap D.trusted.shelf) path now (Ok found) → found.listing.digest ≡ digest → (b : Bytes) → grants S path None now (Ok b) → grants S path (Some digest) now (Ok b)
+            → searched root.body (shelf_of root snap D.trusted.shelf) path now (Ok found) → found.listing.digest ≡ digest → (b : Bytes) → grants S path None now (Ok b) → grants S path (Some digest) now (Ok b)
         asked_too root snap trusts live found m hash b h =
             let g = granted_tells S path None now b h in
             let here = granted_here root snap trusts live None b g in
-            let same : g.found ≡ found = ok_found g.found found (search-definite (shelf_of root snap S.trusted.shelf) path now (Ok g.found) (Ok found) here.0 (its_finds root snap trusts live found m)) in
+            let same : g.found ≡ found = ok_found g.found found (searched-definite root.body (shelf_of root snap S.trusted.shelf) path now (Ok g.found) (Ok found) here.0 (its_finds root snap trusts live found m)) in
             granted_so S path (Some digest) now b (record {
               is_path = g.is_path;
               root = g.root;
@@ -500,28 +504,28 @@ module _ (grows : Grows) (D S : State) (part : IsPart D S) (path : Bytes) (now :
 
     -- of a file that its layout needs
     layout_blob : (root : File Root) (snap : File Snapshot) (trusts : D.trusted.root ≡ Some root) (live : live_snapshot D.trusted.timestamp D.trusted.snapshot root now (Ok snap))
-        → IsTargetPath path → (found : Found) → search (shelf_of root snap D.trusted.shelf) path now (Ok found) → (p : Bytes) → IsIn (support_paths found.listing.layout) p
-        → LacksBlob D (shelf_of root snap D.trusted.shelf) now (Denied (BlobMissing at digest len)) p → MissesBlob D S path now at digest len
+        → IsTargetPath path → (found : Found) → searched root.body (shelf_of root snap D.trusted.shelf) path now (Ok found) → (p : Bytes) → IsIn (support_paths found.listing.layout) p
+        → LacksBlob D root.body (shelf_of root snap D.trusted.shelf) now (Denied (BlobMissing at digest len)) p → MissesBlob D S path now at digest len
     layout_blob root snap trusts live is found m p i lacks =
         let e = lacks.is in
         let here : at ≡ p = cc in
         let hash : lacks.found.listing.digest ≡ digest = cc in
         let long : lacks.found.listing.len ≡ len = cc in
         let found_p = found_alike grows D S part root snap now (held root snap trusts live) p (Ok lacks.found) tt lacks.finds in
-        let its_path : IsTargetPath p = of_each IsTargetPath (support_paths found.listing.layout) p (has (shelf_of root snap S.trusted.shelf) found refl (its_finds root snap trusts live found m)) i in
+        let its_path : IsTargetPath p = of_each IsTargetPath (support_paths found.listing.layout) p (has (shelf_of root snap S.trusted.shelf) found refl (searched_finds root.body (shelf_of root snap S.trusted.shelf) path now found (its_finds root snap trusts live found m))) i in
         record {
-          listing = record { shelf = shelf_of root snap S.trusted.shelf; listing = found.listing };
+          listing = record { root = root.body; shelf = shelf_of root snap S.trusted.shelf; listing = found.listing };
           lists = lists_at root snap trusts live path found is (its_finds root snap trusts live found m);
           among = inr (subst (λ (q : Bytes). IsIn (support_paths found.listing.layout) q) (sym here) i);
-          own = record { shelf = shelf_of root snap S.trusted.shelf; listing = lacks.found.listing };
-          lists_own = subst (λ (q : Bytes). listed S.trusted q now (Ok (record { shelf = shelf_of root snap S.trusted.shelf; listing = lacks.found.listing }))) (sym here)
+          own = record { root = root.body; shelf = shelf_of root snap S.trusted.shelf; listing = lacks.found.listing };
+          lists_own = subst (λ (q : Bytes). listed S.trusted q now (Ok (record { root = root.body; shelf = shelf_of root snap S.trusted.shelf; listing = lacks.found.listing }))) (sym here)
               (lists_at root snap trusts live p lacks.found its_path found_p);
           its_digest = hash;
           its_length = long;
           absent = subst (λ (d : Bytes). blob_at D.blobs d ≡ None) hash lacks.absent;
           granted = λ b g.
               let one = supports_here root snap trusts live found m b g p i in
-              let same : one.1.found ≡ lacks.found = ok_found one.1.found lacks.found (search-definite (shelf_of root snap S.trusted.shelf) p now (Ok one.1.found) (Ok lacks.found) one.1.finds found_p) in (
+              let same : one.1.found ≡ lacks.found = ok_found one.1.found lacks.found (searched-definite root.body (shelf_of root snap S.trusted.shelf) p now (Ok one.1.found) (Ok lacks.found) one.1.finds found_p) in (
                 one.0,
                 subst (λ (q : Bytes). grants S q (Some digest) now (Ok one.0)) (sym here) (granted_so S p (Some digest) now one.0 (record {
                   is_path = its_path;
@@ -532,7 +536,7 @@ module _ (grows : Grows) (D S : State) (part : IsPart D S) (path : Bytes) (now :
                   live = live_alike grows D S part root now (Ok snap) live;
                   finds = one.1.finds;
                   blob = one.1.blob;
-                  allows = no_layout S (shelf_of root snap S.trusted.shelf) now one.1.found.listing one.1.found.listing.layout one.1.plain;
+                  allows = no_layout S root.body (shelf_of root snap S.trusted.shelf) now one.1.found.listing one.1.found.listing.layout one.1.plain;
                   is_asked = ap (λ (x : Found). x.listing.digest) same ∙ hash;
                 })),
               );
@@ -542,19 +546,19 @@ module _ (grows : Grows) (D S : State) (part : IsPart D S) (path : Bytes) (now :
     misses_blob (decide (decide c)) = absurd (check-fine _ _ _ c)
     misses_blob (decide (pass h (decide k))) = absurd (need-fine _ _ _ k)
     misses_blob (decide (pass h (pass {a = root} k (decide l)))) = absurd (live-fine _ _ root now _ l)
-    misses_blob (decide (pass h (pass {a = root} k (pass {a = snap} l (decide m))))) = absurd (search-no-blob (shelf_of root snap D.trusted.shelf) path now at digest len m)
+    misses_blob (decide (pass h (pass {a = root} k (pass {a = snap} l (decide m))))) = absurd (searched-no-blob root.body (shelf_of root snap D.trusted.shelf) path now at digest len m)
     misses_blob (decide (pass h (pass k (pass l (pass m n))))) = elim n [ ]
     misses_blob (pass (pass (holds is) (pass {a = root} k (pass {a = snap} l (pass {a = found} m given)))) (decide n)) =
         let lacks = blob_lacks D path found.listing (blob_at D.blobs found.listing.digest) _ (λ f. f) n in
         own_blob root snap (needed _ D.trusted.root root k) l is found m lacks.0 lacks.1
     misses_blob (pass (pass (holds is) (pass {a = root} k (pass {a = snap} l (pass {a = found} m given)))) (pass n (decide q))) =
-        let lacks = reference_lacks D (shelf_of root snap D.trusted.shelf) now (Denied (BlobMissing at digest len)) (λ f. f) found.listing found.listing.layout q in
+        let lacks = reference_lacks D root.body (shelf_of root snap D.trusted.shelf) now (Denied (BlobMissing at digest len)) (λ f. f) found.listing found.listing.layout q in
         by root snap (needed _ D.trusted.root root k) l is found m lacks.0 lacks.1 lacks.2
       where
         by : (root : File Root) (snap : File Snapshot) (trusts : D.trusted.root ≡ Some root) (live : live_snapshot D.trusted.timestamp D.trusted.snapshot root now (Ok snap))
-            → IsTargetPath path → (found : Found) → search (shelf_of root snap D.trusted.shelf) path now (Ok found) → (p : Bytes) → IsIn (support_paths found.listing.layout) p
-            → Lacks D (shelf_of root snap D.trusted.shelf) now (Denied (BlobMissing at digest len)) p → MissesBlob D S path now at digest len
-        by root snap trusts live is found m p i (inl s) = absurd (search-no-blob (shelf_of root snap D.trusted.shelf) p now at digest len s)
+            → IsTargetPath path → (found : Found) → searched root.body (shelf_of root snap D.trusted.shelf) path now (Ok found) → (p : Bytes) → IsIn (support_paths found.listing.layout) p
+            → Lacks D root.body (shelf_of root snap D.trusted.shelf) now (Denied (BlobMissing at digest len)) p → MissesBlob D S path now at digest len
+        by root snap trusts live is found m p i (inl s) = absurd (searched-no-blob root.body (shelf_of root snap D.trusted.shelf) p now at digest len s)
         by root snap trusts live is found m p i (inr k) = layout_blob root snap trusts live is found m p i k
     misses_blob (pass (pass h (pass {a = root} k (pass {a = snap} l (pass {a = found} m given)))) (pass n (pass q (decide c)))) = absurd (check-fine _ _ _ c)
     misses_blob (pass (pass h (pass {a = root} k (pass {a = snap} l (pass {a = found} m given)))) (pass n (pass q (pass c g)))) = elim g [ ]
@@ -562,7 +566,7 @@ module _ (grows : Grows) (D S : State) (part : IsPart D S) (path : Bytes) (now :
 module _ (law : Sound) where
   pub listed_proper : (X : State) (path : Bytes) (now : ℕ) (at : Listed) → IsState X → listed X.trusted path now (Ok at) → IsProperListing at.listing
   listed_proper X path now _ valid (pass h (pass {a = root} k (pass {a = snap} l (pass {a = found} m given)))) =
-      search_proper law (shelf_of root snap X.trusted.shelf) path now found valid.trusted.rows m
+      search_proper law (shelf_of root snap X.trusted.shelf) path now found valid.trusted.rows (searched_finds root.body (shelf_of root snap X.trusted.shelf) path now found m)
 
   paths_of : (l : Listing) (o : Option LayoutReference) → IfSome o (λ r. AllByRecursion IsTargetPath (r.path ∷ r.links) × (length r.links ≤ 64)) → AllByRecursion IsTargetPath (support_paths o)
   paths_of l None h = tt

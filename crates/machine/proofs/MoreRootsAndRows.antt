@@ -2,11 +2,11 @@
 use Rattle.std.proofs.Common.{◌≡◌, ℕ, zero, suc, List, [], ◌∷◌, ◌++◌, map, length, Option, Some, refl, sym, ap, ◌∙◌, slice_index_or, arith, ◌+◌}
 use Rattle.std.proofs.lemmas.List.{map-append}
 use Rattle.metadata.specs.File.{Bytes, File}
-use Rattle.metadata.specs.Documents.{Root, Timestamp, Snapshot, Targets}
+use Rattle.metadata.specs.Documents.{Profile, Root, Timestamp, Snapshot, Targets}
 use Rattle.delegations.specs.Rows.{Rows, Place, with_row, with_rows, place_before}
 use Rattle.delegations.specs.Views.{row_views}
 use Rattle.delegations.specs.declared.rows.Row.{Row}
-use Rattle.machine.specs.State.{Trusted}
+use Rattle.machine.specs.State.{Trusted, kept_root}
 use Rattle.machine.proofs.RowsInOrder.{length_with_row}
 use Rattle.machine.specs.Effects.{last_or}
 
@@ -26,26 +26,26 @@ pub rows_more : (rows more : Rows) (row : Place × File Targets) → with_rows r
 rows_more rows [] row = refl
 rows_more rows (r ∷ more) row = rows_more (with_row place_before rows r.0 r.1) more row
 
-join : (xs ys : List Bytes) (b : Bytes) → (xs ++ (ys ++ b ∷ [])) ≡ ((xs ++ ys) ++ b ∷ [])
+join : (xs ys : List (Profile × Bytes)) (b : Profile × Bytes) → (xs ++ (ys ++ b ∷ [])) ≡ ((xs ++ ys) ++ b ∷ [])
 join [] ys b = refl
-join (x ∷ xs) ys b = ap (λ (l : List Bytes). x ∷ l) (join xs ys b)
+join (x ∷ xs) ys b = ap (λ (l : List (Profile × Bytes)). x ∷ l) (join xs ys b)
 
-abbrev trusted : Option (File Timestamp) → Option (File Snapshot) → Rows → List Bytes → Option (File Root) → Trusted
+abbrev trusted : Option (File Timestamp) → Option (File Snapshot) → Rows → List (Profile × Bytes) → Option (File Root) → Trusted
 trusted t s shelf roots root = record { roots = roots; root = root; timestamp = t; snapshot = s; shelf = shelf }
 
 -- the roots with one more, and the last of them
-pub one_more_root : {A : Type 0} (f : A → File Root) (t : Option (File Timestamp)) (s : Option (File Snapshot)) (shelf : Rows) (roots : List Bytes) (root : Option (File Root)) (xs : List A) (x : A)
-    → trusted t s shelf (roots ++ map (λ r. r.bytes) (map f (xs ++ x ∷ []))) (last_or root (map f (xs ++ x ∷ [])))
-    ≡ trusted t s shelf ((roots ++ map (λ r. r.bytes) (map f xs)) ++ (f x).bytes ∷ []) (Some (f x))
+pub one_more_root : {A : Type 0} (f : A → File Root) (t : Option (File Timestamp)) (s : Option (File Snapshot)) (shelf : Rows) (roots : List (Profile × Bytes)) (root : Option (File Root)) (xs : List A) (x : A)
+    → trusted t s shelf (roots ++ map kept_root (map f (xs ++ x ∷ []))) (last_or root (map f (xs ++ x ∷ [])))
+    ≡ trusted t s shelf ((roots ++ map kept_root (map f xs)) ++ kept_root (f x) ∷ []) (Some (f x))
 one_more_root {A} f t s shelf roots root xs x =
     let more : map f (xs ++ x ∷ []) ≡ map f xs ++ f x ∷ [] = map-append f xs (x ∷ []) in
-    ap (λ (l : List (File Root)). trusted t s shelf (roots ++ map (λ r. r.bytes) l) (last_or root l)) more
-    ∙ (ap (λ (l : List Bytes). trusted t s shelf (roots ++ l) (last_or root (map f xs ++ f x ∷ []))) (map-append (λ (r : File Root). r.bytes) (map f xs) (f x ∷ []))
-    ∙ (ap (λ (l : List Bytes). trusted t s shelf l (last_or root (map f xs ++ f x ∷ []))) (join roots (map (λ r. r.bytes) (map f xs)) (f x).bytes)
-    ∙ ap (λ (o : Option (File Root)). trusted t s shelf ((roots ++ map (λ r. r.bytes) (map f xs)) ++ (f x).bytes ∷ []) o) (last_of root (map f xs) (f x))))
+    ap (λ (l : List (File Root)). trusted t s shelf (roots ++ map kept_root l) (last_or root l)) more
+    ∙ (ap (λ (l : List (Profile × Bytes)). trusted t s shelf (roots ++ l) (last_or root (map f xs ++ f x ∷ []))) (map-append kept_root (map f xs) (f x ∷ []))
+    ∙ (ap (λ (l : List (Profile × Bytes)). trusted t s shelf l (last_or root (map f xs ++ f x ∷ []))) (join roots (map kept_root (map f xs)) (kept_root (f x)))
+    ∙ ap (λ (o : Option (File Root)). trusted t s shelf ((roots ++ map kept_root (map f xs)) ++ kept_root (f x) ∷ []) o) (last_of root (map f xs) (f x))))
 
 -- the shelf with one more row
-pub one_more_row : {A : Type 0} (f : A → Place × File Targets) (roots : List Bytes) (root : Option (File Root)) (t : Option (File Timestamp)) (s : Option (File Snapshot)) (rows : Rows) (xs : List A) (x : A)
+pub one_more_row : {A : Type 0} (f : A → Place × File Targets) (roots : List (Profile × Bytes)) (root : Option (File Root)) (t : Option (File Timestamp)) (s : Option (File Snapshot)) (rows : Rows) (xs : List A) (x : A)
     → trusted t s (with_rows rows (map f (xs ++ x ∷ []))) roots root
     ≡ trusted t s (with_row place_before (with_rows rows (map f xs)) (f x).0 (f x).1) roots root
 one_more_row f roots root t s rows xs x =

@@ -38,10 +38,10 @@ after-never T old new h = elim h [ ]
 renew-never : (T : Trusted) (old new : File Root) → NeverSame (renew_root T old new)
 renew-never T old new =
     then-never _ _ (check-never _ _) (λ _. then-never _ _ (check-never _ _) (λ _. then-never _ _ (check-never _ _) (λ _. then-never _ _ (check-never _ _)
-    (λ _. after-never T old new))))
+    (λ _. then-never _ _ (check-never _ _) (λ _. after-never T old new)))))
 
 pub root_again : (T U V : Trusted) (b : Bytes) (now : ℕ) → Left (offer T RootOffer b now) T U → V.root ≡ U.root → offer V RootOffer b now (Err Same)
-root_again T U V b now (took (pass {a = old} k (pass d (pass {a = new} (reads doc e) (pass v (pass o (pass n (pass f after)))))))) root =
+root_again T U V b now (took (pass {a = old} k (pass d (pass {a = new} (reads doc e) (pass v (pass q (pass o (pass n (pass f after))))))))) root =
     pass (steps.needed _ V.root new (root ∙ newest T old new (Ok U) after)) (decide (same (sym e)))
 root_again T _ V b now (stood (pass {a = old} k (decide (same e)))) root = pass (steps.needed _ V.root old (root ∙ needed _ T.root old k)) (decide (same e))
 root_again T _ V b now (stood (decide h)) root = absurd (need-never _ T.root h)

@@ -29,7 +29,7 @@ pub granted_blob : (S : State) (path b : Bytes) (asked : Option Bytes) (now : �
 granted_blob S path b asked now h =
     let g = granted_tells S path asked now b h in
     let blob = blob_is path g.found.listing (blob_at S.blobs g.found.listing.digest) b g.blob in (
-      record { shelf = shelf_of g.root g.snap S.trusted.shelf; listing = g.found.listing },
+      record { root = g.root.body; shelf = shelf_of g.root g.snap S.trusted.shelf; listing = g.found.listing },
       pass (holds g.is_path) (pass (subst (λ (o : Option (File Root)). need no.no_root o (Ok g.root)) (sym g.trusts) given) (pass g.live (pass g.finds given))),
       blob.0,
       blob.1,
@@ -84,10 +84,11 @@ module _ (law : Shapes) where
       (room : length T.roots < most_held) where
     renewed : (j : Judged Trusted) → renew_root T old new j → AfterRoot T old new j
     renewed _ (decide (fails f)) = absurd (f follows.next)
-    renewed _ (pass v (decide (fails f))) = absurd (f follows.by_old)
-    renewed _ (pass v (pass b (decide (fails f)))) = absurd (f follows.by_new)
-    renewed _ (pass v (pass b (pass c (decide (fails f))))) = absurd (f room)
-    renewed j (pass v (pass b (pass c (pass r after)))) = after
+    renewed _ (pass v (decide (fails f))) = absurd (f follows.profile)
+    renewed _ (pass v (pass p (decide (fails f)))) = absurd (f follows.by_old)
+    renewed _ (pass v (pass p (pass b (decide (fails f))))) = absurd (f follows.by_new)
+    renewed _ (pass v (pass p (pass b (pass c (decide (fails f)))))) = absurd (f room)
+    renewed j (pass v (pass p (pass b (pass c (pass r after))))) = after
 
     some_root : (x y : File Root) → Some x ≡ Some y → x ≡ y
     some_root x y e = cc

@@ -11,7 +11,7 @@ use Rattle.delegations.specs.Delegation.{Edge}
 use Rattle.delegations.specs.Search.{Shelf, Found, visit, find_in, found_or, listing_of, search, shelf_of}
 use Rattle.machine.specs.State.{Trusted, State}
 use Rattle.machine.specs.Commands.{kept, rotated, after_root, live_timestamp, live_snapshot, after_timestamp, after_snapshot, named_snapshot, named_targets, placed, Offer, RootOffer, TimestampOffer, SnapshotOffer, TargetsOffer, init, offer_root, offer_timestamp, offer_snapshot, offer_targets, offer, prune, put_blob, Batched, BatchOrder, Ended, coherent, incoherent, going_on, batch_from, batch, listed, grants}
-use Rattle.machine.specs.Supports.{blob_of, files_hold, layout_answer, read_as, reference_allows, support, support_answer, supporting}
+use Rattle.machine.specs.Supports.{blob_of, files_hold, layout_answer, read_as, reference_allows, searched, support, support_answer, supporting}
 use Rattle.machine.specs.Runs.{Outcome, Command, Init, Batch, OfferOne, PutBlob, Prune, Metadata, Target, Leads, leads, Steps}
 use Rattle.layouts.proofs.DefiniteOrders.{Definite, check-definite, same_if-definite, give-definite, stop-definite, need_or-definite, judged-definite, each-definite}
 use Rattle.machine.proofs.ShapedOnce.{Shapes, Tells, line, shaped-definite, root-tells, timestamp-tells, snapshot-tells, targets-tells, layout-tells, link-tells}
@@ -97,6 +97,9 @@ find-definite V (e ∷ es) path now none h =
 pub search-definite : (V : Shelf) (path : Bytes) (now : ℕ) → Definite (search V path now)
 search-definite V path now = find-definite V _ path now _ (stop-definite _)
 
+pub searched-definite : (root : Root) (V : Shelf) (path : Bytes) (now : ℕ) → Definite (searched root V path now)
+searched-definite root V path now = line (search-definite V path now) (λ found. line (check-definite _ _) (λ _. give-definite found))
+
 pub blob_of-definite : (S : State) (path : Bytes) (l : Listing) → Definite (blob_of S path l)
 blob_of-definite S path l =
     line (need_or-definite _ _) (λ blob. line (check-definite _ _) (λ _. give-definite blob))
@@ -106,7 +109,7 @@ listed-definite T path now =
     line (check-definite _ _) (λ _.
     line (need_or-definite _ T.root) (λ root.
     line (live_snapshot-definite T.timestamp T.snapshot root now) (λ snap.
-    line (search-definite (shelf_of root snap T.shelf) path now) (λ found. give-definite _))))
+    line (searched-definite root.body (shelf_of root snap T.shelf) path now) (λ found. give-definite _))))
 
 -- ---- files that a layout needs
 
@@ -120,9 +123,9 @@ support_answer-definite (Err (Denied (BlobMissing path digest len))) = stop-defi
 supporting-definite : {A : Type 0} (m : Order A) → Definite m → Definite (supporting m)
 supporting-definite m one = judged-definite m support_answer one support_answer-definite
 
-pub support-definite : (S : State) (V : Shelf) (now : ℕ) (path : Bytes) → Definite (support S V now path)
-support-definite S V now path =
-    line (supporting-definite _ (search-definite V path now)) (λ found.
+pub support-definite : (S : State) (root : Root) (V : Shelf) (now : ℕ) (path : Bytes) → Definite (support S root V now path)
+support-definite S root V now path =
+    line (supporting-definite _ (searched-definite root V path now)) (λ found.
     line (supporting-definite _ (blob_of-definite S path found.listing)) (λ blob.
     line (check-definite _ _) (λ _. give-definite blob)))
 
@@ -147,18 +150,18 @@ module _ (law : Shapes) (verdict : OneVerdict) where
       line (each-definite (read_as link_form) bs (read-definite _ link-tells)) (λ links.
       verdict layout reference.owners reference.keys links reference.step reference.product l.digest now)))
 
-  reference-definite : (S : State) (V : Shelf) (now : ℕ) (l : Listing) (reference : Option LayoutReference) → Definite (reference_allows S V now l reference)
-  reference-definite S V now l None = give-definite tt
-  reference-definite S V now l (Some reference) =
-      line (support-definite S V now reference.path) (λ layout_bytes.
-      line (each-definite (support S V now) reference.links (support-definite S V now)) (λ link_bytes.
+  reference-definite : (S : State) (root : Root) (V : Shelf) (now : ℕ) (l : Listing) (reference : Option LayoutReference) → Definite (reference_allows S root V now l reference)
+  reference-definite S root V now l None = give-definite tt
+  reference-definite S root V now l (Some reference) =
+      line (support-definite S root V now reference.path) (λ layout_bytes.
+      line (each-definite (support S root V now) reference.links (support-definite S root V now)) (λ link_bytes.
       files-definite l reference now layout_bytes link_bytes))
 
   pub grants-definite : (S : State) (path : Bytes) (asked : Option Bytes) (now : ℕ) → Definite (grants S path asked now)
   grants-definite S path asked now =
       line (listed-definite S.trusted path now) (λ at.
       line (blob_of-definite S path at.listing) (λ blob.
-      line (reference-definite S at.shelf now at.listing at.listing.layout) (λ _.
+      line (reference-definite S at.root at.shelf now at.listing at.listing.layout) (λ _.
       line (check-definite _ _) (λ _. give-definite blob))))
 
 -- ---- documents
@@ -178,7 +181,8 @@ module _ (law : Shapes) where
       line (check-definite _ _) (λ _.
       line (check-definite _ _) (λ _.
       line (check-definite _ _) (λ _.
-      line (check-definite _ _) (λ _. after_root-definite T old new)))))))
+      line (check-definite _ _) (λ _.
+      line (check-definite _ _) (λ _. after_root-definite T old new))))))))
 
   timestamp-definite : (T : Trusted) (b : Bytes) (now : ℕ) → Definite (offer_timestamp T b now)
   timestamp-definite T b now =

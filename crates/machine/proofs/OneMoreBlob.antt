@@ -2,6 +2,7 @@
 use Rattle.std.proofs.Common.{◌≡◌, List, [], ◌∷◌, ◌++◌, Option, Some, None, Ok, Err, true, false, refl, sym, ap, ◌∙◌, subst}
 use Rattle.std.proofs.lemmas.Bool.{true≢false}
 use Rattle.std.specs.Prelude.{is_some, option_map}
+use Rattle.metadata.specs.Documents.{Profile}
 use Rattle.metadata.specs.File.{Bytes}
 use Rattle.denials.specs.Orders as orders
 use Rattle.denials.specs.Orders.{Order, Judged, ◌>>=◌, need_or, pass, decide, given, stopped}
@@ -17,12 +18,12 @@ use Rattle.machine.specs.declared.effects.Effects.{Effects}
 use Rattle.machine.specs.declared.outcome.Outcome.TheVariants.{Changed}
 use Rattle.machine.specs.declared.refusal.Refusal.{Refusal}
 
-none_more : (roots : List Bytes) → roots ++ [] ≡ roots
+none_more : (roots : List (Profile × Bytes)) → roots ++ [] ≡ roots
 none_more [] = refl
-none_more (b ∷ bs) = ap (λ (l : List Bytes). b ∷ l) (none_more bs)
+none_more (b ∷ bs) = ap (λ (l : List (Profile × Bytes)). b ∷ l) (none_more bs)
 
 one_more : (S : State) (digest b : Bytes) → applied S (record no_effects { blobs = (digest, b) ∷ [] }) ≡ record S { blobs = with_row before S.blobs digest b }
-one_more S digest b = ap (λ (l : List Bytes). record { trusted = record S.trusted { roots = l }; blobs = with_row before S.blobs digest b }) (none_more S.trusted.roots)
+one_more S digest b = ap (λ (l : List (Profile × Bytes)). record { trusted = record S.trusted { roots = l }; blobs = with_row before S.blobs digest b }) (none_more S.trusted.roots)
 
 pub with_one : (S : State) (E : plain.Effects) (digest b : Bytes) → E ≡ record no_effects { blobs = (digest, b) ∷ [] } → applied S E ≡ record S { blobs = with_row before S.blobs digest b }
 with_one S E digest b e = ap (applied S) e ∙ one_more S digest b

@@ -5,6 +5,7 @@ use Rattle.std.proofs.lemmas.List.{length-map}
 use Rattle.std.specs.Prelude.{IsSome, is_some, option_map}
 use Rattle.std.specs.List.{list_any}
 use Rattle.metadata.specs.Documents.{Listing, Targets}
+use Rattle.metadata.specs.Documents.{Profile}
 use Rattle.metadata.specs.File.{Bytes, File}
 use Rattle.contents.specs.Contents.{lengths_of}
 use Rattle.denials.specs.Orders.{holds, given, pass}
@@ -24,7 +25,7 @@ rows_left T = without_failing same_place place_one place_self (λ place. is_list
 pub brought_so : (H : Held) → brought H.trusted (record no_effects { gone = gone_of H }) ≡ record H.trusted { shelf = kept_rows H.trusted }
 brought_so H =
     let T : Trusted = H.trusted in
-    ap (λ (roots : List Bytes). record T { roots = roots; shelf = without same_place T.shelf (unlisted_places T.snapshot T.shelf) }) (append-nil T.roots)
+    ap (λ (roots : List (Profile × Bytes)). record T { roots = roots; shelf = without same_place T.shelf (unlisted_places T.snapshot T.shelf) }) (append-nil T.roots)
     ∙ ap (λ (shelf : Rows). record T { shelf = shelf }) (rows_left T)
 
 pub brought_pruned : (H : Held) (E : Effects) → E ≡ record no_effects { gone = gone_of H } → record H.trusted { shelf = kept_rows H.trusted } ≡ brought H.trusted E

@@ -17,9 +17,10 @@ use Rattle.delegations.specs.Search.{Shelf, Found, IsSoundly, doc, listing_of, s
 use Rattle.delegations.proofs.KeyOrder.{place_one}
 use Rattle.machine.specs.State.{Trusted, State, AreCoherent, IsCoherent, IsHeldUnder, IsShelfRow, IsBlob, IsTrusted, IsState, blob_at, nothing_trusted}
 use Rattle.machine.specs.Commands.{GrantAlike, grants, is_listed, is_wanted, kept_blobs, kept_rows, live_snapshot, prune, pruned}
-use Rattle.machine.specs.Supports.{blob_of, reference_allows, support, support_answer, supporting}
+use Rattle.machine.specs.Supports.{blob_of, reference_allows, searched, support, support_answer, supporting}
 use Rattle.machine.proofs.LinesGive.{given_by, live_gives}
 use Rattle.machine.proofs.ListedSearches.{AreSame, same_back, search_same, value_kept}
+use Rattle.machine.proofs.Searched.{searched_finds, searched_same}
 
 pub bytes_one : (a b : Bytes) → bytes_eq a b ≡ true → a ≡ b
 bytes_one a b h = (bytes_eq-Decides a b).0 h
@@ -192,7 +193,7 @@ supported_is (Err (Denied (Plain n))) a k = elim k [ ]
 supported_is (Err (Denied (RoleMissing role version))) a k = elim k [ ]
 supported_is (Err (Denied (BlobMissing path digest len))) a k = elim k [ ]
 
-each_same : {A B : Type 0} (f g : A → Order B) → ((x : A) (r : Judged B) → f x r → g x r) → (xs : List A) (r : Judged (List B)) → each f xs r → each g xs r
+pub each_same : {A B : Type 0} (f g : A → Order B) → ((x : A) (r : Judged B) → f x r → g x r) → (xs : List A) (r : Judged (List B)) → each f xs r → each g xs r
 each_same f g so [] r h = h
 each_same f g so (x ∷ xs) _ (decide h) = decide (so x _ h)
 each_same f g so (x ∷ xs) _ (pass h (decide k)) = pass (so x _ h) (decide (each_same f g so xs _ k))
@@ -220,32 +221,35 @@ module _ (T : Trusted) (rows more : Rows) (blobs left : List (Bytes × Bytes))
     abbrev W : Shelf
     W = shelf_of root snap more
 
-    found_alike : (path : Bytes) (j : Judged Found) → search V path now j → search W path now j
-    found_alike path j h = search_same (top_edge root) snap.body.meta rows more (same snap held) path now j h
+    found_alike : (path : Bytes) (j : Judged Found) → searched root.body V path now j → searched root.body W path now j
+    found_alike path j h = searched_same root.body V W path now (λ i k. search_same (top_edge root) snap.body.meta rows more (same snap held) path now i k) j h
 
-    support_alike : (path : Bytes) (r : Judged Bytes) → support S V now path r → support U W now path r
+    blob_there : (path : Bytes) (found : Found) → searched root.body V path now (Ok found) → blob_at blobs found.listing.digest ≡ blob_at left found.listing.digest
+    blob_there path found is = there root snap path now found held (searched_finds root.body V path now found is)
+
+    support_alike : (path : Bytes) (r : Judged Bytes) → support S root.body V now path r → support U root.body W now path r
     support_alike path _ (decide (judges h k)) = decide (judges (found_alike path _ h) k)
     support_alike path _ (pass {a = found} {r} (judges {j} h k) n) =
-        let is : search V path now (Ok found) = subst (λ (i : Judged Found). search V path now i) (supported_is j found k) h in
-        pass (judges (found_alike path j h) k) (subst (λ (o : Option Bytes). support_from path found.listing o r) (there root snap path now found held is) n)
+        let is : searched root.body V path now (Ok found) = subst (λ (i : Judged Found). searched root.body V path now i) (supported_is j found k) h in
+        pass (judges (found_alike path j h) k) (subst (λ (o : Option Bytes). support_from path found.listing o r) (blob_there path found is) n)
 
-    reference_alike : (l : Listing) (o : Option LayoutReference) (r : Judged (Unit {0})) → reference_allows S V now l o r → reference_allows U W now l o r
+    reference_alike : (l : Listing) (o : Option LayoutReference) (r : Judged (Unit {0})) → reference_allows S root.body V now l o r → reference_allows U root.body W now l o r
     reference_alike l None r h = h
     reference_alike l (Some reference) _ (decide h) = decide (support_alike reference.path _ h)
     reference_alike l (Some reference) _ (pass h (decide k)) =
-        pass (support_alike reference.path _ h) (decide (each_same (support S V now) (support U W now) support_alike reference.links _ k))
+        pass (support_alike reference.path _ h) (decide (each_same (support S root.body V now) (support U root.body W now) support_alike reference.links _ k))
     reference_alike l (Some reference) _ (pass h (pass k n)) =
-        pass (support_alike reference.path _ h) (pass (each_same (support S V now) (support U W now) support_alike reference.links _ k) n)
+        pass (support_alike reference.path _ h) (pass (each_same (support S root.body V now) (support U root.body W now) support_alike reference.links _ k) n)
 
     -- what follows a listing that is found
     abbrev served : State → Shelf → Bytes → Listing → Option Bytes → Order Bytes
     served X Y path l asked =
-        blob_of X path l >>= λ blob. reference_allows X Y now l l.layout >> (check no.digest_mismatch (IfSome asked (λ digest. l.digest ≡ digest)) >> give blob)
+        blob_of X path l >>= λ blob. reference_allows X root.body Y now l l.layout >> (check no.digest_mismatch (IfSome asked (λ digest. l.digest ≡ digest)) >> give blob)
 
-    blob_alike : (path : Bytes) (found : Found) → search V path now (Ok found) → (r : Judged Bytes) → blob_of S path found.listing r → blob_of U path found.listing r
-    blob_alike path found is r h = subst (λ (o : Option Bytes). blob_from path found.listing o r) (there root snap path now found held is) h
+    blob_alike : (path : Bytes) (found : Found) → searched root.body V path now (Ok found) → (r : Judged Bytes) → blob_of S path found.listing r → blob_of U path found.listing r
+    blob_alike path found is r h = subst (λ (o : Option Bytes). blob_from path found.listing o r) (blob_there path found is) h
 
-    served_alike : (path : Bytes) (found : Found) → search V path now (Ok found) → (asked : Option Bytes) (r : Judged Bytes) → served S V path found.listing asked r → served U W path found.listing asked r
+    served_alike : (path : Bytes) (found : Found) → searched root.body V path now (Ok found) → (asked : Option Bytes) (r : Judged Bytes) → served S V path found.listing asked r → served U W path found.listing asked r
     served_alike path found is asked _ (decide h) = decide (blob_alike path found is _ h)
     served_alike path found is asked _ (pass h (decide k)) = pass (blob_alike path found is _ h) (decide (reference_alike found.listing found.listing.layout _ k))
     served_alike path found is asked _ (pass h (pass k n)) = pass (blob_alike path found is _ h) (pass (reference_alike found.listing found.listing.layout _ k) n)

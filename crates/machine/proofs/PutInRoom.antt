@@ -5,7 +5,7 @@ use Rattle.std.specs.Prelude.{not, nat_lt, option_map}
 use Rattle.std.proofs.lemmas.Bool.{ltb-false}
 use Rattle.std.proofs.lemmas.List.Sums.{prefix_len-le-length}
 use Rattle.metadata.specs.File.{Bytes, File}
-use Rattle.metadata.specs.Documents.{Root, Timestamp, Snapshot}
+use Rattle.metadata.specs.Documents.{Profile, Root, Timestamp, Snapshot}
 use Rattle.delegations.specs.Delegation.{before}
 use Rattle.delegations.specs.Rows.{Rows, with_row}
 use Rattle.machine.specs.State.{State, Trusted}
@@ -60,7 +60,7 @@ map_twice g f [] = refl
 map_twice {A} {B} {C} g f (x ∷ xs) = ap (λ (l : List C). g (f x) ∷ l) (map_twice g f xs)
 
 -- what is trusted, of equal parts
-pub same_trusted : (roots roots' : List Bytes) (root root' : Option (File Root)) (stamp stamp' : Option (File Timestamp))
+pub same_trusted : (roots roots' : List (Profile × Bytes)) (root root' : Option (File Root)) (stamp stamp' : Option (File Timestamp))
     → (snap snap' : Option (File Snapshot)) (shelf shelf' : Rows)
     → roots ≡ roots' → root ≡ root' → stamp ≡ stamp' → snap ≡ snap' → shelf ≡ shelf'
     → ◌≡◌ {A = Trusted} (record { roots = roots; root = root; timestamp = stamp; snapshot = snap; shelf = shelf })
@@ -68,7 +68,7 @@ pub same_trusted : (roots roots' : List Bytes) (root root' : Option (File Root))
 same_trusted roots roots' root root' stamp stamp' snap snap' shelf shelf' e f g h i = rw (e, f, g, h, i) refl
 
 -- states of equal parts
-pub same_state : (roots roots' : List Bytes) (root root' : Option (File Root)) (stamp stamp' : Option (File Timestamp))
+pub same_state : (roots roots' : List (Profile × Bytes)) (root root' : Option (File Root)) (stamp stamp' : Option (File Timestamp))
     → (snap snap' : Option (File Snapshot)) (shelf shelf' : Rows) (blobs blobs' : List (Bytes × Bytes))
     → roots ≡ roots' → root ≡ root' → stamp ≡ stamp' → snap ≡ snap' → shelf ≡ shelf' → blobs ≡ blobs'
     → ◌≡◌ {A = State} (record { trusted = record { roots = roots; root = root; timestamp = stamp; snapshot = snap; shelf = shelf }; blobs = blobs })

@@ -5,11 +5,11 @@ use Rattle.std.proofs.lemmas.Bool.{true≢false}
 use Rattle.std.proofs.lemmas.List.{append-nil}
 use Rattle.std.proofs.Math.Seq.{append_snoc}
 use Rattle.std.proofs.lemmas.List.Elements.{All-nil, All-cons, All-head, All-tail}
-use Rattle.metadata.specs.Documents.{Root}
+use Rattle.metadata.specs.Documents.{Profile, Root}
 use Rattle.metadata.specs.File.{Bytes, File, IsFileOf, root_form, timestamp_form, snapshot_form}
 use Rattle.denials.specs.Orders.{Judged}
 use Rattle.metadata.specs.Shaped.{reads}
-use Rattle.machine.specs.State.{FollowsRoot, MeetsTop, IsHeldUnder, IsRootChain, first, then}
+use Rattle.machine.specs.State.{FollowsRoot, MeetsTop, IsHeldUnder, IsRootChain, first, kept_root, then}
 use Rattle.machine.specs.Effects as changes
 use Rattle.machine.specs.Effects.{last_or}
 use Rattle.machine.specs.steps.Loading.{AreRead, FollowOn, IsChain, laid}
@@ -32,21 +32,21 @@ pub follow_ends : (old : File Root) (rest : List (File Root)) (W : Type 0) → l
 follow_ends old [] W e same = ((λ t. same.0 tt), (λ w. refl))
 follow_ends old (x ∷ xs) W e same = absurd (omega arith)
 
-abbrev pub bytes_of : List (File Root) → List Bytes
-bytes_of fs = map (λ f. f.bytes) fs
+abbrev pub kept_of : List (File Root) → List (Profile × Bytes)
+kept_of fs = map kept_root fs
 
 -- a chain, and what follows on it
-on_from : (bs : List Bytes) (old : File Root) (fs : List (File Root)) → IsRootChain bs old → FollowOn old fs → All (IsFileOf root_form) fs
-    → IfSome (last_or (Some old) fs) (IsRootChain (bs ++ bytes_of fs))
-on_from bs old [] chain follows read = subst (λ (l : List Bytes). IsRootChain l old) (sym (append-nil bs)) chain
+on_from : (bs : List (Profile × Bytes)) (old : File Root) (fs : List (File Root)) → IsRootChain bs old → FollowOn old fs → All (IsFileOf root_form) fs
+    → IfSome (last_or (Some old) fs) (IsRootChain (bs ++ kept_of fs))
+on_from bs old [] chain follows read = subst (λ (l : List (Profile × Bytes)). IsRootChain l old) (sym (append-nil bs)) chain
 on_from bs old (f ∷ fs) chain follows read =
-    subst (λ (l : List Bytes). IfSome (last_or (Some f) fs) (IsRootChain l)) (append_snoc bs f.bytes (bytes_of fs))
-    (on_from (bs ++ f.bytes ∷ []) f fs (then chain (All-head (IsFileOf root_form) f fs read) follows.0) follows.1 (All-tail (IsFileOf root_form) f fs read))
+    subst (λ (l : List (Profile × Bytes)). IfSome (last_or (Some f) fs) (IsRootChain l)) (append_snoc bs (kept_root f) (kept_of fs))
+    (on_from (bs ++ kept_root f ∷ []) f fs (then chain (All-head (IsFileOf root_form) f fs read) follows.0) follows.1 (All-tail (IsFileOf root_form) f fs read))
 
-pub chained : (fs : List (File Root)) → All (IsFileOf root_form) fs → IsChain fs → IfSome (last_or None fs) (IsRootChain (bytes_of fs))
+pub chained : (fs : List (File Root)) → All (IsFileOf root_form) fs → IsChain fs → IfSome (last_or None fs) (IsRootChain (kept_of fs))
 chained [] read chain = tt
 chained (f ∷ fs) read chain =
-    on_from (f.bytes ∷ []) f fs (first (All-head (IsFileOf root_form) f fs read) refl chain.0) chain.1 (All-tail (IsFileOf root_form) f fs read)
+    on_from (kept_root f ∷ []) f fs (first (All-head (IsFileOf root_form) f fs read) refl chain.0) chain.1 (All-tail (IsFileOf root_form) f fs read)
 
 all_front : {X : Type 0} (P : X → Type 0) (xs : List X) (x : X) → All P (xs ++ x ∷ []) → All P xs
 all_front P [] x all = All-nil P
@@ -57,22 +57,22 @@ all_last P [] x all = All-head P x [] all
 all_last P (y ∷ ys) x all = all_last P ys x (All-tail P y (ys ++ x ∷ []) all)
 
 -- the last of some roots, apart from those before it
-record Split (fs : List (File Root)) (bs : List Bytes) (b : Bytes) : Type 0 where
+record Split (fs : List (File Root)) (bs : List (Profile × Bytes)) (b : Profile × Bytes) : Type 0 where
   front : List (File Root)
   last : File Root
   is : fs ≡ front ++ last ∷ []
-  fronts : bytes_of front ≡ bs
-  lasts : last.bytes ≡ b
+  fronts : kept_of front ≡ bs
+  lasts : kept_root last ≡ b
 
-split_last : (fs : List (File Root)) (bs : List Bytes) (b : Bytes) → bytes_of fs ≡ bs ++ b ∷ [] → Split fs bs b
-split_last [] [] b e = absurd (let k : ◌≡◌ {A = List Bytes} [] (b ∷ []) = e in cc)
-split_last [] (c ∷ bs) b e = absurd (let k : ◌≡◌ {A = List Bytes} [] (c ∷ (bs ++ b ∷ [])) = e in cc)
-split_last (f ∷ []) [] b e = record { front = []; last = f; is = refl; fronts = refl; lasts = (let k : f.bytes ∷ [] ≡ b ∷ [] = e in cc) }
-split_last (f ∷ g ∷ fs) [] b e = absurd (let k : f.bytes ∷ (g.bytes ∷ bytes_of fs) ≡ b ∷ [] = e in cc)
+split_last : (fs : List (File Root)) (bs : List (Profile × Bytes)) (b : Profile × Bytes) → kept_of fs ≡ bs ++ b ∷ [] → Split fs bs b
+split_last [] [] b e = absurd (let k : ◌≡◌ {A = List (Profile × Bytes)} [] (b ∷ []) = e in cc)
+split_last [] (c ∷ bs) b e = absurd (let k : ◌≡◌ {A = List (Profile × Bytes)} [] (c ∷ (bs ++ b ∷ [])) = e in cc)
+split_last (f ∷ []) [] b e = record { front = []; last = f; is = refl; fronts = refl; lasts = (let k : kept_root f ∷ [] ≡ b ∷ [] = e in cc) }
+split_last (f ∷ g ∷ fs) [] b e = absurd (let k : kept_root f ∷ (kept_root g ∷ kept_of fs) ≡ b ∷ [] = e in cc)
 split_last (f ∷ fs) (c ∷ bs) b e =
-    let k : f.bytes ∷ bytes_of fs ≡ c ∷ (bs ++ b ∷ []) = e in
-    let h : f.bytes ≡ c = cc in
-    let t : bytes_of fs ≡ bs ++ b ∷ [] = cc in
+    let k : kept_root f ∷ kept_of fs ≡ c ∷ (bs ++ b ∷ []) = e in
+    let h : kept_root f ≡ c = cc in
+    let t : kept_of fs ≡ bs ++ b ∷ [] = cc in
     let s = split_last fs bs b t in
     record {
       front = f ∷ s.front;
@@ -99,28 +99,28 @@ module _ (law : Shapes) where
       ok_same : (f g : File Root) → ◌≡◌ {A = Judged (File Root)} (Ok f) (Ok g) → f ≡ g
       ok_same f g e = cc
 
-  pub back : {bs : List Bytes} {root : File Root} → IsRootChain bs root → (fs : List (File Root)) → bytes_of fs ≡ bs → All (IsFileOf root_form) fs
+  pub back : {bs : List (Profile × Bytes)} {root : File Root} → IsRootChain bs root → (fs : List (File Root)) → kept_of fs ≡ bs → All (IsFileOf root_form) fs
       → IsChain fs × (last_or None fs ≡ Some root)
-  back (first {b = b} {root = root} doc is meets) [] e read = absurd (let k : ◌≡◌ {A = List Bytes} [] (b ∷ []) = e in cc)
+  back (first {b = b} {root = root} doc is meets) [] e read = absurd (let k : ◌≡◌ {A = List (Profile × Bytes)} [] ((root.body.profile, b) ∷ []) = e in cc)
   back (first {b = b} {root = root} doc is meets) (f ∷ []) e read =
-      let h : f.bytes ≡ b = (let k : f.bytes ∷ [] ≡ b ∷ [] = e in cc) in
-      let same : f ≡ root = once f root (All-head (IsFileOf root_form) f [] read) doc (h ∙ sym is) in
+      let h : kept_root f ≡ (root.body.profile, b) = (let k : kept_root f ∷ [] ≡ (root.body.profile, b) ∷ [] = e in cc) in
+      let same : f ≡ root = once f root (All-head (IsFileOf root_form) f [] read) doc (ap (λ x. x.1) h ∙ sym is) in
       ((subst (λ (r : File Root). MeetsTop r r.body.root r) (sym same) meets, tt), ap Some same)
-  back (first {b = b} {root = root} doc is meets) (f ∷ g ∷ fs) e read = absurd (let k : f.bytes ∷ (g.bytes ∷ bytes_of fs) ≡ b ∷ [] = e in cc)
+  back (first {b = b} {root = root} doc is meets) (f ∷ g ∷ fs) e read = absurd (let k : kept_root f ∷ (kept_root g ∷ kept_of fs) ≡ (root.body.profile, b) ∷ [] = e in cc)
   back (then {bs = bs} {old = old} {new = new} chain doc follows) fs e read =
-      let s = split_last fs bs new.bytes e in
+      let s = split_last fs bs (kept_root new) e in
       let all : All (IsFileOf root_form) (s.front ++ s.last ∷ []) = subst (λ (l : List (File Root)). All (IsFileOf root_form) l) s.is read in
       let b = back chain s.front s.fronts (all_front (IsFileOf root_form) s.front s.last all) in
-      let same : s.last ≡ new = once s.last new (all_last (IsFileOf root_form) s.front s.last all) doc s.lasts in
+      let same : s.last ≡ new = once s.last new (all_last (IsFileOf root_form) s.front s.last all) doc (ap (λ x. x.1) s.lasts) in
       let more : IsChain (s.front ++ s.last ∷ []) =
       subst (λ (r : File Root). IsChain (s.front ++ r ∷ [])) (sym same) (chain_more old new s.front b.1 b.0 follows) in
       (subst IsChain (sym s.is) more, ap (last_or None) s.is ∙ (last_of None s.front s.last ∙ ap Some same))
 
-  unchained : (fs : List (File Root)) → All (IsFileOf root_form) fs → IfSome (last_or None fs) (IsRootChain (bytes_of fs)) → IsChain fs
+  unchained : (fs : List (File Root)) → All (IsFileOf root_form) fs → IfSome (last_or None fs) (IsRootChain (kept_of fs)) → IsChain fs
   unchained [] read chain = tt
   unchained (f ∷ fs) read chain = of (last_or (Some f) fs) refl chain
     where
-      of : (o : Option (File Root)) → last_or (Some f) fs ≡ o → IfSome o (IsRootChain (bytes_of (f ∷ fs))) → IsChain (f ∷ fs)
+      of : (o : Option (File Root)) → last_or (Some f) fs ≡ o → IfSome o (IsRootChain (kept_of (f ∷ fs))) → IsChain (f ∷ fs)
       of None e c = absurd (some_last f fs e)
         where
           some_last : (f : File Root) (fs : List (File Root)) → last_or (Some f) fs ≡ None → ⊥
@@ -128,31 +128,31 @@ module _ (law : Shapes) where
           some_last f (g ∷ gs) e = some_last g gs e
       of (Some r) e c = (back c (f ∷ fs) refl read).0
 
-  pub chain_tells : (fs : List (File Root)) → All (IsFileOf root_form) fs → (IsChain fs) ↔ (IfSome (last_or None fs) (IsRootChain (bytes_of fs)))
+  pub chain_tells : (fs : List (File Root)) → All (IsFileOf root_form) fs → (IsChain fs) ↔ (IfSome (last_or None fs) (IsRootChain (kept_of fs)))
   chain_tells fs read = (chained fs read, unchained fs read)
 
   -- a list of roots is the chain of one root
-  pub one_chain : (bs : List Bytes) (r q : File Root) → IsRootChain bs r → IsRootChain bs q → r ≡ q
+  pub one_chain : (bs : List (Profile × Bytes)) (r q : File Root) → IsRootChain bs r → IsRootChain bs q → r ≡ q
   one_chain bs r q h k =
       let (fr, er, dr) = last_of_chain h in
       let (fq, eq, dq) = last_of_chain k in
-      once r q dr dq (same_end fr fq r.bytes q.bytes (sym er ∙ eq))
+      once r q dr dq (same_end fr fq (kept_root r) (kept_root q) (sym er ∙ eq))
     where
-      last_of_chain : {bs : List Bytes} {root : File Root} → IsRootChain bs root → (front : List Bytes) × (bs ≡ front ++ root.bytes ∷ []) × IsFileOf root_form root
-      last_of_chain (first {b = b} {root = root} doc is meets) = ([], ap (λ (x : Bytes). x ∷ []) (sym is), doc)
+      last_of_chain : {bs : List (Profile × Bytes)} {root : File Root} → IsRootChain bs root → (front : List (Profile × Bytes)) × (bs ≡ front ++ kept_root root ∷ []) × IsFileOf root_form root
+      last_of_chain (first {b = b} {root = root} doc is meets) = ([], ap (λ (x : Bytes). (root.body.profile, x) ∷ []) (sym is), doc)
       last_of_chain (then {bs = bs} {old = old} {new = new} chain doc follows) = (bs, refl, doc)
 
-      end : List Bytes → Bytes
+      end : List (Profile × Bytes) → Bytes
       end [] = []
-      end (x ∷ []) = x
+      end (x ∷ []) = x.1
       end (x ∷ y ∷ ys) = end (y ∷ ys)
 
-      end_of : (xs : List Bytes) (x : Bytes) → end (xs ++ x ∷ []) ≡ x
+      end_of : (xs : List (Profile × Bytes)) (x : Profile × Bytes) → end (xs ++ x ∷ []) ≡ x.1
       end_of [] x = refl
       end_of (y ∷ []) x = refl
       end_of (y ∷ z ∷ ys) x = end_of (z ∷ ys) x
 
-      same_end : (xs ys : List Bytes) (x y : Bytes) → xs ++ x ∷ [] ≡ ys ++ y ∷ [] → x ≡ y
+      same_end : (xs ys : List (Profile × Bytes)) (x y : Profile × Bytes) → xs ++ x ∷ [] ≡ ys ++ y ∷ [] → x.1 ≡ y.1
       same_end xs ys x y e = sym (end_of xs x) ∙ (ap end e ∙ end_of ys y)
 
 pub if_both : {A : Type 0} (P Q : A → Type 0) (o : Option A) → IfSome o P → IfSome o Q → IfSome o (λ x. P x × Q x)
@@ -174,17 +174,17 @@ if_none {A} P o x e = subst (λ (p : Option A). IfNone p P) e tt
 
 -- what is held under a root
 pub holds_under : (E : changes.Effects) (root : File Root) → AreRead E → last_or None E.roots ≡ Some root
-    → IfSome (last_or None E.roots) (IsRootChain (bytes_of E.roots)) → IfSome E.timestamp (MeetsTop root root.body.timestamp)
+    → IfSome (last_or None E.roots) (IsRootChain (kept_of E.roots)) → IfSome E.timestamp (MeetsTop root root.body.timestamp)
     → IfSome E.snapshot (MeetsTop root root.body.snapshot) → IsHeldUnder (laid E).trusted root
 holds_under E root read e chain stamp snap = record {
-  chain = some_if (IsRootChain (bytes_of E.roots)) (last_or None E.roots) root (sym e) chain;
+  chain = some_if (IsRootChain (kept_of E.roots)) (last_or None E.roots) root (sym e) chain;
   timestamp = if_both (IsFileOf timestamp_form) (MeetsTop root root.body.timestamp) E.timestamp read.timestamp stamp;
   snapshot = if_both (IsFileOf snapshot_form) (MeetsTop root root.body.snapshot) E.snapshot read.snapshot snap;
 }
 
 pub chain_under : (E : changes.Effects) (root : File Root) → last_or None E.roots ≡ Some root → IsHeldUnder (laid E).trusted root
-    → IfSome (last_or None E.roots) (IsRootChain (bytes_of E.roots))
-chain_under E root e held = if_some (IsRootChain (bytes_of E.roots)) (last_or None E.roots) root (sym e) held.chain
+    → IfSome (last_or None E.roots) (IsRootChain (kept_of E.roots))
+chain_under E root e held = if_some (IsRootChain (kept_of E.roots)) (last_or None E.roots) root (sym e) held.chain
 
 pub timestamp_under : (E : changes.Effects) (root : File Root) → IsHeldUnder (laid E).trusted root → IfSome E.timestamp (MeetsTop root root.body.timestamp)
 timestamp_under E root held = if_second (IsFileOf timestamp_form) (MeetsTop root root.body.timestamp) E.timestamp held.timestamp

@@ -9,10 +9,10 @@ use Rattle.metadata.specs.File.{Bytes, File, Form, IsFileOf, document_of}
 use Rattle.metadata.specs.Shape.{IsDocument, IsShapeFault}
 use Rattle.metadata.specs.declared.documents.ShapeFault.{ShapeFault}
 use Rattle.metadata.specs.declared.documents.ShapeFault.TheVariants.{OutOfMemory}
-use Rattle.metadata.specs.Documents.{Root, Targets}
+use Rattle.metadata.specs.Documents.{Profile, Root, Targets}
 use Rattle.metadata.specs.File.{root_form, timestamp_form, snapshot_form, targets_form}
 use Rattle.delegations.specs.Rows.{Place, Rows}
-use Rattle.machine.specs.State.{Trusted, State, IsRootChain, IsHeldUnder, IsShelfRow, IsState, MeetsTop, first, then, nothing_trusted, root_version}
+use Rattle.machine.specs.State.{Trusted, State, IsRootChain, IsHeldUnder, IsShelfRow, IsState, MeetsTop, first, kept_root, then, nothing_trusted, root_version}
 use Rattle.machine.specs.Effects.{Gone, nothing_gone, Effects, applied, last_or, no_effects}
 use Rattle.machine.specs.steps.Loading.{AreRead, FollowOn, IsChain, RowsAreRead, laid}
 use Rattle.machine.specs.Contents.{contents_of, numbered, root_rows, shelf_rows}
@@ -159,7 +159,7 @@ last_version f (g ∷ gs) root follows e = omega (arith, last_version g gs root 
 
 module _ (T : Trusted) (v : ℕ) (is : unwrap_or (option_map (λ root. root.body.version) T.root) 0 ≡ v) (above : length T.roots ≤ v + 1) where
   rows_rise : (k : ℕ) (f : File Root) (more : List (File Root)) → FollowOn f more → v + k + 1 - length T.roots ≡ f.body.version
-      → root_rows T k (map (λ r. r.bytes) (f ∷ more)) ≡ map (numbered (λ r. r.version)) (f ∷ more)
+      → root_rows T k (map kept_root (f ∷ more)) ≡ map (numbered (λ r. r.version)) (f ∷ more)
   rows_rise k f [] follows e = rw (is, e) refl
   rows_rise k f (g ∷ gs) follows e =
       let rest = rows_rise (suc k) g gs follows.1 (omega (arith, e, above, follows.0.next)) in
@@ -169,16 +169,16 @@ module _ (T : Trusted) (v : ℕ) (is : unwrap_or (option_map (λ root. root.body
 
 module _ (law : Shapes) where
   rooted : (E : Effects) (root : File Root) → All (IsFileOf root_form) E.roots → last_or None E.roots ≡ Some root
-      → IsRootChain (map (λ r. r.bytes) E.roots) root → root_rows (laid E).trusted 0 (map (λ r. r.bytes) E.roots) ≡ map (numbered (λ r. r.version)) E.roots
+      → IsRootChain (map kept_root E.roots) root → root_rows (laid E).trusted 0 (map kept_root E.roots) ≡ map (numbered (λ r. r.version)) E.roots
   rooted E root read last chain = of E.roots refl
     where
-      of : (fs : List (File Root)) → fs ≡ E.roots → root_rows (laid E).trusted 0 (map (λ r. r.bytes) fs) ≡ map (numbered (λ r. r.version)) fs
+      of : (fs : List (File Root)) → fs ≡ E.roots → root_rows (laid E).trusted 0 (map kept_root fs) ≡ map (numbered (λ r. r.version)) fs
       of [] e = refl
       of (f ∷ more) e =
           let all : All (IsFileOf root_form) (f ∷ more) = subst (λ (l : List (File Root)). All (IsFileOf root_form) l) (sym e) read in
           let ends : last_or None (f ∷ more) ≡ Some root = subst (λ (l : List (File Root)). last_or None l ≡ Some root) (sym e) last in
-          let held : IfSome (last_or None (f ∷ more)) (IsRootChain (map (λ r. r.bytes) (f ∷ more))) =
-          rw ends (subst (λ (l : List (File Root)). IsRootChain (map (λ r. r.bytes) l) root) (sym e) chain) in
+          let held : IfSome (last_or None (f ∷ more)) (IsRootChain (map kept_root (f ∷ more))) =
+          rw ends (subst (λ (l : List (File Root)). IsRootChain (map kept_root l) root) (sym e) chain) in
           let is : IsChain (f ∷ more) = (chain_tells law (f ∷ more) all).1 held in
           let v = last_version f more root is.1 ends in
           let many : length (laid E).trusted.roots ≡ length (f ∷ more) = simp length-map (ap length (sym e)) in
@@ -195,30 +195,30 @@ module _ (law : Shapes) where
           some_last f [] e = let k : Some f ≡ None = e in cc
           some_last f (g ∷ gs) e = some_last g gs e
 
-      of : (o : Option (File Root)) → last_or None E.roots ≡ o → root_rows (laid E).trusted 0 (map (λ r. r.bytes) E.roots) ≡ map (numbered (λ r. r.version)) E.roots
-      of None e = subst (λ (l : List (File Root)). root_rows (laid E).trusted 0 (map (λ r. r.bytes) l) ≡ map (numbered (λ r. r.version)) l) (sym (none_roots E.roots e)) refl
+      of : (o : Option (File Root)) → last_or None E.roots ≡ o → root_rows (laid E).trusted 0 (map kept_root E.roots) ≡ map (numbered (λ r. r.version)) E.roots
+      of None e = subst (λ (l : List (File Root)). root_rows (laid E).trusted 0 (map kept_root l) ≡ map (numbered (λ r. r.version)) l) (sym (none_roots E.roots e)) refl
       of (Some root) e = rooted E root read e (rw e at s.trusted.held).chain
 
 all_more : {X : Type 0} (P : X → Type 0) (xs : List X) (x : X) → All P xs → P x → All P (xs ++ x ∷ [])
 all_more P [] x all h = All-cons P x [] h (All-nil P)
 all_more P (y ∷ ys) x all h = All-cons P y (ys ++ x ∷ []) (All-head P y ys all) (all_more P ys x (All-tail P y ys all) h)
 
-record ChainFiles (bs : List Bytes) : Type 0 where
+record ChainFiles (bs : List (Profile × Bytes)) : Type 0 where
   files : List (File Root)
-  are : map (λ r. r.bytes) files ≡ bs
+  are : map kept_root files ≡ bs
   read : All (IsFileOf root_form) files
 
-chain_files : {bs : List Bytes} {root : File Root} → IsRootChain bs root → ChainFiles bs
+chain_files : {bs : List (Profile × Bytes)} {root : File Root} → IsRootChain bs root → ChainFiles bs
 chain_files (first {root = root} doc is meets) = record {
   files = root ∷ [];
-  are = ap (λ (b : Bytes). b ∷ []) is;
+  are = ap (λ (b : Bytes). (root.body.profile, b) ∷ []) is;
   read = All-cons (IsFileOf root_form) root [] doc (All-nil (IsFileOf root_form));
 }
 chain_files (then {bs = bs} {new = new} chain doc follows) =
     let before = chain_files chain in
     record {
       files = before.files ++ new ∷ [];
-      are = map-append (λ r. r.bytes) before.files (new ∷ []) ∙ ap (λ (l : List Bytes). l ++ new.bytes ∷ []) before.are;
+      are = map-append kept_root before.files (new ∷ []) ∙ ap (λ (l : List (Profile × Bytes)). l ++ kept_root new ∷ []) before.are;
       read = all_more (IsFileOf root_form) before.files new before.read doc;
     }
 
@@ -319,7 +319,7 @@ module _ (law : Shapes) where
   pub laid_once : (C : Contents) (E F : Effects) → AreStored C E → AreStored C F → laid E ≡ laid F
   laid_once C E F h k =
       let roots : E.roots ≡ F.roots = zip_once (IsStored root_form (λ r. r.version)) (stored_once root_form root-tells (λ r. r.version)) C.roots E.roots F.roots h.roots k.roots in
-      same_state _ _ _ _ _ _ _ _ _ _ _ _ (ap (map (λ r. r.bytes)) roots) (ap (last_or None) roots)
+      same_state _ _ _ _ _ _ _ _ _ _ _ _ (ap (map kept_root) roots) (ap (last_or None) roots)
       (together_once (IsStored timestamp_form (λ t. t.version)) (stored_once timestamp_form timestamp-tells (λ t. t.version)) C.timestamp E.timestamp F.timestamp h.timestamp k.timestamp)
       (together_once (IsStored snapshot_form (λ s. s.version)) (stored_once snapshot_form snapshot-tells (λ s. s.version)) C.snapshot E.snapshot F.snapshot h.snapshot k.snapshot)
       (zip_once IsShelved shelved_once C.shelf E.rows F.rows h.shelf k.shelf)
@@ -365,30 +365,30 @@ ok_none P Q f (Err e) h = tt
 -- ---- new roots leave the rows of those before as they are
 
 module _ (law : Shapes) where
-  apart : (fs gs : List (File Root)) (more : List Bytes) (r r' : File Root) → All (IsFileOf root_form) fs → All (IsFileOf root_form) gs
+  apart : (fs gs : List (File Root)) (more : List (Profile × Bytes)) (r r' : File Root) → All (IsFileOf root_form) fs → All (IsFileOf root_form) gs
       → IsChain fs → IsChain gs → last_or None fs ≡ Some r → last_or None gs ≡ Some r'
-      → map (λ x. x.bytes) gs ≡ map (λ x. x.bytes) fs ++ more → r'.body.version ≡ r.body.version + length more
+      → map kept_root gs ≡ map kept_root fs ++ more → r'.body.version ≡ r.body.version + length more
   apart [] gs more r r' read read' chain chain' e e' b = absurd (let k : ◌≡◌ {A = Option (File Root)} None (Some r) = e in cc)
   apart (f ∷ fs) [] more r r' read read' chain chain' e e' b = absurd (let k : ◌≡◌ {A = Option (File Root)} None (Some r') = e' in cc)
   apart (f ∷ fs) (g ∷ gs) more r r' read read' chain chain' e e' b =
-      let list : g.bytes ∷ map (λ x. x.bytes) gs ≡ f.bytes ∷ (map (λ x. x.bytes) fs ++ more) = b in
-      let head : g.bytes ≡ f.bytes = cc in
-      let tail : map (λ x. x.bytes) gs ≡ map (λ x. x.bytes) fs ++ more = cc in
-      let same : g ≡ f = file-once law root_form root-tells g f (All-head (IsFileOf root_form) g gs read') (All-head (IsFileOf root_form) f fs read) head in
+      let list : kept_root g ∷ map kept_root gs ≡ kept_root f ∷ (map kept_root fs ++ more) = b in
+      let head : kept_root g ≡ kept_root f = cc in
+      let tail : map kept_root gs ≡ map kept_root fs ++ more = cc in
+      let same : g ≡ f = file-once law root_form root-tells g f (All-head (IsFileOf root_form) g gs read') (All-head (IsFileOf root_form) f fs read) (ap (λ x. x.1) head) in
       let many : length gs ≡ length fs + length more = simp (length-map, length-append) at (ap length tail) in
       let version : g.body.version ≡ f.body.version = ap (λ (x : File Root). x.body.version) same in
       omega (arith, many, version, last_version f fs r chain.1 e, last_version g gs r' chain'.1 e')
 
-  versions_apart : (bs more : List Bytes) (r r' : File Root) → IsRootChain bs r → IsRootChain (bs ++ more) r' → r'.body.version ≡ r.body.version + length more
+  versions_apart : (bs more : List (Profile × Bytes)) (r r' : File Root) → IsRootChain bs r → IsRootChain (bs ++ more) r' → r'.body.version ≡ r.body.version + length more
   versions_apart bs more r r' chain chain' =
       let c = chain_files chain in
       let d = chain_files chain' in
       let b = back law chain c.files c.are c.read in
       let b' = back law chain' d.files d.are d.read in
-      apart c.files d.files more r r' c.read d.read b.0 b'.0 b.1 b'.1 (d.are ∙ ap (λ (l : List Bytes). l ++ more) (sym c.are))
+      apart c.files d.files more r r' c.read d.read b.0 b'.0 b.1 b'.1 (d.are ∙ ap (λ (l : List (Profile × Bytes)). l ++ more) (sym c.are))
 
   -- the version of a root does not change when more follow it
-  version_stays : (T U : Trusted) (more : List Bytes) → IfSome T.root (IsHeldUnder T) → IfSome U.root (IsHeldUnder U) → IsSome T.root → IsSome U.root
+  version_stays : (T U : Trusted) (more : List (Profile × Bytes)) → IfSome T.root (IsHeldUnder T) → IfSome U.root (IsHeldUnder U) → IsSome T.root → IsSome U.root
       → U.roots ≡ T.roots ++ more → (k : ℕ) → root_version U k ≡ root_version T k
   version_stays T U more held held' some some' are k = of T.root U.root refl refl
     where
@@ -398,24 +398,24 @@ module _ (law : Shapes) where
       of (Some r) (Some r') e e' =
           let chain = (subst (λ (o : Option (File Root)). IfSome o (IsHeldUnder T)) e held).chain in
           let chain' = (subst (λ (o : Option (File Root)). IfSome o (IsHeldUnder U)) e' held').chain in
-          let v = versions_apart T.roots more r r' chain (subst (λ (l : List Bytes). IsRootChain l r') are chain') in
+          let v = versions_apart T.roots more r r' chain (subst (λ (l : List (Profile × Bytes)). IsRootChain l r') are chain') in
           let many : length U.roots ≡ length T.roots + length more = ap length are ∙ length-append T.roots more in
           rw (e, e') (omega (arith, v, many))
 
-  same_rows : (T U : Trusted) → ((k : ℕ) → root_version U k ≡ root_version T k) → (k : ℕ) (bs : List Bytes) → root_rows U k bs ≡ root_rows T k bs
+  same_rows : (T U : Trusted) → ((k : ℕ) → root_version U k ≡ root_version T k) → (k : ℕ) (bs : List (Profile × Bytes)) → root_rows U k bs ≡ root_rows T k bs
   same_rows T U same k [] = refl
   same_rows T U same k (b ∷ bs) = rw (same k, same_rows T U same (suc k) bs) refl
 
-rows_join : (T : Trusted) (k : ℕ) (bs cs : List Bytes) → root_rows T k (bs ++ cs) ≡ root_rows T k bs ++ root_rows T (k + length bs) cs
+rows_join : (T : Trusted) (k : ℕ) (bs cs : List (Profile × Bytes)) → root_rows T k (bs ++ cs) ≡ root_rows T k bs ++ root_rows T (k + length bs) cs
 rows_join T k [] cs = ap (λ n. root_rows T n cs) (omega arith)
-rows_join T k (b ∷ bs) cs = ap (λ (l : List (ℕ × Bytes)). (root_version T k, b) ∷ l) (rows_join T (suc k) bs cs ∙ ap (λ n. root_rows T (suc k) bs ++ root_rows T n cs) (omega arith))
+rows_join T k (b ∷ bs) cs = ap (λ (l : List (ℕ × Bytes)). (root_version T k, b.1) ∷ l) (rows_join T (suc k) bs cs ∙ ap (λ n. root_rows T (suc k) bs ++ root_rows T n cs) (omega arith))
 
 module _ (law : Shapes) where
   pub rows_stay : (S : State) (E : Effects) → IsState S → IsState (applied S E)
-      → (contents_of (applied S E)).roots ≡ (contents_of S).roots ++ root_rows (applied S E).trusted (length S.trusted.roots) (map (λ r. r.bytes) E.roots)
+      → (contents_of (applied S E)).roots ≡ (contents_of S).roots ++ root_rows (applied S E).trusted (length S.trusted.roots) (map kept_root E.roots)
   rows_stay S E s t =
       let U = (applied S E).trusted in
-      let bs = map (λ r. r.bytes) E.roots in
+      let bs = map kept_root E.roots in
       let from : 0 + length S.trusted.roots ≡ length S.trusted.roots = omega arith in
       rows_join U 0 S.trusted.roots bs
       ∙ (ap (λ n. root_rows U 0 S.trusted.roots ++ root_rows U n bs) from ∙ ap (λ (l : List (ℕ × Bytes)). l ++ root_rows U (length S.trusted.roots) bs) (of S.trusted.root refl))
@@ -431,6 +431,6 @@ module _ (law : Shapes) where
           rw no_roots refl
       of (Some r) e =
           same_rows law S.trusted (applied S E).trusted
-          (version_stays law S.trusted (applied S E).trusted (map (λ x. x.bytes) E.roots) s.trusted.held t.trusted.held
+          (version_stays law S.trusted (applied S E).trusted (map kept_root E.roots) s.trusted.held t.trusted.held
           (subst IsSome (sym e) refl) (some_after S.trusted.root E.roots (subst IsSome (sym e) refl)) refl)
           0 S.trusted.roots

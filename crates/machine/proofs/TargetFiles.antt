@@ -2,18 +2,19 @@
 use Rattle.std.proofs.Common.{◌≡◌, ◌↔◌, ℕ, Bool, true, false, not, is_some, IsTrue, List, ◌∷◌, ◌∙◌, Option, Some, None, Result, Ok, Err, Bor, cond, ap, refl, subst, sym}
 use Rattle.std.specs.Prelude.{option_map, IsNone, IsSome}
 use Rattle.std.specs.Option.{option_copied}
-use Rattle.metadata.specs.Documents.{Root, Snapshot}
+use Rattle.metadata.specs.Covers.{requires_layout}
+use Rattle.metadata.specs.Documents.{LayoutReference, Listing, Root, Snapshot}
 use Rattle.metadata.specs.File.{Bytes, File}
 use Rattle.denials.specs.Orders as orders
 use Rattle.denials.specs.Orders.{Order, ◌>>=◌, ◌>>◌, pass, decide, holds, given, each, judges, stopped, check, give}
 use Rattle.path_patterns.specs.Grammar.{IsTargetPath}
-use Rattle.delegations.specs.Search.{Found, search, shelf_of}
+use Rattle.delegations.specs.Search.{Found, shelf_of}
 use Rattle.machine.proofs.EachInTurn.{Follows, follows_ends}
 use Rattle.machine.proofs.OrderSteps.{needed, denied_behind, denied_in}
 use Rattle.machine.specs.Commands.{Listed, listed, live_snapshot}
 use Rattle.machine.specs.Held.{Held, held_of}
 use Rattle.machine.specs.State.{Trusted, State}
-use Rattle.machine.specs.Supports.{supporting}
+use Rattle.machine.specs.Supports.{HasNeeded, searched, supporting}
 use Rattle.machine.specs.steps.Permitting.{IsSupportOf, names_missing}
 use Rattle.machine.specs.Answers.{Gives, gives, denies, forgoes}
 use Rattle.denials.specs.Views.{denial_view}
@@ -48,13 +49,13 @@ seen f None o e = ap (option_map f) e
 -- the lines up to the search, and the listing that it finds
 pub denied_by_search : {X Y : Type 0} {view : X → Found} {wide : Y → Listed} (T : Trusted) (path : Bytes) (now : ℕ) (root : File Root) (snap : File Snapshot) {r : Refusal}
     → IsTargetPath path → T.root ≡ Some root → live_snapshot T.timestamp T.snapshot root now (Ok snap)
-    → Gives (search (shelf_of root snap T.shelf) path now) view (Err r) → Gives (listed T path now) wide (Err r)
+    → Gives (searched root.body (shelf_of root snap T.shelf) path now) view (Err r) → Gives (listed T path now) wide (Err r)
 denied_by_search T path now root snap is there live h =
     denied_behind tt (holds is) (denied_behind root (needed _ _ root there) (denied_behind snap live (denied_in h)))
 
 pub found_by_search : (T : Trusted) (path : Bytes) (now : ℕ) (root : File Root) (snap : File Snapshot) (found : Found)
     → IsTargetPath path → T.root ≡ Some root → live_snapshot T.timestamp T.snapshot root now (Ok snap)
-    → search (shelf_of root snap T.shelf) path now (Ok found) → listed T path now (Ok (record { shelf = shelf_of root snap T.shelf; listing = found.listing }))
+    → searched root.body (shelf_of root snap T.shelf) path now (Ok found) → listed T path now (Ok (record { root = root.body; shelf = shelf_of root snap T.shelf; listing = found.listing }))
 found_by_search T path now root snap found is there live h = pass (holds is) (pass (needed _ _ root there) (pass live (pass h given)))
 
 -- a refusal of a file that a layout needs
@@ -106,3 +107,16 @@ no_layout_there None h = refl
 -- what is no path of a target is listed nowhere
 pub no_path : (T : Trusted) {path : Bytes} {now : ℕ} {at : Listed} → (IsTargetPath path → ⊥) → listed T path now (Ok at) → ⊥
 no_path T none (pass (holds is) h) = none is
+
+-- whether a listing has the layout that is required
+there_tells : {A B : Type 0} (f : A → B) (o : Option A) (b : Bool) → b ≡ is_some o → IsTrue b ↔ IsSome (option_map f o)
+there_tells f o b e = ((λ t. as_many f o ∙ (sym e ∙ t)), (λ s. e ∙ (sym (as_many f o) ∙ s)))
+
+pub needed_tells : {A : Type 0} (root : Root) (path : Bytes) (l : Listing) (f : A → LayoutReference) (o : Option A) (b : Bool) → l.layout ≡ option_map f o
+    → requires_layout root path ≡ true → b ≡ is_some o → IsTrue b ↔ HasNeeded root path l
+needed_tells root path l f o b same needs e =
+    let t = there_tells f o b e in
+    ((λ h _. subst (λ (x : Option LayoutReference). IsSome x) (sym same) (t.0 h)), (λ h. t.1 (subst (λ (x : Option LayoutReference). IsSome x) same (h needs))))
+
+pub nothing_needed : (root : Root) (path : Bytes) (l : Listing) → requires_layout root path ≡ false → IsTrue true ↔ HasNeeded root path l
+nothing_needed root path l none = ((λ h needs. let e : false ≡ true = sym none ∙ needs in absurd (cc)), (λ h. refl))

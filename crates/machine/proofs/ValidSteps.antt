@@ -15,7 +15,7 @@ use Rattle.metadata.specs.File.{Bytes, Name, File, Form, IsFileOf, root_form, ti
 use Rattle.denials.specs.Orders.{Order, Judged, Denial, Denied, Same, judges}
 use Rattle.delegations.specs.Delegation.{before}
 use Rattle.delegations.specs.Rows.{Place, place_before, same_place, with_row, row_at, entry_of, Rises}
-use Rattle.machine.specs.State.{Trusted, State, nothing_trusted, nothing, blob_at, MeetsTop, FollowsRoot, first, then, IsShelfRow, IsBlob, IsHeldUnder, IsTrusted, IsState}
+use Rattle.machine.specs.State.{Trusted, State, nothing_trusted, nothing, blob_at, MeetsTop, FollowsRoot, first, kept_root, then, IsShelfRow, IsBlob, IsHeldUnder, IsTrusted, IsState}
 use Rattle.limits.specs.Limits.{most_held, blob_limit}
 use Rattle.machine.specs.Commands.{KeepsRoles, with_root, emptied, kept, rotated, after_root, live_snapshot, named_snapshot, named_targets, Offer, RootOffer, TimestampOffer, SnapshotOffer, TargetsOffer, init, offer_root, offer_timestamp, offer_snapshot, offer_targets, offer, put_blob, Batched, BatchOrder, coherent, incoherent, going_on, batch_from, batch}
 use Rattle.machine.specs.Runs.{Command, Reply, Outcome, Init, Batch, OfferOne, PutBlob, Prune, Metadata, Target, with_trusted, settled, batch_outcome, Steps, Runs, done, next}
@@ -74,8 +74,8 @@ abbrev Left : Trusted → Type 0
 Left T = IsTrusted T × IsSome T.root
 
 module _ (T : Trusted) (v : IsTrusted T) where
-  one_more_root : (new : File Root) → length T.roots < most_held → length (T.roots ++ new.bytes ∷ []) ≤ most_held
-  one_more_root new few = omega (arith, length-append T.roots (new.bytes ∷ []))
+  one_more_root : (new : File Root) → length T.roots < most_held → length (T.roots ++ kept_root new ∷ []) ≤ most_held
+  one_more_root new few = omega (arith, length-append T.roots (kept_root new ∷ []))
 
   root_left : (old new : File Root) → T.root ≡ Some old → IsFileOf root_form new → FollowsRoot old new → length T.roots < most_held
       → KeepsRoles old.body new.body → Left (with_root T new)
@@ -261,10 +261,11 @@ root_gives T b v =
     line (λ _ other.
     line (λ new is.
     line (λ n next_ok.
+    line (λ q profile_ok.
     line (λ o old_ok.
     line (λ p new_ok.
     line (λ f few_ok. after old new (needed _ T.root old at) (read root_form b new is)
-    (record { next = checked _ _ n next_ok; by_old = checked _ _ o old_ok; by_new = checked _ _ p new_ok }) (checked _ _ f few_ok))))))))
+    (record { next = checked _ _ n next_ok; profile = checked _ _ q profile_ok; by_old = checked _ _ o old_ok; by_new = checked _ _ p new_ok }) (checked _ _ f few_ok)))))))))
   where
     after : (old new : File Root) → T.root ≡ Some old → IsFileOf root_form new → FollowsRoot old new → length T.roots < most_held → Gives Left (after_root T old new)
     after old new e is follows few =

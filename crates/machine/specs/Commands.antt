@@ -12,10 +12,10 @@ use Rattle.denials.specs.Orders.{Denial, Plain, Denied, Same, Judged, Order, ◌
 use Rattle.metadata.specs.Shaped.{shaped}
 use Rattle.delegations.specs.Delegation.{before}
 use Rattle.delegations.specs.Rows.{Place, Rows, same_place, row_at, with_row, place_before, entry_of, HasLength, HasHash}
-use Rattle.machine.specs.State.{Trusted, State, nothing_trusted, blob_at, NamesSnapshot, MeetsTop, IsCoherent}
-use Rattle.machine.specs.Supports.{blob_of, reference_allows}
+use Rattle.machine.specs.State.{Trusted, State, KeepsProfile, kept_root, nothing_trusted, blob_at, NamesSnapshot, MeetsTop, IsCoherent}
+use Rattle.machine.specs.Supports.{blob_of, reference_allows, searched}
 use Rattle.limits.specs.Limits.{most_held, blob_limit}
-use Rattle.delegations.specs.Search.{Shelf, shelf_of, search, Vouched}
+use Rattle.delegations.specs.Search.{Shelf, shelf_of, Vouched}
 
 -- no rotation: timestamp and snapshot role both keep their rules
 abbrev pub KeepsRoles : Root → Root → Type 0
@@ -23,7 +23,7 @@ KeepsRoles old new = SameRule old.timestamp old.keys new.timestamp new.keys × S
 
 -- the state with one more root. A rotation deletes timestamp, snapshot and every shelf row
 abbrev pub with_root : Trusted → File Root → Trusted
-with_root T new = record T { roots = T.roots ++ new.bytes ∷ []; root = Some new }
+with_root T new = record T { roots = T.roots ++ kept_root new ∷ []; root = Some new }
 
 abbrev pub emptied : Trusted → Trusted
 emptied T = record T { timestamp = None; snapshot = None; shelf = [] }
@@ -81,6 +81,7 @@ init S b = do
 abbrev pub renew_root : Trusted → File Root → File Root → Order Trusted
 renew_root T old new = do
   check no.root_version (new.body.version ≡ old.body.version + 1)
+  check no.profile_lowered (KeepsProfile old.body new.body)
   check no.old_threshold (MeetsTop old old.body.root new)
   check no.new_threshold (MeetsTop new new.body.root new)
   check no.full (length T.roots < most_held)
@@ -248,8 +249,9 @@ batch_from B i (o ∷ os) now = judged (offer B.trusted o.0 o.1 now) (going_on B
 abbrev pub batch : Trusted → List (Offer × Bytes) → ℕ → BatchOrder
 batch T os now = batch_from (record { trusted = T; accepted = 0; same = 0 }) 0 os now
 
--- a listing, and the shelf on which it was found
+-- a listing, the shelf on which it was found, and the root that the shelf stands under
 pub record Listed : Type 0 where
+  pub root : Root
   pub shelf : Shelf
   pub listing : Listing
 
@@ -259,15 +261,15 @@ listed T path now = do
   check no.bad_path (IsTargetPath path)
   root ← need no.no_root T.root
   snap ← live_snapshot T.timestamp T.snapshot root now
-  found ← search (shelf_of root snap T.shelf) path now
-  give (record { shelf = shelf_of root snap T.shelf; listing = found.listing })
+  found ← searched root.body (shelf_of root snap T.shelf) path now
+  give (record { root = root.body; shelf = shelf_of root snap T.shelf; listing = found.listing })
 
 -- a target's bytes, or the first denial
 abbrev pub grants : State → Bytes → Option Bytes → ℕ → Order Bytes
 grants S path asked now = do
   at ← listed S.trusted path now
   blob ← blob_of S path at.listing
-  reference_allows S at.shelf now at.listing at.listing.layout
+  reference_allows S at.root at.shelf now at.listing at.listing.layout
   check no.digest_mismatch (IfSome asked (λ digest. at.listing.digest ≡ digest))
   give blob
 

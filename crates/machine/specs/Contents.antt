@@ -1,13 +1,15 @@
 -- What the tables of a repository hold.
 use Rattle.std.specs.Prelude.{ℕ, suc, List, [], ◌∷◌, map, option_map}
 use Rattle.contents.specs.Contents.{Contents}
+use Rattle.metadata.specs.Documents.{Profile}
 use Rattle.metadata.specs.File.{Bytes, File}
 use Rattle.delegations.specs.Rows.{Place, Rows}
 use Rattle.machine.specs.State.{Trusted, State, root_version}
 
-abbrev pub root_rows : Trusted → ℕ → List Bytes → List (ℕ × Bytes)
+-- the version and the bytes of each root
+abbrev pub root_rows : Trusted → ℕ → List (Profile × Bytes) → List (ℕ × Bytes)
 root_rows T k [] = []
-root_rows T k (b ∷ bs) = (root_version T k, b) ∷ root_rows T (suc k) bs
+root_rows T k (b ∷ bs) = (root_version T k, b.1) ∷ root_rows T (suc k) bs
 
 -- the version and the bytes of a file
 abbrev pub numbered : {A : Type 0} → (A → ℕ) → File A → ℕ × Bytes

@@ -5,7 +5,7 @@ use Rattle.metadata.specs.File.{Bytes, File}
 use Rattle.denials.specs.Orders.{Order}
 use Rattle.delegations.specs.Delegation.{before}
 use Rattle.delegations.specs.Rows.{Place, Rows, same_place, with_row, with_rows}
-use Rattle.machine.specs.State.{Trusted, State}
+use Rattle.machine.specs.State.{Trusted, State, kept_root}
 
 -- what goes: rows of the shelf by their places, blobs by their digests
 pub record Gone : Type 0 where
@@ -49,7 +49,7 @@ without same rows (key ∷ keys) = without same (filter (λ row. not (same row.0
 
 abbrev pub brought : Trusted → Effects → Trusted
 brought T E = record {
-  roots = T.roots ++ map (λ r. r.bytes) E.roots;
+  roots = T.roots ++ map kept_root E.roots;
   root = last_or T.root E.roots;
   timestamp = renewed E.emptied T.timestamp E.timestamp;
   snapshot = renewed E.emptied T.snapshot E.snapshot;

@@ -1,4 +1,5 @@
 pub mod Answers
+pub mod Before
 pub mod Commands
 pub mod Contents
 pub mod Effects

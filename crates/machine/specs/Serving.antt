@@ -59,7 +59,7 @@ pub record HasLongFile (S : State) (path : Bytes) (now : ℕ) : Type 0 where
   pub bytes : Bytes
   pub lists : listed S.trusted path now (Ok at)
   pub there : blob_of S path at.listing (Ok bytes)
-  pub long : HasLongSupport S at.shelf now at.listing.layout
+  pub long : HasLongSupport S at.root at.shelf now at.listing.layout
 
 -- the denial of a layout or a link that is no document, or want of memory
 abbrev pub IsShapeDenial : {A : Type 0} → Result A GetFault → Type 0

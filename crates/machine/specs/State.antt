@@ -3,7 +3,7 @@ use Rattle.std.specs.Prelude.{◌≡◌, ℕ, suc, ◌+◌, ◌-◌, ◌≤◌, 
 use Rattle.std.specs.List.{AllByRecursion}
 use Rattle.keys_roles.specs.Plain.{RoleRule, look_up}
 use Rattle.metadata.specs.Bodies.{IsListable}
-use Rattle.metadata.specs.Documents.{Root, Timestamp, Snapshot, Targets, MetaFile}
+use Rattle.metadata.specs.Documents.{Profile, second_profile, Root, Timestamp, Snapshot, Targets, MetaFile}
 use Rattle.metadata.specs.File.{IsFileOf, root_form, timestamp_form, snapshot_form, targets_form, Bytes, Name, File}
 use Rattle.delegations.specs.Delegation.{before}
 use Rattle.delegations.specs.Rows.{Place, place_before, value_at, Rises, Rows, HasLength, HasHash, named_row}
@@ -12,9 +12,9 @@ use Rattle.keys_roles.specs.Rules.{Meets}
 use Rattle.path_patterns.specs.Grammar.{IsName}
 use Rattle.limits.specs.Limits.{blob_limit, most_held}
 
--- the roots in order with the document of the last, the current timestamp and snapshot, targets documents by role and version
+-- the roots in order, of each its profile and its bytes, with the document of the last, the current timestamp and snapshot, targets documents by role and version
 pub record Trusted : Type 0 where
-  pub roots : List Bytes
+  pub roots : List (Profile × Bytes)
   pub root : Option (File Root)
   pub timestamp : Option (File Timestamp)
   pub snapshot : Option (File Snapshot)
@@ -47,18 +47,27 @@ IsSnapshotDue T (Some v) =
     IsSomeAnd T.timestamp (λ stamp. (v ≡ stamp.body.snapshot.version) × IfSome T.snapshot (λ snap. ¬ NamesSnapshot stamp snap))
 IsSnapshotDue T None = IfSome T.timestamp (λ stamp. IsSomeAnd T.snapshot (NamesSnapshot stamp))
 
--- each root after the first is one version on and meets its predecessor's root rule and its own; the first meets its own
+-- a root as it is kept: its profile and its bytes
+abbrev pub kept_root : File Root → Profile × Bytes
+kept_root root = (root.body.profile, root.bytes)
+
+-- the profile never falls
+abbrev pub KeepsProfile : Root → Root → Type 0
+KeepsProfile old new = old.profile ≡ second_profile → new.profile ≡ second_profile
+
+-- each root after the first is one version on, keeps the profile, and meets its predecessor's root rule and its own; the first meets its own
 abbrev pub MeetsTop : {A : Type 0} → File Root → RoleRule → File A → Type 0
 MeetsTop root rule file = Meets rule root.body.keys file.signed file.entries
 
 pub record FollowsRoot (old new : File Root) : Type 0 where
   pub next : new.body.version ≡ old.body.version + 1
+  pub profile : KeepsProfile old.body new.body
   pub by_old : MeetsTop old old.body.root new
   pub by_new : MeetsTop new new.body.root new
 
-pub data IsRootChain : List Bytes → File Root → Type 0 where
-  first : {b : Bytes} {root : File Root} → IsFileOf root_form root → root.bytes ≡ b → MeetsTop root root.body.root root → IsRootChain (b ∷ []) root
-  then : {bs : List Bytes} {old new : File Root} → IsRootChain bs old → IsFileOf root_form new → FollowsRoot old new → IsRootChain (bs ++ new.bytes ∷ []) new
+pub data IsRootChain : List (Profile × Bytes) → File Root → Type 0 where
+  first : {b : Bytes} {root : File Root} → IsFileOf root_form root → root.bytes ≡ b → MeetsTop root root.body.root root → IsRootChain ((root.body.profile, b) ∷ []) root
+  then : {bs : List (Profile × Bytes)} {old new : File Root} → IsRootChain bs old → IsFileOf root_form new → FollowsRoot old new → IsRootChain (bs ++ kept_root new ∷ []) new
 
 pub record IsShelfRow (row : Place × File Targets) : Type 0 where
   pub document : IsFileOf targets_form row.1
@@ -112,9 +121,9 @@ root_version T k = unwrap_or (option_map (λ root. root.body.version) T.root) 0 
 abbrev pub dotted : ℕ → Name → Bytes
 dotted n name = decimal n ++ (codes "." ++ (name ++ codes ".json"))
 
-abbrev pub root_files : Trusted → ℕ → List Bytes → List (Bytes × Bytes)
+abbrev pub root_files : Trusted → ℕ → List (Profile × Bytes) → List (Bytes × Bytes)
 root_files T k [] = []
-root_files T k (b ∷ bs) = (dotted (root_version T k) (codes "root"), b) ∷ root_files T (suc k) bs
+root_files T k (b ∷ bs) = (dotted (root_version T k) (codes "root"), b.1) ∷ root_files T (suc k) bs
 
 abbrev pub one_file : {A : Type 0} → Option (File A) → (A → Bytes) → List (Bytes × Bytes)
 one_file None name = []

@@ -1,16 +1,28 @@
--- What a target with a layout is judged by: the layout and its links are targets themselves, none of which has a layout
--- (in-toto 1.0, section 5.2; this project's profile).
-use Rattle.std.specs.Prelude.{◌≡◌, ℕ, ◌≤◌, length, List, ◌∷◌, Option, Some, None, Ok, Err, IsNone}
+-- What a target is judged by where the root requires a layout of it, and what one with a layout is: the layout and its links are
+-- targets themselves, none of which has a layout (in-toto 1.0, section 5.2; this project's profile).
+use Rattle.std.specs.Prelude.{◌≡◌, ℕ, ◌≤◌, length, List, ◌∷◌, Option, Some, None, Ok, Err, IsNone, IsSome, IsTrue}
 use Rattle.std.specs.List.{AllByRecursion}
-use Rattle.metadata.specs.Documents.{Listing, LayoutReference}
+use Rattle.metadata.specs.Documents.{Root, Listing, LayoutReference}
+use Rattle.metadata.specs.Covers.{requires_layout}
 use Rattle.metadata.specs.File.{Bytes, File, Form, layout_form, link_form}
 use Rattle.metadata.specs.Shape.{max_file}
 use Rattle.metadata.specs.Shaped.{shaped}
 use Rattle.denials.specs.Numbers as no
 use Rattle.denials.specs.Orders.{BlobMissing, Denied, Judged, Order, Plain, ◌>>=◌, ◌>>◌, give, stop, denied, check, need_or, each, judged}
-use Rattle.delegations.specs.Search.{Shelf, search}
+use Rattle.delegations.specs.Search.{Shelf, Found, search}
 use Rattle.layouts.specs.Layouts.{layout_holds}
 use Rattle.machine.specs.State.{State, blob_at}
+
+-- the listing of a path has a layout where the root requires one
+abbrev pub HasNeeded : Root → Bytes → Listing → Type 0
+HasNeeded root path l = IsTrue (requires_layout root path) → IsSome l.layout
+
+-- what the search finds, where it has the layout that the root requires
+abbrev pub searched : Root → Shelf → Bytes → ℕ → Order Found
+searched root V path now = do
+  found ← search V path now
+  check no.layout_required (HasNeeded root path found.listing)
+  give found
 
 -- the target's file by its listing
 abbrev pub blob_of : State → Bytes → Listing → Order Bytes
@@ -48,11 +60,11 @@ files_hold listing reference now layout_bytes link_bytes = do
   links ← each (read_as link_form) link_bytes
   layout_holds layout reference.owners reference.keys links reference.step reference.product listing.digest now
 
-module _ (S : State) (V : Shelf) (now : ℕ) where
+module _ (S : State) (root : Root) (V : Shelf) (now : ℕ) where
   -- a file that a layout needs, which has no layout of its own
   abbrev pub support : Bytes → Order Bytes
   support path = do
-    found ← supporting (search V path now)
+    found ← supporting (searched root V path now)
     blob ← supporting (blob_of S path found.listing)
     check no.layout_nested (IsNone found.listing.layout)
     give blob

@@ -1,8 +1,10 @@
 -- What the code's states, changes and denials stand for.
 use Rattle.std.specs.Borrow.{Bor}
 use Rattle.std.specs.Prelude.{ℕ, List, [], ◌∷◌, ◌++◌, map, Option, Some, None, option_map}
+use Rattle.metadata.specs.Documents as documents
 use Rattle.metadata.specs.File as spec
 use Rattle.metadata.specs.FileViews.{root_file, timestamp_file, snapshot_file}
+use Rattle.metadata.specs.Views.{profile_view}
 use Rattle.metadata.specs.declared.file.File.{File}
 use Rattle.metadata.specs.declared.documents.Root.{Root}
 use Rattle.delegations.specs.Views.{row_views}
@@ -49,13 +51,13 @@ made_view c blobs gone = record (changes_view c) { blobs = blob_views blobs; gon
 abbrev pub effects_view : Effects → changes.Effects
 effects_view e = made_view e.changes e.blobs.items e.gone
 
-abbrev pub last_bytes : Option (File Root) → List spec.Bytes
-last_bytes None = []
-last_bytes (Some file) = file.source.bytes ∷ []
+abbrev pub last_kept : Option (File Root) → List (documents.Profile × spec.Bytes)
+last_kept None = []
+last_kept (Some file) = plain.kept_root (root_file file) ∷ []
 
 abbrev pub trusted_view : Trusted → plain.Trusted
 trusted_view t = record {
-  roots = map (λ b. b.items) t.earlier.items ++ last_bytes t.root;
+  roots = map (λ b. (profile_view b.0, b.1.items)) t.earlier.items ++ last_kept t.root;
   root = option_map root_file t.root;
   timestamp = option_map timestamp_file t.timestamp;
   snapshot = option_map snapshot_file t.snapshot;

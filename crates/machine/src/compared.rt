@@ -1,17 +1,18 @@
-// What follows what: rules of roots, entries of snapshots, and what belongs together.
+// What follows what: profiles and rules of roots, entries of snapshots, and what belongs together.
 ghost use Rattle.std.specs.Prelude.{◌≡◌, ◌↔◌, IsTrue, is_some};
 ghost use Rattle.std.specs.Option.{option_map};
 ghost use Rattle.metadata.specs.FileViews.{timestamp_file, snapshot_file};
-ghost use Rattle.metadata.specs.Views.{meta_view, root_view, snapshot_view};
+ghost use Rattle.metadata.specs.Documents.{second_profile};
+ghost use Rattle.metadata.specs.Views.{meta_view, profile_view, root_view, snapshot_view};
 ghost use Rattle.delegations.specs.Rows.{named_row};
 ghost use Rattle.delegations.specs.Views.{rows_view};
 ghost use Rattle.machine.specs.Commands.{KeepsRoles, NoRollback, NoDrop};
-ghost use Rattle.machine.specs.State.{AreCoherent, HoldsAll};
+ghost use Rattle.machine.specs.State.{AreCoherent, HoldsAll, KeepsProfile};
 
 use crate::checks::names_snapshot;
 use delegations::{Rows, has_hash, has_length};
 use keys_roles::same_rule;
-use metadata::{File, Meta, Root, Snapshot, Timestamp};
+use metadata::{File, Meta, Profile, Root, Snapshot, Timestamp};
 
 /// Whether the rules of the timestamp and the snapshot role ask for the same keys.
 pub(crate) fn keeps_roles(old: &Root, new: &Root) -> bool
@@ -19,6 +20,26 @@ pub(crate) fn keeps_roles(old: &Root, new: &Root) -> bool
 {
     same_rule(&old.timestamp, &old.keys, &new.timestamp, &new.keys)
         && same_rule(&old.snapshot, &old.keys, &new.snapshot, &new.keys)
+}
+
+/// Whether the new root has the second profile, where the old one has it.
+pub(crate) fn keeps_profile(old: &Root, new: &Root) -> bool
+    ensures { IsTrue result ↔ (KeepsProfile (root_view old.now) (root_view new.now)) }
+{
+    match old.profile {
+        Profile::First => true,
+        Profile::Second => is_second(new.profile),
+    }
+}
+
+// Whether it is the second profile.
+fn is_second(profile: Profile) -> bool
+    ensures { IsTrue result ↔ profile_view profile ≡ second_profile }
+{
+    match profile {
+        Profile::First => false,
+        Profile::Second => true,
+    }
 }
 
 /// Whether no role that both list has a lower version in the new one.

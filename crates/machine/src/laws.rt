@@ -1,9 +1,9 @@
 //! Laws of the trust machine, in functions that do nothing.
 ghost use Rattle.std.specs.List.{AllByRecursion};
-ghost use Rattle.std.specs.Prelude.{◌≡◌, ◌≢◌, ◌<◌, ◌≤◌, ◌+◌, ◌++◌, [], ◌∷◌, ℕ, List, Option, Some, None, Result, Ok, Err, IfSome, IsNone, IsSome, length, map, codes, nat_eq, option_map, option_and_then, if◌then◌else◌};
+ghost use Rattle.std.specs.Prelude.{◌≡◌, ◌↔◌, ◌≢◌, ◌<◌, ◌≤◌, ◌+◌, ◌++◌, [], ◌∷◌, ℕ, List, Option, Some, None, Result, Ok, Err, IfSome, IsNone, IsSome, length, map, codes, nat_eq, option_map, option_and_then, if◌then◌else◌};
 ghost use Rattle.limits.specs.Limits.{blob_limit, most_held};
 ghost use Rattle.sha2.specs.Sha256.{sha256};
-ghost use Rattle.metadata.specs.Documents.{MetaFile, Root, Snapshot, Targets, Timestamp};
+ghost use Rattle.metadata.specs.Documents.{MetaFile, Profile, Root, Snapshot, Targets, Timestamp, first_profile};
 ghost use Rattle.metadata.specs.Bodies.{IsListable};
 ghost use Rattle.metadata.specs.File.{Bytes, Name, File, IsFileOf, root_form, snapshot_form, targets_form, timestamp_form};
 ghost use Rattle.metadata.specs.Parts.{last_number};
@@ -12,9 +12,10 @@ ghost use Rattle.delegations.specs.Rows.{HasHash, HasLength, entry_of, place_bef
 ghost use Rattle.delegations.specs.Search.{Vouched, shelf_of};
 ghost use Rattle.denials.specs.Orders.{Denial, RoleMissing, BlobMissing, Denied, Judged, Same};
 ghost use Rattle.machine.specs.Misses.{IsPart, IsThere, MissesRole, MissesBlob, IsProperListing};
-ghost use Rattle.machine.specs.State.{Trusted, State, FollowsRoot, MeetsTop, NamesSnapshot, blob_at, IsRootChain, IsTrusted, IsState, dotted, metadata_of, nothing};
+ghost use Rattle.machine.specs.State.{Trusted, State, FollowsRoot, MeetsTop, NamesSnapshot, blob_at, IsRootChain, IsTrusted, IsState, dotted, kept_root, metadata_of, nothing};
 ghost use Rattle.machine.specs.Commands.{AfterRoot, GrantAlike, Listed, listed, NoDrop, NoRollback, Offer, RootOffer, SnapshotOffer, TargetsOffer, TimestampOffer, Batched, init, offer, batch, put_blob, prune, grants};
 ghost use Rattle.machine.specs.Answers.{AnswersBatch};
+ghost use Rattle.machine.specs.Before.{grants_before};
 ghost use Rattle.machine.specs.Contents.{contents_of, root_rows};
 ghost use Rattle.machine.specs.Effects.{Effects, applied};
 ghost use Rattle.machine.specs.Held.{IsHeld, held_of, held_with};
@@ -86,7 +87,7 @@ pub fn prune_keeps_answers()
 /// A law, which does nothing: new roots leave the rows of those before as they are, and stand behind them.
 pub fn rows_stay()
     ensures { (S : State) (E : Effects) → IsState S → IsState (applied S E)
-        → (contents_of (applied S E)).roots ≡ (contents_of S).roots ++ root_rows (applied S E).trusted (length S.trusted.roots) (map (λ r. r.bytes) E.roots) }
+        → (contents_of (applied S E)).roots ≡ (contents_of S).roots ++ root_rows (applied S E).trusted (length S.trusted.roots) (map kept_root E.roots) }
 {
     one_document();
     one_shape();
@@ -112,7 +113,7 @@ pub fn replies_tell()
 
 /// A law, which does nothing: a list of roots is the chain of one root.
 pub fn one_chain()
-    ensures { (roots : List Bytes) (r q : File Root) → IsRootChain roots r → IsRootChain roots q → r ≡ q }
+    ensures { (roots : List (Profile × Bytes)) (r q : File Root) → IsRootChain roots r → IsRootChain roots q → r ≡ q }
 {
     one_document();
     one_shape();
@@ -155,10 +156,10 @@ pub fn accepts_new()
 
 /// A law, which does nothing: with which root a chain goes on, and under which name it is found.
 pub fn chains_go_on()
-    ensures next { (roots more : List Bytes) (b : Bytes) (old last : File Root) → IsRootChain roots old → IsRootChain (roots ++ b ∷ more) last
-        → (new : File Root) × (new.bytes ≡ b) × IsFileOf root_form new × FollowsRoot old new × IsRootChain (roots ++ b ∷ []) new }
-    ensures named { (T : Trusted) (roots more : List Bytes) (b : Bytes) (old : File Root) → IsTrusted T → IsRootChain roots old → T.roots ≡ roots ++ b ∷ more
-        → metadata_of T (dotted (old.body.version + 1) (codes "root")) ≡ Some b }
+    ensures next { (roots more : List (Profile × Bytes)) (b : Profile × Bytes) (old last : File Root) → IsRootChain roots old → IsRootChain (roots ++ b ∷ more) last
+        → (new : File Root) × (kept_root new ≡ b) × IsFileOf root_form new × FollowsRoot old new × IsRootChain (roots ++ b ∷ []) new }
+    ensures named { (T : Trusted) (roots more : List (Profile × Bytes)) (b : Profile × Bytes) (old : File Root) → IsTrusted T → IsRootChain roots old → T.roots ≡ roots ++ b ∷ more
+        → metadata_of T (dotted (old.body.version + 1) (codes "root")) ≡ Some b.1 }
     ensures newest { (T : Trusted) (root : File Root) → IsTrusted T → T.root ≡ Some root → root.body.version < last_number
         → metadata_of T (dotted (root.body.version + 1) (codes "root")) ≡ None }
 {
@@ -229,3 +230,10 @@ pub fn sent_again()
     one_document();
     one_shape();
 }
+
+/// A law, which does nothing: where the trusted root is of the first profile, each request for a target has the end that it had before roots had
+/// profiles.
+pub fn first_profile_as_before()
+    ensures targets { (S : State) → IsState S → IfSome S.trusted.root (λ root. root.body.profile ≡ first_profile)
+        → (path : Bytes) (asked : Option Bytes) (now : ℕ) (r : Judged Bytes) → grants S path asked now r ↔ grants_before S path asked now r }
+{}

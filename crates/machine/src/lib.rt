@@ -46,9 +46,9 @@ pub use getting::{
 };
 pub use held::Held;
 pub use laws::{
-    accepts_new, chains_go_on, granted_blobs, held_follows, missed_files, names_find,
-    nothing_is_valid, offers_tell, one_chain, one_judgement, prune_keeps_answers, replies_tell,
-    roots_are_taken, rows_stay, sent_again, stays_coherent, stays_valid,
+    accepts_new, chains_go_on, first_profile_as_before, granted_blobs, held_follows, missed_files,
+    names_find, nothing_is_valid, offers_tell, one_chain, one_judgement, prune_keeps_answers,
+    replies_tell, roots_are_taken, rows_stay, sent_again, stays_coherent, stays_valid,
 };
 pub use metadata::{Digest, Timestamp};
 pub use names::metadata_file;

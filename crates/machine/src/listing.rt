@@ -6,7 +6,7 @@ ghost use Rattle.delegations.specs.Search.{search};
 ghost use Rattle.delegations.specs.Verdicts.{AreFew, AreTrue, Costs, IsComplete};
 ghost use Rattle.delegations.specs.Views as searches;
 ghost use Rattle.denials.specs.Orders as orders;
-ghost use Rattle.metadata.specs.Views.{listing_view};
+ghost use Rattle.metadata.specs.Views.{listing_view, root_view};
 ghost use Rattle.path_patterns.specs.Grammar.{IsTargetPath};
 ghost use Rattle.contents.specs.Contents.{lengths_of};
 ghost use Rattle.machine.specs.Answers.{Gives};
@@ -26,18 +26,19 @@ use crate::parts::{BlobLength, Trusted};
 use crate::refusal::Refusal;
 use delegations::{Found, Rows, SearchDenial, Shelf, Steps, Verdicts, search_with_counted};
 use denials::Denial;
-use metadata::{Listing, Moment};
+use metadata::{Listing, Moment, Root};
 use path_patterns::{Digest, TargetPath};
 use std::alloc::Global;
 
-/// A listing, and the shelf on which it was found.
+/// A listing, the shelf on which it was found, and the root that the shelf stands under.
 #[derive(Clone, Copy)]
 pub(crate) struct Listed<'a> {
+    pub root: &'a Root,
     pub shelf: Shelf<'a>,
     pub listing: &'a Listing,
 }
 
-/// The listing of a path, where root, timestamp and snapshot are live.
+/// The listing of a path, where root, timestamp and snapshot are live. It has a layout where the root requires one.
 pub(crate) fn find_listing<'a>(
     alloc: Global,
     held: &'a Held,
@@ -66,8 +67,17 @@ pub(crate) fn find_listing<'a>(
         now,
     )?;
     let shelf = Shelf::new(&root.body, &snapshot.body, held_rows(trusted));
-    let found = find(alloc, &shelf, held.verdicts(), path, now, checks)?;
+    let found = find_needed(
+        alloc,
+        &root.body,
+        &shelf,
+        held.verdicts(),
+        path,
+        now,
+        checks,
+    )?;
     Ok(Listed {
+        root: &root.body,
         shelf,
         listing: found.listing,
     })
@@ -80,8 +90,44 @@ fn is_path(path: &TargetPath)
     path.as_str();
 }
 
-/// What the search finds on the shelf.
-pub(crate) fn find<'a>(
+/// What the search finds on the shelf, which has a layout where the root requires one.
+pub(crate) fn find_needed<'a>(
+    alloc: Global,
+    root: &Root,
+    shelf: &Shelf<'a>,
+    known: &Verdicts,
+    path: &TargetPath,
+    now: Moment,
+    checks: &mut Steps,
+) -> Result<Found<'a>, Refusal>
+    requires sound { AreTrue (searches.shelf_view shelf.now).rows known.now }
+    requires room { checks.old < 2 ^ 63 }
+    ensures answer { Gives (supports.searched (root_view root.now) (searches.shelf_view shelf.now) path.now now) searches.found_view result }
+    ensures grows { checks.old ≤ checks.new }
+    ensures most { checks.new ≤ checks.old + 512 }
+    ensures costs { Costs (searches.shelf_view shelf.now) known.now path.now now (checks.new - checks.old) }
+    ensures free { AreFew (searches.shelf_view shelf.now) → IsComplete (searches.shelf_view shelf.now) known.now → checks.new ≡ checks.old }
+{
+    let found = find(alloc, shelf, known, path, now, checks)?;
+    if !has_needed(root, path, found.listing) {
+        return Err(Refusal::Denied(Denial::LayoutRequired));
+    }
+    Ok(found)
+}
+
+// Whether the listing of a path has a layout where the root requires one.
+fn has_needed(root: &Root, path: &TargetPath, listing: &Listing) -> bool
+    ensures { IsTrue result ↔ (supports.HasNeeded (root_view root.now) path.now (listing_view listing.now)) }
+{
+    if root.requires_layout(path) {
+        listing.layout.is_some()
+    } else {
+        true
+    }
+}
+
+// What the search finds on the shelf.
+fn find<'a>(
     alloc: Global,
     shelf: &Shelf<'a>,
     known: &Verdicts,

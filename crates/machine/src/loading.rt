@@ -7,13 +7,14 @@ ghost use Rattle.delegations.specs.Views.{row_views};
 ghost use Rattle.delegations.specs.steps.Rising.{comes_first, rises};
 ghost use Rattle.limits.specs.Limits.{blob_limit};
 ghost use Rattle.machine.specs.Held.{IsHeld};
-ghost use Rattle.machine.specs.State.{FollowsRoot, IsBlob, IsHeldUnder, IsRootChain, IsShelfRow, IsState, IsTrusted, MeetsTop};
+ghost use Rattle.machine.specs.State.{FollowsRoot, IsBlob, IsHeldUnder, IsRootChain, IsShelfRow, IsState, IsTrusted, MeetsTop, kept_root};
 ghost use Rattle.machine.specs.Effects.{last_or};
 ghost use Rattle.machine.specs.steps.Loading.{AreBlobs, AreRead, RowsAreRead, FollowOn, IsBare, IsChain, AreShelfRows, laid};
 ghost use Rattle.machine.specs.Views.{blob_views, effects_view, length_views, trusted_view};
 
 use crate::blobs::{is_digest_of, is_short};
 use crate::checks::is_signed;
+use crate::compared::keeps_profile;
 use crate::effects::{Blob, Effects};
 use crate::knowing::trusted_verdicts;
 use crate::parts::{BlobLength, Trusted};
@@ -36,6 +37,7 @@ pub(crate) fn follows_root(old: &File<Root>, new: &File<Root>) -> bool
     ensures { IsTrue result ↔ (FollowsRoot (root_file old.now) (root_file new.now)) }
 {
     u64::from(new.body.version) == u64::from(old.body.version) + 1
+        && keeps_profile(&old.body, &new.body)
         && is_signed(&old.body.root, &old.body.keys, &new.source)
         && meets_itself(new)
 }
@@ -167,7 +169,7 @@ fn are_chained(roots: &[File<Root>]) -> bool
 // Whether these may be the roots of a state.
 pub(crate) fn is_chain(roots: &[File<Root>]) -> bool
     requires { All (IsFileOf root_form) (map root_file roots.now) }
-    ensures { IsTrue result ↔ IfSome (last_or None (map root_file roots.now)) (IsRootChain (map (λ f. f.bytes) (map root_file roots.now))) }
+    ensures { IsTrue result ↔ IfSome (last_or None (map root_file roots.now)) (IsRootChain (map kept_root (map root_file roots.now))) }
 {
     one_document();
     one_shape();

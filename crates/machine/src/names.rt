@@ -1,5 +1,6 @@
 //! The metadata files under their names.
 ghost use Rattle.std.specs.Prelude.{◌≡◌, ℕ, List, ◌++◌, false, map, bytes_eq, option_map, MatchOption};
+ghost use Rattle.metadata.specs.Views.{profile_view};
 ghost use Rattle.delegations.specs.Views.{row_views};
 ghost use Rattle.keys_roles.specs.Plain.{look_up};
 ghost use Rattle.machine.specs.State.{IsTrusted, dotted, metadata_of, root_files};
@@ -10,6 +11,7 @@ use crate::held::Held;
 use crate::parts::Trusted;
 use crate::state::State;
 use delegations::Row;
+use metadata::Profile;
 
 /// The bytes of the metadata file with this name: `timestamp.json`, `1.root.json`, `7.snapshot.json` or `2.targets.json`, with
 /// the number of the version and the name of the role. It takes no memory (TUF 1.0, section 3.1.2 and 6.2, consistent snapshots).
@@ -119,14 +121,18 @@ fn root_named<'a>(trusted: &'a Trusted, name: &[u8]) -> Option<&'a [u8]>
 }
 
 // The bytes of the earlier root with this name, where this is the version of the last root.
-fn earlier_named<'a>(earlier: &'a [Vec<u8>], version: u64, name: &[u8]) -> Option<&'a [u8]>
-    ensures { option_map (λ b. b.now) result ≡ look_up (earlier_files version (map (λ b. b.items) earlier.now)) name.now }
+fn earlier_named<'a>(
+    earlier: &'a [(Profile, Vec<u8>)],
+    version: u64,
+    name: &[u8],
+) -> Option<&'a [u8]>
+    ensures { option_map (λ b. b.now) result ≡ look_up (earlier_files version (map (λ b. (profile_view b.0, b.1.items)) earlier.now)) name.now }
 {
     let mut rest = earlier;
-    'roots: while let Some((bytes, later)) = rest.split_first() {
+    'roots: while let Some((root, later)) = rest.split_first() {
         let number = version.saturating_sub(rest.len() as u64);
         if is_dotted(name, number, b"root".as_slice()) {
-            return Some(bytes);
+            return Some(&root.1);
         }
         rest = later;
     }

@@ -1,14 +1,14 @@
 // What a state keeps.
 use crate::effects::Blob;
 use delegations::Row;
-use metadata::{File, Root, Snapshot, Timestamp};
+use metadata::{File, Profile, Root, Snapshot, Timestamp};
 use path_patterns::Digest;
 
-/// The bytes of the roots before the last, the last, the current timestamp and snapshot, the shelf in the order of roles and
+/// The profiles and the bytes of the roots before the last, the last, the current timestamp and snapshot, the shelf in the order of roles and
 /// versions.
 #[derive(Drop)]
 pub(crate) struct Trusted {
-    pub earlier: Vec<Vec<u8>>,
+    pub earlier: Vec<(Profile, Vec<u8>)>,
     pub root: Option<File<Root>>,
     pub timestamp: Option<File<Timestamp>>,
     pub snapshot: Option<File<Snapshot>>,

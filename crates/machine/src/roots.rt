@@ -8,7 +8,7 @@ ghost use Rattle.machine.specs.Commands.{with_root, emptied};
 ghost use Rattle.machine.specs.Views.{draft_view};
 
 use crate::checks::{are_same, is_next, is_signed};
-use crate::compared::keeps_roles;
+use crate::compared::{keeps_profile, keeps_roles};
 use crate::draft::Draft;
 use crate::files::new_root;
 use crate::refusal::Refusal;
@@ -23,6 +23,9 @@ fn judge_root(draft: &Draft<'_>, old: &File<Root>, new: &File<Root>) -> Result<b
 {
     if !is_next(old.body.version, new.body.version) {
         return Err(Refusal::Denied(Denial::RootVersion));
+    }
+    if !keeps_profile(&old.body, &new.body) {
+        return Err(Refusal::Denied(Denial::ProfileLowered));
     }
     if !is_signed(&old.body.root, &old.body.keys, &new.source) {
         return Err(Refusal::Denied(Denial::OldThreshold));

@@ -4,14 +4,13 @@ ghost use Rattle.std.specs.List.{AllByRecursion, list_all};
 ghost use Rattle.contents.specs.Contents.{lengths_of};
 ghost use Rattle.delegations.specs.Delegation.{before};
 ghost use Rattle.delegations.specs.Rows.{Rises};
-ghost use Rattle.delegations.specs.Search.{search};
 ghost use Rattle.delegations.specs.Verdicts.{AreFew, AreTrue, IsComplete};
 ghost use Rattle.delegations.specs.Views.{found_view, shelf_view};
 ghost use Rattle.denials.specs.Orders.{each};
 ghost use Rattle.denials.specs.Views.{denial_view};
 ghost use Rattle.metadata.specs.File.{layout_form, link_form};
 ghost use Rattle.metadata.specs.FileViews.{layout_file, link_file};
-ghost use Rattle.metadata.specs.Views.{listing_view, reference_view};
+ghost use Rattle.metadata.specs.Views.{listing_view, reference_view, root_view};
 ghost use Rattle.machine.specs.Answers.{Gives};
 ghost use Rattle.machine.specs.Held as holding;
 ghost use Rattle.machine.specs.Held.{OfEachState, StandsFor, length_at};
@@ -23,7 +22,7 @@ ghost use Rattle.machine.specs.steps.Permitting.{Finds, IsShapeAnswer, IsSupport
 
 use crate::blobs::length_of;
 use crate::held::Held;
-use crate::listing::{Listed, find, listed_digest};
+use crate::listing::{Listed, find_needed, listed_digest};
 use crate::parts::BlobLength;
 use crate::refusal::Refusal;
 use crate::serving::{Blobs, GetFault, load};
@@ -31,7 +30,7 @@ use delegations::{Found, Shelf, Steps};
 use denials::Denial;
 use layouts::check_layout;
 use metadata::{
-    File, Layout, LayoutReference, Link, Listing, Moment, ShapeFault, read_layout_file,
+    File, Layout, LayoutReference, Link, Listing, Moment, Root, ShapeFault, read_layout_file,
     read_link_file,
 };
 use path_patterns::{Digest, TargetPath};
@@ -52,9 +51,9 @@ pub(crate) fn judge_layout<B: Blobs>(
 ) -> Result<(), GetFault>
     requires { AreTrue (shelf_view at.now.shelf).rows held.now.verdicts }
     ensures stands { Stands held.now.held (B.IsHonest blobs.new) (B.Holds blobs.old) (blobs.new ≡ blobs.old) (B.HasLoaded blobs.new × IsSome at.now.listing.now.layout)
-        (λ S. supports.reference_allows S (shelf_view at.now.shelf) now (listing_view at.now.listing.now) (listing_view at.now.listing.now).layout) (λ S u. u) result }
+        (λ S. supports.reference_allows S (root_view at.now.root.now) (shelf_view at.now.shelf) now (listing_view at.now.listing.now) (listing_view at.now.listing.now).layout) (λ S u. u) result }
     ensures reads { Reads B.IsHonest B.Holds B.MayBecome blobs.old blobs.new }
-    ensures long { OfEachState held.now.held (λ S. supports.HasLongSupport S (shelf_view at.now.shelf) now (listing_view at.now.listing.now).layout → (blobs.new ≡ blobs.old) × IsShapeDenial result) }
+    ensures long { OfEachState held.now.held (λ S. supports.HasLongSupport S (root_view at.now.root.now) (shelf_view at.now.shelf) now (listing_view at.now.listing.now).layout → (blobs.new ≡ blobs.old) × IsShapeDenial result) }
     ensures plain { IsNone at.now.listing.now.layout → blobs.new ≡ blobs.old }
     ensures unticked { IsNone at.now.listing.now.layout → checks.new ≡ checks.old }
     ensures grows { checks.old ≤ checks.new }
@@ -63,8 +62,24 @@ pub(crate) fn judge_layout<B: Blobs>(
     let Some(reference) = &at.listing.layout else {
         return Ok(());
     };
-    let layout = support(alloc, held, &at.shelf, &reference.path, now, checks)?;
-    let links = supports(alloc, held, &at.shelf, &reference.links, now, checks)?;
+    let layout = support(
+        alloc,
+        held,
+        at.root,
+        &at.shelf,
+        &reference.path,
+        now,
+        checks,
+    )?;
+    let links = supports(
+        alloc,
+        held,
+        at.root,
+        &at.shelf,
+        &reference.links,
+        now,
+        checks,
+    )?;
     judge_files(
         alloc,
         held,
@@ -80,18 +95,19 @@ pub(crate) fn judge_layout<B: Blobs>(
 fn support(
     alloc: Global,
     held: &Held,
+    root: &Root,
     shelf: &Shelf<'_>,
     path: &TargetPath,
     now: Moment,
     checks: &mut Steps,
 ) -> Result<Digest, Refusal>
     requires { AreTrue (shelf_view shelf.now).rows held.now.verdicts }
-    ensures answer { OfEachState held.now.held (λ S. Gives (supports.support S (shelf_view shelf.now) now path.now) (λ d. bytes_at S d.0) result) }
+    ensures answer { OfEachState held.now.held (λ S. Gives (supports.support S (root_view root.now) (shelf_view shelf.now) now path.now) (λ d. bytes_at S d.0) result) }
     ensures held { IfOk result (λ d. IsSome (length_at held.now.held.blobs d.0)) }
     ensures grows { checks.old ≤ checks.new }
     ensures free { AreFew (shelf_view shelf.now) → IsComplete (shelf_view shelf.now) held.now.verdicts → checks.new ≡ checks.old }
 {
-    let found = find_support(alloc, held, shelf, path, now, checks)?;
+    let found = find_support(alloc, held, root, shelf, path, now, checks)?;
     let digest = support_digest(held.lengths(), path, found.listing)?;
     if !is_plain(found.listing) {
         return Err(Refusal::Denied(Denial::LayoutNested));
@@ -99,22 +115,23 @@ fn support(
     Ok(digest)
 }
 
-// What the search for a file that a layout needs finds.
+// What the search for a file that a layout needs finds, which has a layout where the root requires one.
 fn find_support<'a>(
     alloc: Global,
     held: &Held,
+    root: &Root,
     shelf: &Shelf<'a>,
     path: &TargetPath,
     now: Moment,
     checks: &mut Steps,
 ) -> Result<Found<'a>, Refusal>
     requires { AreTrue (shelf_view shelf.now).rows held.now.verdicts }
-    ensures answer { Gives (supports.supporting (search (shelf_view shelf.now) path.now now)) found_view result }
+    ensures answer { Gives (supports.supporting (supports.searched (root_view root.now) (shelf_view shelf.now) path.now now)) found_view result }
     ensures grows { checks.old ≤ checks.new }
     ensures free { AreFew (shelf_view shelf.now) → IsComplete (shelf_view shelf.now) held.now.verdicts → checks.new ≡ checks.old }
 {
     let mut made = Steps::new();
-    let result = find(alloc, shelf, held.verdicts(), path, now, &mut made);
+    let result = find_needed(alloc, root, shelf, held.verdicts(), path, now, &mut made);
     add_ticks(checks, made.count());
     match result {
         Ok(found) => Ok(found),
@@ -150,13 +167,14 @@ fn is_plain(listing: &Listing) -> bool
 fn supports(
     alloc: Global,
     held: &Held,
+    root: &Root,
     shelf: &Shelf<'_>,
     paths: &[TargetPath],
     now: Moment,
     checks: &mut Steps,
 ) -> Result<Vec<Digest>, Refusal>
     requires { AreTrue (shelf_view shelf.now).rows held.now.verdicts }
-    ensures answer { OfEachState held.now.held (λ S. Gives (each (supports.support S (shelf_view shelf.now) now) paths.now) (λ ds. all_bytes_at S ds.items) result) }
+    ensures answer { OfEachState held.now.held (λ S. Gives (each (supports.support S (root_view root.now) (shelf_view shelf.now) now) paths.now) (λ ds. all_bytes_at S ds.items) result) }
     ensures held { IfOk result (λ ds. AllByRecursion (λ d. IsSome (length_at held.now.held.blobs d.0)) ds.items) }
     ensures grows { checks.old ≤ checks.new }
     ensures free { AreFew (shelf_view shelf.now) → IsComplete (shelf_view shelf.now) held.now.verdicts → checks.new ≡ checks.old }
@@ -164,7 +182,7 @@ fn supports(
     let mut found = Vec::new(alloc);
     let mut rest = paths;
     'paths: while let Some((path, later)) = rest.split_first() {
-        let digest = support(alloc, held, shelf, path, now, checks)?;
+        let digest = support(alloc, held, root, shelf, path, now, checks)?;
         found.push(digest)?;
         rest = later;
     }

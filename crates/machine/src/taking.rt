@@ -1,20 +1,22 @@
 // Putting changes into what a state keeps. It takes no memory.
 ghost use Rattle.std.specs.Prelude.{◌≡◌, ◌≤◌, ◌<◌, ◌-◌, ◌+◌, ◌++◌, [], ◌∷◌, ℕ, List, IfOk, Option, Some, bytes_eq, not, cond, map, length, vec_len, vec_capacity};
 ghost use Rattle.std.specs.List.{insert, list_any, position_or_len, position};
-ghost use Rattle.metadata.specs.FileViews.{targets_file};
+ghost use Rattle.metadata.specs.FileViews.{root_file, targets_file};
+ghost use Rattle.metadata.specs.Views.{profile_view};
 ghost use Rattle.delegations.specs.Delegation.{before};
 ghost use Rattle.delegations.specs.Rows.{same_place, with_row, with_rows, place_before};
 ghost use Rattle.delegations.specs.Views.{row_views};
 ghost use Rattle.machine.specs.Effects.{brought, last_or, renewed, with_blobs, without};
-ghost use Rattle.machine.specs.Views.{parts_view, effects_view, blob_views, digest_views, changes_view, last_bytes, length_views, trusted_view};
+ghost use Rattle.machine.specs.Views.{parts_view, effects_view, blob_views, digest_views, changes_view, last_kept, length_views, trusted_view};
 ghost use Rattle.contents.specs.Contents.{lengths_of};
 ghost use Rattle.machine.specs.Held.{with_lengths};
+ghost use Rattle.machine.specs.State.{kept_root};
 ghost use Rattle.machine.specs.steps.Loading.{laid};
 
 use crate::effects::{Blob, Changes, Effects};
 use crate::parts::{BlobLength, Parts, Trusted};
 use delegations::Row;
-use metadata::{File, Root};
+use metadata::{File, Profile, Root};
 use path_patterns::{Digest, RoleName};
 use std::alloc::{AllocError, Global};
 
@@ -37,25 +39,29 @@ fn insert_within<T: Drop>(held: &mut Vec<T>, at: usize, new: T)
     let _ = held.insert(at, new);
 }
 
-// Puts one more root there. Of the last one before, its bytes stay.
-fn push_root(earlier: &mut Vec<Vec<u8>>, last: &mut Option<File<Root>>, root: File<Root>)
+// Puts one more root there. Of the last one before, its profile and its bytes stay.
+fn push_root(earlier: &mut Vec<(Profile, Vec<u8>)>, last: &mut Option<File<Root>>, root: File<Root>)
     requires { 1 ≤ vec_capacity earlier.old - vec_len earlier.old }
-    ensures bytes { map (λ b. b.items) earlier.new.items ++ last_bytes last.new
-        ≡ (map (λ b. b.items) earlier.old.items ++ last_bytes last.old) ++ root.source.bytes ∷ [] }
+    ensures kept { map (λ b. (profile_view b.0, b.1.items)) earlier.new.items ++ last_kept last.new
+        ≡ (map (λ b. (profile_view b.0, b.1.items)) earlier.old.items ++ last_kept last.old) ++ kept_root (root_file root) ∷ [] }
     ensures last { last.new ≡ Some root }
     ensures room { vec_capacity earlier.old - vec_len earlier.old ≤ (vec_capacity earlier.new - vec_len earlier.new) + 1 }
 {
     let Some(old) = last.replace(root) else {
         return;
     };
-    push_within(earlier, old.source.into_bytes());
+    push_within(earlier, (old.body.profile, old.source.into_bytes()));
 }
 
 // Puts roots there, one after the other.
-fn take_roots(earlier: &mut Vec<Vec<u8>>, last: &mut Option<File<Root>>, roots: Vec<File<Root>>)
+fn take_roots(
+    earlier: &mut Vec<(Profile, Vec<u8>)>,
+    last: &mut Option<File<Root>>,
+    roots: Vec<File<Root>>,
+)
     requires { length roots.items ≤ vec_capacity earlier.old - vec_len earlier.old }
-    ensures bytes { map (λ b. b.items) earlier.new.items ++ last_bytes last.new
-        ≡ (map (λ b. b.items) earlier.old.items ++ last_bytes last.old) ++ map (λ r. r.source.bytes) roots.items }
+    ensures kept { map (λ b. (profile_view b.0, b.1.items)) earlier.new.items ++ last_kept last.new
+        ≡ (map (λ b. (profile_view b.0, b.1.items)) earlier.old.items ++ last_kept last.old) ++ map (λ r. kept_root (root_file r)) roots.items }
     ensures last { last.new ≡ last_or last.old roots.items }
 {
     for root in roots {
@@ -255,7 +261,7 @@ pub(crate) fn blob_lengths(alloc: Global, blobs: &[Blob]) -> Result<Vec<BlobLeng
     Ok(lengths)
 }
 
-/// What is kept of files that are all those of a state. Only the bytes of the roots before the last move.
+/// What is kept of files that are all those of a state. Of the roots before the last, only profile and bytes move.
 pub(crate) fn laid_parts(alloc: Global, files: Effects) -> Result<Parts, AllocError>
     ensures { IfOk result (λ p. parts_view p ≡ laid (effects_view files)) }
 {

@@ -1,16 +1,17 @@
 -- The signed part of a document has one body of its kind.
-use Rattle.std.proofs.Common.{◌≡◌, ℕ, List, [], ◌∷◌, ◌++◌, codes, Option, refl, sym, ◌∙◌}
+use Rattle.std.proofs.Common.{◌≡◌, ℕ, List, [], ◌∷◌, ◌++◌, codes, Option, refl, sym, ◌∙◌, subst}
 use Rattle.canonical_json.specs.Json.{Json}
 use Rattle.canonical_json.specs.Spelling.{IsProper}
 use Rattle.keys_roles.specs.Plain.{Table, RoleRule}
-use Rattle.metadata.specs.Documents.{MetaFile, Root, Timestamp, Snapshot, LayoutReference, Listing, Delegations, Targets}
+use Rattle.metadata.specs.Documents.{MetaFile, Profile, Root, Timestamp, Snapshot, LayoutReference, Listing, Delegations, Targets}
 use Rattle.metadata.specs.Members.{Has, IsObject}
 use Rattle.metadata.specs.Parts.{IsLength, IsHashes, IsTable, IsMetaFile}
-use Rattle.metadata.specs.Bodies.{IsRoot, IsTimestamp, IsMetaRow, AreMetaRows, IsSnapshot, IsListing, HasDelegations, IsTargets}
+use Rattle.metadata.specs.Bodies.{HasRequired, IsRoot, IsTimestamp, IsMetaRow, AreMetaRows, IsSnapshot, IsListing, HasDelegations, IsTargets}
 use Rattle.metadata.proofs.Congruence.{same2, same3, same4, same7}
 use Rattle.metadata.proofs.Once.{IsOnce, has-once, may-once, object-once, number-once}
 use Rattle.metadata.proofs.DelegationsOnce.{delegations-once}
 use Rattle.metadata.proofs.ReferencesOnce.{references-once}
+use Rattle.metadata.proofs.RootParts.{head-profile, required-once}
 use Rattle.metadata.proofs.PartsOnce.{expires-once, version-once, hashes-once, meta-once, table-once, rule-once, HasSomeRule, pair-is}
 
 -- ---- root, timestamp, snapshot
@@ -24,7 +25,9 @@ root-once v a b p h k =
     let g = k.roles in
     let m = f.2 in
     let n = g.2 in
-    same7 make
+    let profile : a.profile ≡ b.profile = head-profile v a.profile b.profile a.version b.version a.expires b.expires p h.head k.head in
+    let other = subst (λ (q : Profile). HasRequired v q b.required) (sym profile) k.required in
+    same7 (make a.profile a.required)
     (version-once (codes "version") v a.version b.version p h.head.1 k.head.1)
     (expires-once v a.expires b.expires p h.head.2 k.head.2)
     (has-once (codes "keys") IsTable table-once v a.keys b.keys p h.keys k.keys)
@@ -32,9 +35,11 @@ root-once v a b p h k =
     (role-once (codes "targets") v a.targets b.targets p (f.0, f.1, (m.targets.0, m.targets.1, (a.keys, m.targets.2))) (g.0, g.1, (n.targets.0, n.targets.1, (b.keys, n.targets.2))))
     (role-once (codes "snapshot") v a.snapshot b.snapshot p (f.0, f.1, (m.snapshot.0, m.snapshot.1, (a.keys, m.snapshot.2))) (g.0, g.1, (n.snapshot.0, n.snapshot.1, (b.keys, n.snapshot.2))))
     (role-once (codes "timestamp") v a.timestamp b.timestamp p (f.0, f.1, (m.timestamp.0, m.timestamp.1, (a.keys, m.timestamp.2))) (g.0, g.1, (n.timestamp.0, n.timestamp.1, (b.keys, n.timestamp.2))))
+    ∙ same2 (λ p o. make p o b.version b.expires b.keys b.root b.targets b.snapshot b.timestamp) profile (required-once a.profile v a.required b.required p h.required other)
   where
-    make : ℕ → ℕ → Table → RoleRule → RoleRule → RoleRule → RoleRule → Root
-    make version expires keys r t s m = record { version = version; expires = expires; keys = keys; root = r; targets = t; snapshot = s; timestamp = m }
+    make : Profile → Option (List (List ℕ)) → ℕ → ℕ → Table → RoleRule → RoleRule → RoleRule → RoleRule → Root
+    make p o version expires keys r t s m =
+        record { version = version; expires = expires; keys = keys; root = r; targets = t; snapshot = s; timestamp = m; profile = p; required = o }
 
 pub timestamp-once : IsOnce IsTimestamp
 timestamp-once v a b p h k =

@@ -1,12 +1,12 @@
--- The test of what a delegation covers holds exactly where the relation does.
+-- The tests of what a delegation covers, and of what a root requires a layout, hold exactly where the relations do.
 use Rattle.std.proofs.Common.{◌≡◌, ℕ, List, [], ◌∷◌, Bool, true, IsTrue, ◌↔◌, inl, inr, ⊎_elim, refl, sym, subst, true≢false}
 use Rattle.std.proofs.lemmas.Bool.{or_cases, or_left, or_right}
 use Rattle.std.specs.List.{list_any, Contains}
 use Rattle.keys_roles.specs.steps.Counting.{IsIn}
 use Rattle.path_patterns.specs.Matching.{MatchesSegmented, PrefixCovers}
 use Rattle.path_patterns.specs.Tests as tests
-use Rattle.metadata.specs.Documents.{Delegation, Scope, patterns, prefixes}
-use Rattle.metadata.specs.Covers.{Covers, covers, ScopeCovers, scope_covers}
+use Rattle.metadata.specs.Documents.{Delegation, Root, Scope, patterns, prefixes}
+use Rattle.metadata.specs.Covers.{Covers, covers, ScopeCovers, scope_covers, RequiresLayout, requires_layout, required_patterns}
 use Rattle.metadata.proofs.Elements.{contains_in, in_contains}
 
 module _ (test : List ℕ → Bool) (P : List ℕ → Type 0) (tells : (p : List ℕ) → IsTrue (test p) ↔ P p) where
@@ -37,3 +37,6 @@ scope_tells segmented prefixed (prefixes ps) path = any_tells (λ p. tests.prefi
 
 pub covers_tell : Segmented → Prefixed → (d : Delegation) (path : List ℕ) → IsTrue (covers d path) ↔ Covers d path
 covers_tell segmented prefixed d path = scope_tells segmented prefixed d.scope path
+
+pub required_tell : Segmented → (r : Root) (path : List ℕ) → IsTrue (requires_layout r path) ↔ RequiresLayout r path
+required_tell segmented r path = any_tells (λ p. tests.matches_segmented p path) (λ p. MatchesSegmented p path) (λ p. segmented p path) (required_patterns r)

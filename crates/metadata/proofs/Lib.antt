@@ -1,3 +1,4 @@
+pub mod AcceptedBefore
 pub mod BodiesOnce
 pub mod Congruence
 pub mod CoversLaw
@@ -5,6 +6,7 @@ pub mod DateTexts
 pub mod DelegationsOnce
 pub mod DeniedShapes
 pub mod Elements
+pub mod FirstRoots
 pub mod Found
 pub mod Growing
 pub mod Halving
@@ -20,6 +22,7 @@ pub mod Once
 pub mod OneDocument
 pub mod PartsOnce
 pub mod Rising
+pub mod RootParts
 pub mod RootRoles
 pub mod ReferencesOnce
 pub mod RuleWords

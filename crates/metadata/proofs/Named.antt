@@ -6,11 +6,11 @@ use Rattle.keys_roles.specs.steps.Counting.{IsIn}
 use Rattle.path_patterns.specs.Grammar.{IsHex}
 use Rattle.canonical_json.specs.Json.{Json}
 use Rattle.canonical_json.specs.Spelling.{IsProper}
-use Rattle.metadata.specs.Documents.{Root}
 use Rattle.metadata.specs.steps.Faults.{IsMisnamed, IsFaulty}
+use Rattle.metadata.specs.steps.Spelled.{HasKeyed}
 use Rattle.metadata.specs.Members.{Has}
 use Rattle.metadata.specs.Parts.{IsTable, NamesAreIds, NamesAreHex, IsRuleOver}
-use Rattle.metadata.specs.Bodies.{IsRoot, AreRoles, roles_of}
+use Rattle.metadata.specs.Bodies.{AreRoles, Roles}
 use Rattle.metadata.proofs.Once.{has-once}
 use Rattle.metadata.proofs.PartsOnce.{table-once}
 use Rattle.metadata.specs.declared.documents.ShapeFault.{ShapeFault}
@@ -32,17 +32,17 @@ each_hex table (id ∷ ids) all known = (name_hex table id all (in_contains (map
 pub ids_hex : (table : Table) (rule : RoleRule) → IsRuleOver table rule → NamesAreHex table → AllByRecursion (IsHex 64) rule.keyids
 ids_hex table rule over all = each_hex table rule.keyids all over.known
 
--- a root whose table has a name that is no id
-pub misnamed_root : (v : Json) (r : Root) (e : ShapeFault) → IsRoot v r → IsMisnamed (NamesAreIds r.keys) e → IsFaulty (IsRoot v) (λ s. NamesAreIds s.keys) e
-misnamed_root v r e is (inl h) = inl (inl h)
-misnamed_root v r e is (inr h) = inr (h.0, (r, is, h.1))
+-- the rules of the four roles are over the one table that the object has
+pub same_roles : (v : Json) (keys : Table) (k : Table × Roles) → IsProper v → Has v (codes "keys") (λ x. IsTable x keys) → HasKeyed v k
+    → Has v (codes "roles") (λ x. AreRoles x keys k.1)
+same_roles v keys k p h has =
+    let same : k.0 ≡ keys = has-once (codes "keys") IsTable table-once v k.0 keys p has.0 h in
+    subst (λ (t : Table). Has v (codes "roles") (λ x. AreRoles x t k.1)) same has.1
 
--- the roles of a root are over the one table that it has
-pub same_roles : (v : Json) (keys : Table) (r : Root) → IsProper v → Has v (codes "keys") (λ x. IsTable x keys) → IsRoot v r
-    → Has v (codes "roles") (λ x. AreRoles x keys (roles_of r))
-same_roles v keys r p h is =
-    let same : r.keys ≡ keys = has-once (codes "keys") IsTable table-once v r.keys keys p is.keys h in
-    subst (λ (t : Table). Has v (codes "roles") (λ x. AreRoles x t (roles_of r))) same is.roles
+-- keys of which a name is no id
+pub misnamed_keys : (v : Json) (k : Table × Roles) (e : ShapeFault) → HasKeyed v k → IsMisnamed (NamesAreIds k.0) e → IsFaulty (HasKeyed v) (λ l. NamesAreIds l.0) e
+misnamed_keys v k e has (inl h) = inl (inl h)
+misnamed_keys v k e has (inr h) = inr (h.0, (k, has, h.1))
 
 pub not_false : (b : Bool) → not b ≡ false → b ≡ true
 not_false true h = refl

@@ -1,8 +1,8 @@
 -- The key tables of targets metadata, and the rules over them.
-use Rattle.std.proofs.Common.{◌≡◌, List, [], ◌∷◌, ◌++◌, Option, Some, None, IfSome, codes, option_map, subst, inl, inr}
+use Rattle.std.proofs.Common.{List, [], ◌∷◌, ◌++◌, Option, Some, None, IfSome, codes, option_map, inl, inr}
 use Rattle.std.specs.Prelude.{flat_map}
 use Rattle.std.specs.List.{AllByRecursion}
-use Rattle.canonical_json.specs.Json.{Json, HasMember, Items, no_items, item, Members, no_members, member}
+use Rattle.canonical_json.specs.Json.{Json, Items, no_items, item, Members, no_members, member}
 use Rattle.keys_roles.specs.Plain.{Table}
 use Rattle.metadata.specs.Bodies.{HasLayoutReference, IsListing, IsDelegation, HasDelegations, IsTargets}
 use Rattle.metadata.specs.Documents.{LayoutReference, Listing, Delegation, Delegations, Targets}
@@ -20,11 +20,11 @@ both : {A : Type 0} (P : A → Type 0) (xs ys : List A) → AllByRecursion P xs 
 both P [] ys h k = k
 both P (x ∷ xs) ys h k = (h.0, both P xs ys h.1 k)
 
-first : {A : Type 0} (P : A → Type 0) (xs ys : List A) → AllByRecursion P (xs ++ ys) → AllByRecursion P xs
+pub first : {A : Type 0} (P : A → Type 0) (xs ys : List A) → AllByRecursion P (xs ++ ys) → AllByRecursion P xs
 first P [] ys h = tt
 first P (x ∷ xs) ys h = (h.0, first P xs ys h.1)
 
-second : {A : Type 0} (P : A → Type 0) (xs ys : List A) → AllByRecursion P (xs ++ ys) → AllByRecursion P ys
+pub second : {A : Type 0} (P : A → Type 0) (xs ys : List A) → AllByRecursion P (xs ++ ys) → AllByRecursion P ys
 second P [] ys h = h
 second P (x ∷ xs) ys h = second P xs ys h.1
 
@@ -41,7 +41,7 @@ listed_ids : (ls : List Listing) → AllByRecursion (λ l. HasIds l.layout) ls �
 listed_ids [] h = tt
 listed_ids (l ∷ ls) h = both NamesAreIds (reference_tables l.layout) (flat_map (λ l. reference_tables l.layout) ls) (own_ids l.layout h.0) (listed_ids ls h.1)
 
-ids_listed : (ls : List Listing) → AllByRecursion NamesAreIds (flat_map (λ l. reference_tables l.layout) ls) → AllByRecursion (λ l. HasIds l.layout) ls
+pub ids_listed : (ls : List Listing) → AllByRecursion NamesAreIds (flat_map (λ l. reference_tables l.layout) ls) → AllByRecursion (λ l. HasIds l.layout) ls
 ids_listed [] h = tt
 ids_listed (l ∷ ls) h = (
   ids_own l.layout (first NamesAreIds (reference_tables l.layout) (flat_map (λ l. reference_tables l.layout) ls) h),

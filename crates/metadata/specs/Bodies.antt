@@ -7,20 +7,27 @@ use Rattle.canonical_json.specs.Json.{Json, boolean, array, no_items, HasMember,
 use Rattle.path_patterns.specs.Grammar.{IsTargetPath, IsName, IsPattern, IsHashPrefix}
 use Rattle.keys_roles.specs.Plain.{Table, RoleRule, Signature}
 use Rattle.keys_roles.specs.Rules.{AreDistinct}
-use Rattle.metadata.specs.Documents.{Root, Timestamp, Snapshot, MetaFile, LayoutReference, Listing, Scope, patterns, prefixes, Delegation, Delegations, Targets, Step, Layout}
+use Rattle.metadata.specs.Documents.{Profile, first_profile, second_profile, Root, Timestamp, Snapshot, MetaFile, LayoutReference, Listing, Scope, patterns, prefixes, Delegation, Delegations, Targets, Step, Layout}
 use Rattle.metadata.specs.Links.{Artifacts, Link}
 use Rattle.metadata.specs.Members.{Has, MayHave, HasJust, IsArray, IsObject, IsText}
-use Rattle.metadata.specs.Parts.{IsVersion, IsLength, HasExpires, IsSpecVersion, IsHashes, IsTable, HasRule, IsMetaFile}
+use Rattle.metadata.specs.Parts.{IsVersion, IsLength, HasExpires, IsSpecVersion, IsSpecVersionOf, IsHashes, IsTable, HasRule, IsMetaFile}
 use Rattle.metadata.specs.Rules.{ArtifactRule, AreWordsOf}
 
 -- the names of the four roles that delegations can't give
 abbrev pub top_roles : List (List ℕ)
 top_roles = codes "root" ∷ codes "snapshot" ∷ codes "targets" ∷ codes "timestamp" ∷ []
 
--- the members that root, timestamp, snapshot and targets have in common
+-- the members that timestamp, snapshot and targets have in common
 abbrev pub HasHead : Json → ℕ → ℕ → Type 0
 HasHead signed version expires =
     Has signed (codes "spec_version") IsSpecVersion
+    × Has signed (codes "version") (λ x. IsVersion x version)
+    × HasExpires signed expires
+
+-- the same members of a root, whose `spec_version` tells its profile
+abbrev pub HasRootHead : Json → Profile → ℕ → ℕ → Type 0
+HasRootHead signed profile version expires =
+    Has signed (codes "spec_version") (IsSpecVersionOf profile)
     × Has signed (codes "version") (λ x. IsVersion x version)
     × HasExpires signed expires
 
@@ -49,11 +56,32 @@ roles_of r = record { root = r.root; snapshot = r.snapshot; targets = r.targets;
 abbrev pub IsConsistent : Json → Type 0
 IsConsistent signed = Has signed (codes "consistent_snapshot") (λ x. x ≡ boolean true)
 
+-- a text of a grammar
+abbrev pub IsTextOf : (List ℕ → Type 0) → Json → List ℕ → Type 0
+IsTextOf Grammar v t = IsText v t × Grammar t
+
+-- the most patterns, or prefixes, of a delegation, the most patterns of a root, and the most links of a target
+abbrev pub max_texts : ℕ
+max_texts = 64
+
+-- a list of such texts, neither empty nor too long
+abbrev pub AreTextsOf : (List ℕ → Type 0) → Json → List (List ℕ) → Type 0
+AreTextsOf Grammar v ts = IsArray (IsTextOf Grammar) v ts × (0 < length ts) × (length ts ≤ max_texts)
+
+-- the patterns of the paths that need a layout: a root of the second profile may have them, and in one of the first the member
+-- is unknown, and means nothing
+abbrev pub HasRequired : Json → Profile → Option (List (List ℕ)) → Type 0
+HasRequired signed first_profile o = o ≡ None
+HasRequired signed second_profile o = MayHave signed (codes "layout_required") (AreTextsOf IsPattern) o
+
+-- a root of the second profile is read once the tables keep profiles: until then the last line leaves it out
 pub record IsRoot (signed : Json) (r : Root) : Type 0 where
-  pub head : HasHead signed r.version r.expires
+  pub head : HasRootHead signed r.profile r.version r.expires
   pub consistent : IsConsistent signed
   pub keys : Has signed (codes "keys") (λ x. IsTable x r.keys)
   pub roles : Has signed (codes "roles") (λ x. AreRoles x r.keys (roles_of r))
+  pub required : HasRequired signed r.profile r.required
+  pub profile : r.profile ≡ first_profile
 
 -- {"snapshot.json":..}
 abbrev pub IsTimestampMeta : Json → MetaFile → Type 0
@@ -84,18 +112,6 @@ pub record IsSnapshot (signed : Json) (s : Snapshot) : Type 0 where
 
 abbrev pub NoMember : Json → List ℕ → Type 0
 NoMember v name = (x : Json) → HasMember v name x → ⊥
-
--- a text of a grammar
-abbrev pub IsTextOf : (List ℕ → Type 0) → Json → List ℕ → Type 0
-IsTextOf Grammar v t = IsText v t × Grammar t
-
--- the most patterns, or prefixes, of a delegation, and the most links of a target
-abbrev pub max_texts : ℕ
-max_texts = 64
-
--- a list of such texts, neither empty nor too long
-abbrev pub AreTextsOf : (List ℕ → Type 0) → Json → List (List ℕ) → Type 0
-AreTextsOf Grammar v ts = IsArray (IsTextOf Grammar) v ts × (0 < length ts) × (length ts ≤ max_texts)
 
 -- the members of what refers a target to a layout
 abbrev pub reference_members : List (List ℕ)

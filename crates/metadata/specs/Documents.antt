@@ -11,6 +11,12 @@ pub record MetaFile : Type 0 where
   pub len : Option ℕ
   pub digest : Option (List ℕ)
 
+-- what a root means: that of the second profile may require layouts
+pub data Profile : Type 0 where
+  first_profile : Profile
+  second_profile : Profile
+
+-- the patterns of the paths that need a layout, where a root has them
 pub record Root : Type 0 where
   pub version : ℕ
   pub expires : ℕ
@@ -19,6 +25,8 @@ pub record Root : Type 0 where
   pub targets : RoleRule
   pub snapshot : RoleRule
   pub timestamp : RoleRule
+  pub profile : Profile
+  pub required : Option (List (List ℕ))
 
 pub record Timestamp : Type 0 where
   pub version : ℕ

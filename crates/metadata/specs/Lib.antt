@@ -1,3 +1,5 @@
+pub mod BeforeLevels
+pub mod BeforeProfiles
 pub mod Bodies
 pub mod Covers
 pub mod Dates

@@ -1,15 +1,15 @@
 -- The parts that documents are made of (TUF 1.0, section 4.2; this project's profile).
-use Rattle.std.specs.Prelude.{◌≡◌, ℕ, ◌<◌, ◌≤◌, ◌%◌, List, ◌++◌, length, codes, IsTrue, Contains, map}
+use Rattle.std.specs.Prelude.{◌≡◌, ℕ, ◌<◌, ◌≤◌, ◌%◌, List, ◌++◌, length, codes, IsTrue, Contains, map, filter_map, option_map, Option}
 use Rattle.std.specs.List.{AllByRecursion, list_all}
 use Rattle.hex.specs.Hex.{encode_lower}
 use Rattle.path_patterns.specs.Bytes.{is_digit, is_hex}
 use Rattle.path_patterns.specs.Grammar.{IsHex}
 use Rattle.path_patterns.specs.Names.{IsDigest}
 use Rattle.canonical_json.specs.Json.{Json, text, object, no_members, member}
-use Rattle.keys_roles.specs.Plain.{Key, Table, RoleRule, Signature}
-use Rattle.keys_roles.specs.Keys.{key_object, public_bytes, public_len, id_of}
+use Rattle.keys_roles.specs.Plain.{Key, Table, RoleRule, Signature, look_up}
+use Rattle.keys_roles.specs.Keys.{key_object, public_bytes, public_len, id_of, top_key}
 use Rattle.keys_roles.specs.Rules.{AreDistinct}
-use Rattle.metadata.specs.Documents.{MetaFile}
+use Rattle.metadata.specs.Documents.{MetaFile, Profile, first_profile, second_profile}
 use Rattle.metadata.specs.Members.{Has, MayHave, IsArray, IsObject, IsText, IsNumber}
 use Rattle.metadata.specs.Dates.{IsDateTime}
 
@@ -28,6 +28,12 @@ HasExpires v seconds = Has v (codes "expires") (λ x. (bytes : List ℕ) × IsTe
 -- `1.0.` and one to three digits
 abbrev pub IsSpecVersion : Json → Type 0
 IsSpecVersion v = (digits : List ℕ) × IsText v (codes "1.0." ++ digits)
+    × (0 < length digits) × (length digits ≤ 3) × IsTrue (list_all is_digit digits)
+
+-- the same of a root, which has `+p2` behind it where the root is of the second profile
+abbrev pub IsSpecVersionOf : Profile → Json → Type 0
+IsSpecVersionOf first_profile v = IsSpecVersion v
+IsSpecVersionOf second_profile v = (digits : List ℕ) × IsText v (codes "1.0." ++ (digits ++ codes "+p2"))
     × (0 < length digits) × (length digits ≤ 3) × IsTrue (list_all is_digit digits)
 
 -- {"sha256":..}
@@ -60,13 +66,22 @@ NamesAreIds table = AllByRecursion (λ e. e.0 ≡ id_of e.1) table
 abbrev pub NamesAreHex : Table → Type 0
 NamesAreHex table = AllByRecursion (λ e. IsHex 64 e.0) table
 
--- a rule over a table of keys
+-- the top key of the key that stands first beside the id
+abbrev pub top_at : Table → List ℕ → Option (List ℕ)
+top_at table id = option_map top_key (look_up table id)
+
+-- the top keys of the keys that the ids name, in their order
+abbrev pub tops_of : Table → List (List ℕ) → List (List ℕ)
+tops_of table ids = filter_map (top_at table) ids
+
+-- a rule over a table of keys: no two ids of it name keys with one top key
 pub record IsRuleOver (table : Table) (rule : RoleRule) : Type 0 where
   pub some : 0 < length rule.keyids
   pub most : length rule.keyids ≤ 16
   pub distinct : AreDistinct rule.keyids
   pub known : AllByRecursion (Contains (map (λ e. e.0) table)) rule.keyids
   pub threshold : rule.threshold ≤ length rule.keyids
+  pub tops : AreDistinct (tops_of table rule.keyids)
 
 -- the object has a rule, its ids under this name
 abbrev pub HasRule : List ℕ → Json → Table → RoleRule → Type 0
@@ -87,7 +102,7 @@ max_signatures = 16
 
 -- the longest signature, in hex digits
 abbrev pub max_signature_digits : ℕ
-max_signature_digits = 18648
+max_signature_digits = 149976
 
 -- {"keyid":..,"sig":..}
 abbrev pub signature_object : List ℕ → List ℕ → Json

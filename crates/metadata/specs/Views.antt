@@ -4,6 +4,8 @@ use Rattle.keys_roles.specs.Views.{table_view, rule_view as role_view, entries_v
 use Rattle.metadata.specs.Documents as plain
 use Rattle.metadata.specs.RuleViews.{rule_view, link_view}
 use Rattle.metadata.specs.declared.documents.Meta.{Meta}
+use Rattle.metadata.specs.declared.documents.Profile.{Profile}
+use Rattle.metadata.specs.declared.documents.Profile.TheVariants as profiles
 use Rattle.metadata.specs.declared.documents.Root.{Root}
 use Rattle.metadata.specs.declared.documents.Timestamp.{Timestamp}
 use Rattle.metadata.specs.declared.documents.Snapshot.{Snapshot}
@@ -23,6 +25,10 @@ use Rattle.metadata.specs.declared.documents.Document.{Document}
 abbrev pub meta_view : Meta → plain.MetaFile
 meta_view m = record { version = m.version; len = m.length; digest = option_map (λ d. d.0) m.digest }
 
+abbrev pub profile_view : Profile → plain.Profile
+profile_view profiles.First = plain.first_profile
+profile_view profiles.Second = plain.second_profile
+
 abbrev pub root_view : Root → plain.Root
 root_view r = record {
   version = r.version;
@@ -32,6 +38,8 @@ root_view r = record {
   targets = role_view r.targets;
   snapshot = role_view r.snapshot;
   timestamp = role_view r.timestamp;
+  profile = profile_view r.profile;
+  required = option_map (λ ps. ps.items) r.required;
 }
 
 abbrev pub timestamp_view : Timestamp → plain.Timestamp

@@ -1,11 +1,11 @@
-// Which paths a delegation covers.
+// Which paths a delegation covers, and for which a root requires a layout.
 ghost use Rattle.std.specs.Prelude.{◌≡◌};
 ghost use Rattle.std.specs.List.{list_any};
 ghost use Rattle.path_patterns.specs.Tests as tests;
-ghost use Rattle.metadata.specs.Covers.{covers};
-ghost use Rattle.metadata.specs.Views.{delegation_view};
+ghost use Rattle.metadata.specs.Covers.{covers, requires_layout};
+ghost use Rattle.metadata.specs.Views.{delegation_view, root_view};
 
-use crate::documents::{Delegation, Scope};
+use crate::documents::{Delegation, Root, Scope};
 use path_patterns::{Pattern, TargetPath, matches_segmented, some_prefix_covers, tests_tell};
 
 impl Delegation {
@@ -17,6 +17,19 @@ impl Delegation {
         match &self.scope {
             Scope::Patterns(patterns) => some_matches(patterns, path),
             Scope::Prefixes(prefixes) => some_prefix_covers(prefixes, path),
+        }
+    }
+}
+
+impl Root {
+    /// Whether the root requires a layout of a target of this path: one of its patterns matches the path, a wildcard standing for
+    /// no slash (this project's profile of TUF 1.0, section 4.3). It takes no memory.
+    pub fn requires_layout(&self, path: &TargetPath) -> bool
+        ensures { result ≡ requires_layout (root_view self.now) path.now }
+    {
+        match &self.required {
+            Some(patterns) => some_matches(patterns, path),
+            None => false,
         }
     }
 }

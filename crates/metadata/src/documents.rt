@@ -82,7 +82,17 @@ pub struct Meta {
     pub digest: Option<Digest>,
 }
 
-/// Root metadata (TUF 1.0, section 4.3).
+/// What a root means: one of the second profile may require layouts (this project's profile of TUF 1.0, section 4.3).
+#[derive(Debug, Clone, Copy, PartialEq, Eq)]
+pub enum Profile {
+    /// `spec_version` is that of TUF 1.0.
+    First,
+    /// `spec_version` ends in `+p2`.
+    Second,
+}
+
+/// Root metadata (TUF 1.0, section 4.3), and the 1 to 64 patterns of the paths that need a layout, if a root of the second
+/// profile has them.
 #[derive(Drop)]
 pub struct Root {
     pub version: u32,
@@ -92,6 +102,8 @@ pub struct Root {
     pub targets: RoleRule,
     pub snapshot: RoleRule,
     pub timestamp: RoleRule,
+    pub profile: Profile,
+    pub required: Option<Vec<Pattern>>,
 }
 
 /// Timestamp metadata (TUF 1.0, section 4.6).

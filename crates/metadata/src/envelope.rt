@@ -22,7 +22,7 @@ use std::alloc::Global;
 const MOST_SIGNATURES: usize = 16;
 
 // The digits of the longest signature.
-const MOST_DIGITS: usize = 18_648;
+const MOST_DIGITS: usize = 149_976;
 
 /// The parts of an envelope: the signatures, the signed part and its `_type`.
 #[derive(Drop)]

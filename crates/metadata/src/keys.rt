@@ -1,10 +1,11 @@
 // Keys, key tables and rules as a file spells them (TUF 1.0, section 4.2).
-ghost use Rattle.std.specs.Prelude.{◌≡◌, ◌≢◌, ◌↔◌, ℕ, List, length, map, codes, IsTrue, IfOk, IfErr, IfSome, IfNone, MatchOption, Contains};
+ghost use Rattle.std.specs.Prelude.{◌≡◌, ◌≢◌, ◌↔◌, ℕ, List, length, map, option_map, codes, IsTrue, IfOk, IfErr, IfSome, IfNone, MatchOption, Contains, Some};
 ghost use Rattle.std.specs.List.{AllByRecursion};
 ghost use Rattle.hex.specs.Hex.{encode_lower};
 ghost use Rattle.canonical_json.specs.Spelling.{IsProper};
 ghost use Rattle.canonical_json.specs.View.{view, items_view, members_view};
 ghost use Rattle.keys_roles.specs.Plain as plain;
+ghost use Rattle.keys_roles.specs.Plain.{look_up};
 ghost use Rattle.keys_roles.specs.Rules.{AreDistinct};
 ghost use Rattle.keys_roles.specs.steps.Counting.{IsIn};
 ghost use Rattle.keys_roles.specs.Keys.{id_of};
@@ -12,7 +13,7 @@ ghost use Rattle.keys_roles.specs.Views.{id_text, ids_view, key_view, rows_view,
 ghost use Rattle.path_patterns.specs.Grammar.{IsHex};
 ghost use Rattle.metadata.specs.steps.Faults.{IsIll, IsMisnamed};
 ghost use Rattle.metadata.specs.Members.{Has, IsArray, IsText, IsNumber, ItemsAre, MembersAre};
-ghost use Rattle.metadata.specs.Parts.{IsKey, IsKeyval, AreBytes, IsRow, IsTable, NamesAreIds, NamesAreHex, IsRuleOver, HasRule};
+ghost use Rattle.metadata.specs.Parts.{IsKey, IsKeyval, AreBytes, IsRow, IsTable, NamesAreIds, NamesAreHex, IsRuleOver, HasRule, top_at, tops_of};
 ghost use Rattle.metadata.specs.steps.Spelled.{texts_view, spelled_rows, spelled_table, spelled_rule};
 
 use crate::documents::ShapeFault;
@@ -20,7 +21,7 @@ use crate::members::{
     is_text, items_of, member_of, members_of, number_at, one_member, text_of, three_members,
 };
 use canonical_json::Value;
-use keys_roles::{Key, KeyId, KeyTable, NoMemory, RoleRule, key_id};
+use keys_roles::{Key, KeyId, KeyTable, NoMemory, RoleRule, key_id, top_key};
 use path_patterns::{Digest, one_digest};
 use std::alloc::Global;
 
@@ -191,7 +192,8 @@ fn texts_of(alloc: Global, items: &[Value]) -> Result<Vec<String>, ShapeFault>
     Ok(texts)
 }
 
-// Whether the rule is one over the table: some ids, none twice, each a name of the table, no fewer than the threshold.
+// Whether the rule is one over the table: some ids, none twice, each a name of the table, no fewer than the threshold, and no two
+// that name keys with one top key.
 fn is_over(table: &SpelledTable, rule: &SpelledRule) -> bool
     ensures { IsTrue result ↔ (IsRuleOver (spelled_table table.now) (spelled_rule rule.now)) }
 {
@@ -199,7 +201,71 @@ fn is_over(table: &SpelledTable, rule: &SpelledRule) -> bool
     if count == 0 || count > MOST_IDS || usize::from(rule.threshold) > count {
         return false;
     }
-    are_distinct(&rule.ids) && are_known(&table.rows, &rule.ids)
+    are_distinct(&rule.ids)
+        && are_known(&table.rows, &rule.ids)
+        && are_apart(&table.rows, &rule.ids)
+}
+
+// Whether no two ids name keys with one top key.
+fn are_apart(rows: &[(String, Key)], ids: &[String]) -> bool
+    ensures { IsTrue result ↔ (AreDistinct (tops_of (spelled_rows rows.now) (texts_view ids.now))) }
+{
+    let mut rest = ids;
+    'ids: while let Some((id, later)) = rest.split_first() {
+        if shares_top(rows, id.as_str(), later) {
+            return false;
+        }
+        rest = later;
+    }
+    true
+}
+
+// Whether the text names a key with the top key of one that the ids name.
+fn shares_top(rows: &[(String, Key)], text: &str, ids: &[String]) -> bool
+    ensures { IsTrue result ↔ ((top : List ℕ) × (top_at (spelled_rows rows.now) text.now ≡ Some top) × IsIn (tops_of (spelled_rows rows.now) (texts_view ids.now)) top) }
+{
+    match key_named(rows, text) {
+        Some(key) => is_top_among(rows, top_key(key), ids),
+        None => false,
+    }
+}
+
+// Whether one of the ids names a key with this top key.
+fn is_top_among(rows: &[(String, Key)], top: &[u8; 56], ids: &[String]) -> bool
+    ensures { IsTrue result ↔ (IsIn (tops_of (spelled_rows rows.now) (texts_view ids.now)) top.now) }
+{
+    let mut rest = ids;
+    'ids: while let Some((id, later)) = rest.split_first() {
+        if names_top(rows, id.as_str(), top) {
+            return true;
+        }
+        rest = later;
+    }
+    false
+}
+
+// Whether the text names a key with this top key.
+fn names_top(rows: &[(String, Key)], text: &str, top: &[u8; 56]) -> bool
+    ensures { IsTrue result ↔ (top_at (spelled_rows rows.now) text.now ≡ Some top.now) }
+{
+    match key_named(rows, text) {
+        Some(key) => *top_key(key) == *top,
+        None => false,
+    }
+}
+
+// The key that stands first beside the text.
+fn key_named<'a>(rows: &'a [(String, Key)], text: &str) -> Option<&'a Key>
+    ensures { option_map (λ k. key_view k.now) result ≡ look_up (spelled_rows rows.now) text.now }
+{
+    let mut rest = rows;
+    'rows: while let Some((row, later)) = rest.split_first() {
+        if row.0.as_str() == text {
+            return Some(&row.1);
+        }
+        rest = later;
+    }
+    None
 }
 
 /// Whether no text stands twice.

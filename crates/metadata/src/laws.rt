@@ -1,14 +1,19 @@
 //! Laws of documents, in functions that do nothing.
-ghost use Rattle.std.specs.Prelude.{◌↔◌, ℕ, map, Err, IsTrue};
+ghost use Rattle.std.specs.Prelude.{◌≡◌, ◌↔◌, ℕ, List, map, Err, None, IsTrue};
 ghost use Rattle.std.specs.List.{AllByRecursion};
 ghost use Rattle.path_patterns.specs.Grammar.{IsName};
+ghost use Rattle.canonical_json.specs.Json.{Json};
 ghost use Rattle.keys_roles.specs.Rules.{AreDistinct};
-ghost use Rattle.metadata.specs.Covers.{Covers, covers};
-ghost use Rattle.metadata.specs.Documents.{Delegation, Snapshot};
-ghost use Rattle.metadata.specs.Bodies.{IsListable};
+ghost use Rattle.metadata.specs.BeforeLevels.{WasDocument};
+ghost use Rattle.metadata.specs.BeforeProfiles.{WasRoot};
+ghost use Rattle.metadata.specs.Covers.{Covers, covers, RequiresLayout, requires_layout};
+ghost use Rattle.metadata.specs.Documents.{Delegation, Document, Root, Snapshot, first_profile};
+ghost use Rattle.metadata.specs.Bodies.{IsListable, IsRoot};
 ghost use Rattle.metadata.specs.File.{Bytes, File, IsFileOf, IsDeniedShape, root_form, timestamp_form, snapshot_form, targets_form, layout_form, link_form};
 ghost use Rattle.denials.specs.Orders.{Denied, Plain};
+ghost use Rattle.metadata.specs.Shape.{IsDocument};
 ghost use Rattle.metadata.specs.Shaped.{shaped};
+ghost use Rattle.metadata.specs.declared.documents.Kind.{Kind};
 ghost use Rattle.metadata.specs.declared.documents.Kind.TheVariants as kinds;
 
 use path_patterns::tests_tell;
@@ -36,3 +41,23 @@ pub fn covers_tell()
 {
     tests_tell();
 }
+
+/// A law, which does nothing: the test by which a root requires a layout of a path holds exactly where one of its patterns
+/// matches the path, its wildcards standing for no slash.
+pub fn required_tell()
+    ensures { (r : Root) (path : Bytes) → IsTrue (requires_layout r path) ↔ (RequiresLayout r path) }
+{
+    tests_tell();
+}
+
+/// A law, which does nothing: what was a root before roots had profiles is one now, of the first profile and without required
+/// layouts, and no other root is such a one; so a member that the first profile doesn't know says nothing in it.
+pub fn first_roots_as_before()
+    ensures { (signed : Json) (r : Root) → WasRoot signed r ↔ (IsRoot signed r × (r.profile ≡ first_profile) × (r.required ≡ None)) }
+{}
+
+/// A law, which does nothing: a file that was a document before signatures of several levels, when a rule might still name one key
+/// by two ids and a signature had at most 18,648 hex digits, is the same document now.
+pub fn accepted_before()
+    ensures { (kind : Kind) (bytes : List ℕ) (d : Document) → WasDocument kind bytes d → IsDocument kind bytes d }
+{}

@@ -45,8 +45,8 @@ use canonical_json::one_spelling;
 pub use dates::read_date_time;
 pub use document::read_document;
 pub use documents::{
-    Body, Delegation, Delegations, Document, Kind, Layout, LayoutReference, Listing, Meta, Root,
-    Scope, ShapeFault, Snapshot, Step, Targets, Timestamp,
+    Body, Delegation, Delegations, Document, Kind, Layout, LayoutReference, Listing, Meta, Profile,
+    Root, Scope, ShapeFault, Snapshot, Step, Targets, Timestamp,
 };
 pub use file::{
     File, read_layout_file, read_link_file, read_root_file, read_snapshot_file, read_targets_file,
@@ -54,7 +54,10 @@ pub use file::{
 };
 pub use keys::read_texts;
 pub use keys_roles::{Key, KeyId, KeyTable, RoleRule, Signature};
-pub use laws::{covers_tell, denied_shapes, snapshot_names};
+pub use laws::{
+    accepted_before, covers_tell, denied_shapes, first_roots_as_before, required_tell,
+    snapshot_names,
+};
 pub use link::read_artifacts;
 pub use links::{Artifacts, Link};
 pub use members::{four_members, items_of, members_of, text_of, two_members};

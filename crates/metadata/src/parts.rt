@@ -4,12 +4,13 @@ ghost use Rattle.std.specs.List.{list_all};
 ghost use Rattle.path_patterns.specs.Bytes.{is_digit};
 ghost use Rattle.canonical_json.specs.Spelling.{IsProper};
 ghost use Rattle.canonical_json.specs.View.{view};
+ghost use Rattle.metadata.specs.Documents as plain;
 ghost use Rattle.metadata.specs.Documents.{MetaFile};
 ghost use Rattle.metadata.specs.Members.{Has, MayHave};
-ghost use Rattle.metadata.specs.Parts.{IsVersion, IsLength, IsHashes, IsMetaFile, IsSpecVersion};
-ghost use Rattle.metadata.specs.Views.{meta_view};
+ghost use Rattle.metadata.specs.Parts.{IsVersion, IsLength, IsHashes, IsMetaFile, IsSpecVersion, IsSpecVersionOf};
+ghost use Rattle.metadata.specs.Views.{meta_view, profile_view};
 
-use crate::documents::Meta;
+use crate::documents::{Meta, Profile};
 use crate::members::{member_of, number_at, number_of, one_member, text_of};
 use canonical_json::Value;
 use path_patterns::{Digest, one_digest};
@@ -112,6 +113,40 @@ pub(crate) fn is_spec_version(value: &Value) -> bool
 {
     match text_of(value) {
         Some(text) => is_version_text(text.as_bytes()),
+        None => false,
+    }
+}
+
+/// The profile of a root that has this `spec_version`.
+pub(crate) fn profile_of(value: &Value) -> Option<Profile>
+    ensures { MatchOption result ((p : plain.Profile) → IsSpecVersionOf p (view value.now) → ⊥)
+        (λ p. IsSpecVersionOf (profile_view p) (view value.now)) }
+{
+    if is_spec_version(value) {
+        return Some(Profile::First);
+    }
+    if is_second_version(value) {
+        return Some(Profile::Second);
+    }
+    None
+}
+
+// Whether the value is `1.0.`, one to three digits and `+p2`.
+fn is_second_version(value: &Value) -> bool
+    ensures { IsTrue result ↔ (IsSpecVersionOf plain.second_profile (view value.now)) }
+{
+    match text_of(value) {
+        Some(text) => is_second_text(text),
+        None => false,
+    }
+}
+
+fn is_second_text(text: &str) -> bool
+    ensures { IsTrue result ↔ ((digits : List ℕ) × (text.now ≡ codes "1.0." ++ (digits ++ codes "+p2"))
+        × (0 < length digits) × (length digits ≤ 3) × IsTrue (list_all is_digit digits)) }
+{
+    match text.strip_suffix("+p2") {
+        Some(first) => is_version_text(first.as_bytes()),
         None => false,
     }
 }

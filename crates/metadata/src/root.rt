@@ -1,22 +1,28 @@
 // Root metadata (TUF 1.0, section 4.3).
-ghost use Rattle.std.specs.Prelude.{◌≡◌, codes, IfOk, IfErr};
+ghost use Rattle.std.specs.Prelude.{◌≡◌, ◌↔◌, ℕ, List, Option, codes, option_map, MatchOption, IfOk, IfErr, IsTrue};
 ghost use Rattle.canonical_json.specs.Spelling.{IsProper};
 ghost use Rattle.canonical_json.specs.View.{view};
 ghost use Rattle.keys_roles.specs.Plain as plain;
 ghost use Rattle.keys_roles.specs.Views.{table_view};
-ghost use Rattle.metadata.specs.Bodies.{Roles, AreRoles, IsRoot};
+ghost use Rattle.path_patterns.specs.Grammar.{IsPattern};
+ghost use Rattle.metadata.specs.Bodies.{Roles, AreRoles, AreTextsOf, HasRequired, HasRootHead, IsRoot};
+ghost use Rattle.metadata.specs.Documents as documents;
 ghost use Rattle.metadata.specs.steps.Faults.{IsIll, IsMisnamed, IsFaulty};
-ghost use Rattle.metadata.specs.Members.{Has};
-ghost use Rattle.metadata.specs.Parts.{IsTable, NamesAreIds};
-ghost use Rattle.metadata.specs.steps.Spelled.{spelled_table, spelled_roles, keyed_view, AreOver};
-ghost use Rattle.metadata.specs.Views.{root_view};
+ghost use Rattle.metadata.specs.Members.{Has, MayHave};
+ghost use Rattle.metadata.specs.Parts.{IsSpecVersionOf, IsTable, NamesAreIds};
+ghost use Rattle.metadata.specs.steps.Spelled.{spelled_table, spelled_roles, keyed_view, AreOver, HasKeyed};
+ghost use Rattle.metadata.specs.Views.{profile_view, root_view};
 
-use crate::documents::{Root, ShapeFault};
-use crate::head::read_head;
+use crate::documents::{Profile, Root, ShapeFault};
+use crate::head::expires_of;
 use crate::keys::{SpelledRule, SpelledTable, name_rule, name_table, read_role_rule, read_table};
 use crate::members::{four_members, is_true_at, member_of};
+use crate::moment::Moment;
+use crate::parts::{profile_of, version_of};
+use crate::scopes::read_patterns;
 use canonical_json::Value;
 use keys_roles::{KeyTable, RoleRule};
+use path_patterns::Pattern;
 use std::alloc::Global;
 
 /// The rules of the four roles, as a file spells them.
@@ -44,15 +50,17 @@ pub(crate) fn read_root(alloc: Global, signed: &Value) -> Result<Root, ShapeFaul
     ensures ok { IfOk result (λ r. IsRoot (view signed.now) (root_view r) × NamesAreIds (table_view r.keys)) }
     ensures err { IfErr result (IsFaulty (IsRoot (view signed.now)) (λ r. NamesAreIds r.keys)) }
 {
-    let Some((version, expires)) = read_head(signed) else {
+    let Some((profile, version, expires)) = read_root_head(signed) else {
         return Err(ShapeFault::WrongShape);
     };
+    if !is_read(profile) {
+        return Err(ShapeFault::WrongShape);
+    }
     if !is_true_at(signed, "consistent_snapshot") {
         return Err(ShapeFault::WrongShape);
     }
-    let keys = keys_of(alloc, signed)?;
-    let roles = roles_of(alloc, signed, &keys)?;
-    let keyed = named(alloc, &keys, &roles)?;
+    let required = required_of(alloc, signed, profile)?;
+    let keyed = keyed_of(alloc, signed)?;
     Ok(Root {
         version,
         expires,
@@ -61,7 +69,83 @@ pub(crate) fn read_root(alloc: Global, signed: &Value) -> Result<Root, ShapeFaul
         targets: keyed.targets,
         snapshot: keyed.snapshot,
         timestamp: keyed.timestamp,
+        profile,
+        required,
     })
+}
+
+// Whether roots of this profile are read. Those of the second are once the tables keep profiles.
+fn is_read(profile: Profile) -> bool
+    ensures { IsTrue result ↔ profile_view profile ≡ documents.first_profile }
+{
+    match profile {
+        Profile::First => true,
+        Profile::Second => false,
+    }
+}
+
+// The profile, the version and the expiry that the signed part has.
+fn read_root_head(signed: &Value) -> Option<(Profile, u32, Moment)>
+    requires { IsProper (view signed.now) }
+    ensures { MatchOption result ((profile : documents.Profile) (version expires : ℕ) → HasRootHead (view signed.now) profile version expires → ⊥)
+        (λ head. HasRootHead (view signed.now) (profile_view head.0) head.1 head.2) }
+{
+    let profile = profile_at(signed)?;
+    let version = version_of(signed)?;
+    let expires = expires_of(signed)?;
+    Some((profile, version, expires))
+}
+
+// The profile that the `spec_version` of the object tells.
+fn profile_at(signed: &Value) -> Option<Profile>
+    requires { IsProper (view signed.now) }
+    ensures { MatchOption result ((p : documents.Profile) → Has (view signed.now) (codes "spec_version") (IsSpecVersionOf p) → ⊥)
+        (λ p. Has (view signed.now) (codes "spec_version") (IsSpecVersionOf (profile_view p))) }
+{
+    let found = member_of(signed, "spec_version")?;
+    let profile = profile_of(found)?;
+    Some(profile)
+}
+
+// The patterns of the paths that need a layout, if a root of this profile has them.
+fn required_of(
+    alloc: Global,
+    signed: &Value,
+    profile: Profile,
+) -> Result<Option<Vec<Pattern>>, ShapeFault>
+    requires { IsProper (view signed.now) }
+    ensures ok { IfOk result (λ o. HasRequired (view signed.now) (profile_view profile) (option_map (λ ps. ps.items) o)) }
+    ensures err { IfErr result (IsIll ((o : Option (List (List ℕ))) × HasRequired (view signed.now) (profile_view profile) o)) }
+{
+    match profile {
+        Profile::First => Ok(None),
+        Profile::Second => patterns_at(alloc, signed),
+    }
+}
+
+// The patterns that the object has under `layout_required`, if it has any.
+fn patterns_at(alloc: Global, signed: &Value) -> Result<Option<Vec<Pattern>>, ShapeFault>
+    requires { IsProper (view signed.now) }
+    ensures ok { IfOk result (λ o. MayHave (view signed.now) (codes "layout_required") (AreTextsOf IsPattern) (option_map (λ ps. ps.items) o)) }
+    ensures err { IfErr result (IsIll ((o : Option (List (List ℕ))) × MayHave (view signed.now) (codes "layout_required") (AreTextsOf IsPattern) o)) }
+{
+    let Some(found) = member_of(signed, "layout_required") else {
+        return Ok(None);
+    };
+    let patterns = read_patterns(alloc, found)?;
+    Ok(Some(patterns))
+}
+
+// The keys and the rules of the four roles that the object has, each key named by its id.
+fn keyed_of(alloc: Global, signed: &Value) -> Result<Keyed, ShapeFault>
+    requires { IsProper (view signed.now) }
+    ensures ok { IfOk result (λ k. HasKeyed (view signed.now) (keyed_view k) × NamesAreIds (table_view k.keys)) }
+    ensures err { IfErr result (IsFaulty (HasKeyed (view signed.now)) (λ k. NamesAreIds k.0)) }
+{
+    let keys = keys_of(alloc, signed)?;
+    let roles = roles_of(alloc, signed, &keys)?;
+    let keyed = named(alloc, &keys, &roles)?;
+    Ok(keyed)
 }
 
 /// The key table that the object has under `keys`.

@@ -15,7 +15,7 @@ use canonical_json::Value;
 use path_patterns::{Pattern, is_hash_prefix};
 use std::alloc::Global;
 
-// The most patterns, or prefixes, of a delegation, and the most links of a target.
+// The most patterns, or prefixes, of a delegation, the most patterns of a root, and the most links of a target.
 const MOST_TEXTS: usize = 64;
 
 /// What the delegation that the value is covers.
@@ -48,15 +48,15 @@ fn prefixes_of(alloc: Global, value: &Value) -> Result<Scope, ShapeFault>
     Ok(Scope::Prefixes(prefixes))
 }
 
-/// Whether there are as many as a delegation may have of patterns or prefixes, and a target of links.
+/// Whether there are as many as a delegation may have of patterns or prefixes, a root of patterns, and a target of links.
 pub(crate) fn are_few(items: &[Value]) -> bool
     ensures { IsTrue result ↔ ((0 < length items.now) × (length items.now ≤ max_texts)) }
 {
     !items.is_empty() && items.len() <= MOST_TEXTS
 }
 
-// The patterns that the value is.
-fn read_patterns(alloc: Global, value: &Value) -> Result<Vec<Pattern>, ShapeFault>
+/// The patterns that the value is.
+pub(crate) fn read_patterns(alloc: Global, value: &Value) -> Result<Vec<Pattern>, ShapeFault>
     ensures ok { IfOk result (λ ps. AreTextsOf IsPattern (view value.now) ps.items) }
     ensures err { IfErr result (IsIll ((ps : List (List ℕ)) × AreTextsOf IsPattern (view value.now) ps)) }
 {

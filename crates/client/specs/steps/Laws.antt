@@ -5,7 +5,7 @@ use Rattle.limits.specs.Limits.{blob_limit, most_held}
 use Rattle.sha2.specs.Sha256.{sha256}
 use Rattle.path_patterns.specs.Grammar.{IsName, IsTargetPath}
 use Rattle.path_patterns.specs.Names.{Asks, IsDigest}
-use Rattle.metadata.specs.Documents.{MetaFile, Root, Snapshot, Targets, Timestamp}
+use Rattle.metadata.specs.Documents.{MetaFile, Profile, Root, Snapshot, Targets, Timestamp}
 use Rattle.metadata.specs.Bodies.{IsListable}
 use Rattle.metadata.specs.File.{Bytes, Name, File, IsFileOf, root_form, snapshot_form, targets_form, timestamp_form}
 use Rattle.metadata.specs.Parts.{last_number}
@@ -14,22 +14,22 @@ use Rattle.delegations.specs.Delegation.{before}
 use Rattle.delegations.specs.Missed.{IsMissed}
 use Rattle.delegations.specs.Rows.{HasHash, HasLength, entry_of, place_before, row_at, with_row}
 use Rattle.delegations.specs.Search.{Shelf, Vouched, search, shelf_of}
-use Rattle.machine.specs.State.{Trusted, State, FollowsRoot, MeetsTop, NamesSnapshot, blob_at, IsRootChain, IsTrusted, IsState, dotted, metadata_of}
+use Rattle.machine.specs.State.{Trusted, State, FollowsRoot, MeetsTop, NamesSnapshot, blob_at, IsRootChain, IsTrusted, IsState, dotted, kept_root, metadata_of}
 use Rattle.machine.specs.Commands.{AfterRoot, Listed, NoDrop, NoRollback, Offer, RootOffer, SnapshotOffer, TargetsOffer, TimestampOffer, grants, listed, offer, put_blob}
 use Rattle.machine.specs.Misses.{IsPart, IsThere, MissesRole, MissesBlob, IsProperListing}
 use Rattle.machine.specs.Runs.{Command, Reply, Steps}
 
 -- of roots
 pub record RootLaws : Type 0 where
-  pub next : (roots more : List Bytes) (b : Bytes) (old last : File Root) → IsRootChain roots old → IsRootChain (roots ++ b ∷ more) last
-      → (new : File Root) × (new.bytes ≡ b) × IsFileOf root_form new × FollowsRoot old new × IsRootChain (roots ++ b ∷ []) new
-  pub named : (T : Trusted) (roots more : List Bytes) (b : Bytes) (old : File Root) → IsTrusted T → IsRootChain roots old → T.roots ≡ roots ++ b ∷ more
-      → metadata_of T (dotted (old.body.version + 1) (codes "root")) ≡ Some b
+  pub next : (roots more : List (Profile × Bytes)) (b : Profile × Bytes) (old last : File Root) → IsRootChain roots old → IsRootChain (roots ++ b ∷ more) last
+      → (new : File Root) × (kept_root new ≡ b) × IsFileOf root_form new × FollowsRoot old new × IsRootChain (roots ++ b ∷ []) new
+  pub named : (T : Trusted) (roots more : List (Profile × Bytes)) (b : Profile × Bytes) (old : File Root) → IsTrusted T → IsRootChain roots old → T.roots ≡ roots ++ b ∷ more
+      → metadata_of T (dotted (old.body.version + 1) (codes "root")) ≡ Some b.1
   pub newest : (T : Trusted) (root : File Root) → IsTrusted T → T.root ≡ Some root → root.body.version < last_number
       → metadata_of T (dotted (root.body.version + 1) (codes "root")) ≡ None
   pub taken : (T : Trusted) (old new : File Root) (now : ℕ) (j : Judged Trusted) → T.root ≡ Some old → IsFileOf root_form old → IsFileOf root_form new → FollowsRoot old new
       → length T.roots < most_held → offer T RootOffer new.bytes now j → AfterRoot T old new j
-  pub chain : (roots : List Bytes) (r q : File Root) → IsRootChain roots r → IsRootChain roots q → r ≡ q
+  pub chain : (roots : List (Profile × Bytes)) (r q : File Root) → IsRootChain roots r → IsRootChain roots q → r ≡ q
 
 -- of commands
 pub record StepLaws : Type 0 where

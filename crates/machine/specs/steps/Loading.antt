@@ -4,7 +4,7 @@ use Rattle.metadata.specs.Documents.{Root}
 use Rattle.metadata.specs.File.{Bytes, File, IsFileOf, root_form, timestamp_form, snapshot_form, targets_form}
 use Rattle.delegations.specs.Delegation.{before}
 use Rattle.delegations.specs.Rows.{Rows, Rises, place_before}
-use Rattle.machine.specs.State.{State, FollowsRoot, MeetsTop, IsBlob, IsShelfRow}
+use Rattle.machine.specs.State.{State, FollowsRoot, kept_root, MeetsTop, IsBlob, IsShelfRow}
 use Rattle.limits.specs.Limits.{most_held}
 use Rattle.machine.specs.Effects as changes
 
@@ -36,7 +36,7 @@ IsChain (root ∷ more) = MeetsTop root root.body.root root × FollowOn root mor
 abbrev pub laid : changes.Effects → State
 laid E = record {
   trusted = record {
-    roots = map (λ r. r.bytes) E.roots;
+    roots = map kept_root E.roots;
     root = changes.last_or None E.roots;
     timestamp = E.timestamp;
     snapshot = E.snapshot;

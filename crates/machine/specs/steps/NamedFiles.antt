@@ -1,14 +1,14 @@
 -- The metadata files under their names, table by table.
 use Rattle.std.specs.Prelude.{ℕ, ◌-◌, List, [], ◌∷◌, map, length, Option, codes}
-use Rattle.metadata.specs.Documents.{Timestamp, Snapshot}
+use Rattle.metadata.specs.Documents.{Profile, Timestamp, Snapshot}
 use Rattle.metadata.specs.File.{Bytes, File}
 use Rattle.delegations.specs.Rows.{Rows}
 use Rattle.machine.specs.State.{dotted, one_file}
 
 -- the files of the roots before the one with this version, of the shelf, of the timestamp, of the snapshot
-abbrev pub earlier_files : ℕ → List Bytes → List (Bytes × Bytes)
+abbrev pub earlier_files : ℕ → List (Profile × Bytes) → List (Bytes × Bytes)
 earlier_files version [] = []
-earlier_files version (b ∷ bs) = (dotted (version - length (b ∷ bs)) (codes "root"), b) ∷ earlier_files version bs
+earlier_files version (b ∷ bs) = (dotted (version - length (b ∷ bs)) (codes "root"), b.1) ∷ earlier_files version bs
 
 abbrev pub shelf_files : Rows → List (Bytes × Bytes)
 shelf_files rows = map (λ row. (dotted row.0.1 row.0.0, row.1.bytes)) rows

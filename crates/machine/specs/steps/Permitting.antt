@@ -5,7 +5,7 @@ use Rattle.metadata.specs.Shape.{max_file}
 use Rattle.metadata.specs.File.{Bytes}
 use Rattle.metadata.specs.declared.documents.ShapeFault.{ShapeFault}
 use Rattle.metadata.specs.declared.documents.ShapeFault.TheVariants as shapes
-use Rattle.metadata.specs.Views.{listing_view}
+use Rattle.metadata.specs.Views.{listing_view, root_view}
 use Rattle.denials.specs.Numbers as no
 use Rattle.denials.specs.Orders as orders
 use Rattle.denials.specs.Orders.{Order, Plain}
@@ -31,7 +31,7 @@ use Rattle.machine.specs.declared.refusal.Refusal.{Refusal}
 use Rattle.machine.specs.declared.refusal.Refusal.TheVariants as refusals
 
 abbrev pub listed_view : Listed → commands.Listed
-listed_view at = record { shelf = shelf_view at.shelf; listing = listing_view at.listing.now }
+listed_view at = record { root = root_view at.root.now; shelf = shelf_view at.shelf; listing = listing_view at.listing.now }
 
 -- the bytes that a state has under a digest, and under each of several
 abbrev pub bytes_at : State → Bytes → Bytes

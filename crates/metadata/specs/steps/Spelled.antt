@@ -1,5 +1,5 @@
 -- Tables and rules as a file spells them: their ids are texts of any form.
-use Rattle.std.specs.Prelude.{ℕ, List, map, option_map, String, string_bytes}
+use Rattle.std.specs.Prelude.{ℕ, List, Option, codes, map, option_map, String, string_bytes}
 use Rattle.std.specs.List.{AllByRecursion}
 use Rattle.std.specs.declared.alloc.Global.{Global}
 use Rattle.keys_roles.specs.Plain as plain
@@ -14,7 +14,9 @@ use Rattle.metadata.specs.declared.references.SpelledReference.{SpelledReference
 use Rattle.metadata.specs.declared.steps.SpelledStep.{SpelledStep}
 use Rattle.metadata.specs.declared.root.SpelledRoles.{SpelledRoles}
 use Rattle.metadata.specs.declared.root.Keyed.{Keyed}
-use Rattle.metadata.specs.Parts.{IsRuleOver}
+use Rattle.canonical_json.specs.Json.{Json}
+use Rattle.metadata.specs.Members.{Has}
+use Rattle.metadata.specs.Parts.{IsTable, IsRuleOver}
 use Rattle.metadata.specs.Bodies as bodies
 use Rattle.metadata.specs.Documents as documents
 use Rattle.metadata.specs.RuleViews.{rule_view as artifact_view}
@@ -82,8 +84,12 @@ abbrev pub keyed_view : Keyed → plain.Table × bodies.Roles
 keyed_view k =
     (table_view k.keys, record { root = rule_view k.root; snapshot = rule_view k.snapshot; targets = rule_view k.targets; timestamp = rule_view k.timestamp })
 
-abbrev pub plain_root : ℕ → ℕ → plain.Table × bodies.Roles → documents.Root
-plain_root version expires k = record {
+-- the object has these keys, and the rules of the four roles over them
+abbrev pub HasKeyed : Json → plain.Table × bodies.Roles → Type 0
+HasKeyed v k = Has v (codes "keys") (λ x. IsTable x k.0) × Has v (codes "roles") (λ x. bodies.AreRoles x k.0 k.1)
+
+abbrev pub plain_root : documents.Profile → ℕ → ℕ → Option (List (List ℕ)) → plain.Table × bodies.Roles → documents.Root
+plain_root profile version expires required k = record {
   version = version;
   expires = expires;
   keys = k.0;
@@ -91,6 +97,8 @@ plain_root version expires k = record {
   targets = k.1.targets;
   snapshot = k.1.snapshot;
   timestamp = k.1.timestamp;
+  profile = profile;
+  required = required;
 }
 
 -- each role's rule is one over the table

@@ -1,5 +1,8 @@
+use Rattle.machine.proofs.ShapedOnce.{Shapes}
 use Rattle.client.proofs.Anchors as anchors
 use Rattle.client.proofs.laws.anchor_is_behind.Goals as goal
 
 pub returns : goal.returns
-returns c = anchors.anchor_is_behind
+returns c =
+    let shapes : Shapes = record { document = c.one_document.ensures; none = c.one_shape.ensures.none; one = c.one_shape.ensures.one } in
+    anchors.anchor_is_behind shapes

@@ -127,18 +127,18 @@ pub returns-in_err-judge_layout-clause-long : goal.returns-in_err-judge_layout-c
 returns-in_err-judge_layout-clause-long g c S valid is long =
     let p = err_from_is_err_and c.from_residual-in_err-judge_layout.result c.from_residual-in_err-judge_layout.ensures.1 in
     let at = one_given (listed-definite S.trusted c.args.path.now c.args.now) long.lists (lists_at S is (given_by c.in_ok-at.ensures.answer)) in
-    let refused = c.in_err-judge_layout.ensures.long S valid is (subst (λ (l : Listed). HasLongSupport S l.shelf c.args.now l.listing.layout) at long.long) in
+    let refused = c.in_err-judge_layout.ensures.long S valid is (subst (λ (l : Listed). HasLongSupport S l.root l.shelf c.args.now l.listing.layout) at long.long) in
     rw (p.1, p.2) (refused.0, shape_denial (Unit {0}) (Unit {0}) c.in_err-judge_layout.field-0.0 refused.1)
 
 pub returns-then-not-is_asked-clause-long : goal.returns-then-not-is_asked-clause-long
 returns-then-not-is_asked-clause-long g c S valid is long =
     let at = one_given (listed-definite S.trusted c.args.path.now c.args.now) long.lists (lists_at S is (given_by c.in_ok-at.ensures.answer)) in
-    absurd (c.in_ok-judge_layout.ensures.long S valid is (subst (λ (l : Listed). HasLongSupport S l.shelf c.args.now l.listing.layout) at long.long)).1
+    absurd (c.in_ok-judge_layout.ensures.long S valid is (subst (λ (l : Listed). HasLongSupport S l.root l.shelf c.args.now l.listing.layout) at long.long)).1
 
 pub returns-clause-long : goal.returns-clause-long
 returns-clause-long g c S valid is long =
     let at = one_given (listed-definite S.trusted c.args.path.now c.args.now) long.lists (lists_at S is (given_by c.in_ok-at.ensures.answer)) in
-    absurd (c.in_ok-judge_layout.ensures.long S valid is (subst (λ (l : Listed). HasLongSupport S l.shelf c.args.now l.listing.layout) at long.long)).1
+    absurd (c.in_ok-judge_layout.ensures.long S valid is (subst (λ (l : Listed). HasLongSupport S l.root l.shelf c.args.now l.listing.layout) at long.long)).1
 
 pub returns-in_err-judge_layout-clause-most : goal.returns-in_err-judge_layout-clause-most
 returns-in_err-judge_layout-clause-most g c none =

@@ -6,11 +6,12 @@ use Rattle.metadata.specs.Views.{listing_view}
 use Rattle.denials.specs.Orders.{decide, holds, pass}
 use Rattle.denials.specs.declared.denial.Denial.TheVariants.{NoRoot}
 use Rattle.delegations.specs.Rows.{Rows}
-use Rattle.delegations.specs.Search.{Shelf, search, shelf_of}
+use Rattle.delegations.specs.Search.{Shelf, shelf_of}
 use Rattle.delegations.specs.Views.{found_view, shelf_view}
 use Rattle.machine.specs.declared.refusal.Refusal.TheVariants.{Denied}
 use Rattle.machine.specs.Answers.{Gives, denies, gives}
 use Rattle.machine.specs.Commands.{listed}
+use Rattle.machine.specs.Supports.{searched}
 use Rattle.machine.specs.State.{Trusted}
 use Rattle.machine.specs.Views.{trusted_view}
 use Rattle.machine.specs.steps.Permitting.{listed_view}
@@ -39,7 +40,7 @@ returns-in_err-found-clause-answer c =
     (denied_by_search (trusted_view c.trusted-trusted.result.now) c.args.path.now c.args.now (root_file c.in-Some.root.now) (snapshot_file c.in_ok-snapshot.snapshot.now)
     c.is_path.ensures (ap (option_map root_file) (sym c.in-Some.ensures.value))
     (given_by (live_as (root_file c.in-Some.root.now) (seen timestamp_file _ _ c.as_ref-2.ensures.value) (seen snapshot_file _ _ c.as_ref-3.ensures.value) c.in_ok-snapshot.ensures.answer))
-    (subst (λ (V : Shelf). Gives (search V c.args.path.now c.args.now) found_view (Err c.in_err-found.field-0.0))
+    (subst (λ (V : Shelf). Gives (searched (root_file c.in-Some.root.now).body V c.args.path.now c.args.now) found_view (Err c.in_err-found.field-0.0))
     (c.new-shelf.ensures.shelf ∙ ap (λ (r : Rows). shelf_of (root_file c.in-Some.root.now) (snapshot_file c.in_ok-snapshot.snapshot.now) r) c.held_rows.ensures) c.in_err-found.ensures.answer)))
 
 pub returns-clause-answer : goal.returns-clause-answer
@@ -50,12 +51,12 @@ returns-clause-answer c =
     let path = c.args.path.now in
     let now = c.args.now in
     let l = listing_view c.in_ok-found.found.listing.now in
-    gives (subst (λ (T : Trusted). listed T path now (Ok (record { shelf = shelf_view c.new-shelf.result; listing = l }))) c.trusted-trusted.ensures.view
-    (subst (λ (V : Shelf). listed (trusted_view c.trusted-trusted.result.now) path now (Ok (record { shelf = V; listing = l }))) (sym same)
+    gives (subst (λ (T : Trusted). listed T path now (Ok (record { root = root.body; shelf = shelf_view c.new-shelf.result; listing = l }))) c.trusted-trusted.ensures.view
+    (subst (λ (V : Shelf). listed (trusted_view c.trusted-trusted.result.now) path now (Ok (record { root = root.body; shelf = V; listing = l }))) (sym same)
     (found_by_search (trusted_view c.trusted-trusted.result.now) path now root snap (found_view c.in_ok-found.found)
     c.is_path.ensures (ap (option_map root_file) (sym c.in-Some.ensures.value))
     (given_by (live_as root (seen timestamp_file _ _ c.as_ref-2.ensures.value) (seen snapshot_file _ _ c.as_ref-3.ensures.value) c.in_ok-snapshot.ensures.answer))
-    (given_by (subst (λ (V : Shelf). Gives (search V path now) found_view (Ok c.in_ok-found.found)) same c.in_ok-found.ensures.answer)))))
+    (given_by (subst (λ (V : Shelf). Gives (searched root.body V path now) found_view (Ok c.in_ok-found.found)) same c.in_ok-found.ensures.answer)))))
 
 pub returns-clause-wanted : goal.returns-clause-wanted
 returns-clause-wanted c few =

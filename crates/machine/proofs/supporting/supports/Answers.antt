@@ -4,6 +4,7 @@ use Rattle.std.proofs.lemmas.Result.{err_from_is_err_and}
 use Rattle.std.specs.Prelude.{IsSome}
 use Rattle.std.specs.List.{AllByRecursion}
 use Rattle.metadata.specs.File.{Bytes}
+use Rattle.metadata.specs.Views.{root_view}
 use Rattle.delegations.specs.Views.{shelf_view}
 use Rattle.path_patterns.specs.declared.Digest.{Digest}
 use Rattle.layouts.proofs.Lists.{none_left}
@@ -18,7 +19,7 @@ use Rattle.machine.proofs.supporting.supports.Goals as goal
 
 pub paths-init : goal.paths-init
 paths-init c = record {
-  each = λ S valid is. rw (c.new-found.ensures.items) (follows_first (support S (shelf_view c.args.shelf.now) c.args.now) c.args.paths.now);
+  each = λ S valid is. rw (c.new-found.ensures.items) (follows_first (support S (root_view c.args.root.now) (shelf_view c.args.shelf.now) c.args.now) c.args.paths.now);
   there = rw (c.new-found.ensures.items) tt;
   grows = omega arith;
   free = λ few complete. refl;
@@ -27,14 +28,14 @@ paths-init c = record {
 pub returns-in_err-digest-clause-answer : goal.returns-in_err-digest-clause-answer
 returns-in_err-digest-clause-answer c S valid is =
     let p = err_from_is_err_and c.from_residual.result c.from_residual.ensures.1 in
-    rw (p.1, p.2) (each_denied (support S (shelf_view c.args.shelf.now) c.args.now) _ _ _ _ _ c.in-Some.ensures.cases.0 (c.paths.invariant.each S valid is) (c.in_err-digest.ensures.answer S valid is))
+    rw (p.1, p.2) (each_denied (support S (root_view c.args.root.now) (shelf_view c.args.shelf.now) c.args.now) _ _ _ _ _ c.in-Some.ensures.cases.0 (c.paths.invariant.each S valid is) (c.in_err-digest.ensures.answer S valid is))
 
 pub paths-preserved : goal.paths-preserved
 paths-preserved c = record {
   each = λ S valid is.
-      subst (λ (bs : List Bytes). Follows (support S (shelf_view c.args.shelf.now) c.args.now) c.args.paths.now c.in-Some.later.now bs)
+      subst (λ (bs : List Bytes). Follows (support S (root_view c.args.root.now) (shelf_view c.args.shelf.now) c.args.now) c.args.paths.now c.in-Some.later.now bs)
       (sym (ap (all_bytes_at S) c.in_ok-push.ensures.items ∙ map-append (λ (d : Digest). bytes_at S d.0) c.paths.found.items (c.in_ok-digest.digest ∷ [])))
-      (follows_next (support S (shelf_view c.args.shelf.now) c.args.now) c.args.paths.now c.paths.rest.now c.in-Some.later.now c.in-Some.path.now (all_bytes_at S c.paths.found.items) _ c.in-Some.ensures.cases.0
+      (follows_next (support S (root_view c.args.root.now) (shelf_view c.args.shelf.now) c.args.now) c.args.paths.now c.paths.rest.now c.in-Some.later.now c.in-Some.path.now (all_bytes_at S c.paths.found.items) _ c.in-Some.ensures.cases.0
       (given_by (c.in_ok-digest.ensures.answer S valid is)) (c.paths.invariant.each S valid is));
   there = subst (λ (ds : List Digest). AllByRecursion (λ d. IsSome (length_at c.args.held.now.held.blobs d.0)) ds) (sym c.in_ok-push.ensures.items)
       (more_all (λ (d : Digest). IsSome (length_at c.args.held.now.held.blobs d.0)) c.paths.found.items c.in_ok-digest.digest c.paths.invariant.there c.in_ok-digest.ensures.held);
@@ -44,7 +45,7 @@ paths-preserved c = record {
 
 pub returns-clause-answer : goal.returns-clause-answer
 returns-clause-answer c S valid is =
-    gives (follows_end (support S (shelf_view c.args.shelf.now) c.args.now) c.args.paths.now c.paths.rest.now (all_bytes_at S c.paths.found.items) (none_left c.paths.rest.now c.in_default.ensures.cases) (c.paths.invariant.each S valid is))
+    gives (follows_end (support S (root_view c.args.root.now) (shelf_view c.args.shelf.now) c.args.now) c.args.paths.now c.paths.rest.now (all_bytes_at S c.paths.found.items) (none_left c.paths.rest.now c.in_default.ensures.cases) (c.paths.invariant.each S valid is))
 
 pub returns-in_err-push-clause-answer : goal.returns-in_err-push-clause-answer
 returns-in_err-push-clause-answer c S valid is =

@@ -1,6 +1,8 @@
 use Rattle.std.proofs.Common.{ap, ◌∙◌, ◌++◌, None, map, option_map, refl}
+use Rattle.metadata.specs.Views.{profile_view}
+use Rattle.machine.specs.State.{kept_root}
 use Rattle.metadata.specs.FileViews.{root_file}
-use Rattle.machine.specs.Views.{last_bytes}
+use Rattle.machine.specs.Views.{last_kept}
 use Rattle.machine.proofs.PutInRoom.{map_twice, last_seen, same_state}
 use Rattle.machine.proofs.taking.laid_parts.Goals as goal
 
@@ -8,8 +10,8 @@ pub returns : goal.returns
 returns c =
     let roots = c.args.files.changes.roots.items in
     same_state _ _ _ _ _ _ _ _ _ _ _ _
-    (c.take_roots.ensures.bytes
-    ∙ (ap (λ l. (map (λ b. b.items) l ++ last_bytes None) ++ map (λ r. r.source.bytes) roots) c.in_ok-earlier.ensures.items
-    ∙ map_twice (λ r. r.bytes) root_file roots))
+    (c.take_roots.ensures.kept
+    ∙ (ap (λ l. (map (λ b. (profile_view b.0, b.1.items)) l ++ last_kept None) ++ map (λ r. kept_root (root_file r)) roots) c.in_ok-earlier.ensures.items
+    ∙ map_twice kept_root root_file roots))
     (ap (option_map root_file) c.take_roots.ensures.last ∙ last_seen root_file None roots)
     refl refl refl refl

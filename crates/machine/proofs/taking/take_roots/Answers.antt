@@ -7,7 +7,7 @@ use Rattle.machine.proofs.taking.take_roots.Goals as goal
 
 pub loop-root-preserved : goal.loop-root-preserved
 loop-root-preserved c = record {
-  bytes = rw (c.push_root.ensures.bytes, c.loop-root.invariant.bytes) (simp (map-append, append_assoc));
+  kept = rw (c.push_root.ensures.kept, c.loop-root.invariant.kept) (simp (map-append, append_assoc));
   last = c.push_root.ensures.last ∙ sym (last_of _ c.loop-root.yielded c.in-Some.root);
   room = room_left _ _ _ c.loop-root.yielded c.in-Some.root c.loop-root.invariant.room c.push_root.ensures.room;
 }

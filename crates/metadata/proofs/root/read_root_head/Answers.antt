@@ -1,0 +1,10 @@
+use Rattle.metadata.proofs.root.read_root_head.Goals as goal
+
+pub returns-in_err-profile : goal.returns-in_err-profile
+returns-in_err-profile c = rw c.from_residual.ensures (λ profile version expires h. c.in_err-profile.ensures profile h.0)
+
+pub returns-in_err-version : goal.returns-in_err-version
+returns-in_err-version c = rw c.from_residual-in_err-version.ensures (λ profile version expires h. c.in_err-version.ensures version h.1)
+
+pub returns-in_err-expires : goal.returns-in_err-expires
+returns-in_err-expires c = rw c.from_residual-in_err-expires.ensures (λ profile version expires h. c.in_err-expires.ensures expires h.2)
