@@ -34,20 +34,15 @@ module _ (V : Shelf) where
   all_listed [] h = tt
   all_listed (row ∷ T) h = (h.0.listed, all_listed T h.1)
 
-  row_tells : (row : Place × List Verdict) (T : Table) (role : Name) (version : ℕ) (file : File Targets) → IsRow V row → row_at V.rows role version ≡ Some file
-      → AreVerdicts file.signed file.entries (known_at T (role, version)) → (b : Bool) → same_place row.0 (role, version) ≡ b
-      → AreVerdicts file.signed file.entries (unwrap_or (cond b (Some row.1) (value_at same_place T (role, version))) [])
-  row_tells row T role version file is there later true same =
-      let at : row.0 ≡ (role, version) = place_one row.0 (role, version) same in
-      let k : Some is.file ≡ Some file = sym is.stands ∙ ap (λ (p : Place). row_at V.rows p.0 p.1) at ∙ there in
-      let one : is.file ≡ file = cc in
-      subst (λ (f : File Targets). AreVerdicts f.signed f.entries row.1) one is.gathered.are
-  row_tells row T role version file is there later false same = later
-
   pub all_true : (T : Table) → AllByRecursion (IsRow V) T → AreTrue V.rows T
-  all_true [] h role version file there = tt
-  all_true (row ∷ T) h role version file there =
-      row_tells row T role version file h.0 there (all_true T h.1 role version file there) (same_place row.0 (role, version)) refl
+  all_true [] h = tt
+  all_true (row ∷ T) h = (λ file there. tells row h.0 file there, all_true T h.1)
+    where
+      tells : (row : Place × List Verdict) → IsRow V row → (file : File Targets) → row_at V.rows row.0.0 row.0.1 ≡ Some file → AreVerdicts file.signed file.entries row.1
+      tells row is file there =
+          let k : Some is.file ≡ Some file = sym is.stands ∙ there in
+          let one : is.file ≡ file = cc in
+          subst (λ (f : File Targets). AreVerdicts f.signed f.entries row.1) one is.gathered.are
 
   -- ---- what is known of the document of a role is what its row has
 

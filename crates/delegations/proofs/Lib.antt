@@ -25,3 +25,4 @@ pub mod Sound
 pub mod Grows
 pub mod Missing
 pub mod GoodChains
+pub mod TrueVerdicts

@@ -24,9 +24,9 @@ abbrev pub verdict_count : Table → ℕ
 verdict_count [] = 0
 verdict_count (row ∷ rows) = length row.1 + verdict_count rows
 
--- each verdict is the truth of verification over the bytes of the row that it names
+-- each verdict, wherever it stands, is the truth of verification over the bytes of the row under whose place it stands
 abbrev pub AreTrue : Rows → Table → Type 0
-AreTrue rows T = (role : Name) (version : ℕ) (file : File Targets) → row_at rows role version ≡ Some file → AreVerdicts file.signed file.entries (known_at T (role, version))
+AreTrue rows T = AllByRecursion (λ known. (file : File Targets) → row_at rows known.0.0 known.0.1 ≡ Some file → AreVerdicts file.signed file.entries known.1) T
 
 -- each row that the table names stands on the shelf
 abbrev pub AreOfRows : Rows → Table → Type 0

@@ -4,6 +4,7 @@ ghost use Rattle.lms.specs.declared.Params.{Params};
 ghost use Rattle.sqlite.specs.Held.{state};
 ghost use Rattle.sqlite.specs.State.{HasCleanDisk, Survives};
 ghost use Rattle.sqlite_trees.specs.Tree.{Trees};
+ghost use Rattle.sql_tables.specs.Outliving.{Outlives, StaysOpen};
 ghost use Rattle.lms.specs.Keys.{leaf_count};
 ghost use Rattle.keys_roles.specs.Keys.{id_of};
 ghost use Rattle.keys_roles.specs.Views.{id_text, key_view};
@@ -78,7 +79,7 @@ impl<S: Alter> Book<S> {
 
     /// Registers the key of a seed under parameters, and answers its id. Where it is registered with the same parameters nothing
     /// changes. It writes by one statement at most, outside a transaction, as its last call of the database, and takes no memory
-    /// after it.
+    /// after it. Whatever it answers, the book may be used on, unless a call of the disk answered a fault.
     ///
     /// - `Damaged`: the key is registered with other parameters.
     /// - `Database`: a call of the database answered a fault.
@@ -89,6 +90,7 @@ impl<S: Alter> Book<S> {
         ensures right { IsBook self.new.book }
         ensures clean { HasCleanDisk (state S.Store self.new.conn) → HasCleanDisk (state S.Store self.old.conn) }
         ensures live { HasCleanDisk (state S.Store self.new.conn) → OnOk result (IsTrue (state S.Store self.old.conn).is_open × IsTrue (state S.Store self.new.conn).is_open) }
+        ensures stays { StaysOpen (state S.Store self.old.conn) (state S.Store self.new.conn) }
         ensures crash { HasCleanDisk (state S.Store self.new.conn) → IsTrue (state S.Store self.old.conn).is_open → (trees : Trees) → (state S.Store self.new.conn).may_leave trees
             → HoldsWhole trees self.old.book ⊎ ((r : _) × (c : plain.Book) × Registers self.old.book seed.now params r c × HoldsWhole trees c) }
         ensures durable { HasCleanDisk (state S.Store self.new.conn) → IsTrue (state S.Store self.new.conn).is_open → (trees : Trees) → (state S.Store self.new.conn).may_leave trees → HoldsWhole trees self.new.book }
@@ -106,6 +108,7 @@ impl<S: Alter> Book<S> {
         ensures right { IsBook self.new.book }
         ensures clean { HasCleanDisk (state S.Store self.new.conn) → HasCleanDisk (state S.Store self.old.conn) }
         ensures live { HasCleanDisk (state S.Store self.new.conn) → OnOk result (IsTrue (state S.Store self.old.conn).is_open × IsTrue (state S.Store self.new.conn).is_open) }
+        ensures stays { StaysOpen (state S.Store self.old.conn) (state S.Store self.new.conn) }
         ensures crash { HasCleanDisk (state S.Store self.new.conn) → IsTrue (state S.Store self.old.conn).is_open → (trees : Trees) → (state S.Store self.new.conn).may_leave trees
             → HoldsWhole trees self.old.book ⊎ ((r : _) × (c : plain.Book) × Registers self.old.book pair.now.seed pair.now.params r c × HoldsWhole trees c) }
         ensures durable { HasCleanDisk (state S.Store self.new.conn) → IsTrue (state S.Store self.new.conn).is_open → (trees : Trees) → (state S.Store self.new.conn).may_leave trees → HoldsWhole trees self.new.book }
@@ -118,7 +121,8 @@ impl<S: Alter> Book<S> {
 
     /// Reserves a leaf of the key for the message: the one that is kept for it already, else the least that is not used, which is
     /// then kept for the message, committed before the call answers. It writes by one statement at most, outside a transaction, as
-    /// its last call of the database, and takes no memory after it.
+    /// its last call of the database, and takes no memory after it. Whatever it answers, the book may be used on, unless a call of
+    /// the disk answered a fault.
     ///
     /// - `LeavesSpent`: all leaves of the key are used, and the message has none.
     /// - `UnknownKey`: the key is not registered.
@@ -130,6 +134,7 @@ impl<S: Alter> Book<S> {
         ensures right { IsBook self.new.book }
         ensures clean { HasCleanDisk (state S.Store self.new.conn) → HasCleanDisk (state S.Store self.old.conn) }
         ensures live { HasCleanDisk (state S.Store self.new.conn) → OnOk result (IsTrue (state S.Store self.old.conn).is_open × IsTrue (state S.Store self.new.conn).is_open) }
+        ensures stays { StaysOpen (state S.Store self.old.conn) (state S.Store self.new.conn) }
         ensures crash { HasCleanDisk (state S.Store self.new.conn) → IsTrue (state S.Store self.old.conn).is_open → (trees : Trees) → (state S.Store self.new.conn).may_leave trees
             → HoldsWhole trees self.old.book ⊎ ((r : _) × (c : plain.Book) × Reserves self.old.book (id_text key.now) message.now r c × HoldsWhole trees c) }
         ensures durable { HasCleanDisk (state S.Store self.new.conn) → IsTrue (state S.Store self.new.conn).is_open → (trees : Trees) → (state S.Store self.new.conn).may_leave trees → HoldsWhole trees self.new.book }
@@ -180,6 +185,7 @@ impl<S: Alter> Book<S> {
         ensures done { OnOk result (self.new.book ≡ with_signer (id_text key.now) params self.old.book) }
         ensures kept { OnErr result (self.new.book ≡ self.old.book) }
         ensures live { HasCleanDisk (state S.Store self.new.conn) → IsTrue (state S.Store self.old.conn).is_open → OnOk result (IsTrue (state S.Store self.new.conn).is_open) }
+        ensures outlives { Outlives (state S.Store self.old.conn) (state S.Store self.new.conn) }
         ensures crash { HasCleanDisk (state S.Store self.new.conn) → IsTrue (state S.Store self.old.conn).is_open → (trees : Trees) → (state S.Store self.new.conn).may_leave trees
             → HoldsWhole trees self.old.book ⊎ HoldsWhole trees (with_signer (id_text key.now) params self.old.book) }
         ensures clean { HasCleanDisk (state S.Store self.new.conn) → HasCleanDisk (state S.Store self.old.conn) }
@@ -200,6 +206,7 @@ impl<S: Alter> Book<S> {
         ensures done { OnOk result (self.new.book ≡ with_leaf (id_text key.now) leaf message.now self.old.book) }
         ensures kept { OnErr result (self.new.book ≡ self.old.book) }
         ensures live { HasCleanDisk (state S.Store self.new.conn) → IsTrue (state S.Store self.old.conn).is_open → OnOk result (IsTrue (state S.Store self.new.conn).is_open) }
+        ensures outlives { Outlives (state S.Store self.old.conn) (state S.Store self.new.conn) }
         ensures crash { HasCleanDisk (state S.Store self.new.conn) → IsTrue (state S.Store self.old.conn).is_open → (trees : Trees) → (state S.Store self.new.conn).may_leave trees
             → HoldsWhole trees self.old.book ⊎ HoldsWhole trees (with_leaf (id_text key.now) leaf message.now self.old.book) }
         ensures clean { HasCleanDisk (state S.Store self.new.conn) → HasCleanDisk (state S.Store self.old.conn) }
@@ -239,6 +246,7 @@ impl<S: Alter> Book<S> {
         ensures registers { Registers self.old.book seed.now params (id_answer result) self.new.book }
         ensures clean { HasCleanDisk (state S.Store self.new.conn) → HasCleanDisk (state S.Store self.old.conn) }
         ensures live { HasCleanDisk (state S.Store self.new.conn) → OnOk result (IsTrue (state S.Store self.old.conn).is_open × IsTrue (state S.Store self.new.conn).is_open) }
+        ensures outlives { Outlives (state S.Store self.old.conn) (state S.Store self.new.conn) }
         ensures crash { HasCleanDisk (state S.Store self.new.conn) → IsTrue (state S.Store self.old.conn).is_open → (trees : Trees) → (state S.Store self.new.conn).may_leave trees
             → HoldsWhole trees self.old.book ⊎ ((r : _) × (c : plain.Book) × Registers self.old.book seed.now params r c × HoldsWhole trees c) }
     {
@@ -263,6 +271,7 @@ impl<S: Alter> Book<S> {
         ensures reserves { Reserves self.old.book (id_text key.now) message.now result self.new.book }
         ensures clean { HasCleanDisk (state S.Store self.new.conn) → HasCleanDisk (state S.Store self.old.conn) }
         ensures live { HasCleanDisk (state S.Store self.new.conn) → OnOk result (IsTrue (state S.Store self.old.conn).is_open × IsTrue (state S.Store self.new.conn).is_open) }
+        ensures outlives { Outlives (state S.Store self.old.conn) (state S.Store self.new.conn) }
         ensures crash { HasCleanDisk (state S.Store self.new.conn) → IsTrue (state S.Store self.old.conn).is_open → (trees : Trees) → (state S.Store self.new.conn).may_leave trees
             → HoldsWhole trees self.old.book ⊎ ((r : _) × (c : plain.Book) × Reserves self.old.book (id_text key.now) message.now r c × HoldsWhole trees c) }
     {

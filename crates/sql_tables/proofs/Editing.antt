@@ -145,3 +145,15 @@ bare_inside ds s is_open inside schema bare cells none = record {
 pub made_inside : (ds : List Description) (rows : Trees) (s : State) → IsMade rows (schema_of ds) s → AreEmpty (schema_of ds) rows → (cells : List (List Row)) → AllByRecursion (λ (x : List Row). x ≡ []) cells → IsInside ds s cells
 made_inside ds rows s is bare cells none =
     bare_inside ds s is.is_open is.inside (subst (HasAll ds) (sym is.schema_is) (has_all_alone ds)) (all_then (λ (t : Table). s.now.trees t.tree ≡ rows t.tree) (λ (t : Table). rows t.tree ≡ []) (λ (t : Table). s.now.trees t.tree ≡ []) (tables_from 0 ds) is.holds bare (λ t same empty. same ∙ empty)) cells none
+
+-- where the tables that were made hold these rows
+pub rows_inside : (ds : List Description) (rows : Trees) (s : State) → IsMade rows (schema_of ds) s → (cells : List (List Row))
+    → ((n : ℕ) → n < length ds → AreRows (shown_of (at_place ds n)) (rows (tree_from 0 ds n)) (cells_at cells n)) → IsInside ds s cells
+rows_inside ds rows s is cells each = record {
+  is_open = is.is_open;
+  inside = is.inside;
+  schema = subst (HasAll ds) (sym is.schema_is) (has_all_alone ds);
+  holds = λ n few.
+      let here : s.now.trees (tree_from 0 ds n) ≡ rows (tree_from 0 ds n) = at_each (λ t. s.now.trees t ≡ rows t) 0 ds is.holds n few in
+      subst (λ r. AreRows (shown_of (at_place ds n)) r (cells_at cells n)) (sym here) (each n few);
+}

@@ -15,3 +15,4 @@ pub mod Beginnings
 pub mod Listed
 pub mod References
 pub mod Editing
+pub mod Outlived

@@ -8,3 +8,4 @@ pub mod Loading
 pub mod Asking
 pub mod Cells
 pub mod Opening
+pub mod Outliving

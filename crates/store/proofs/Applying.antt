@@ -22,6 +22,8 @@ use Rattle.machine.specs.declared.refusal.Refusal.{Refusal}
 use Rattle.machine.specs.declared.refusal.Refusal.TheVariants as refusals
 use Rattle.machine.specs.declared.refusal.BatchRefusal.{BatchRefusal}
 use Rattle.machine.specs.declared.refusal.BatchRefusal.TheVariants as batches
+use Rattle.sql_tables.specs.Outliving.{Outlives}
+use Rattle.sql_tables.proofs.Outlived.{outlives_by, outlives_then, untouched}
 use Rattle.tables.specs.Tables.{HoldsWhole}
 use Rattle.store.specs.Applies.{Replies}
 use Rattle.store.specs.Standing.{IsStateOf, StandsAt, seen}
@@ -112,6 +114,7 @@ still S old c now r left step sound = record {
   sound = sound;
   clean = λ clean. clean;
   live = λ clean there. on_ok (IsTrue old.is_open) r there;
+  outlives = untouched old;
   crash = λ clean there trees may. inl (left clean there trees may);
 }
 
@@ -121,26 +124,28 @@ Crash S U old new = HasCleanDisk new → IsTrue old.is_open → (trees : Trees) 
 -- the step was made, and written
 made : (S T : State) (old new : database.State) (c : Command) (now : ℕ) (e : Effects) (reply : Answer) → T ≡ applied S (effects_view e)
     → Steps S c now (applied S (effects_view e), reply_view reply) → (HasCleanDisk new → HasCleanDisk old) → (HasCleanDisk new → IsTrue old.is_open → IsTrue new.is_open)
-    → Crash S (applied S (effects_view e)) old new → Does S T old new c now (Ok reply)
-made S T old new c now e reply is step tidy live crash = record {
+    → Crash S (applied S (effects_view e)) old new → Outlives old new → Does S T old new c now (Ok reply)
+made S T old new c now e reply is step tidy live crash outlives = record {
   step = step_replies _ S c now T (reply_view reply) (subst (λ (U : State). Steps S c now (U, reply_view reply)) (sym is) step);
   kept = tt;
   sound = λ same. let k : ◌≡◌ {A = Result Answer StoreFault} (Ok reply) (Err Damaged) = same in cc;
   clean = tidy;
   live = live;
+  outlives = outlives;
   crash = λ clean there trees may. elim (crash clean there trees may) [ inl b ↦ inl b | inr a ↦ inr (applied S (effects_view e), reply_view reply, step, a) ];
 }
 
 -- a fault came in between
 unmade : (S T : State) (old new : database.State) (c : Command) (now : ℕ) (e : Effects) (reply : Reply) (fault : StoreFault) → T ≡ S
     → Steps S c now (applied S (effects_view e), reply) → (fault ≡ Damaged → ⊥) → (HasCleanDisk new → HasCleanDisk old)
-    → Crash S (applied S (effects_view e)) old new → Does S T old new c now (Err fault)
-unmade S T old new c now e reply fault is step sound tidy crash = record {
+    → Crash S (applied S (effects_view e)) old new → Outlives old new → Does S T old new c now (Err fault)
+unmade S T old new c now e reply fault is step sound tidy crash outlives = record {
   step = tt;
   kept = is;
   sound = λ same. sound (let k : ◌≡◌ {A = Result Answer StoreFault} (Err fault) (Err Damaged) = same in cc);
   clean = tidy;
   live = λ clean there. tt;
+  outlives = outlives;
   crash = λ clean there trees may. elim (crash clean there trees may) [ inl b ↦ inl b | inr a ↦ inr (applied S (effects_view e), reply, step, a) ];
 }
 
@@ -158,19 +163,19 @@ CrashAt kept old new e =
 pub made_at : (kept left : Kept) (old new : database.State) (c : Command) (now : ℕ) (e : Effects) (reply : Answer)
     → ((S : State) → StandsAt (seen kept old) S → StandsAt (seen left new) (applied S (effects_view e)))
     → ((S : State) → IsStateOf kept S → Steps S c now (applied S (effects_view e), reply_view reply))
-    → (HasCleanDisk new → HasCleanDisk old) → (HasCleanDisk new → IsTrue old.is_open → IsTrue new.is_open) → CrashAt kept old new e
+    → (HasCleanDisk new → HasCleanDisk old) → (HasCleanDisk new → IsTrue old.is_open → IsTrue new.is_open) → CrashAt kept old new e → Outlives old new
     → DoesAt kept left old new c now (Ok reply)
-made_at kept left old new c now e reply leaves steps tidy live crash S at = (
+made_at kept left old new c now e reply leaves steps tidy live crash outlives S at = (
   applied S (effects_view e),
   leaves S at,
-  made S (applied S (effects_view e)) old new c now e reply refl (steps S at.state) tidy live (λ clean there. crash clean there S at),
+  made S (applied S (effects_view e)) old new c now e reply refl (steps S at.state) tidy live (λ clean there. crash clean there S at) outlives,
 )
 
 pub unmade_at : (kept left : Kept) (old new : database.State) (c : Command) (now : ℕ) (e : Effects) (reply : Reply) (fault : StoreFault)
     → ((S : State) → StandsAt (seen kept old) S → StandsAt (seen left new) S) → ((S : State) → IsStateOf kept S → Steps S c now (applied S (effects_view e), reply))
-    → (fault ≡ Damaged → ⊥) → (HasCleanDisk new → HasCleanDisk old) → CrashAt kept old new e → DoesAt kept left old new c now (Err fault)
-unmade_at kept left old new c now e reply fault stays steps sound tidy crash S at =
-    (S, stays S at, unmade S S old new c now e reply fault refl (steps S at.state) sound tidy (λ clean there. crash clean there S at))
+    → (fault ≡ Damaged → ⊥) → (HasCleanDisk new → HasCleanDisk old) → CrashAt kept old new e → Outlives old new → DoesAt kept left old new c now (Err fault)
+unmade_at kept left old new c now e reply fault stays steps sound tidy crash outlives S at =
+    (S, stays S at, unmade S S old new c now e reply fault refl (steps S at.state) sound tidy (λ clean there. crash clean there S at) outlives)
 
 -- the database was asked in vain
 pub failed : (S T : State) (old new : database.State) (c : Command) (now : ℕ) (fault : StoreFault) → T ≡ S → Left S old → Survives old new (λ _. ⊥)
@@ -181,6 +186,7 @@ failed S T old new c now fault is left survives sound = record {
   sound = λ same. sound (let k : ◌≡◌ {A = Result Answer StoreFault} (Err fault) (Err Damaged) = same in cc);
   clean = λ clean. omega (arith, clean, survives.clean);
   live = λ clean there. tt;
+  outlives = outlives_by old new (λ _. ⊥) survives;
   crash = λ clean there trees may. elim (survives.crash clean trees may) [ inl b ↦ inl (left (omega (arith, clean, survives.clean)) there trees b) | inr none ↦ absurd none ];
 }
 
@@ -193,6 +199,7 @@ relayed S T old mid new c now r survives there made = record {
   sound = made.sound;
   clean = λ clean. omega (arith, made.clean clean, survives.clean);
   live = λ clean was. made.live clean (there (made.clean clean)).1;
+  outlives = outlives_then old mid new made.clean (outlives_by old mid (λ _. ⊥) survives) made.outlives;
   crash = λ clean was trees may. made.crash clean (there (made.clean clean)).1 trees may;
 }
 

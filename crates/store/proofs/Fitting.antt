@@ -24,7 +24,7 @@ use Rattle.metadata.specs.Documents.{Root, Timestamp, Snapshot, Targets}
 use Rattle.metadata.specs.File.{Bytes, File, Form, IsFileOf, root_form, timestamp_form, snapshot_form, targets_form}
 use Rattle.delegations.specs.Delegation.{before}
 use Rattle.delegations.specs.Rows.{Place, Rises, Rows, place_before}
-use Rattle.machine.specs.State.{State, IsBlob, IsHeldUnder, IsRootChain, IsShelfRow, IsState}
+use Rattle.machine.specs.State.{State, IsBlob, IsHeldUnder, IsRootChain, IsShelfRow, IsState, kept_root}
 use Rattle.machine.specs.Effects.{last_or}
 use Rattle.machine.specs.steps.Loading.{FollowOn, IsChain, laid}
 use Rattle.machine.specs.Contents.{contents_of, numbered, shelf_rows}
@@ -228,7 +228,7 @@ module _ (law : Shapes) (S : State) (s : IsState S) where
   roots_chain : IsChain the_files.files.roots
   roots_chain = (chain_tells law the_files.files.roots roots_read).1 (of (last_or None the_files.files.roots) refl)
     where
-      of : (o : Option (File Root)) → last_or None the_files.files.roots ≡ o → IfSome o (IsRootChain (map (λ r. r.bytes) the_files.files.roots))
+      of : (o : Option (File Root)) → last_or None the_files.files.roots ≡ o → IfSome o (IsRootChain (map kept_root the_files.files.roots))
       of None e = tt
       of (Some r) e = (subst (λ (o : Option (File Root)). IfSome o (IsHeldUnder (laid the_files.files).trusted)) e valid_files.trusted.held).chain
 

@@ -9,7 +9,7 @@ use Rattle.metadata.specs.Documents.{Root}
 use Rattle.metadata.specs.File.{Bytes, File}
 use Rattle.delegations.specs.Delegation.{before}
 use Rattle.delegations.specs.Rows.{Place, Rows, place_before, same_place, with_row, with_rows}
-use Rattle.machine.specs.State.{State, Trusted, IsState}
+use Rattle.machine.specs.State.{State, Trusted, IsState, kept_root}
 use Rattle.machine.specs.Effects.{Effects, applied, last_or, renewed, with_blobs, without}
 use Rattle.machine.specs.Contents.{contents_of, numbered, root_rows, shelf_rows}
 use Rattle.tables.specs.Tables.{AreSame}
@@ -73,19 +73,19 @@ module _ {K A : Type 0} (below : K → K → Bool) where
 
 -- the rows of new roots
 new_same : (T : Trusted) (v : ℕ) → unwrap_or (option_map (λ root. root.body.version) T.root) 0 ≡ v → (k : ℕ) (rs : List (File Root))
-    → length T.roots ≡ k + length rs → new_roots v rs ≡ root_rows T k (map (λ r. r.bytes) rs)
+    → length T.roots ≡ k + length rs → new_roots v rs ≡ root_rows T k (map kept_root rs)
 new_same T v is k [] e = refl
 new_same T v is k (r ∷ rs) e =
     let here : v - length rs ≡ v + k + 1 - length T.roots = omega (arith, e) in
     rw (is, ← here, new_same T v is (suc k) rs (omega (arith, e))) refl
 
-roots_same : (S : State) (E : Effects) → root_rows (applied S E).trusted (length S.trusted.roots) (map (λ r. r.bytes) E.roots) ≡ new_roots (last_version E.roots) E.roots
+roots_same : (S : State) (E : Effects) → root_rows (applied S E).trusted (length S.trusted.roots) (map kept_root E.roots) ≡ new_roots (last_version E.roots) E.roots
 roots_same S E = of E.roots refl
   where
     many : length (applied S E).trusted.roots ≡ length S.trusted.roots + length E.roots
     many = simp (length-append, length-map) refl
 
-    of : (rs : List (File Root)) → E.roots ≡ rs → root_rows (applied S E).trusted (length S.trusted.roots) (map (λ r. r.bytes) rs) ≡ new_roots (last_version rs) rs
+    of : (rs : List (File Root)) → E.roots ≡ rs → root_rows (applied S E).trusted (length S.trusted.roots) (map kept_root rs) ≡ new_roots (last_version rs) rs
     of [] e = refl
     of (r ∷ rs) e =
         sym (new_same (applied S E).trusted (last_version (r ∷ rs)) (ap (λ l. unwrap_or (option_map (λ root. root.body.version) (last_or S.trusted.root l)) 0) e)
@@ -114,7 +114,7 @@ kept_rows false rows new = sym (map-append (λ row. (row.0, row.1.bytes)) rows n
 
 -- what is written is what the state then has
 pub changed_is : (S : State) (E : Effects) → AreDigests S.blobs → IsState S → IsState (applied S E)
-    → (contents_of (applied S E)).roots ≡ (contents_of S).roots ++ root_rows (applied S E).trusted (length S.trusted.roots) (map (λ r. r.bytes) E.roots)
+    → (contents_of (applied S E)).roots ≡ (contents_of S).roots ++ root_rows (applied S E).trusted (length S.trusted.roots) (map kept_root E.roots)
     → AreSame (changed E (rows_of S)) (rows_of (applied S E))
 changed_is S E digests s t roots =
     let rows = without same_place S.trusted.shelf E.gone.rows in

@@ -79,6 +79,7 @@ pub applies : (kept left : Kept) (old new : database.State) (c : Command) (now :
     → Applies kept left old new c now r
 applies kept left old new c now r does there stands rests = record {
   makes = makes kept left old new c now r does there stands;
+  stays = let (T, to, here) = does stands.0 stands.1 in here.outlives.stays;
   crash = λ clean was U at trees may. let (V, to, done) = does U at in done.crash clean was trees may;
   durable = λ clean is T at trees may. rests clean is T at trees may;
 }

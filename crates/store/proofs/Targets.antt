@@ -28,6 +28,7 @@ use Rattle.store.specs.declared.command.Reply.TheVariants as answers
 use Rattle.store.specs.steps.Doing.{DoesAt}
 use Rattle.store.specs.steps.Loading.{ReadsOnly}
 use Rattle.store.specs.steps.Replies.{IsGetFault}
+use Rattle.sql_tables.proofs.Outlived.{outlives_by}
 use Rattle.store.proofs.Applying.{Resting, on_err}
 use Rattle.store.proofs.Standings.{stands_on}
 
@@ -48,6 +49,7 @@ served kept left old new path asked now s rests same reads there answer S at = (
     sound = λ is. let k : ◌≡◌ {A = Result Answer StoreFault} (Ok (answers.Bytes s.bytes)) (Err Damaged) = is in cc;
     clean = λ clean. omega (arith, clean, reads.survives.clean);
     live = λ clean was. there clean;
+    outlives = outlives_by old new (λ _. ⊥) reads.survives;
     crash = λ clean was trees may. elim (reads.survives.crash clean trees may) [
       | inl before ↦ inl (rests (omega (arith, clean, reads.survives.clean)) was S at trees before)
       | inr none ↦ absurd none
@@ -122,6 +124,7 @@ module _ (kept : Kept) (old new : database.State) (path : Bytes) (asked : Option
       sound = no_damage fault r is;
       clean = λ clean. omega (arith, clean, reads.survives.clean);
       live = λ clean was. stays_open fault r is refused clean was;
+      outlives = outlives_by old new (λ _. ⊥) reads.survives;
       crash = λ clean was trees may. elim (reads.survives.crash clean trees may) [
         | inl before ↦ inl (rests (omega (arith, clean, reads.survives.clean)) was S at trees before)
         | inr none ↦ absurd none

@@ -6,6 +6,7 @@ use Rattle.sqlite_trees.specs.Tree.{Trees}
 use Rattle.machine.specs.State.{State}
 use Rattle.machine.specs.Runs.{Command, Reply, Steps, Target, FileBytes, Refused}
 use Rattle.machine.specs.Serving.{HasLayout, is_by_layout}
+use Rattle.sql_tables.specs.Outliving.{StaysOpen}
 use Rattle.tables.specs.Tables.{HoldsWhole}
 use Rattle.store.specs.Standing.{Holds, IsClean, Keeps, Moves, Standing, StandsAt, seen}
 use Rattle.store.specs.StateRows.{Kept, rows_of}
@@ -42,10 +43,11 @@ Makes A B command now (Err OutOfMemory) = Keeps A B
 Makes A B command now (Err Database) = Keeps A B
 Makes A B command now (Err Damaged) = ⊥
 
--- A command is made. A crash inside the call leaves the rows from before it or those from after it, and a crash after the call those of
+-- A command is made, and the store may be used on. A crash inside the call leaves the rows from before it or those from after it, and a crash after the call those of
 -- the state at which the store then stands, each in trees that list all five tables.
 pub record Applies (kept left : Kept) (old new : database.State) (command : Command) (now : ℕ) (r : Result Answer StoreFault) : Type 0 where
   pub makes : Makes (seen kept old) (seen left new) command now r
+  pub stays : StaysOpen old new
   pub crash : HasCleanDisk new → IsTrue old.is_open → (S : State) → StandsAt (seen kept old) S
       → (trees : Trees) → new.may_leave trees → HoldsWhole trees (rows_of S) ⊎ HoldsStep S command now trees
   pub durable : HasCleanDisk new → IsTrue new.is_open → (T : State) → StandsAt (seen left new) T

@@ -4,6 +4,7 @@ ghost use Rattle.sha2.specs.Sha256.{sha256};
 ghost use Rattle.sqlite.specs.Held.{state};
 ghost use Rattle.sqlite.specs.State.{HasCleanDisk, Survives};
 ghost use Rattle.sqlite_trees.specs.Tree.{Trees};
+ghost use Rattle.sql_tables.specs.Outliving.{Outlives};
 ghost use Rattle.tables.specs.Tables.{HoldsWhole, IsStore};
 ghost use Rattle.machine.specs.State as trust;
 ghost use Rattle.machine.specs.State.{IsSnapshotDue, IsState};
@@ -68,7 +69,7 @@ impl<S: Alter> Model for Store<S> {
 
 impl<S: Alter> Store<S> {
     /// Makes a command at a moment, in one transaction: the step of the trust machine, whose reply it answers. After a denial
-    /// or a fault rows and state are as before, and the store may be used on.
+    /// or a fault rows and state are as before, and the store may be used on: only a fault of the disk shuts its connection.
     ///
     /// - `Database`: a call of the database answered a fault.
     /// - `OutOfMemory`: memory was refused. Nothing takes memory once the rows are committed.
@@ -369,6 +370,7 @@ impl<S: Alter> Store<S> {
             → (trees : Trees) → (state S.Store self.new.conn).may_leave trees → HoldsWhole trees (rows_of U) ⊎ HoldsWhole trees (rows_of (applied U (effects_view effects))) }
         ensures sound { result ≢ Err StoreFault.Damaged }
         ensures clean { HasCleanDisk (state S.Store self.new.conn) → HasCleanDisk (state S.Store self.old.conn) }
+        ensures outlives { Outlives (state S.Store self.old.conn) (state S.Store self.new.conn) }
     {
         held_follows();
         self.rows.rests();

@@ -5,6 +5,7 @@ use Rattle.sqlite.specs.State.{HasCleanDisk}
 use Rattle.sqlite_trees.specs.Tree.{Trees}
 use Rattle.machine.specs.State.{State}
 use Rattle.machine.specs.Runs.{Command}
+use Rattle.sql_tables.specs.Outliving.{Outlives}
 use Rattle.tables.specs.Tables.{HoldsWhole}
 use Rattle.store.specs.Applies.{HoldsStep, Replies}
 use Rattle.store.specs.Standing.{StandsAt, seen}
@@ -22,6 +23,7 @@ pub record Does (S T : State) (old new : database.State) (command : Command) (no
   pub sound : r ≡ Err Damaged → ⊥
   pub clean : HasCleanDisk new → HasCleanDisk old
   pub live : HasCleanDisk new → IsTrue old.is_open → OnOk r (IsTrue new.is_open)
+  pub outlives : Outlives old new
   pub crash : HasCleanDisk new → IsTrue old.is_open → (trees : Trees) → new.may_leave trees → HoldsWhole trees (rows_of S) ⊎ HoldsStep S command now trees
 
 -- for each state at which a store stands there is one at which it then stands, and this was done

@@ -53,7 +53,7 @@ returns-in-Ok g c =
     (λ S of. subst (λ (n : ℕ × ℕ). Steps S Prune c.args.now (applied S (effects_view c.in-Ok-Changed.effects), Pruned n.0 n.1)) (both (sym (c.len-blobs.ensures ∙ c.in-Ok-Changed.effects.gone.blobs.ok.0)) (sym (c.len-rows.ensures ∙ c.in-Ok-Changed.effects.gone.rows.ok.0)))
     (prunes S c.args.now c.in-Ok-Changed.effects (each c.held.result.now.held kept (λ S. Answers S (commands.prune S) (Ok (Changed c.in-Ok-Changed.effects))) c.held.ensures told S of)
     (each c.held.result.now.held kept (λ S. CountsGone S (Ok (Changed c.in-Ok-Changed.effects))) c.held.ensures counted S of)))
-    c.in-Ok.ensures.clean c.in-Ok.ensures.live c.in-Ok.ensures.crash
+    c.in-Ok.ensures.clean c.in-Ok.ensures.live c.in-Ok.ensures.crash c.keep.ensures.outlives
 
 pub returns-in-Err-keep : goal.returns-in-Err-keep
 returns-in-Err-keep g c =
@@ -64,4 +64,4 @@ returns-in-Err-keep g c =
     c.in-Ok-Changed.effects (Pruned (length c.in-Ok-Changed.effects.gone.blobs.items) (length c.in-Ok-Changed.effects.gone.rows.items)) c.in-Err-keep.fault c.in-Err-keep.ensures.kept
     (λ S of. prunes S c.args.now c.in-Ok-Changed.effects (each c.held.result.now.held kept (λ S. Answers S (commands.prune S) (Ok (Changed c.in-Ok-Changed.effects))) c.held.ensures told S of)
     (each c.held.result.now.held kept (λ S. CountsGone S (Ok (Changed c.in-Ok-Changed.effects))) c.held.ensures counted S of))
-    (λ same. c.in-Err-keep.ensures.sound (ap Err same)) c.in-Err-keep.ensures.clean c.in-Err-keep.ensures.crash
+    (λ same. c.in-Err-keep.ensures.sound (ap Err same)) c.in-Err-keep.ensures.clean c.in-Err-keep.ensures.crash c.keep.ensures.outlives

@@ -45,7 +45,7 @@ returns-in-Ok g c =
     made_at kept c.keep.new.self.kept (state g.S.Store c.args.self.now.conn) (state g.S.Store c.keep.new.self.conn) (PutBlob c.args.digest.0 c.args.bytes.now) c.args.now
     c.in-Ok-Changed.effects (answers.Stored true) c.in-Ok.ensures.done
     (λ S of. puts S c.args.digest.0 c.args.bytes.now c.args.now c.in-Ok-Changed.effects (each c.held.result.now.held kept (λ S. Answers S (commands.put_blob S c.args.digest.0 c.args.bytes.now) (Ok (Changed c.in-Ok-Changed.effects))) c.held.ensures told S of))
-    c.in-Ok.ensures.clean c.in-Ok.ensures.live c.in-Ok.ensures.crash
+    c.in-Ok.ensures.clean c.in-Ok.ensures.live c.in-Ok.ensures.crash c.keep.ensures.outlives
 
 pub returns-in-Err-keep : goal.returns-in-Err-keep
 returns-in-Err-keep g c =
@@ -54,4 +54,4 @@ returns-in-Err-keep g c =
     unmade_at kept c.keep.new.self.kept (state g.S.Store c.args.self.now.conn) (state g.S.Store c.keep.new.self.conn) (PutBlob c.args.digest.0 c.args.bytes.now) c.args.now
     c.in-Ok-Changed.effects (Stored true) c.in-Err-keep.fault c.in-Err-keep.ensures.kept
     (λ S of. puts S c.args.digest.0 c.args.bytes.now c.args.now c.in-Ok-Changed.effects (each c.held.result.now.held kept (λ S. Answers S (commands.put_blob S c.args.digest.0 c.args.bytes.now) (Ok (Changed c.in-Ok-Changed.effects))) c.held.ensures told S of))
-    (λ same. c.in-Err-keep.ensures.sound (ap Err same)) c.in-Err-keep.ensures.clean c.in-Err-keep.ensures.crash
+    (λ same. c.in-Err-keep.ensures.sound (ap Err same)) c.in-Err-keep.ensures.clean c.in-Err-keep.ensures.crash c.keep.ensures.outlives

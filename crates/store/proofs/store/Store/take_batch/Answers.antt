@@ -35,7 +35,7 @@ returns-in-Ok-keep g c =
     c.in-Ok.batched.effects (answers.Batch c.in-Ok.batched.accepted c.in-Ok.batched.same) c.in-Ok-keep.ensures.done
     (λ S of. batches_all S os c.args.now c.in-Ok.batched
     (each c.held.result.now.held kept (λ S. AnswersBatch S (commands.batch S.trusted os c.args.now) (Ok c.in-Ok.batched)) c.held.ensures c.in-Ok.ensures.answers S of))
-    c.in-Ok-keep.ensures.clean c.in-Ok-keep.ensures.live c.in-Ok-keep.ensures.crash
+    c.in-Ok-keep.ensures.clean c.in-Ok-keep.ensures.live c.in-Ok-keep.ensures.crash c.keep.ensures.outlives
 
 pub returns-in-Err-keep : goal.returns-in-Err-keep
 returns-in-Err-keep g c =
@@ -45,4 +45,4 @@ returns-in-Err-keep g c =
     c.in-Ok.batched.effects (BatchDone c.in-Ok.batched.accepted c.in-Ok.batched.same) c.in-Err-keep.fault c.in-Err-keep.ensures.kept
     (λ S of. batches_all S os c.args.now c.in-Ok.batched
     (each c.held.result.now.held kept (λ S. AnswersBatch S (commands.batch S.trusted os c.args.now) (Ok c.in-Ok.batched)) c.held.ensures c.in-Ok.ensures.answers S of))
-    (λ same. c.in-Err-keep.ensures.sound (ap Err same)) c.in-Err-keep.ensures.clean c.in-Err-keep.ensures.crash
+    (λ same. c.in-Err-keep.ensures.sound (ap Err same)) c.in-Err-keep.ensures.clean c.in-Err-keep.ensures.crash c.keep.ensures.outlives

@@ -47,7 +47,7 @@ returns-in-Ok g c =
     made_at kept c.keep.new.self.kept (state g.S.Store c.args.self.now.conn) (state g.S.Store c.keep.new.self.conn) (OfferOne (offer_view c.args.offered.now) c.args.bytes.now) c.args.now
     c.in-Ok-Changed.effects (answers.Offered false) c.in-Ok.ensures.done
     (λ S of. offers_one S (offer_view c.args.offered.now) c.args.bytes.now c.args.now c.in-Ok-Changed.effects (each c.held.result.now.held kept (λ S. Answers S (on_state S (commands.offer S.trusted (offer_view c.args.offered.now) c.args.bytes.now c.args.now)) (Ok (Changed c.in-Ok-Changed.effects))) c.held.ensures told S of))
-    c.in-Ok.ensures.clean c.in-Ok.ensures.live c.in-Ok.ensures.crash
+    c.in-Ok.ensures.clean c.in-Ok.ensures.live c.in-Ok.ensures.crash c.keep.ensures.outlives
 
 pub returns-in-Err-keep : goal.returns-in-Err-keep
 returns-in-Err-keep g c =
@@ -56,4 +56,4 @@ returns-in-Err-keep g c =
     unmade_at kept c.keep.new.self.kept (state g.S.Store c.args.self.now.conn) (state g.S.Store c.keep.new.self.conn) (OfferOne (offer_view c.args.offered.now) c.args.bytes.now) c.args.now
     c.in-Ok-Changed.effects (Offered false) c.in-Err-keep.fault c.in-Err-keep.ensures.kept
     (λ S of. offers_one S (offer_view c.args.offered.now) c.args.bytes.now c.args.now c.in-Ok-Changed.effects (each c.held.result.now.held kept (λ S. Answers S (on_state S (commands.offer S.trusted (offer_view c.args.offered.now) c.args.bytes.now c.args.now)) (Ok (Changed c.in-Ok-Changed.effects))) c.held.ensures told S of))
-    (λ same. c.in-Err-keep.ensures.sound (ap Err same)) c.in-Err-keep.ensures.clean c.in-Err-keep.ensures.crash
+    (λ same. c.in-Err-keep.ensures.sound (ap Err same)) c.in-Err-keep.ensures.clean c.in-Err-keep.ensures.crash c.keep.ensures.outlives
