@@ -13,3 +13,5 @@ pub mod ItemLemmas
 pub mod Openings
 pub mod SetLemmas
 pub mod One
+pub mod SecondTexts
+pub mod Migrated

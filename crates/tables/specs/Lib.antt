@@ -4,3 +4,4 @@ pub mod Tables
 pub mod Opening
 pub mod Faults
 pub mod steps
+pub mod Migration

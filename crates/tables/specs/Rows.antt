@@ -6,6 +6,9 @@ use Rattle.sqlite.specs.Order.{Row, column}
 abbrev pub root_cells : Row → Row
 root_cells r = column r 0 ∷ column r 2 ∷ []
 
+abbrev pub root2_cells : Row → Row
+root2_cells r = column r 0 ∷ column r 2 ∷ column r 3 ∷ []
+
 abbrev pub current_cells : Row → Row
 current_cells r = column r 1 ∷ column r 2 ∷ column r 3 ∷ []
 

@@ -55,6 +55,17 @@ version_table = record {
   look = codes "SELECT version FROM schema";
 }
 
+-- what schema 2 has in place of `root`: the roots with their profiles
+abbrev pub root2_table : Description
+root2_table = record {
+  name = codes "root2";
+  columns = (codes "version", Integer) ∷ (codes "profile", Integer) ∷ (codes "bytes", Any) ∷ [];
+  key = Rowid;
+  uniques = [];
+  make = codes "CREATE TABLE root2 (version INTEGER NOT NULL PRIMARY KEY, profile INTEGER NOT NULL, bytes BLOB NOT NULL)";
+  look = codes "SELECT version FROM root2";
+}
+
 -- in the order in which they are made
 abbrev pub five : List Description
 five = root_table ∷ current_table ∷ shelf_table ∷ blob_table ∷ version_table ∷ []
@@ -73,3 +84,10 @@ HasFive = HasAll five
 -- The tables are the first of the five in the order in which they are made: none or some, and nothing else, or all.
 abbrev pub IsBeginning : Schema → Type 0
 IsBeginning = BeginsWith five
+
+-- the tables of schema 2, of which `root` stays and is empty
+abbrev pub six : List Description
+six = root_table ∷ current_table ∷ shelf_table ∷ blob_table ∷ version_table ∷ root2_table ∷ []
+
+abbrev pub HasSix : Schema → Type 0
+HasSix = HasAll six

@@ -1,7 +1,7 @@
 // The five tables as data.
 ghost use Rattle.std.specs.Prelude.{◌≡◌, map};
 ghost use Rattle.sql_tables.specs.Described.{described_view};
-ghost use Rattle.tables.specs.Schema.{five};
+ghost use Rattle.tables.specs.Schema.{five, six};
 
 use sql_tables::{Described, Key};
 use sqlite_schema::schema::Kind;
@@ -23,6 +23,12 @@ static SHELF: [(&[u8], Kind); 3] = [
 static BLOB: [(&[u8], Kind); 2] = [(b"digest", Kind::Text), (b"bytes", Kind::Any)];
 
 static VERSION: [(&[u8], Kind); 1] = [(b"version", Kind::Integer)];
+
+static ROOT2: [(&[u8], Kind); 3] = [
+    (b"version", Kind::Integer),
+    (b"profile", Kind::Integer),
+    (b"bytes", Kind::Any),
+];
 
 static CURRENT_KEY: [(&[usize], &[u8]); 1] = [(&[1], b"sqlite_autoindex_current_1")];
 
@@ -74,6 +80,28 @@ pub(crate) fn five_tables() -> [Described<'static>; 5]
             uniques: &[],
             make: "CREATE TABLE schema (version INTEGER NOT NULL PRIMARY KEY)",
             look: "SELECT version FROM schema",
+        },
+    ]
+}
+
+// The tables of schema 2, in the order in which they are made.
+pub(crate) fn six_tables() -> [Described<'static>; 6]
+    ensures { map described_view result ≡ six }
+{
+    let [root, current, shelf, blob, version] = five_tables();
+    [
+        root,
+        current,
+        shelf,
+        blob,
+        version,
+        Described {
+            name: b"root2",
+            columns: &ROOT2,
+            key: Key::Rowid,
+            uniques: &[],
+            make: "CREATE TABLE root2 (version INTEGER NOT NULL PRIMARY KEY, profile INTEGER NOT NULL, bytes BLOB NOT NULL)",
+            look: "SELECT version FROM root2",
         },
     ]
 }
