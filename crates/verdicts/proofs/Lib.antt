@@ -1,6 +1,7 @@
 mod FirstLine
 mod Hexes
 mod Leaves
+mod Levels
 mod Parts
 mod Ruled
 mod RulesWord

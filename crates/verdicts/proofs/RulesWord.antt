@@ -2,7 +2,7 @@
 use Rattle.std.proofs.Common.{◌≡◌, ℕ, List, [], ◌∷◌, ap, get_or, codes, arith}
 use Rattle.hex.specs.Hex.{IsBytes}
 use Rattle.verdicts.specs.declared.case.Case.{Case}
-use Rattle.verdicts.specs.declared.case.Case.TheVariants.{Json, Lms, Key, Sign, Calendar, Document, Asked, Match, Rules}
+use Rattle.verdicts.specs.declared.case.Case.TheVariants.{Json, Lms, Hss, Key, Sign, Calendar, Document, Asked, Match, Rules}
 use Rattle.verdicts.specs.Case.{IsCase}
 use Rattle.verdicts.specs.RuleCase.{IsRuleText, RuleCase, rule_case_view}
 use Rattle.verdicts.specs.Words.{hex_word}
@@ -18,6 +18,7 @@ start ws = get_or (get_or ws 0 []) 0 0
 pub no_rules : (word : List ℕ) → IsNoRules word → (c : Case) → IsCase (codes "rules" ∷ word ∷ []) c → ⊥
 no_rules word bad (Json part) is = let e = ap start is.0 in omega (arith, e)
 no_rules word bad (Lms public signature message) is = let e = ap start is.0 in omega (arith, e)
+no_rules word bad (Hss public signature message) is = let e = ap start is.0 in omega (arith, e)
 no_rules word bad (Key public) is = let e = ap start is.0 in omega (arith, e)
 no_rules word bad (Sign seed params leaf message) is = let e = ap start is.0 in omega (arith, e)
 no_rules word bad (Calendar text) is = let e = ap start is.0 in omega (arith, e)

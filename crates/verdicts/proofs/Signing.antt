@@ -1,7 +1,7 @@
 -- The words of a line that begins with `sign`.
 use Rattle.std.proofs.Common.{◌≡◌, ◌⊎◌, ℕ, ◌≤◌, ◌<◌, refl, ap, inl, inr, List, [], ◌∷◌, length, map, get_or, slice_index_or, Bor, codes, arith}
 use Rattle.verdicts.specs.declared.case.Case.{Case}
-use Rattle.verdicts.specs.declared.case.Case.TheVariants.{Json, Lms, Key, Sign, Calendar, Document, Asked, Match, Rules}
+use Rattle.verdicts.specs.declared.case.Case.TheVariants.{Json, Lms, Hss, Key, Sign, Calendar, Document, Asked, Match, Rules}
 use Rattle.verdicts.specs.declared.case.CaseFault.{CaseFault}
 use Rattle.verdicts.specs.declared.case.CaseFault.TheVariants.{NotUnderstood, OutOfMemory}
 use Rattle.verdicts.specs.Case.{IsCase, IsCaseFault}
@@ -31,6 +31,7 @@ by_fault words NotUnderstood Bad (inr bad) none = none bad
 pub no_message : (a b i s q m : List ℕ) → IsNoHex m → (c : Case) → IsCase (codes "sign" ∷ a ∷ b ∷ i ∷ s ∷ q ∷ m ∷ []) c → ⊥
 no_message a b i s q m bad (Json part) is = let e = ap length is.0 in omega (arith, e)
 no_message a b i s q m bad (Lms public signature message) is = let e = ap length is.0 in omega (arith, e)
+no_message a b i s q m bad (Hss public signature message) is = let e = ap length is.0 in omega (arith, e)
 no_message a b i s q m bad (Key public) is = let e = ap length is.0 in omega (arith, e)
 no_message a b i s q m bad (Calendar text) is = let e = ap length is.0 in omega (arith, e)
 no_message a b i s q m bad (Document kind bytes) is = let e = ap length is.0 in omega (arith, e)

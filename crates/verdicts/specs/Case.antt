@@ -5,7 +5,7 @@ use Rattle.std.specs.Str.{IsUtf8}
 use Rattle.hex.specs.Hex.{IsBytes}
 use Rattle.metadata.specs.Shape.{kind_name}
 use Rattle.verdicts.specs.declared.case.Case.{Case}
-use Rattle.verdicts.specs.declared.case.Case.TheVariants.{Json, Lms, Key, Sign, Calendar, Document, Asked, Match, Rules}
+use Rattle.verdicts.specs.declared.case.Case.TheVariants.{Json, Lms, Hss, Key, Sign, Calendar, Document, Asked, Match, Rules}
 use Rattle.verdicts.specs.declared.case.CaseFault.{CaseFault}
 use Rattle.verdicts.specs.declared.case.CaseFault.TheVariants.{NotUnderstood, OutOfMemory}
 use Rattle.verdicts.specs.RuleCase.{rule_case_view, IsRuleText}
@@ -28,6 +28,9 @@ abbrev pub IsCase : List (List ℕ) → Case → Type 0
 IsCase words (Json part) = (words ≡ codes "json" ∷ hex_word part.items ∷ []) × IsBytes part.items
 IsCase words (Lms public signature message) =
     (words ≡ codes "lms" ∷ hex_word public.items ∷ hex_word signature.items ∷ hex_word message.items ∷ [])
+    × IsBytes public.items × IsBytes signature.items × IsBytes message.items
+IsCase words (Hss public signature message) =
+    (words ≡ codes "hss" ∷ hex_word public.items ∷ hex_word signature.items ∷ hex_word message.items ∷ [])
     × IsBytes public.items × IsBytes signature.items × IsBytes message.items
 IsCase words (Key public) = (words ≡ codes "key" ∷ hex_word public ∷ []) × IsBytesOf 56 public
 IsCase words (Sign seed params leaf message) =

@@ -13,6 +13,7 @@ use Rattle.lms.specs.declared.Seed.{Seed}
 use Rattle.lms.specs.Keys.{public_of, signature_of, leaf_count}
 use Rattle.lms.specs.Parts.{IsKeyOf, IsSignatureOf}
 use Rattle.lms.specs.Verifies.{Verifies, hash_count}
+use Rattle.lms.specs.Hss.{VerifiesHss}
 use Rattle.keys_roles.specs.Keys.{id_of}
 use Rattle.keys_roles.specs.Plain as plain
 use Rattle.metadata.specs.Dates.{IsDateTime}
@@ -28,7 +29,7 @@ use Rattle.verdicts.specs.declared.case.Case.TheVariants as cases
 use Rattle.verdicts.specs.declared.case.Covering.{Covering}
 use Rattle.verdicts.specs.declared.case.Covering.TheVariants.{Segmented, Flat, Prefix}
 use Rattle.verdicts.specs.declared.verdict.Verdict.{Verdict}
-use Rattle.verdicts.specs.declared.verdict.Verdict.TheVariants.{Canonical, NotCanonical, TooDeep, IntegerRange, Valid, Invalid, KeyId, Signed, LeafRange, Moment, NoMoment, Document, NoDocument, AsksFor, Covered, NotCovered, IllFormed, Holds, Disallowed, Required, NoRule}
+use Rattle.verdicts.specs.declared.verdict.Verdict.TheVariants.{Canonical, NotCanonical, TooDeep, IntegerRange, Valid, Invalid, Verified, Refused, KeyId, Signed, LeafRange, Moment, NoMoment, Document, NoDocument, AsksFor, Covered, NotCovered, IllFormed, Holds, Disallowed, Required, NoRule}
 use Rattle.verdicts.specs.Case.{IsCase, words_of}
 use Rattle.verdicts.specs.RuleCase.{RuleCase, rule_case_view, AreJudged, IsFirstNoRule}
 use Rattle.verdicts.specs.Words.{hex_word, digest_word}
@@ -55,6 +56,12 @@ abbrev pub IsVerifying : List ℕ → List ℕ → List ℕ → Verdict → Type
 IsVerifying public signature message (Valid n) = Verifies public message signature × IsCount public signature message n
 IsVerifying public signature message (Invalid n) = (Verifies public message signature → ⊥) × IsCount public signature message n
 IsVerifying public signature message verdict = ⊥
+
+-- whether the signature is one of the message under the key of the hierarchical scheme
+abbrev pub IsVerifyingHss : List ℕ → List ℕ → List ℕ → Verdict → Type 0
+IsVerifyingHss public signature message Verified = VerifiesHss public message signature
+IsVerifyingHss public signature message Refused = VerifiesHss public message signature → ⊥
+IsVerifyingHss public signature message verdict = ⊥
 
 -- the id of the LMS public key
 abbrev pub IsIdentifying : List ℕ → Verdict → Type 0
@@ -118,6 +125,7 @@ IsRuling c verdict = ⊥
 abbrev pub IsVerdict : Case → Verdict → Type 0
 IsVerdict (cases.Json part) verdict = IsReading part.items verdict
 IsVerdict (cases.Lms public signature message) verdict = IsVerifying public.items signature.items message.items verdict
+IsVerdict (cases.Hss public signature message) verdict = IsVerifyingHss public.items signature.items message.items verdict
 IsVerdict (cases.Key public) verdict = IsIdentifying public verdict
 IsVerdict (cases.Sign seed params leaf message) verdict = IsSigning seed params leaf message.items verdict
 IsVerdict (cases.Calendar text) verdict = IsDating (string_bytes text) verdict
@@ -139,6 +147,8 @@ text_of TooDeep = codes "too_deep"
 text_of IntegerRange = codes "integer_range"
 text_of (Valid n) = codes "valid " ++ decimal n
 text_of (Invalid n) = codes "invalid " ++ decimal n
+text_of Verified = codes "valid"
+text_of Refused = codes "invalid"
 text_of (KeyId digits) = string_bytes digits
 text_of (Signed public signature) = string_bytes public ++ (codes " " ++ string_bytes signature)
 text_of LeafRange = codes "leaf_range"

@@ -20,6 +20,12 @@ pub enum Case {
         signature: Vec<u8>,
         message: Vec<u8>,
     },
+    /// `hss PUBLIC SIGNATURE MESSAGE`: the same under a key of the hierarchical scheme?
+    Hss {
+        public: Vec<u8>,
+        signature: Vec<u8>,
+        message: Vec<u8>,
+    },
     /// `key PUBLIC`: which id has this key?
     Key([u8; 56]),
     /// `sign W HEIGHT I SEED Q MESSAGE`: which key has this seed, and which signature of the message makes its leaf Q?
@@ -130,6 +136,8 @@ impl Case {
             json_case(alloc, parts)
         } else if *kind == b"lms".as_slice() {
             lms_case(alloc, parts)
+        } else if *kind == b"hss".as_slice() {
+            hss_case(alloc, parts)
         } else if *kind == b"key".as_slice() {
             key_case(alloc, parts)
         } else if *kind == b"sign".as_slice() {
@@ -177,6 +185,21 @@ fn lms_case(alloc: Global, parts: &[&[u8]]) -> Result<Case, CaseFault>
         return Err(CaseFault::NotUnderstood);
     };
     Ok(Case::Lms {
+        public: bytes_of(alloc, public)?,
+        signature: bytes_of(alloc, signature)?,
+        message: bytes_of(alloc, message)?,
+    })
+}
+
+// The same for `hss`.
+fn hss_case(alloc: Global, parts: &[&[u8]]) -> Result<Case, CaseFault>
+    ensures case { IfOk result (IsCase (codes "hss" ∷ map (λ w. w.now) parts.now)) }
+    ensures fault { IfErr result (IsCaseFault (codes "hss" ∷ map (λ w. w.now) parts.now)) }
+{
+    let [public, signature, message] = parts else {
+        return Err(CaseFault::NotUnderstood);
+    };
+    Ok(Case::Hss {
         public: bytes_of(alloc, public)?,
         signature: bytes_of(alloc, signature)?,
         message: bytes_of(alloc, message)?,

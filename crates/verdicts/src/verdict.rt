@@ -1,7 +1,7 @@
 ghost use Rattle.std.specs.Prelude.{◌≡◌, IfOk, IfErr, MatchOption, string_bytes};
 ghost use Rattle.metadata.specs.File.{fault_number};
 ghost use Rattle.verdicts.specs.Case.{words_of, IsCaseFault};
-ghost use Rattle.verdicts.specs.Verdict.{IsReading, IsVerifying, IsIdentifying, IsSigning, IsDating, IsShaping, IsAsking, IsVerdict, IsAnswer};
+ghost use Rattle.verdicts.specs.Verdict.{IsReading, IsVerifying, IsVerifyingHss, IsIdentifying, IsSigning, IsDating, IsShaping, IsAsking, IsVerdict, IsAnswer};
 ghost use Rattle.verdicts.specs.Words.{hex_word};
 
 use crate::case::{Case, CaseFault};
@@ -9,7 +9,7 @@ use crate::covering::matching;
 use crate::ruling::ruling;
 use canonical_json::ReadFault;
 use keys_roles::{Key, key_id};
-use lms::{Params, Seed, SignFault, Steps, public_of, sign, verify_counted};
+use lms::{Params, Seed, SignFault, Steps, public_of, sign, verify_counted, verify_hss};
 use metadata::{Kind, ShapeFault, read_date_time, read_document};
 use path_patterns::read_asked;
 use std::alloc::{AllocError, Global};
@@ -26,6 +26,10 @@ pub enum Verdict {
     Valid(u64),
     /// The same of one that is not.
     Invalid(u64),
+    /// The signature of several levels is valid.
+    Verified,
+    /// It is not.
+    Refused,
     /// The id of a key, in hex digits.
     KeyId(String),
     /// A public key and a signature, in hex digits.
@@ -69,6 +73,8 @@ impl fmt::Display for Verdict {
             Verdict::IntegerRange => f.write_str("integer_range"),
             Verdict::Valid(count) => write!(f, "valid {count}"),
             Verdict::Invalid(count) => write!(f, "invalid {count}"),
+            Verdict::Verified => f.write_str("valid"),
+            Verdict::Refused => f.write_str("invalid"),
             Verdict::KeyId(digits) => f.write_str(digits),
             Verdict::Signed { public, signature } => write!(f, "{public} {signature}"),
             Verdict::LeafRange => f.write_str("leaf_range"),
@@ -122,6 +128,11 @@ pub fn judge(alloc: Global, case: &Case) -> Result<Verdict, AllocError>
             signature,
             message,
         } => Ok(verifying(public, signature, message)),
+        Case::Hss {
+            public,
+            signature,
+            message,
+        } => Ok(verifying_hss(public, signature, message)),
         Case::Key(public) => identifying(alloc, public),
         Case::Sign {
             seed,
@@ -167,6 +178,20 @@ fn verifying(public: &[u8], signature: &[u8], message: &[u8]) -> Verdict
         Verdict::Valid(steps.count())
     } else {
         Verdict::Invalid(steps.count())
+    }
+}
+
+// Whether the signature is one of the message under the key of the hierarchical scheme.
+fn verifying_hss(public: &[u8], signature: &[u8], message: &[u8]) -> Verdict
+    ensures { IsVerifyingHss public.now signature.now message.now result }
+{
+    let Some(public) = public.as_array::<60>() else {
+        return Verdict::Refused;
+    };
+    if verify_hss(public, message, signature) {
+        Verdict::Verified
+    } else {
+        Verdict::Refused
     }
 }
 
