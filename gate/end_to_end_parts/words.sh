@@ -58,7 +58,7 @@ the_help_is_printed() {
     wants 0 'release 0.3.0\n' '' --version
     sed -n -E 's/^\| ([0-9]+) \| `([A-Za-z]+)` \| (.*) \|$/\1 \2 \3/p' docs/REFERENCE.md | tr -d '`' >"$folder/denials.wanted"
     "$release" help denials | sed -n -E 's/^ *([0-9]+)  ([A-Za-z]+) +(.*)$/\1 \2 \3/p' >"$folder/denials"
-    [ "$(wc -l <"$folder/denials")" = 51 ] || fail "not 51 denials in the help"
+    [ "$(wc -l <"$folder/denials")" = 53 ] || fail "not 53 denials in the help"
     same "the table of denials" "$folder/denials.wanted" "$folder/denials"
 }
 
