@@ -5,10 +5,11 @@ use Rattle.std.specs.String.{string_bytes}
 use Rattle.contents.specs.declared.Contents.{Contents as Owned}
 use Rattle.contents.specs.declared.MetadataRows.{MetadataRows}
 
--- Each row is a key and its bytes. The key of a root, of the timestamp and of the snapshot is its version; that of a targets
--- document its role, as the bytes of its text, and its version; that of a target file its digest, as 32 bytes.
+-- Each row is a key and its bytes, and that of a root has its profile between them. The key of a root, of the timestamp and of the
+-- snapshot is its version; that of a targets document its role, as the bytes of its text, and its version; that of a target file its
+-- digest, as 32 bytes.
 pub record Contents : Type 0 where
-  pub roots : List (ℕ × List ℕ)
+  pub roots : List (ℕ × (ℕ × List ℕ))
   pub timestamp : Option (ℕ × List ℕ)
   pub snapshot : Option (ℕ × List ℕ)
   pub shelf : List ((List ℕ × ℕ) × List ℕ)
@@ -32,7 +33,7 @@ slot_view o = option_map value_view o
 -- the rows of the metadata, and these of target files
 abbrev pub contents_with : MetadataRows → List (List ℕ × List ℕ) → Contents
 contents_with m blobs = record {
-  roots = map (λ r. (r.0, r.1.items)) m.roots.items;
+  roots = map (λ r. (r.0, (r.1, r.2.items))) m.roots.items;
   timestamp = slot_view m.timestamp;
   snapshot = slot_view m.snapshot;
   shelf = map (λ r. ((string_bytes r.0, r.1), r.2.items)) m.shelf.items;

@@ -9,8 +9,8 @@ use std::alloc::Global;
 /// The rows of a repository's tables but for its target files, each list in the order of its keys.
 #[derive(Debug, Drop)]
 pub struct MetadataRows {
-    /// The table `root`: version and bytes of each root, by version.
-    pub roots: Vec<(u32, Vec<u8>)>,
+    /// The table `root2`: version, profile and bytes of each root, by version. The profile is 1 or 2.
+    pub roots: Vec<(u32, u32, Vec<u8>)>,
     /// The row `timestamp` of the table `current`: version and bytes.
     pub timestamp: Option<(u32, Vec<u8>)>,
     /// The row `snapshot` of the table `current`: version and bytes.

@@ -146,7 +146,6 @@ root_still v r ids h =
       keys = (h.keys.0, h.keys.1, table_still h.keys.0 r.keys h.keys.2);
       roles = (h.roles.0, h.roles.1, roles_still r.keys ids all h.roles.0 (roles_of r) h.roles.2);
       required = subst (λ (p : Profile). HasRequired v p r.required) (sym h.profile) h.required;
-      profile = h.profile;
     }
 
 reference_still : (v : Json) (l : LayoutReference) → NamesAreIds l.keys → WasLayoutReference v l → IsLayoutReference v l

@@ -12,7 +12,6 @@ is_now signed r was = record {
   keys = was.keys;
   roles = was.roles;
   required = subst (λ (p : Profile). HasRequired signed p r.required) (sym was.profile) was.required;
-  profile = was.profile;
 }
 
 was_then : (signed : Json) (r : Root) → IsRoot signed r → r.profile ≡ first_profile → r.required ≡ None → WasRoot signed r

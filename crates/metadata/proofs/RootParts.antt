@@ -51,11 +51,6 @@ pub head_required : (v : Json) (profile : Profile) (version expires : ℕ) (r : 
 head_required v profile version expires r p h is =
     subst (λ (q : Profile). HasRequired v q r.required) (head-profile v r.profile profile r.version version r.expires expires p is.head h) is.required
 
--- each root is of the first profile, and so is its head
-pub head_first : (v : Json) (profile : Profile) (version expires : ℕ) (r : Root) → IsProper v → HasRootHead v profile version expires → IsRoot v r
-    → profile ≡ first_profile
-head_first v profile version expires r p h is = head-profile v profile r.profile version r.version expires r.expires p h is.head ∙ is.profile
-
 -- a fault of the keys is one of the root
 pub faulty_root : (v : Json) (profile : Profile) (version expires : ℕ) (required : Option (List (List ℕ))) (e : ShapeFault)
     → ((k : Table × Roles) → HasKeyed v k → IsRoot v (plain_root profile version expires required k))

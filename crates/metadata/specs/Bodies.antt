@@ -74,14 +74,12 @@ abbrev pub HasRequired : Json → Profile → Option (List (List ℕ)) → Type 
 HasRequired signed first_profile o = o ≡ None
 HasRequired signed second_profile o = MayHave signed (codes "layout_required") (AreTextsOf IsPattern) o
 
--- a root of the second profile is read once the tables keep profiles: until then the last line leaves it out
 pub record IsRoot (signed : Json) (r : Root) : Type 0 where
   pub head : HasRootHead signed r.profile r.version r.expires
   pub consistent : IsConsistent signed
   pub keys : Has signed (codes "keys") (λ x. IsTable x r.keys)
   pub roles : Has signed (codes "roles") (λ x. AreRoles x r.keys (roles_of r))
   pub required : HasRequired signed r.profile r.required
-  pub profile : r.profile ≡ first_profile
 
 -- {"snapshot.json":..}
 abbrev pub IsTimestampMeta : Json → MetaFile → Type 0

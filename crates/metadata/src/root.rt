@@ -1,5 +1,5 @@
 // Root metadata (TUF 1.0, section 4.3).
-ghost use Rattle.std.specs.Prelude.{◌≡◌, ◌↔◌, ℕ, List, Option, codes, option_map, MatchOption, IfOk, IfErr, IsTrue};
+ghost use Rattle.std.specs.Prelude.{◌≡◌, ℕ, List, Option, codes, option_map, MatchOption, IfOk, IfErr};
 ghost use Rattle.canonical_json.specs.Spelling.{IsProper};
 ghost use Rattle.canonical_json.specs.View.{view};
 ghost use Rattle.keys_roles.specs.Plain as plain;
@@ -53,9 +53,6 @@ pub(crate) fn read_root(alloc: Global, signed: &Value) -> Result<Root, ShapeFaul
     let Some((profile, version, expires)) = read_root_head(signed) else {
         return Err(ShapeFault::WrongShape);
     };
-    if !is_read(profile) {
-        return Err(ShapeFault::WrongShape);
-    }
     if !is_true_at(signed, "consistent_snapshot") {
         return Err(ShapeFault::WrongShape);
     }
@@ -72,16 +69,6 @@ pub(crate) fn read_root(alloc: Global, signed: &Value) -> Result<Root, ShapeFaul
         profile,
         required,
     })
-}
-
-// Whether roots of this profile are read. Those of the second are once the tables keep profiles.
-fn is_read(profile: Profile) -> bool
-    ensures { IsTrue result ↔ profile_view profile ≡ documents.first_profile }
-{
-    match profile {
-        Profile::First => true,
-        Profile::Second => false,
-    }
 }
 
 // The profile, the version and the expiry that the signed part has.

@@ -1,22 +1,13 @@
-use Rattle.std.proofs.Common.{◌≡◌, true, false, option_map, rules, refl, inl, inr, sym, ◌∙◌}
+use Rattle.std.proofs.Common.{option_map, rules, refl, inl, inr}
 use Rattle.std.proofs.lemmas.Result.{err_from_is_err_and}
 use Rattle.canonical_json.specs.View.{view}
 use Rattle.metadata.specs.Views.{profile_view}
 use Rattle.metadata.proofs.Ill.{ill_again}
-use Rattle.metadata.proofs.RootParts.{head_first, head_required, faulty_root}
+use Rattle.metadata.proofs.RootParts.{head_required, faulty_root}
 use Rattle.metadata.proofs.root.read_root.Goals as goal
 
 pub returns-in_default-clause-err : goal.returns-in_default-clause-err
 returns-in_default-clause-err c = inl (inr (refl, λ r. c.in_default.ensures r.0.profile r.0.version r.0.expires r.1.head))
-
-pub returns-then-not-is_read-clause-err : goal.returns-then-not-is_read-clause-err
-returns-then-not-is_read-clause-err c = inl (inr (
-  refl,
-  λ r.
-      let first = head_first (view c.args.signed.now) (profile_view c.in-Some.profile) c.in-Some.version c.in-Some.expires r.0 c.requires c.in-Some.ensures r.1 in
-      let e : false ≡ true = sym c.if-not-is_read.true ∙ c.is_read.ensures.1 first in
-      absurd (cc),
-))
 
 pub returns-in_err-required-clause-err : goal.returns-in_err-required-clause-err
 returns-in_err-required-clause-err c =
@@ -34,7 +25,6 @@ returns-in_err-keyed-clause-err c =
       keys = has.0;
       roles = has.1;
       required = c.in_ok-required.ensures.ok;
-      profile = c.is_read.ensures.0 c.if-not-is_read.false;
     })
     c.in_err-keyed.ensures.err)
 
@@ -46,7 +36,6 @@ returns-clause-ok c = (
     keys = c.in_ok-keyed.ensures.ok.0.0;
     roles = c.in_ok-keyed.ensures.ok.0.1;
     required = c.in_ok-required.ensures.ok;
-    profile = c.is_read.ensures.0 c.if-not-is_read.false;
   },
   c.in_ok-keyed.ensures.ok.1,
 )
