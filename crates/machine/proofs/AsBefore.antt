@@ -1,11 +1,11 @@
 -- Where the root requires no layouts, a request for a target has the end that it had before roots had profiles.
-use Rattle.std.proofs.Common.{◌≡◌, ◌↔◌, ℕ, List, [], Bool, true, false, Option, Some, None, unwrap_or, Ok, Err, sym, ap, ◌∙◌, subst}
+use Rattle.std.proofs.Common.{◌≡◌, ◌↔◌, ℕ, List, [], true, false, Option, Some, None, unwrap_or, Ok, Err, sym, ap, ◌∙◌, subst}
 use Rattle.std.specs.List.{list_any}
 use Rattle.std.specs.Prelude.{IfSome}
 use Rattle.path_patterns.specs.Tests.{matches_segmented}
 use Rattle.metadata.specs.Bodies.{HasRequired}
 use Rattle.metadata.specs.Covers.{requires_layout}
-use Rattle.metadata.specs.Documents.{LayoutReference, Listing, Profile, Root, Snapshot, first_profile}
+use Rattle.metadata.specs.Documents.{LayoutReference, Listing, Profile, Root, first_profile}
 use Rattle.metadata.specs.File.{Bytes, File, IsFileOf, root_form}
 use Rattle.denials.specs.Orders.{Judged, pass, decide, holds, fails, given, judges}
 use Rattle.delegations.specs.Search.{Found, Shelf, search, shelf_of}

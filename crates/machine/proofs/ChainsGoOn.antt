@@ -1,5 +1,5 @@
 -- With which root a chain goes on, and under which name a state has it.
-use Rattle.std.proofs.Common.{◌≡◌, ℕ, suc, ◌+◌, ◌-◌, ◌<◌, ◌≤◌, Bool, true, false, cond, List, [], ◌∷◌, ◌++◌, map, length, Option, Some, None, refl, sym, ap, ◌∙◌, subst, arith, length-append, nat_eq}
+use Rattle.std.proofs.Common.{◌≡◌, ℕ, suc, ◌+◌, ◌-◌, ◌<◌, ◌≤◌, false, List, [], ◌∷◌, ◌++◌, length, Option, Some, None, option_map, refl, sym, ap, ◌∙◌, subst, arith, length-append, nat_eq}
 use Rattle.std.specs.Prelude.{All, IfSome, IfNone, codes}
 use Rattle.std.proofs.lemmas.Bool.{eq-eqb, ne_eqb}
 use Rattle.std.proofs.lemmas.List.Elements.{All-nil, All-cons, All-head, All-tail}
@@ -8,7 +8,7 @@ use Rattle.metadata.specs.Documents.{Profile, Root}
 use Rattle.metadata.specs.File.{Bytes, File, IsFileOf, root_form}
 use Rattle.metadata.specs.Parts.{last_number}
 use Rattle.delegations.specs.Rows.{value_at}
-use Rattle.machine.specs.Contents.{root_rows}
+use Rattle.machine.specs.Contents.{profile_number, root_rows}
 use Rattle.machine.specs.State.{FollowsRoot, IsHeldUnder, IsRootChain, IsTrusted, Trusted, dotted, first, kept_root, metadata_of, nothing_trusted, root_version, then}
 use Rattle.machine.specs.Effects.{last_or}
 use Rattle.machine.specs.steps.Loading.{FollowOn, IsChain}
@@ -116,14 +116,14 @@ module _ (T : Trusted) (root : File Root) (known : T.root ≡ Some root) (enough
 
   -- root number k is found by its version
   found_at : (k : ℕ) (roots more : List (Profile × Bytes)) (b : Profile × Bytes) → k + length roots + suc (length more) ≤ length T.roots
-      → value_at nat_eq (root_rows T k (roots ++ b ∷ more)) (root_version T (k + length roots)) ≡ Some b.1
+      → value_at nat_eq (root_rows T k (roots ++ b ∷ more)) (root_version T (k + length roots)) ≡ Some (profile_number b.0, b.1)
   found_at k [] more b few = rw (eq-eqb (root_version T k) (root_version T (k + 0)) (ap (root_version T) (let e : k ≡ k + 0 = omega arith in e))) refl
   found_at k (c ∷ roots) more b few =
       let n = number k in
       let m = number (k + suc (length roots)) in
       let other : nat_eq (root_version T k) (root_version T (k + suc (length roots))) ≡ false = ne_eqb (root_version T k) (root_version T (k + suc (length roots))) (λ e. omega (arith, n, m, e, enough, few)) in
       let again : k + suc (length roots) ≡ suc k + length roots = omega arith in
-      rw other (subst (λ (i : ℕ). value_at nat_eq (root_rows T (suc k) (roots ++ b ∷ more)) (root_version T i) ≡ Some b.1) (sym again) (found_at (suc k) roots more b (omega (arith, few))))
+      rw other (subst (λ (i : ℕ). value_at nat_eq (root_rows T (suc k) (roots ++ b ∷ more)) (root_version T i) ≡ Some (profile_number b.0, b.1)) (sym again) (found_at (suc k) roots more b (omega (arith, few))))
 
   none_at : (k : ℕ) (bs : List (Profile × Bytes)) → k + length bs ≤ length T.roots → value_at nat_eq (root_rows T k bs) (root.body.version + 1) ≡ None
   none_at k [] few = refl
@@ -153,8 +153,10 @@ module _ (law : Shapes) where
       let n = number T root one.1 enough (length roots) in
       let same : root_version T (0 + length roots) ≡ old.body.version + 1 = omega (arith, n, v, size, enough) in
       root_found T valid (old.body.version + 1) (omega (arith, v, small))
-      ∙ subst (λ (i : ℕ). value_at nat_eq (root_rows T 0 T.roots) i ≡ Some b.1) same
-      (subst (λ (l : List (Profile × Bytes)). value_at nat_eq (root_rows T 0 l) (root_version T (0 + length roots)) ≡ Some b.1) (sym e) (found_at T root one.1 enough 0 roots more b (omega (arith, size))))
+      ∙ ap (option_map (λ (r : ℕ × Bytes). r.1))
+      (subst (λ (i : ℕ). value_at nat_eq (root_rows T 0 T.roots) i ≡ Some (profile_number b.0, b.1)) same
+      (subst (λ (l : List (Profile × Bytes)). value_at nat_eq (root_rows T 0 l) (root_version T (0 + length roots)) ≡ Some (profile_number b.0, b.1)) (sym e)
+      (found_at T root one.1 enough 0 roots more b (omega (arith, size)))))
     where
       no_list : (roots more : List (Profile × Bytes)) (b : Profile × Bytes) → roots ++ b ∷ more ≡ [] → ⊥
       no_list [] more b k = let h : ◌≡◌ {A = List (Profile × Bytes)} (b ∷ more) [] = k in cc
@@ -163,4 +165,5 @@ module _ (law : Shapes) where
   pub newest : (T : Trusted) (root : File Root) → IsTrusted T → T.root ≡ Some root → root.body.version < last_number → metadata_of T (dotted (root.body.version + 1) (codes "root")) ≡ None
   newest T root valid known below =
       let chain : IsRootChain T.roots root = (subst (λ (o : Option (File Root)). IfSome o (IsHeldUnder T)) known valid.held).chain in
-      root_found T valid (root.body.version + 1) (omega (arith, below)) ∙ none_at T root known (many chain) 0 T.roots (omega arith)
+      root_found T valid (root.body.version + 1) (omega (arith, below))
+      ∙ ap (option_map (λ (r : ℕ × Bytes). r.1)) (none_at T root known (many chain) 0 T.roots (omega arith))

@@ -1,9 +1,9 @@
 -- Under which names the metadata of a valid state is found.
-use Rattle.std.proofs.Common.{◌≡◌, ◌≢◌, ℕ, suc, zero, ◌+◌, ◌-◌, ◌^◌, ◌<◌, ◌≤◌, Bool, true, false, cond, ◌&&◌, List, [], ◌∷◌, ◌++◌, map, length, get_or, Option, Some, None, option_map, option_and_then, codes, bytes_eq, nat_eq, refl, sym, ap, ◌∙◌, subst, arith}
+use Rattle.std.proofs.Common.{◌≡◌, ◌≢◌, ℕ, suc, ◌+◌, ◌^◌, ◌<◌, ◌≤◌, Bool, true, false, cond, List, [], ◌∷◌, ◌++◌, map, length, get_or, Option, Some, None, option_map, option_and_then, codes, bytes_eq, nat_eq, refl, sym, ap, ◌∙◌, subst, arith}
 use Rattle.std.specs.Prelude.{All, IfNone, IfSome}
 use Rattle.std.specs.Fmt.{decimal}
 use Rattle.std.specs.Str.Parse.{AllDigits, digits_value}
-use Rattle.std.proofs.lemmas.Bool.{false_from_ne_true, eq-eqb}
+use Rattle.std.proofs.lemmas.Bool.{false_from_ne_true}
 use Rattle.std.proofs.lemmas.Bool.Decides.{Decides-eqb}
 use Rattle.std.proofs.lemmas.Fmt.{decimal_is_IsNumeral, decimal_injective, decimal_nonempty}
 use Rattle.std.proofs.lemmas.List.{append_cancel_right, get_or_append_left}
@@ -12,7 +12,7 @@ use Rattle.std.proofs.lemmas.Str.Parse.{IsNumeralModel, numerals_by_value, tells
 use Rattle.keys_roles.specs.Plain.{look_up}
 use Rattle.metadata.specs.Bodies.{IsListable}
 use Rattle.metadata.specs.Documents.{Profile, Root, Timestamp, Snapshot, Targets}
-use Rattle.metadata.specs.File.{Bytes, Name, File, IsFileOf, root_form, snapshot_form, targets_form}
+use Rattle.metadata.specs.File.{Bytes, Name, File, IsFileOf, snapshot_form}
 use Rattle.metadata.specs.Parts.{last_number}
 use Rattle.delegations.proofs.KeyOrder.{place_one}
 use Rattle.delegations.proofs.Walk.{by_test}
@@ -124,15 +124,14 @@ roots_other T k (b ∷ bs) n a small h none =
     (roots_other T (suc k) bs n a (later_small T k (length bs) small) h none)
 
 roots_found : (T : Trusted) (k : ℕ) (bs : List (Profile × Bytes)) (n : ℕ) → AreSmall T k (length bs) → n ≤ last_number
-    → look_up (root_files T k bs) (dotted n (codes "root")) ≡ value_at nat_eq (root_rows T k bs) n
+    → look_up (root_files T k bs) (dotted n (codes "root")) ≡ option_map (λ r. r.1) (value_at nat_eq (root_rows T k bs) n)
 roots_found T k [] n small h = refl
 roots_found T k (b ∷ bs) n small h =
     let v : ℕ = root_version T k in
     let test : bytes_eq (dotted v (codes "root")) (dotted n (codes "root")) ≡ nat_eq v n =
     tells v n (codes "root") (codes "root") (small k (omega arith) (omega arith)) h ∙ same_name v n (codes "root") in
     let more = roots_found T (suc k) bs n (later_small T k (length bs) small) h in
-    ap (λ (t : Bool). cond t (Some b.1) (look_up (root_files T (suc k) bs) (dotted n (codes "root")))) test
-    ∙ ap (λ (o : Option Bytes). cond (nat_eq v n) (Some b.1) o) more
+    by_test (nat_eq v n) (λ t. rw (test ∙ t) (rw t refl)) (λ f. rw (test ∙ f) (rw f more))
 
 -- ---- the snapshot's file
 
@@ -229,7 +228,7 @@ module _ (T : Trusted) (valid : IsTrusted T) where
       (found_later (root_files T 0 T.roots) _ (codes "timestamp.json") (roots_stamp T 0 T.roots (roots_small T valid))
       ∙ (found_later (snapshot_files T.snapshot) _ (codes "timestamp.json") (snapshot_stamp T.snapshot (snapshot_small T valid)) ∙ shelf_stamp T.shelf valid.rows))
 
-  pub root_found : (n : ℕ) → n ≤ last_number → metadata_of T (dotted n (codes "root")) ≡ value_at nat_eq (root_rows T 0 T.roots) n
+  pub root_found : (n : ℕ) → n ≤ last_number → metadata_of T (dotted n (codes "root")) ≡ option_map (λ r. r.1) (value_at nat_eq (root_rows T 0 T.roots) n)
   root_found n h =
       under T.timestamp _ n (codes "root") h
       ∙ (alone (root_files T 0 T.roots) _ (dotted n (codes "root"))

@@ -1,19 +1,13 @@
 -- A state of which all the files are at hand.
-use Rattle.std.proofs.Common.{◌≡◌, suc, ◌≤◌, Bool, true, false, cond, List, [], ◌∷◌, map, length, Option, Some, None, refl, sym, ap, ◌∙◌, arith}
-use Rattle.std.specs.Prelude.{All, IfSome, IfNone, ◌&&◌, bytes_eq, nat_eq}
-use Rattle.std.proofs.lemmas.Bool.{both_ways, false_from_ne_true, le-ltb}
+use Rattle.std.proofs.Common.{◌≡◌, ◌≤◌, List, [], ◌∷◌, map, length, Option, Some, None, ap, ◌∙◌}
+use Rattle.std.specs.Prelude.{IfSome, IfNone}
 use Rattle.std.proofs.lemmas.List.{length-map}
-use Rattle.std.proofs.lemmas.List.Elements.{All-head, All-tail}
 use Rattle.metadata.specs.Documents.{Root}
-use Rattle.metadata.specs.File.{Bytes, File}
-use Rattle.delegations.specs.Delegation.{before}
-use Rattle.delegations.specs.Rows.{Place, Rises, Rows, place_before, same_place, with_row, with_rows}
-use Rattle.machine.specs.State.{Trusted, IsHeldUnder, IsState, kept_root, nothing, nothing_trusted}
+use Rattle.metadata.specs.File.{File}
+use Rattle.machine.specs.State.{Trusted, IsHeldUnder, IsState, kept_root, nothing_trusted}
 use Rattle.limits.specs.Limits.{most_held}
-use Rattle.machine.specs.Effects.{Effects, applied, last_or, renewed, with_blobs}
+use Rattle.machine.specs.Effects.{Effects, last_or}
 use Rattle.machine.specs.steps.Loading.{AreBlobs, IsBare, AreShelfRows, laid}
-use Rattle.machine.proofs.PutInRoom.{same_state}
-use Rattle.delegations.proofs.KeyOrder.{Orders, orders_bytes, orders_places}
 
 -- what holds where there is nothing, from what else does
 pub if_none_both : {A : Type 0} (P Q R : Type 0) (o : Option A) → (P → Q → R) → IfNone o P → IfNone o Q → IfNone o R

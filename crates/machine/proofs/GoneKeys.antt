@@ -1,5 +1,5 @@
 -- Rows without those of some keys.
-use Rattle.std.proofs.Common.{◌≡◌, ℕ, ◌+◌, ◌-◌, arith, Option, Some, None, Bool, true, false, ◌&&◌, ◌||◌, cond, not, List, [], ◌∷◌, map, filter, length, refl, sym, ap, ◌∙◌, bytes_eq}
+use Rattle.std.proofs.Common.{◌≡◌, ◌+◌, ◌-◌, arith, Some, None, Bool, true, false, ◌&&◌, cond, not, List, [], ◌∷◌, map, filter, length, refl, sym, ap, ◌∙◌}
 use Rattle.std.proofs.lemmas.Bool.{true≢false}
 use Rattle.std.specs.List.{AllByRecursion, list_any}
 use Rattle.delegations.specs.Rows.{value_at}

@@ -1,7 +1,6 @@
 -- What a request for a target serves, from what is found of it.
-use Rattle.std.proofs.Common.{◌≡◌, ◌⊎◌, ◌∙◌, inl, inr, ℕ, suc, length, List, [], ◌∷◌, Bool, true, false, Option, Some, Result, Ok, Err, refl, sym, ap, subst, arith}
-use Rattle.std.specs.Prelude.{◌↔◌, ◌<◌, All, IfOk, IsTrue, IsSome, bytes_eq, slice_index_or}
-use Rattle.std.proofs.lemmas.Bool.{true≢false}
+use Rattle.std.proofs.Common.{◌≡◌, ◌∙◌, ℕ, suc, length, List, [], ◌∷◌, false, Some, Result, Ok, Err, refl, sym, ap, arith}
+use Rattle.std.specs.Prelude.{◌↔◌, ◌<◌, IsTrue, bytes_eq, slice_index_or}
 use Rattle.std.proofs.lemmas.Slice.Eq.{bytes_eq-Decides}
 use Rattle.std.proofs.lemmas.List.Elements.{All-from_recursion}
 use Rattle.std.specs.List.{AllByRecursion}
@@ -13,15 +12,14 @@ use Rattle.denials.specs.declared.denial.Denial.{Denial}
 use Rattle.delegations.specs.Delegation.{before}
 use Rattle.delegations.specs.Rows.{Rises, value_at}
 use Rattle.delegations.proofs.KeyOrder.{sorts_bytes, under}
-use Rattle.machine.specs.Held.{Held, OfEachState, StandsFor, held_of, length_at}
-use Rattle.machine.specs.Serving.{HasLayout, IsRefused, Refuses, Serves, by_layout, denies, fails, forgoes, unread}
+use Rattle.machine.specs.Held.{Held, StandsFor, held_of}
+use Rattle.machine.specs.Serving.{HasLayout, Refuses, Serves, by_layout, denies, fails, forgoes, unread}
 use Rattle.machine.specs.State.{State, IsState, blob_at}
 use Rattle.machine.specs.steps.Permitting.{Finds, IsLoaded, Stands, at_once, by_bytes, bytes_at}
 use Rattle.machine.specs.steps.Permitting as found
 use Rattle.machine.specs.declared.serving.Served.{Served}
 use Rattle.machine.specs.declared.serving.GetFault.{GetFault}
 use Rattle.machine.specs.declared.serving.GetFault.TheVariants.{Denied, Load, OutOfMemory}
-use Rattle.machine.specs.declared.serving.LoadFault.TheVariants as loads
 
 -- nothing is served
 pub finds_serves : {A : Type 0} {S : State} {m : Order Bytes} {view : A → Bytes} (f : GetFault) → Finds m view (Err f) → Serves S m (Err f)

@@ -5,16 +5,14 @@ use Rattle.metadata.specs.File.{Bytes, File, Form, Name, layout_form, link_form}
 use Rattle.metadata.specs.Documents.{Layout, LayoutReference, Listing, Root, Step}
 use Rattle.metadata.specs.Links.{Link}
 use Rattle.metadata.specs.Rules.{ArtifactRule, Side, materials, products}
-use Rattle.metadata.specs.Shaped.{shaped}
-use Rattle.layouts.specs.Layouts as layouts
-use Rattle.layouts.specs.Layouts.{Chosen, Ruled, all, by_links, layout_holds, rules_and_product, ruled, step_rules}
+use Rattle.layouts.specs.Layouts.{all, layout_holds, rules_and_product, ruled, step_rules}
 use Rattle.std.specs.List.{zip}
 use Rattle.denials.specs.Numbers as no
-use Rattle.denials.specs.Orders.{Denial, Plain, RoleMissing, BlobMissing, Denied, Same, Judged, Order, pass, decide, judges, ◌>>=◌, ◌>>◌, give, check, each, judged, need_or, stop}
+use Rattle.denials.specs.Orders.{Denial, Plain, RoleMissing, BlobMissing, Denied, Same, Judged, Order, pass, decide, judges, ◌>>=◌, give, check, each, need_or, stop}
 use Rattle.delegations.specs.Delegation.{Edge}
 use Rattle.delegations.specs.Search.{Found, Shelf, search, find_in, found_or, visit, listing_of, visited, most_visits, shelf_of}
-use Rattle.machine.specs.State.{State, Trusted}
-use Rattle.machine.specs.Supports.{blob_of, files_hold, layout_answer, read_as, reference_allows, reference_holds, searched, support, support_answer, supporting}
+use Rattle.machine.specs.State.{State}
+use Rattle.machine.specs.Supports.{blob_of, layout_answer, read_as, reference_allows, searched, support, support_answer, supporting}
 use Rattle.machine.specs.Commands.{grants, listed, live_snapshot}
 use Rattle.machine.specs.Runs.{Command, Init, Batch, OfferOne, PutBlob, Prune, Metadata, Target, Reply, FileBytes, Absent, Refused, IsGranted, Steps, leads, Leads, settled, batch_outcome, Outcome}
 

@@ -33,6 +33,7 @@ pub mod PrunedStates
 pub mod PutInRoom
 pub mod RisingRows
 pub mod RootChains
+pub mod RootRows
 pub mod RowsInOrder
 pub mod RowsOfOneState
 pub mod Searched

@@ -1,5 +1,5 @@
 -- A search reads the rows at listed versions alone.
-use Rattle.std.proofs.Common.{◌≡◌, ℕ, Bool, true, false, cond, ◌&&◌, ◌||◌, List, [], ◌∷◌, map, filter, take, length, Option, Some, None, option_map, option_and_then, unwrap_or, Ok, Err, refl, sym, ap, ◌∙◌, subst, bytes_eq, nat_eq, nat_lt}
+use Rattle.std.proofs.Common.{◌≡◌, ℕ, Bool, true, false, cond, ◌&&◌, List, [], ◌∷◌, filter, take, length, Option, Some, None, option_map, option_and_then, Ok, refl, sym, ap, ◌∙◌, subst, bytes_eq, nat_lt}
 use Rattle.std.proofs.lemmas.Bool.{true≢false}
 use Rattle.std.proofs.lemmas.Slice.Eq.{bytes_eq-Decides}
 use Rattle.std.specs.Prelude.{◌<◌}
@@ -11,7 +11,7 @@ use Rattle.metadata.specs.Covers.{covers}
 use Rattle.denials.specs.Numbers as no
 use Rattle.denials.specs.Orders.{Judged, Order, RoleMissing, pass, decide, ◌>>=◌, ◌>>◌, give, denied, check, need_or}
 use Rattle.delegations.specs.Delegation.{Edge, Graph, Hops, chain_end, visits}
-use Rattle.delegations.specs.Rows.{Place, Rows, HasLength, HasHash, has_hash, has_length, named_row, row_at, same_place, value_at}
+use Rattle.delegations.specs.Rows.{Rows, HasLength, HasHash, has_hash, has_length, named_row, row_at, value_at}
 use Rattle.delegations.specs.Search.{Shelf, Found, MeetsEdge, doc, find_in, found_or, graph_of, hops_of, listing_of, most_visits, search, visit, visited}
 use Rattle.machine.proofs.LinesGive.{needed}
 

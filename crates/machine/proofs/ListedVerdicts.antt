@@ -1,7 +1,7 @@
 -- What is known of the rows at listed versions.
-use Rattle.std.proofs.Common.{◌≡◌, ℕ, Bool, true, false, cond, ◌||◌, List, [], ◌∷◌, filter, Option, Some, None, option_map, map, unwrap_or, ◌≢◌, refl, sym, ap, ◌∙◌, subst, bytes_eq, nat_eq}
-use Rattle.std.specs.Prelude.{IsSome, IsTrue, IfSome}
-use Rattle.std.proofs.lemmas.Bool.{true≢false, eq-eqb}
+use Rattle.std.proofs.Common.{◌≡◌, ℕ, Bool, true, false, cond, ◌||◌, List, [], ◌∷◌, filter, Option, Some, None, option_map, map, unwrap_or, ◌≢◌, refl, sym, ◌∙◌, subst, bytes_eq, nat_eq}
+use Rattle.std.specs.Prelude.{IsSome, IfSome}
+use Rattle.std.proofs.lemmas.Bool.{eq-eqb}
 use Rattle.std.proofs.lemmas.Slice.Eq.{bytes_eq-Decides}
 use Rattle.std.specs.List.{AllByRecursion, list_any}
 use Rattle.keys_roles.specs.Plain.{look_up}
@@ -10,7 +10,7 @@ use Rattle.keys_roles.specs.Verdicts.{Pair}
 use Rattle.metadata.specs.Documents.{MetaFile, Root, Snapshot, Targets}
 use Rattle.metadata.specs.File.{Name, File}
 use Rattle.delegations.specs.Delegation.{Edge}
-use Rattle.delegations.specs.Rows.{Place, Rows, row_at, same_place, value_at}
+use Rattle.delegations.specs.Rows.{Place, Rows, row_at, same_place}
 use Rattle.delegations.specs.Search.{Shelf, doc, shelf_of, top_edge}
 use Rattle.delegations.specs.Verdicts.{AreFew, AreListed, AreOfRows, AreTrue, IsComplete, IsEdge, IsWanted, Table, onward, top}
 use Rattle.delegations.proofs.KeyOrder.{place_one}
@@ -19,7 +19,7 @@ use Rattle.machine.specs.Knowing.{IsKnown}
 use Rattle.machine.specs.State.{Trusted}
 use Rattle.machine.specs.steps.Pruning.{AreAtListed}
 use Rattle.machine.proofs.ListedSearches.{AreSame, doc_same, same_back, value_gone, value_kept}
-use Rattle.machine.proofs.PrunedStates.{kept_same, place_self}
+use Rattle.machine.proofs.PrunedStates.{kept_same}
 
 -- ---- a role that is listed at a version
 

@@ -1,5 +1,5 @@
 -- What is held of the state of which all the rows are at hand, but for the bytes of its blobs.
-use Rattle.std.proofs.Common.{◌≡◌, ◌∙◌, ℕ, List, [], ◌∷◌, length, Option, Some, None, refl, sym, ap, subst, arith}
+use Rattle.std.proofs.Common.{◌≡◌, ◌∙◌, ℕ, List, [], ◌∷◌, Option, Some, None, refl, sym, ap, subst, arith}
 use Rattle.std.proofs.lemmas.List.{length-map}
 use Rattle.std.proofs.lemmas.List.Elements.{All-nil, recursion_from_All, All-from_recursion}
 use Rattle.std.specs.Prelude.{◌≤◌, All, IfNone, bytes_eq}
@@ -10,8 +10,6 @@ use Rattle.contents.specs.Contents.{Contents, contents_with, lengths_of}
 use Rattle.contents.specs.declared.MetadataRows.{MetadataRows}
 use Rattle.metadata.specs.File.{Bytes}
 use Rattle.delegations.specs.Delegation.{before}
-use Rattle.delegations.specs.Rows.{Rises}
-use Rattle.delegations.specs.steps.Rising.{rises}
 use Rattle.delegations.proofs.KeyOrder.{orders_bytes}
 use Rattle.delegations.proofs.RisingKeys.{none_rise, rises_tells}
 use Rattle.machine.specs.Contents.{contents_of}

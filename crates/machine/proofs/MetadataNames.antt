@@ -50,7 +50,7 @@ module _ (T : Trusted) (name : Bytes) where
   past_snapshot h k l = past_roots h k ∙ found_later (snapshot_files T.snapshot) _ name l
 
 module _ (T : Trusted) (root : File Root) (known : T.root ≡ Some root) where
-  version_at : (k n : ℕ) → length T.roots ≡ k + n + 1 → root_version T k ≡ root.body.version - n
+  pub version_at : (k n : ℕ) → length T.roots ≡ k + n + 1 → root_version T k ≡ root.body.version - n
   version_at k n h = rw (known, h) (omega arith)
 
   files_from : (bs : List (Profile × Bytes)) (b : Profile × Bytes) (k : ℕ) → length T.roots ≡ k + length bs + 1

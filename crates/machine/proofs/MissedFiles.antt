@@ -1,18 +1,17 @@
 -- What a request for a target misses in a state that holds a part of another one.
-use Rattle.std.proofs.Common.{◌≡◌, ℕ, List, [], ◌∷◌, length, Option, Some, None, Ok, Err, refl, sym, ap, ◌∙◌, subst, inl, inr, arith}
+use Rattle.std.proofs.Common.{◌≡◌, ℕ, List, [], ◌∷◌, length, Option, Some, None, Ok, Err, refl, sym, ap, ◌∙◌, subst, inl, inr}
 use Rattle.std.specs.Prelude.{◌⊎◌, ◌≤◌, All, Bool, true, false, IsNone, IfSome, take}
 use Rattle.std.specs.List.{AllByRecursion, zip}
 use Rattle.keys_roles.proofs.Elements.{of_each}
 use Rattle.keys_roles.specs.steps.Counting.{IsIn}
 use Rattle.path_patterns.specs.Grammar.{IsTargetPath}
-use Rattle.metadata.specs.Documents.{Layout, LayoutReference, Listing, MetaFile, Root, Snapshot, Step, Targets, Timestamp}
+use Rattle.metadata.specs.Documents.{Layout, LayoutReference, Listing, Root, Snapshot, Step, Timestamp}
 use Rattle.metadata.specs.File.{Bytes, Name, Names, File, Form, layout_form, link_form}
 use Rattle.metadata.specs.Links.{Link}
 use Rattle.metadata.specs.Rules.{ArtifactRule, Side, materials, products}
-use Rattle.metadata.specs.Shaped.{shaped}
-use Rattle.layouts.specs.Layouts.{Chosen, Ruled, hold, forbid, ask, all, by_links, layout_holds, rules_and_product, ruled, step_rules}
+use Rattle.layouts.specs.Layouts.{forbid, ask, all, layout_holds, rules_and_product, ruled, step_rules}
 use Rattle.denials.specs.Numbers as no
-use Rattle.denials.specs.Orders.{BlobMissing, RoleMissing, Plain, Denied, Same, Stop, Denial, Judged, Order, pass, decide, holds, fails, given, stopped, judges, ◌>>=◌, ◌>>◌, give, check, denied, each, need, need_or}
+use Rattle.denials.specs.Orders.{BlobMissing, RoleMissing, Plain, Denied, Same, Stop, Judged, Order, pass, decide, holds, fails, given, stopped, judges, ◌>>=◌, ◌>>◌, give, check, denied, each, need, need_or}
 use Rattle.delegations.specs.Missed.{HasRowsOf}
 use Rattle.delegations.specs.Delegation.{Edge}
 use Rattle.delegations.specs.Search.{Shelf, Found, find_in, found_or, listing_of, most_visits, search, shelf_of, visit, visited}
@@ -20,7 +19,7 @@ use Rattle.delegations.specs.Rows.{Rows}
 use Rattle.machine.specs.State.{IsShelfRow, IsState, State, blob_at}
 use Rattle.machine.specs.Commands.{Listed, grants, listed, live_snapshot, live_timestamp}
 use Rattle.machine.specs.Misses.{IsFound, IsPart, IsProperListing, IsThere, MissesBlob, MissesRole, support_paths}
-use Rattle.machine.specs.Supports.{blob_of, files_hold, layout_answer, read_as, reference_allows, searched, support, support_answer, supporting}
+use Rattle.machine.specs.Supports.{blob_of, files_hold, layout_answer, read_as, reference_allows, searched, support, support_answer}
 use Rattle.machine.proofs.LinesGive.{given_by, live_gives, needed}
 use Rattle.machine.proofs.OneJudgement.{searched-definite}
 use Rattle.machine.proofs.PrunedStates.{Sound}

@@ -4,9 +4,9 @@ use Rattle.std.specs.Prelude.{IfSome, IsNone, IsSome}
 use Rattle.delegations.specs.Rows.{entry_of, place_before, row_at, with_row, HasHash, HasLength}
 use Rattle.delegations.specs.Delegation.{before}
 use Rattle.delegations.specs.Search.{Vouched, shelf_of}
-use Rattle.denials.specs.Orders.{pass, holds, differs, given, need, need_or}
+use Rattle.denials.specs.Orders.{pass, holds, differs, given, need}
 use Rattle.limits.specs.Limits.{blob_limit, most_held}
-use Rattle.machine.specs.Commands.{NoDrop, NoRollback, SnapshotOffer, TargetsOffer, TimestampOffer, after_snapshot, after_timestamp, live_snapshot, live_timestamp, offer, placed, put_blob}
+use Rattle.machine.specs.Commands.{NoDrop, NoRollback, SnapshotOffer, TargetsOffer, TimestampOffer, after_snapshot, after_timestamp, live_snapshot, live_timestamp, offer, put_blob}
 use Rattle.machine.specs.State.{MeetsTop, NamesSnapshot, State, Trusted, blob_at}
 use Rattle.metadata.specs.Documents.{MetaFile, Root, Snapshot, Targets, Timestamp}
 use Rattle.metadata.specs.File.{Bytes, File, IsFileOf, Name, snapshot_form, targets_form, timestamp_form}

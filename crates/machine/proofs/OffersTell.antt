@@ -1,20 +1,19 @@
 -- What orders say of what they gave.
-use Rattle.std.proofs.Common.{◌≡◌, ℕ, ◌+◌, List, [], ◌∷◌, length, Option, Some, None, option_map, Ok, Err, refl, sym, ap, ◌∙◌, subst, arith, true, false}
-use Rattle.std.specs.Prelude.{◌<◌, IsNone, IsSome, IfSome}
+use Rattle.std.proofs.Common.{◌≡◌, ℕ, [], length, Option, Some, None, option_map, Ok, Err, refl, sym, ap, ◌∙◌, subst, arith}
+use Rattle.std.specs.Prelude.{◌<◌, IsSome, IfSome}
 use Rattle.metadata.specs.Documents.{MetaFile, Root, Snapshot, Targets, Listing}
 use Rattle.metadata.specs.File.{Bytes, Name, File, IsFileOf, document_of, root_form, targets_form}
 use Rattle.metadata.specs.Shaped.{reads, faulty}
 use Rattle.denials.specs.Numbers as no
-use Rattle.denials.specs.Orders.{BlobMissing, Plain, Denied, Same, Judged, Order, pass, decide, holds, fails, differs, same, given, stopped, need, need_or, check, give, ◌>>=◌, ◌>>◌}
+use Rattle.denials.specs.Orders.{BlobMissing, Same, Judged, pass, decide, holds, fails, same, given, need, need_or, check, give, ◌>>=◌, ◌>>◌}
 use Rattle.delegations.specs.Rows.{entry_of, place_before, row_at, with_row}
 use Rattle.delegations.specs.Search.{shelf_of}
 use Rattle.limits.specs.Limits.{most_held}
 use Rattle.machine.specs.State.{FollowsRoot, State, Trusted, blob_at}
-use Rattle.machine.specs.Commands.{AfterRoot, Listed, Offer, RootOffer, TargetsOffer, after_root, grants, listed, live_snapshot, named_targets, offer, placed, renew_root, renew_targets}
-use Rattle.machine.specs.Supports.{blob_of}
+use Rattle.machine.specs.Commands.{AfterRoot, Listed, RootOffer, TargetsOffer, grants, listed, live_snapshot, named_targets, offer, renew_root}
 use Rattle.machine.proofs.GrantsEnd.{NeverSame, check-never, live-never, need-never, then-never}
 use Rattle.machine.proofs.LinesGive.{given_by, live_gives, needed}
-use Rattle.machine.proofs.MissedFiles.{Granted, granted_tells}
+use Rattle.machine.proofs.MissedFiles.{granted_tells}
 use Rattle.machine.proofs.RootChains.{once}
 use Rattle.machine.proofs.ShapedOnce.{Shapes}
 

@@ -1,6 +1,6 @@
 -- What a prune leaves is a state, and its requests for targets have the same ends.
-use Rattle.std.proofs.Common.{◌≡◌, ℕ, Bool, true, false, cond, ◌&&◌, ◌||◌, List, [], ◌∷◌, map, filter, length, Option, Some, None, option_map, option_and_then, unwrap_or, Ok, Err, refl, sym, ap, ◌∙◌, subst, bytes_eq, nat_eq, arith}
-use Rattle.std.specs.Prelude.{◌≤◌, ◌↔◌, All, IsNone, IsSome, IsSomeAnd, IsTrue, IfSome, IfNone, IfOk, is_some, find}
+use Rattle.std.proofs.Common.{◌≡◌, ℕ, Bool, true, false, cond, ◌&&◌, ◌||◌, List, [], ◌∷◌, filter, length, Option, Some, None, option_and_then, Ok, Err, refl, sym, ap, ◌∙◌, subst, bytes_eq, arith}
+use Rattle.std.specs.Prelude.{◌≤◌, IsNone, IsSome, IsSomeAnd, IsTrue, IfSome, IfNone, IfOk, is_some, find}
 use Rattle.std.proofs.lemmas.Bool.{true≢false, eq-eqb}
 use Rattle.std.proofs.lemmas.List.Elements.{All-filter}
 use Rattle.std.proofs.lemmas.List.Kept.{AllPairs-filter}
@@ -10,7 +10,7 @@ use Rattle.keys_roles.specs.Plain.{look_up}
 use Rattle.metadata.specs.Documents.{LayoutReference, Listing, MetaFile, Root, Snapshot, Targets, Timestamp}
 use Rattle.metadata.specs.File.{Bytes, Name, File}
 use Rattle.denials.specs.Numbers as no
-use Rattle.denials.specs.Orders.{BlobMissing, RoleMissing, Plain, Denied, Same, Judged, Order, pass, decide, holds, fails, given, judges, ◌>>=◌, ◌>>◌, give, check, each, need_or}
+use Rattle.denials.specs.Orders.{BlobMissing, RoleMissing, Plain, Denied, Same, Judged, Order, pass, decide, holds, given, judges, ◌>>=◌, ◌>>◌, give, check, each, need_or}
 use Rattle.delegations.specs.Delegation.{before}
 use Rattle.delegations.specs.Rows.{Place, Rows, place_before, has_hash, has_length, named_row, row_at, same_place, value_at}
 use Rattle.delegations.specs.Search.{Shelf, Found, IsSoundly, doc, listing_of, search, shelf_of, top_edge}

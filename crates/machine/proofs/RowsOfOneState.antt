@@ -15,9 +15,9 @@ use Rattle.delegations.specs.Rows.{Place, Rows}
 use Rattle.machine.specs.State.{Trusted, State, IsRootChain, IsHeldUnder, IsShelfRow, IsState, MeetsTop, first, kept_root, then, nothing_trusted, root_version}
 use Rattle.machine.specs.Effects.{Gone, nothing_gone, Effects, applied, last_or, no_effects}
 use Rattle.machine.specs.steps.Loading.{AreRead, FollowOn, IsChain, RowsAreRead, laid}
-use Rattle.machine.specs.Contents.{contents_of, numbered, root_rows, shelf_rows}
+use Rattle.machine.specs.Contents.{contents_of, numbered, profile_number, root_row_of, root_rows, shelf_rows}
 use Rattle.contents.specs.Contents.{Contents}
-use Rattle.machine.specs.steps.Stored.{AreStored, IsShelved, IsStored, Together}
+use Rattle.machine.specs.steps.Stored.{AreStored, IsShelved, IsStored, IsStoredRoot, Together}
 use Rattle.machine.proofs.RootChains.{back, chain_tells}
 use Rattle.machine.proofs.PutInRoom.{same_state}
 use Rattle.machine.proofs.ShapedOnce.{Shapes, Tells, file-once, root-tells, timestamp-tells, snapshot-tells, targets-tells}
@@ -58,10 +58,24 @@ module _ (law : Shapes) where
       let same : f ≡ g = file-once law form tells f g h.document doc (ap (λ r. r.1) h.is ∙ sym is) in
       unlike (subst (λ (x : File A). version x.body ≡ v) same (ap (λ r. r.0) h.is))
 
+  pub other_profile : (v p : ℕ) (b : Bytes) (g : File Root) → IsFileOf root_form g → g.bytes ≡ b → (profile_number g.body.profile ≡ p → ⊥)
+      → (f : File Root) → IsStoredRoot (v, (p, b)) f → ⊥
+  other_profile v p b g doc is unlike f h =
+      let same : f ≡ g = file-once law root_form root-tells f g h.document doc (ap (λ r. r.1.1) h.is ∙ sym is) in
+      unlike (subst (λ (x : File Root). profile_number x.body.profile ≡ p) same (ap (λ r. r.1.0) h.is))
+
 -- a file of this version, with the bytes of the row
 pub as_stored : {A : Type 0} (form : Form A) (version : A → ℕ) (v : ℕ) (b : Bytes) (f : File A) → IsFileOf form f → version f.body ≡ v → f.bytes ≡ b
     → IsStored form version (v, b) f
 as_stored form version v b f document same bytes = record { document = document; is = λ i. (same i, bytes i) }
+
+pub as_stored_root : (v p : ℕ) (b : Bytes) (f : File Root) → IsFileOf root_form f → f.body.version ≡ v → profile_number f.body.profile ≡ p → f.bytes ≡ b
+    → IsStoredRoot (v, (p, b)) f
+as_stored_root v p b f document same profile bytes = record { document = document; is = λ i. (same i, (profile i, bytes i)) }
+
+-- the root of a row is a file of its version with its bytes
+pub file_of_root : (row : ℕ × (ℕ × Bytes)) (f : File Root) → IsStoredRoot row f → IsStored root_form (λ r. r.version) (row.0, row.1.1) f
+file_of_root row f h = record { document = h.document; is = ap (λ r. (r.0, r.1.1)) h.is }
 
 pub nothing_together : {A B : Type 0} (R : A → B → Type 0) (x : A) → ((y : B) → R x y → ⊥) → (o : Option B) → Together R (Some x) o → ⊥
 nothing_together R x none None h = h
@@ -71,7 +85,7 @@ nothing_together R x none (Some y) h = none y h
 
 abbrev row_contents : Effects → Contents
 row_contents E = record {
-  roots = map (numbered (λ r. r.version)) E.roots;
+  roots = map root_row_of E.roots;
   timestamp = option_map (numbered (λ t. t.version)) E.timestamp;
   snapshot = option_map (numbered (λ s. s.version)) E.snapshot;
   shelf = shelf_rows E.rows;
@@ -79,22 +93,6 @@ row_contents E = record {
 }
 
 module _ {A : Type 0} (form : Form A) (version : A → ℕ) where
-  rows_of : (rows : List (ℕ × Bytes)) (fs : List (File A)) → AllZip (IsStored form version) rows fs → map (numbered version) fs ≡ rows
-  rows_of [] [] h = refl
-  rows_of [] (f ∷ fs) h = absurd h
-  rows_of (r ∷ rs) [] h = absurd h
-  rows_of (r ∷ rs) (f ∷ fs) h = let here = h.0.is in let rest = rows_of rs fs h.1 in cc
-
-  read_of : (rows : List (ℕ × Bytes)) (fs : List (File A)) → AllZip (IsStored form version) rows fs → All (IsFileOf form) fs
-  read_of [] [] h = All-nil (IsFileOf form)
-  read_of [] (f ∷ fs) h = absurd h
-  read_of (r ∷ rs) [] h = absurd h
-  read_of (r ∷ rs) (f ∷ fs) h = All-cons (IsFileOf form) f fs h.0.document (read_of rs fs h.1)
-
-  stored_of : (fs : List (File A)) → All (IsFileOf form) fs → AllZip (IsStored form version) (map (numbered version) fs) fs
-  stored_of [] h = tt
-  stored_of (f ∷ fs) h = (record { document = All-head (IsFileOf form) f fs h; is = refl }, stored_of fs (All-tail (IsFileOf form) f fs h))
-
   row_of : (row : Option (ℕ × Bytes)) (o : Option (File A)) → Together (IsStored form version) row o → option_map (numbered version) o ≡ row
   row_of None None h = refl
   row_of None (Some f) h = absurd h
@@ -109,6 +107,22 @@ module _ {A : Type 0} (form : Form A) (version : A → ℕ) where
   one_stored : (o : Option (File A)) → IfSome o (IsFileOf form) → Together (IsStored form version) (option_map (numbered version) o) o
   one_stored None h = tt
   one_stored (Some f) h = record { document = h; is = refl }
+
+roots_of : (rows : List (ℕ × (ℕ × Bytes))) (fs : List (File Root)) → AllZip IsStoredRoot rows fs → map root_row_of fs ≡ rows
+roots_of [] [] h = refl
+roots_of [] (f ∷ fs) h = absurd h
+roots_of (r ∷ rs) [] h = absurd h
+roots_of (r ∷ rs) (f ∷ fs) h = let here = h.0.is in let rest = roots_of rs fs h.1 in cc
+
+roots_read : (rows : List (ℕ × (ℕ × Bytes))) (fs : List (File Root)) → AllZip IsStoredRoot rows fs → All (IsFileOf root_form) fs
+roots_read [] [] h = All-nil (IsFileOf root_form)
+roots_read [] (f ∷ fs) h = absurd h
+roots_read (r ∷ rs) [] h = absurd h
+roots_read (r ∷ rs) (f ∷ fs) h = All-cons (IsFileOf root_form) f fs h.0.document (roots_read rs fs h.1)
+
+roots_stored : (fs : List (File Root)) → All (IsFileOf root_form) fs → AllZip IsStoredRoot (map root_row_of fs) fs
+roots_stored [] h = tt
+roots_stored (f ∷ fs) h = (record { document = All-head (IsFileOf root_form) f fs h; is = refl }, roots_stored fs (All-tail (IsFileOf root_form) f fs h))
 
 shelf_of : (rows : List (Place × Bytes)) (held : Rows) → AllZip IsShelved rows held → shelf_rows held ≡ rows
 shelf_of [] [] h = refl
@@ -130,10 +144,10 @@ shelved (f ∷ fs) h =
 
 pub stored_rows : (C : Contents) (E : Effects) → AreStored C E → row_contents E ≡ C
 stored_rows C E h =
-    same_contents (rows_of root_form (λ r. r.version) C.roots E.roots h.roots) (row_of timestamp_form (λ t. t.version) C.timestamp E.timestamp h.timestamp)
+    same_contents (roots_of C.roots E.roots h.roots) (row_of timestamp_form (λ t. t.version) C.timestamp E.timestamp h.timestamp)
     (row_of snapshot_form (λ s. s.version) C.snapshot E.snapshot h.snapshot) (shelf_of C.shelf E.rows h.shelf) h.blobs
   where
-    same_contents : {r r' : List (ℕ × Bytes)} {t t' s s' : Option (ℕ × Bytes)} {p p' : List (Place × Bytes)} {b b' : List (Bytes × Bytes)}
+    same_contents : {r r' : List (ℕ × (ℕ × Bytes))} {t t' s s' : Option (ℕ × Bytes)} {p p' : List (Place × Bytes)} {b b' : List (Bytes × Bytes)}
         → r ≡ r' → t ≡ t' → s ≡ s' → p ≡ p' → b ≡ b'
         → ◌≡◌ {A = Contents} (record { roots = r; timestamp = t; snapshot = s; shelf = p; blobs = b })
         (record { roots = r'; timestamp = t'; snapshot = s'; shelf = p'; blobs = b' })
@@ -141,7 +155,7 @@ stored_rows C E h =
 
 pub stored_read : (C : Contents) (E : Effects) → AreStored C E → AreRead E
 stored_read C E h = record {
-  roots = read_of root_form (λ r. r.version) C.roots E.roots h.roots;
+  roots = roots_read C.roots E.roots h.roots;
   timestamp = one_read timestamp_form (λ t. t.version) C.timestamp E.timestamp h.timestamp;
   snapshot = one_read snapshot_form (λ s. s.version) C.snapshot E.snapshot h.snapshot;
   rows = shelf_read C.shelf E.rows h.shelf;
@@ -159,20 +173,20 @@ last_version f (g ∷ gs) root follows e = omega (arith, last_version g gs root 
 
 module _ (T : Trusted) (v : ℕ) (is : unwrap_or (option_map (λ root. root.body.version) T.root) 0 ≡ v) (above : length T.roots ≤ v + 1) where
   rows_rise : (k : ℕ) (f : File Root) (more : List (File Root)) → FollowOn f more → v + k + 1 - length T.roots ≡ f.body.version
-      → root_rows T k (map kept_root (f ∷ more)) ≡ map (numbered (λ r. r.version)) (f ∷ more)
+      → root_rows T k (map kept_root (f ∷ more)) ≡ map root_row_of (f ∷ more)
   rows_rise k f [] follows e = rw (is, e) refl
   rows_rise k f (g ∷ gs) follows e =
       let rest = rows_rise (suc k) g gs follows.1 (omega (arith, e, above, follows.0.next)) in
-      rw (is, e) (ap (λ l. (f.body.version, f.bytes) ∷ l) (rw is at rest))
+      rw (is, e) (ap (λ l. root_row_of f ∷ l) (rw is at rest))
 
 -- ---- a state is that of its files
 
 module _ (law : Shapes) where
   rooted : (E : Effects) (root : File Root) → All (IsFileOf root_form) E.roots → last_or None E.roots ≡ Some root
-      → IsRootChain (map kept_root E.roots) root → root_rows (laid E).trusted 0 (map kept_root E.roots) ≡ map (numbered (λ r. r.version)) E.roots
+      → IsRootChain (map kept_root E.roots) root → root_rows (laid E).trusted 0 (map kept_root E.roots) ≡ map root_row_of E.roots
   rooted E root read last chain = of E.roots refl
     where
-      of : (fs : List (File Root)) → fs ≡ E.roots → root_rows (laid E).trusted 0 (map kept_root fs) ≡ map (numbered (λ r. r.version)) fs
+      of : (fs : List (File Root)) → fs ≡ E.roots → root_rows (laid E).trusted 0 (map kept_root fs) ≡ map root_row_of fs
       of [] e = refl
       of (f ∷ more) e =
           let all : All (IsFileOf root_form) (f ∷ more) = subst (λ (l : List (File Root)). All (IsFileOf root_form) l) (sym e) read in
@@ -185,7 +199,7 @@ module _ (law : Shapes) where
           rows_rise (laid E).trusted root.body.version (rw last refl) (omega (arith, many, v)) 0 f more is.1 (omega (arith, many, v))
 
   pub contents_laid : (E : Effects) → All (IsFileOf root_form) E.roots → IsState (laid E) → contents_of (laid E) ≡ row_contents E
-  contents_laid E read s = ap (λ (l : List (ℕ × Bytes)). record (row_contents E) { roots = l }) (of (last_or None E.roots) refl)
+  contents_laid E read s = ap (λ (l : List (ℕ × (ℕ × Bytes))). record (row_contents E) { roots = l }) (of (last_or None E.roots) refl)
     where
       none_roots : (fs : List (File Root)) → last_or None fs ≡ None → fs ≡ []
       none_roots [] e = refl
@@ -195,8 +209,8 @@ module _ (law : Shapes) where
           some_last f [] e = let k : Some f ≡ None = e in cc
           some_last f (g ∷ gs) e = some_last g gs e
 
-      of : (o : Option (File Root)) → last_or None E.roots ≡ o → root_rows (laid E).trusted 0 (map kept_root E.roots) ≡ map (numbered (λ r. r.version)) E.roots
-      of None e = subst (λ (l : List (File Root)). root_rows (laid E).trusted 0 (map kept_root l) ≡ map (numbered (λ r. r.version)) l) (sym (none_roots E.roots e)) refl
+      of : (o : Option (File Root)) → last_or None E.roots ≡ o → root_rows (laid E).trusted 0 (map kept_root E.roots) ≡ map root_row_of E.roots
+      of None e = subst (λ (l : List (File Root)). root_rows (laid E).trusted 0 (map kept_root l) ≡ map root_row_of l) (sym (none_roots E.roots e)) refl
       of (Some root) e = rooted E root read e (rw e at s.trusted.held).chain
 
 all_more : {X : Type 0} (P : X → Type 0) (xs : List X) (x : X) → All P xs → P x → All P (xs ++ x ∷ [])
@@ -234,7 +248,7 @@ pub record FilesOf (S : State) : Type 0 where
 
 stored_rows_of : (E : Effects) → AreRead E → All IsShelfRow E.rows → AreStored (row_contents E) E
 stored_rows_of E read rows = record {
-  roots = stored_of root_form (λ r. r.version) E.roots read.roots;
+  roots = roots_stored E.roots read.roots;
   timestamp = one_stored timestamp_form (λ t. t.version) E.timestamp read.timestamp;
   snapshot = one_stored snapshot_form (λ s. s.version) E.snapshot read.snapshot;
   shelf = shelved E.rows rows;
@@ -306,6 +320,9 @@ module _ (law : Shapes) where
       → IsStored form version row f → IsStored form version row g → f ≡ g
   stored_once form tells version row f g h k = file-once law form tells f g h.document k.document (ap (λ r. r.1) (h.is ∙ sym k.is))
 
+  root_once : (row : ℕ × (ℕ × Bytes)) (f g : File Root) → IsStoredRoot row f → IsStoredRoot row g → f ≡ g
+  root_once row f g h k = file-once law root_form root-tells f g h.document k.document (ap (λ r. r.1.1) (h.is ∙ sym k.is))
+
   shelved_once : (row : Place × Bytes) (f g : Place × File Targets) → IsShelved row f → IsShelved row g → f ≡ g
   shelved_once row f g h k =
       let same = h.is ∙ sym k.is in
@@ -318,7 +335,7 @@ module _ (law : Shapes) where
 
   pub laid_once : (C : Contents) (E F : Effects) → AreStored C E → AreStored C F → laid E ≡ laid F
   laid_once C E F h k =
-      let roots : E.roots ≡ F.roots = zip_once (IsStored root_form (λ r. r.version)) (stored_once root_form root-tells (λ r. r.version)) C.roots E.roots F.roots h.roots k.roots in
+      let roots : E.roots ≡ F.roots = zip_once IsStoredRoot root_once C.roots E.roots F.roots h.roots k.roots in
       same_state _ _ _ _ _ _ _ _ _ _ _ _ (ap (map kept_root) roots) (ap (last_or None) roots)
       (together_once (IsStored timestamp_form (λ t. t.version)) (stored_once timestamp_form timestamp-tells (λ t. t.version)) C.timestamp E.timestamp F.timestamp h.timestamp k.timestamp)
       (together_once (IsStored snapshot_form (λ s. s.version)) (stored_once snapshot_form snapshot-tells (λ s. s.version)) C.snapshot E.snapshot F.snapshot h.snapshot k.snapshot)
@@ -408,7 +425,7 @@ module _ (law : Shapes) where
 
 rows_join : (T : Trusted) (k : ℕ) (bs cs : List (Profile × Bytes)) → root_rows T k (bs ++ cs) ≡ root_rows T k bs ++ root_rows T (k + length bs) cs
 rows_join T k [] cs = ap (λ n. root_rows T n cs) (omega arith)
-rows_join T k (b ∷ bs) cs = ap (λ (l : List (ℕ × Bytes)). (root_version T k, b.1) ∷ l) (rows_join T (suc k) bs cs ∙ ap (λ n. root_rows T (suc k) bs ++ root_rows T n cs) (omega arith))
+rows_join T k (b ∷ bs) cs = ap (λ (l : List (ℕ × (ℕ × Bytes))). (root_version T k, (profile_number b.0, b.1)) ∷ l) (rows_join T (suc k) bs cs ∙ ap (λ n. root_rows T (suc k) bs ++ root_rows T n cs) (omega arith))
 
 module _ (law : Shapes) where
   pub rows_stay : (S : State) (E : Effects) → IsState S → IsState (applied S E)
@@ -418,7 +435,7 @@ module _ (law : Shapes) where
       let bs = map kept_root E.roots in
       let from : 0 + length S.trusted.roots ≡ length S.trusted.roots = omega arith in
       rows_join U 0 S.trusted.roots bs
-      ∙ (ap (λ n. root_rows U 0 S.trusted.roots ++ root_rows U n bs) from ∙ ap (λ (l : List (ℕ × Bytes)). l ++ root_rows U (length S.trusted.roots) bs) (of S.trusted.root refl))
+      ∙ (ap (λ n. root_rows U 0 S.trusted.roots ++ root_rows U n bs) from ∙ ap (λ (l : List (ℕ × (ℕ × Bytes))). l ++ root_rows U (length S.trusted.roots) bs) (of S.trusted.root refl))
     where
       some_after : (o : Option (File Root)) (rs : List (File Root)) → IsSome o → IsSome (last_or o rs)
       some_after o [] h = h

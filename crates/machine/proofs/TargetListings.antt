@@ -1,19 +1,18 @@
 -- What targets metadata list: paths of targets, also those of what a layout needs, which are few.
-use Rattle.std.proofs.Common.{◌≡◌, ℕ, suc, Bool, true, false, cond, List, [], ◌∷◌, length, Option, Some, None, Ok, option_and_then, refl, sym, ap, ◌∙◌, subst, arith, bytes_eq}
+use Rattle.std.proofs.Common.{◌≡◌, ℕ, Bool, true, false, cond, List, [], ◌∷◌, length, Option, Some, None, Ok, refl, subst, bytes_eq}
 use Rattle.std.specs.Prelude.{◌≤◌, All, IfSome, IsSomeAnd, find}
 use Rattle.std.specs.List.{AllByRecursion}
 use Rattle.std.proofs.lemmas.List.Elements.{All-head, All-tail}
 use Rattle.canonical_json.specs.Json.{Json, Items, no_items, item, Members, no_members, member}
 use Rattle.path_patterns.specs.Grammar.{IsTargetPath}
 use Rattle.metadata.specs.Bodies.{HasLayoutReference, IsListing, IsTextOf}
-use Rattle.metadata.specs.Documents.{LayoutReference, Listing, MetaFile, Targets}
+use Rattle.metadata.specs.Documents.{LayoutReference, Listing, Targets}
 use Rattle.metadata.specs.File.{Bytes, File, IsFileOf, targets_form}
 use Rattle.metadata.specs.Members.{ItemsAre, MembersAre}
-use Rattle.delegations.specs.Rows.{Place, Rows, row_at, same_place, value_at}
+use Rattle.delegations.specs.Rows.{Place, Rows, same_place, value_at}
 use Rattle.delegations.specs.Search.{Found, Shelf, doc, listing_of, search}
-use Rattle.machine.specs.Commands.{Listed, listed}
 use Rattle.machine.specs.Misses.{IsProperListing}
-use Rattle.machine.specs.State.{IsShelfRow, IsState, State}
+use Rattle.machine.specs.State.{IsShelfRow}
 use Rattle.machine.proofs.PrunedStates.{Sound, doc_row}
 
 texts : (vs : Items) (ts : List (List ℕ)) → ItemsAre (IsTextOf IsTargetPath) vs ts → AllByRecursion IsTargetPath ts

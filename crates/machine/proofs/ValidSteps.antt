@@ -17,7 +17,7 @@ use Rattle.delegations.specs.Delegation.{before}
 use Rattle.delegations.specs.Rows.{Place, place_before, same_place, with_row, row_at, entry_of, Rises}
 use Rattle.machine.specs.State.{Trusted, State, nothing_trusted, nothing, blob_at, MeetsTop, FollowsRoot, first, kept_root, then, IsShelfRow, IsBlob, IsHeldUnder, IsTrusted, IsState}
 use Rattle.limits.specs.Limits.{most_held, blob_limit}
-use Rattle.machine.specs.Commands.{KeepsRoles, with_root, emptied, kept, rotated, after_root, live_snapshot, named_snapshot, named_targets, Offer, RootOffer, TimestampOffer, SnapshotOffer, TargetsOffer, init, offer_root, offer_timestamp, offer_snapshot, offer_targets, offer, put_blob, Batched, BatchOrder, coherent, incoherent, going_on, batch_from, batch}
+use Rattle.machine.specs.Commands.{KeepsRoles, with_root, emptied, kept, rotated, after_root, named_snapshot, named_targets, Offer, RootOffer, TimestampOffer, SnapshotOffer, TargetsOffer, init, offer_root, offer_timestamp, offer_snapshot, offer_targets, offer, put_blob, Batched, BatchOrder, coherent, incoherent, going_on, batch_from, batch}
 use Rattle.machine.specs.Runs.{Command, Reply, Outcome, Init, Batch, OfferOne, PutBlob, Prune, Metadata, Target, with_trusted, settled, batch_outcome, Steps, Runs, done, next}
 use Rattle.machine.proofs.CoherentSteps.{led}
 use Rattle.machine.proofs.LinesGive.{live_gives, checked_each, Gives, line, gives, checked, differed, needed, read, given_by}

@@ -1,5 +1,5 @@
 -- A state that holds a part of another one, and what a request for a target misses there. (TUF 1.0, section 5.6.7; in-toto 1.0, section 5.2)
-use Rattle.std.specs.Prelude.{◌≡◌, ◌≤◌, ℕ, List, [], ◌∷◌, length, Option, Some, None, Ok, Err, IfSome}
+use Rattle.std.specs.Prelude.{◌≡◌, ◌≤◌, ℕ, [], ◌∷◌, length, Option, Some, None, Ok, Err, IfSome}
 use Rattle.std.specs.List.{AllByRecursion}
 use Rattle.path_patterns.specs.Grammar.{IsTargetPath}
 use Rattle.path_patterns.specs.Names.{IsDigest}

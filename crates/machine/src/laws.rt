@@ -124,7 +124,7 @@ pub fn one_chain()
 pub fn names_find()
     ensures once { (n m : ℕ) (a b : Bytes) → n ≤ last_number → m ≤ last_number → dotted n a ≡ dotted m b → (n ≡ m) × (a ≡ b) }
     ensures timestamps { (T : Trusted) → IsTrusted T → metadata_of T (codes "timestamp.json") ≡ option_map (λ t. t.bytes) T.timestamp }
-    ensures roots { (T : Trusted) (n : ℕ) → IsTrusted T → n ≤ last_number → metadata_of T (dotted n (codes "root")) ≡ value_at nat_eq (root_rows T 0 T.roots) n }
+    ensures roots { (T : Trusted) (n : ℕ) → IsTrusted T → n ≤ last_number → metadata_of T (dotted n (codes "root")) ≡ option_map (λ r. r.1) (value_at nat_eq (root_rows T 0 T.roots) n) }
     ensures snapshots { (T : Trusted) (n : ℕ) → IsTrusted T → n ≤ last_number
         → metadata_of T (dotted n (codes "snapshot")) ≡ option_and_then (λ s. if nat_eq s.body.version n then Some s.bytes else None) T.snapshot }
     ensures roles { (T : Trusted) (n : ℕ) (role : Name) → IsTrusted T → n ≤ last_number → IsListable role

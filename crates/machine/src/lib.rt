@@ -58,4 +58,5 @@ pub use pruning::prune;
 pub use refusal::{BatchRefusal, Refusal};
 pub use serving::{Blobs, GetFault, LoadFault, Served};
 pub use state::State;
+pub use stored::profile_number;
 pub use updating::{root_version, snapshot_due};

@@ -1,29 +1,31 @@
 //! The rows of a repository's tables, and the state of which they are all.
-ghost use Rattle.std.specs.Prelude.{◌≡◌, List, [], All, map, option_map, string_bytes, Ok, IfOk, IfSome, IfNone, IsErrAnd};
+ghost use Rattle.std.specs.Prelude.{◌≡◌, ◌≤◌, List, [], All, length, map, option_map, string_bytes, Ok, IfOk, IfSome, IfNone, IsErrAnd};
 ghost use Rattle.std.specs.List.{AllZip};
 ghost use Rattle.sha2.specs.Sha256.{sha256};
 ghost use Rattle.metadata.specs.Documents as plain;
 ghost use Rattle.metadata.specs.File as files;
-ghost use Rattle.metadata.specs.File.{Bytes, root_form, timestamp_form, snapshot_form};
+ghost use Rattle.metadata.specs.File.{Bytes, timestamp_form, snapshot_form};
 ghost use Rattle.metadata.specs.FileViews.{root_file, timestamp_file, snapshot_file, targets_file};
+ghost use Rattle.metadata.specs.Views.{profile_view};
 ghost use Rattle.delegations.specs.Views.{row_views};
 ghost use Rattle.machine.specs.State as trust;
-ghost use Rattle.machine.specs.Contents.{contents_of};
-ghost use Rattle.machine.specs.steps.Stored.{AreStored, IsShelved, IsStored, Together};
+ghost use Rattle.limits.specs.Limits.{most_held};
+ghost use Rattle.machine.specs.Contents.{contents_of, profile_number as number_of_profile, root_rows, without_profiles};
+ghost use Rattle.machine.specs.steps.Stored.{AreStored, IsShelved, IsStored, IsStoredRoot, Together, earlier_roots};
 ghost use Rattle.machine.specs.Effects as changes;
 ghost use Rattle.machine.specs.Held.{held_of};
-ghost use Rattle.machine.specs.Views.{blob_views, changes_view, effects_view, length_views};
+ghost use Rattle.machine.specs.Views.{blob_views, changes_view, effects_view, length_views, trusted_view};
 ghost use Rattle.contents.specs.Contents.{contents_view, contents_with, lengths_of};
 
 use crate::effects::{Blob, Changes, Effects, Gone};
 use crate::held::Held;
 use crate::loading::{may_be_held, settle};
-use crate::parts::BlobLength;
+use crate::parts::{BlobLength, Trusted};
 use crate::state::State;
 use contents::{Contents, MetadataRows};
 use delegations::{Row, Verdicts};
 use metadata::{
-    File, Root, ShapeFault, Snapshot, Timestamp, one_document, one_shape, read_root_file,
+    File, Profile, Root, ShapeFault, Snapshot, Timestamp, one_document, one_shape, read_root_file,
     read_snapshot_file, read_targets_file, read_timestamp_file,
 };
 use path_patterns::{Digest, RoleName};
@@ -73,6 +75,49 @@ impl Held {
         }
         Ok(Some(state.with_lengths(lengths)))
     }
+
+    /// Version and bytes of each trusted root, in order. The bytes are not copied.
+    pub fn roots<'a>(&'a self, alloc: Global) -> Result<Vec<(u32, &'a [u8])>, AllocError>
+        ensures { IfOk result (λ roots. map (λ r. (r.0, r.1.now)) roots.items ≡ without_profiles (root_rows self.now.held.trusted 0 self.now.held.trusted.roots)) }
+    {
+        numbered_roots(alloc, self.trusted())
+    }
+}
+
+// Version and bytes of each root.
+fn numbered_roots<'a>(
+    alloc: Global,
+    trusted: &'a Trusted,
+) -> Result<Vec<(u32, &'a [u8])>, AllocError>
+    requires { trust.IsTrusted (trusted_view trusted.now) }
+    ensures { IfOk result (λ roots. map (λ r. (r.0, r.1.now)) roots.items ≡ without_profiles (root_rows (trusted_view trusted.now) 0 (trusted_view trusted.now).roots)) }
+{
+    let Some(last) = &trusted.root else {
+        return Ok(Vec::new(alloc));
+    };
+    let version = last.body.version;
+    let mut roots = numbered_earlier(alloc, &trusted.earlier, version)?;
+    roots.push((version, last.source.bytes()))?;
+    Ok(roots)
+}
+
+// Version and bytes of each root before the one with this version.
+fn numbered_earlier<'a>(
+    alloc: Global,
+    earlier: &'a [(Profile, Vec<u8>)],
+    version: u32,
+) -> Result<Vec<(u32, &'a [u8])>, AllocError>
+    requires { length earlier.now ≤ most_held }
+    ensures { IfOk result (λ roots. map (λ r. (r.0, r.1.now)) roots.items ≡ earlier_roots version (map (λ b. (profile_view b.0, b.1.items)) earlier.now)) }
+{
+    let mut roots = Vec::with_capacity(alloc, earlier.len())?;
+    let mut rest = earlier;
+    'roots: while let Some((root, later)) = rest.split_first() {
+        let number = version.saturating_sub(rest.len() as u32);
+        roots.push((number, root.1.as_slice()))?;
+        rest = later;
+    }
+    Ok(roots)
 }
 
 // The files of all rows, if each is one.
@@ -137,10 +182,25 @@ fn if_shaped<T: Drop>(read: Result<File<T>, ShapeFault>) -> Result<Option<File<T
     }
 }
 
-// The root of a row, if it is one of this version.
-fn stored_root(alloc: Global, version: u32, bytes: &[u8]) -> Result<Option<File<Root>>, AllocError>
-    ensures some { IfOk result (λ o. IfSome o (λ f. IsStored root_form (λ b. b.version) (version, bytes.now) (root_file f))) }
-    ensures none { IfOk result (λ o. IfNone o ((f : files.File plain.Root) → IsStored root_form (λ b. b.version) (version, bytes.now) f → ⊥)) }
+/// The number of a profile in the row of a root.
+pub fn profile_number(profile: Profile) -> u32
+    ensures { result ≡ number_of_profile (profile_view profile) }
+{
+    match profile {
+        Profile::First => 1,
+        Profile::Second => 2,
+    }
+}
+
+// The root of a row, if it is one of this version and this profile.
+fn stored_root(
+    alloc: Global,
+    version: u32,
+    profile: u32,
+    bytes: &[u8],
+) -> Result<Option<File<Root>>, AllocError>
+    ensures some { IfOk result (λ o. IfSome o (λ f. IsStoredRoot (version, (profile, bytes.now)) (root_file f))) }
+    ensures none { IfOk result (λ o. IfNone o ((f : files.File plain.Root) → IsStoredRoot (version, (profile, bytes.now)) f → ⊥)) }
 {
     one_document();
     one_shape();
@@ -148,6 +208,9 @@ fn stored_root(alloc: Global, version: u32, bytes: &[u8]) -> Result<Option<File<
         return Ok(None);
     };
     if file.body.version != version {
+        return Ok(None);
+    }
+    if profile_number(file.body.profile) != profile {
         return Ok(None);
     }
     Ok(Some(file))
@@ -227,15 +290,18 @@ fn read_snapshot(
     Ok(Some(Some(file)))
 }
 
-// The roots of all rows, if each is one of its version.
-fn read_roots(alloc: Global, rows: &[(u32, Vec<u8>)]) -> Result<Option<Vec<File<Root>>>, AllocError>
-    ensures some { IfOk result (λ o. IfSome o (λ fs. AllZip (IsStored root_form (λ r. r.version)) (map (λ r. (r.0, r.1.items)) rows.now) (map root_file fs.items))) }
-    ensures none { IfOk result (λ o. IfNone o ((fs : _) → AllZip (IsStored root_form (λ r. r.version)) (map (λ r. (r.0, r.1.items)) rows.now) fs → ⊥)) }
+// The roots of all rows, if each is one of its version and its profile.
+fn read_roots(
+    alloc: Global,
+    rows: &[(u32, u32, Vec<u8>)],
+) -> Result<Option<Vec<File<Root>>>, AllocError>
+    ensures some { IfOk result (λ o. IfSome o (λ fs. AllZip IsStoredRoot (map (λ r. (r.0, (r.1, r.2.items))) rows.now) (map root_file fs.items))) }
+    ensures none { IfOk result (λ o. IfNone o ((fs : _) → AllZip IsStoredRoot (map (λ r. (r.0, (r.1, r.2.items))) rows.now) fs → ⊥)) }
 {
     let mut files = Vec::new(alloc);
     let mut rest = rows;
     'rows: while let Some((row, later)) = rest.split_first() {
-        let Some(file) = stored_root(alloc, row.0, &row.1)? else {
+        let Some(file) = stored_root(alloc, row.0, row.1, &row.2)? else {
             return Ok(None);
         };
         files.push(file)?;

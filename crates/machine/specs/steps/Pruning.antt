@@ -7,7 +7,6 @@ use Rattle.delegations.specs.Verdicts.{AreListed, Table}
 use Rattle.machine.specs.Commands.{is_listed, is_wanted, kept_rows}
 use Rattle.machine.specs.Effects.{Gone, without}
 use Rattle.machine.specs.Held.{Held}
-use Rattle.machine.specs.State.{Trusted}
 
 abbrev pub listed_rows : Option (File Snapshot) → Rows → Rows
 listed_rows snapshot rows = filter (λ row. is_listed snapshot row.0) rows

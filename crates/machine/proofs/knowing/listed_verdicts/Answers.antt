@@ -1,6 +1,4 @@
 use Rattle.std.proofs.Common.{subst, ◌∙◌}
-use Rattle.std.specs.Prelude.{IfOk}
-use Rattle.delegations.specs.Verdicts.{Table}
 use Rattle.machine.specs.Commands.{kept_rows}
 use Rattle.machine.specs.Knowing.{IsKnown}
 use Rattle.machine.specs.State.{Trusted}

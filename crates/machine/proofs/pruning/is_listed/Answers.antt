@@ -1,8 +1,7 @@
-use Rattle.std.proofs.Common.{◌≡◌, ◌∙◌, ℕ, List, Option, Some, None, Bor, ap, subst, sym, map, codes, nat_eq, option_map, unwrap_or, false}
+use Rattle.std.proofs.Common.{◌≡◌, ◌∙◌, ℕ, List, Option, Some, None, Bor, ap, subst, sym, map, nat_eq, option_map, unwrap_or, false}
 use Rattle.keys_roles.specs.Plain.{look_up}
 use Rattle.keys_roles.specs.Rules.{AreDistinct}
 use Rattle.metadata.specs.Documents as plain
-use Rattle.metadata.specs.File as files
 use Rattle.metadata.specs.File.{Name}
 use Rattle.metadata.specs.FileViews.{snapshot_file}
 use Rattle.metadata.specs.Views.{meta_view, snapshot_view}

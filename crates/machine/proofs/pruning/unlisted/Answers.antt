@@ -1,8 +1,5 @@
-use Rattle.std.proofs.Common.{◌≡◌, ◌∙◌, ℕ, List, Option, ap, sym, map, filter, option_map}
-use Rattle.metadata.specs.Documents.{Snapshot}
-use Rattle.metadata.specs.File.{Bytes, File}
-use Rattle.delegations.specs.Rows.{Place, Rows}
-use Rattle.machine.specs.Effects.{Gone}
+use Rattle.std.proofs.Common.{◌≡◌, ◌∙◌, ℕ, List, ap, map}
+use Rattle.metadata.specs.File.{Bytes}
 use Rattle.delegations.specs.Views.{row_views}
 use Rattle.machine.specs.Views.{digest_views, length_views, trusted_view}
 use Rattle.machine.specs.State.{Trusted}

@@ -1,4 +1,4 @@
-use Rattle.std.proofs.Common.{◌≡◌, ◌∙◌, ◌∷◌, ◌++◌, [], List, map, ap, arith, refl, subst, sym}
+use Rattle.std.proofs.Common.{◌∙◌, ◌∷◌, [], List, ap, arith, refl, subst, sym}
 use Rattle.std.proofs.lemmas.List.{map-append}
 use Rattle.std.proofs.lemmas.Result.{err_from_is_err_and}
 use Rattle.std.specs.Prelude.{IsSome}
@@ -12,7 +12,7 @@ use Rattle.machine.specs.Answers.{forgoes, gives}
 use Rattle.machine.specs.Held.{length_at}
 use Rattle.machine.specs.Supports.{support}
 use Rattle.machine.specs.steps.Permitting.{all_bytes_at, bytes_at}
-use Rattle.machine.proofs.EachInTurn.{Follows, follows_end, follows_ends, follows_first, follows_next, more_all}
+use Rattle.machine.proofs.EachInTurn.{Follows, follows_end, follows_first, follows_next, more_all}
 use Rattle.machine.proofs.OrderSteps.{given_by}
 use Rattle.machine.proofs.TargetFiles.{each_denied}
 use Rattle.machine.proofs.supporting.supports.Goals as goal

@@ -1,4 +1,4 @@
-use Rattle.std.proofs.Common.{◌≡◌, ap, sym, ◌∙◌, not, bytes_eq, rules}
+use Rattle.std.proofs.Common.{ap, sym, ◌∙◌, not, bytes_eq, rules}
 use Rattle.std.proofs.lemmas.Fn.{filter_same}
 use Rattle.std.specs.List.{list_any}
 use Rattle.machine.specs.Views.{length_views, digest_views}

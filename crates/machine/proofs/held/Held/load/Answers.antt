@@ -1,6 +1,5 @@
 use Rattle.std.proofs.Common.{◌≡◌, ◌∙◌, ap, refl, sym, subst}
 use Rattle.machine.specs.Held.{Held, IsHeld}
-use Rattle.machine.specs.State.{Trusted}
 use Rattle.machine.specs.Views.{length_views, trusted_view}
 use Rattle.machine.proofs.HeldStates.{both_held}
 use Rattle.machine.proofs.LoadedHeld.{loaded_with, none_held, none_with}

@@ -1,15 +1,14 @@
-use Rattle.std.proofs.Common.{◌≡◌, ◌∙◌, ℕ, Ok, Err, Option, Some, None, ap, subst, sym, refl}
+use Rattle.std.proofs.Common.{◌∙◌, ap, subst, sym}
 use Rattle.std.proofs.lemmas.List.{length-map}
 use Rattle.std.proofs.lemmas.Result.{err_from_is_err_and}
 use Rattle.std.specs.Prelude.{IsSome}
 use Rattle.metadata.specs.FileViews.{root_file}
 use Rattle.denials.specs.Orders.{decide, fails}
 use Rattle.machine.specs.Answers.{changes, refused, unanswered}
-use Rattle.machine.specs.Commands.{kept_rows, prune}
 use Rattle.machine.specs.Effects.{Effects, no_effects}
 use Rattle.machine.specs.Held.{Held, held_of}
 use Rattle.machine.specs.Knowing.{IsKnown}
-use Rattle.machine.specs.State.{State, IsState, Trusted}
+use Rattle.machine.specs.State.{Trusted}
 use Rattle.machine.specs.Views.{effects_view}
 use Rattle.machine.specs.steps.Pruning.{gone_of}
 use Rattle.machine.proofs.HeldStates.{same_trusted_held}

@@ -1,4 +1,4 @@
-use Rattle.std.proofs.Common.{◌≡◌, ◌∙◌, ℕ, List, ap, sym, subst, bytes_eq}
+use Rattle.std.proofs.Common.{◌∙◌, ℕ, List, ap, sym, subst, bytes_eq}
 use Rattle.metadata.specs.File.{Bytes}
 use Rattle.path_patterns.specs.declared.Digest.{Digest}
 use Rattle.delegations.specs.Rows.{Place, Rows, same_place}

@@ -1,13 +1,13 @@
-use Rattle.std.proofs.Common.{◌≡◌, ◌∙◌, ℕ, List, ap, refl, sym, subst, bytes_eq}
+use Rattle.std.proofs.Common.{◌≡◌, ◌∙◌, List, ap, refl, sym, subst, bytes_eq}
 use Rattle.metadata.specs.File.{Bytes}
 use Rattle.path_patterns.specs.declared.Digest.{Digest}
 use Rattle.machine.specs.Effects as changes
 use Rattle.machine.specs.Effects.{applied, with_blobs, without}
 use Rattle.contents.specs.Contents.{lengths_of}
-use Rattle.machine.specs.Held.{Held, IsHeld, held_of, held_with, with_lengths}
+use Rattle.machine.specs.Held.{Held, IsHeld, held_of, held_with}
 use Rattle.machine.specs.Room.{WithRoom, state_with}
 use Rattle.machine.specs.State.{State, IsState}
-use Rattle.machine.specs.Views.{blob_views, digest_views, effects_view, made_view}
+use Rattle.machine.specs.Views.{digest_views, effects_view, made_view}
 use Rattle.machine.specs.declared.effects.Blob.{Blob}
 use Rattle.machine.proofs.HeldStates.{both_held, held_applied, taken}
 use Rattle.machine.proofs.state.State.take.Goals as goal
