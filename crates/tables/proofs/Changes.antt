@@ -14,15 +14,16 @@ use Rattle.sql_tables.proofs.Editing.{same_inside}
 use Rattle.sql_tables.specs.Inside.{shown_of, cells_at}
 use Rattle.sql_tables.specs.Rows.{AreRows}
 use Rattle.sql_tables.specs.Described.{at_place, tree_from}
-use Rattle.tables.specs.Schema.{HasFive, five}
+use Rattle.tables.specs.Schema.{HasSix, six}
 use Rattle.tables.specs.steps.Writing.{listed, Cells, IsInside, cells_of}
 use Rattle.tables.specs.Tables.{HoldsTables, HoldsWhole, IsStore, root_row, slot_row, slot_rows, current_rows, shelf_row, blob_row, with_root, with_row, with_blob, with_timestamp, with_snapshot, after, after_all}
-use Rattle.tables.proofs.Beginnings.{five_after}
+use Rattle.tables.proofs.Beginnings.{six_after}
+use Rattle.tables.proofs.CellLemmas.{cells_second, rows_of_cells}
 use Rattle.sql_tables.specs.Writing.{without_text}
 use Rattle.sql_tables.proofs.Statements.{text_test, turned, turned_back}
 
-pub grown_root : (s : State) (t : Contents) (r : ℕ × List ℕ) → IsInside s (record (cells_of t) { root = map root_row t.roots ++ root_row r ∷ [] }) → IsInside s (cells_of (with_root r t))
-grown_root s t r is = subst (λ rows. IsInside s (record (cells_of t) { root = rows })) (sym (map-append root_row t.roots (r ∷ []))) is
+pub grown_root : (s : State) (t : Contents) (r : ℕ × (ℕ × List ℕ)) → IsInside s (record (cells_of t) { root2 = map root_row t.roots ++ root_row r ∷ [] }) → IsInside s (cells_of (with_root r t))
+grown_root s t r is = subst (λ rows. IsInside s (record (cells_of t) { root2 = rows })) (sym (map-append root_row t.roots (r ∷ []))) is
 
 pub grown_shelf : (s : State) (t : Contents) (r : (List ℕ × ℕ) × List ℕ) → IsInside s (record (cells_of t) { shelf = map shelf_row t.shelf ++ shelf_row r ∷ [] }) → IsInside s (cells_of (with_row r t))
 grown_shelf s t r is = subst (λ rows. IsInside s (record (cells_of t) { shelf = rows })) (sym (map-append shelf_row t.shelf (r ∷ []))) is
@@ -51,7 +52,7 @@ without_snapshot None (Some y) = rw (text_test snapshot_slot snapshot_slot) refl
 without_snapshot (Some x) (Some y) = rw (text_test timestamp_slot snapshot_slot, text_test snapshot_slot snapshot_slot) refl
 
 with_current : (s : State) (c : Cells) (rows : List Row) → IsInside s c → ((x : Row) → Has c.current x → Has rows x) → ((x : Row) → Has rows x → Has c.current x) → IsInside s (record c { current = rows })
-with_current s c rows is there back = record { tables = same_inside five 1 (omega arith) s (listed c) rows is.tables (omega arith) there back; sound = is.sound }
+with_current s c rows is there back = record { tables = same_inside six 1 (omega arith) s (listed c) rows is.tables (omega arith) there back; sound = is.sound }
 
 pub new_timestamp : (s : State) (t : Contents) (r : ℕ × List ℕ)
     → IsInside s (record (cells_of t) { current = without_text timestamp_slot (current_rows t.timestamp t.snapshot) ++ slot_row timestamp_slot r ∷ [] }) → IsInside s (cells_of (with_timestamp r t))
@@ -77,27 +78,20 @@ to_tables is = record {
   shelf = is.tables.holds 2 (omega arith);
   blob = is.tables.holds 3 (omega arith);
   version = is.tables.holds 4 (omega arith);
+  root2 = is.tables.holds 5 (omega arith);
 }
 
 -- what a commit of it writes
 pub to_whole : {s : State} {t : Contents} → IsInside s (cells_of t) → (trees : Trees) → trees ≡ s.now.trees → HoldsWhole trees t
 to_whole {s} {t} is trees same = (s.now, sym same, is.sound, is.tables.schema, subst (λ (d : Trees). HoldsTables d t) (sym same) (to_tables is))
 
-pub inside : (s : State) (t : Contents) → IsTrue s.is_open → IsTrue s.in_transaction → IsDatabase s.now → HasFive s.now.schema → HoldsTables s.now.trees t → IsInside s (cells_of t)
-inside s t is_open within sound schema holds = record { tables = record { is_open = is_open; inside = within; schema = schema; holds = each }; sound = sound }
-  where
-    each : (n : ℕ) → n < length five → AreRows (shown_of (at_place five n)) (s.now.trees (tree_from 0 five n)) (cells_at (listed (cells_of t)) n)
-    each zero few = holds.root
-    each (suc zero) few = holds.current
-    each (suc (suc zero)) few = holds.shelf
-    each (suc (suc (suc zero))) few = holds.blob
-    each (suc (suc (suc (suc zero)))) few = holds.version
-    each (suc (suc (suc (suc (suc n))))) few = absurd (omega (arith, few))
+pub inside : (s : State) (t : Contents) → IsTrue s.is_open → IsTrue s.in_transaction → IsDatabase s.now → HasSix s.now.schema → HoldsTables s.now.trees t → IsInside s (cells_of t)
+inside s t is_open within sound schema holds = record { tables = record { is_open = is_open; inside = within; schema = schema; holds = rows_of_cells s.now.trees (cells_of t) (cells_second s.now.trees t holds) }; sound = sound }
 
 pub committed : (tx end : State) (t : Contents) → IsInside tx (cells_of t) → Shows tx end tx.now tx.now false → IsStore end t
 committed tx end t is shows = record {
   is_open = shows.is_open;
-  schema = five_after shows.now_is is.tables.schema;
+  schema = six_after shows.now_is is.tables.schema;
   settled = shows.now_is ∙ sym shows.committed_is;
   holds = subst (λ (d : Database). HoldsTables d.trees t) (sym shows.now_is) (to_tables is);
 }
@@ -109,7 +103,7 @@ kept_back old tx end t stays kept back is =
     let now : end.now ≡ old.now = both.0 ∙ kept.committed (back.was_open stays) ∙ sym is.settled in
     record {
       is_open = stays;
-      schema = five_after now is.schema;
+      schema = six_after now is.schema;
       settled = both.0 ∙ sym both.1;
       holds = subst (λ (d : Database). HoldsTables d.trees t) (sym now) is.holds;
     }

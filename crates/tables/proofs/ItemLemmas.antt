@@ -1,8 +1,10 @@
 -- What the items of the answers say of the trees.
-use Rattle.std.proofs.Common.{◌≡◌, ◌≢◌, inl, inr, ◌<◌, ◌^◌, ℕ, pos, List, [], ◌∷◌, map, Option, Some, None, true, refl, sym, ap, subst, subst₂, ◌∙◌, codes, true≢false}
+use Rattle.std.proofs.Common.{◌≡◌, ◌≢◌, ◌⊎◌, inl, inr, Bool, Vec, Global, if◌then◌else◌, arith, false, ◌<◌, ◌^◌, ℕ, pos, List, [], ◌∷◌, map, Option, Some, None, true, refl, sym, ap, subst, subst₂, ◌∙◌, codes, true≢false}
+use Rattle.std.specs.List.{AllByRecursion}
 use Rattle.std.specs.List.Sorted.{IsStrictlySortedBy}
 use Rattle.std.specs.Ordering.{nat_cmp, ordering_then}
 use Rattle.std.specs.Cmp.Lexicographic.{slice_cmp}
+use Rattle.std.specs.declared.cmp.Ordering.{Ordering}
 use Rattle.std.specs.declared.cmp.Ordering.TheVariants.{Less, Equal}
 use Rattle.hex.specs.Hex.{encode_lower, decode_of}
 use Rattle.sha2.specs.Sha256.{sha256}
@@ -12,27 +14,32 @@ use Rattle.sqlite.specs.Order.{Row, column, value_cmp}
 use Rattle.sqlite_trees.specs.Tree.{Trees}
 use Rattle.sqlite_rules.specs.Lists.{Has}
 use Rattle.sqlite_rules.proofs.ListLemmas.{all_has, all_from}
-use Rattle.tables.specs.Rows.{root_cells, current_cells, shelf_cells, blob_cells, version_cells}
+use Rattle.tables.specs.Rows.{root_cells, root2_cells, current_cells, shelf_cells, blob_cells, version_cells}
 use Rattle.sql_tables.specs.Rows.{AreRows, AreKeyed}
 use Rattle.contents.specs.declared.MetadataRows.{MetadataRows}
 use Rattle.contents.specs.Contents.{Contents, contents_with, lengths_of, no_rows}
-use Rattle.tables.specs.Tables.{HoldsTables, HaveDigests, AreBare, StandsFor, IsFit, IsDigest, AreRising, root_row, slot_row, current_rows, shelf_row, blob_row, version_row, row_cmp}
-use Rattle.tables.specs.steps.Loading.{AllComeOnce, Answers, AreAnswers, AreItems, AreSorted, AreDamaged, root, current, shelf, blob, version, IsRootRow, FitsRoot, IsSlotRow, FitsSlot, IsShelfRow, FitsShelf, IsBlobRow, FitsBlob, IsLengthRow, FitsLength, IsOne, AreContents, AreSingle, current_items, IsUnbegun}
+use Rattle.tables.specs.Tables.{HaveDigests, AreBare, StandsFor, IsFit, IsDigest, AreRising, first_row, root_row, slot_row, current_rows, shelf_row, blob_row, version_row, row_cmp}
+use Rattle.tables.specs.steps.Loading.{AllComeOnce, Answers, AreAnswers, AreVersions, length_shows, root_shows, AreItems, AreSorted, AreDamaged, root, current, shelf, blob, root2, mixed, crossed, IsFirstRow, FitsFirst, IsRootRow, FitsRoot, IsSlotRow, FitsSlot, IsShelfRow, FitsShelf, IsBlobRow, FitsBlob, IsLengthRow, FitsLength, IsOf, AreContents, AreRoots, HoldsAs, Tell, AreSingle, current_items, IsUnbegun}
 use Rattle.tables.specs.Opening.{IsReadAs}
 use Rattle.tables.proofs.FileLemmas.{FitsFile, digests_are, files_fit, files_of, files_read, keys_are, lengths_are, spoiled_files}
-use Rattle.sql_tables.specs.Loading.{AreLoaded, AreOrdered, with_rowid, rises}
+use Rattle.sql_tables.specs.Loading.{AreGathered, AreLoaded, AreOrdered, AreRead, AreSpoiled, with_rowid, rises}
 use Rattle.std.proofs.lemmas.Cmp.{nat_cmp_total, nat_list_cmp_total}
 use Rattle.tables.proofs.Slots.{has_timestamp, has_snapshot}
+use Rattle.sql_tables.proofs.MakingLemmas.{no_rows as no_stored}
+use Rattle.tables.proofs.Beginnings.{none_held}
 use Rattle.sql_tables.proofs.Gathering.{read_all, no_items}
 use Rattle.sql_tables.proofs.NumberLemmas.{IsNumbered, numbered_by}
 use Rattle.sql_tables.proofs.ListLemmas.{bytes_at}
 use Rattle.tables.proofs.Orders.{digits_less, row_cmp_total}
-use Rattle.sql_tables.proofs.ItemLemmas.{after_less, bytes_one, int_less, int_one, none_answered, none_read, none_stored, not_bare, pair_less, rising_keyed, text_less, text_one}
+use Rattle.sql_tables.proofs.ItemLemmas.{after_less, bytes_one, int_less, int_one, no_member, none_answered, none_read, none_stored, not_bare, pair_less, rising_keyed, text_less, text_one}
 
 -- ---- a row is that of one item
 
-root_are : (s : Row) (x : ℕ × List ℕ) → IsRootRow (root_cells s) x → root_cells s ≡ root_row x
-root_are s x is = ap (λ v. v ∷ column s 2 ∷ []) is.0 ∙ ap (λ v. Int (pos x.0) ∷ v ∷ []) is.1
+root_are : (s : Row) (x : ℕ × (ℕ × List ℕ)) → IsRootRow (root2_cells s) x → root2_cells s ≡ root_row x
+root_are s x is = ap (λ v. v ∷ column s 2 ∷ column s 3 ∷ []) is.0 ∙ ap (λ v. Int (pos x.0) ∷ v ∷ column s 3 ∷ []) is.1 ∙ ap (λ v. Int (pos x.0) ∷ Int (pos x.1.0) ∷ v ∷ []) is.2
+
+first_are : (s : Row) (x : ℕ × (ℕ × List ℕ)) → IsFirstRow (root_cells s) x → root_cells s ≡ first_row x
+first_are s x is = ap (λ v. v ∷ column s 2 ∷ []) is.0 ∙ ap (λ v. Int (pos x.0) ∷ v ∷ []) is.1
 
 slot_are : (s : Row) (x : List ℕ × (ℕ × List ℕ)) → IsSlotRow (with_rowid current_cells s) x → current_cells s ≡ slot_row x.0 x.1
 slot_are s x is = ap (λ v. v ∷ column s 2 ∷ column s 3 ∷ []) is.0 ∙ ap (λ v. Text x.0 ∷ v ∷ column s 3 ∷ []) is.1 ∙ ap (λ v. Text x.0 ∷ Int (pos x.1.0) ∷ v ∷ []) is.2
@@ -45,8 +52,11 @@ blob_are s x is = ap (λ v. v ∷ column s 2 ∷ []) is.0 ∙ ap (λ v. Text (en
 
 -- and it reads as the item whose cells it has
 
-root_reads : (s : Row) (x : ℕ × List ℕ) → root_cells s ≡ root_row x → IsRootRow (root_cells s) x
-root_reads s x e = (ap (λ c. column c 0) e, ap (λ c. column c 1) e)
+root_reads : (s : Row) (x : ℕ × (ℕ × List ℕ)) → root2_cells s ≡ root_row x → IsRootRow (root2_cells s) x
+root_reads s x e = (ap (λ c. column c 0) e, ap (λ c. column c 1) e, ap (λ c. column c 2) e)
+
+first_reads : (s : Row) (x : ℕ × (ℕ × List ℕ)) → root_cells s ≡ first_row x → IsFirstRow (root_cells s) x
+first_reads s x e = (ap (λ c. column c 0) e, ap (λ c. column c 1) e)
 
 slot_reads : (s : Row) (x : List ℕ × (ℕ × List ℕ)) → current_cells s ≡ slot_row x.0 x.1 → IsSlotRow (with_rowid current_cells s) x
 slot_reads s x e = (ap (λ c. column c 0) e, ap (λ c. column c 1) e, ap (λ c. column c 2) e)
@@ -57,8 +67,11 @@ shelf_reads s x e = (ap (λ c. column c 0) e, ap (λ c. column c 1) e, ap (λ c.
 blob_reads : (s : Row) (x : List ℕ × List ℕ) → blob_cells s ≡ blob_row x → IsBlobRow (with_rowid blob_cells s) x
 blob_reads s x e = (ap (λ c. column c 0) e, ap (λ c. column c 1) e)
 
-pub root_one : (r : Row) (x y : ℕ × List ℕ) → FitsRoot x → FitsRoot y → IsRootRow r x → IsRootRow r y → x ≡ y
-root_one r x y fx fy a b = let n = int_one x.0 y.0 _ a.0 b.0 in let v = bytes_one x.1 y.1 _ a.1 b.1 in λ i. (n i, v i)
+pub root_one : (r : Row) (x y : ℕ × (ℕ × List ℕ)) → FitsRoot x → FitsRoot y → IsRootRow r x → IsRootRow r y → x ≡ y
+root_one r x y fx fy a b = let n = int_one x.0 y.0 _ a.0 b.0 in let p = int_one x.1.0 y.1.0 _ a.1 b.1 in let v = bytes_one x.1.1 y.1.1 _ a.2 b.2 in λ i. (n i, (p i, v i))
+
+pub first_one : (r : Row) (x y : ℕ × (ℕ × List ℕ)) → FitsFirst x → FitsFirst y → IsFirstRow r x → IsFirstRow r y → x ≡ y
+first_one r x y fx fy a b = let n = int_one x.0 y.0 _ a.0 b.0 in let p = fx.1 ∙ sym fy.1 in let v = bytes_one x.1.1 y.1.1 _ a.1 b.1 in λ i. (n i, (p i, v i))
 
 pub slot_one : (r : Row) (x y : List ℕ × (ℕ × List ℕ)) → FitsSlot x → FitsSlot y → IsSlotRow r x → IsSlotRow r y → x ≡ y
 slot_one r x y fx fy a b = let s = text_one x.0 y.0 _ a.0 b.0 in let n = int_one x.1.0 y.1.0 _ a.1 b.1 in let v = bytes_one x.1.1 y.1.1 _ a.2 b.2 in λ i. (s i, (n i, v i))
@@ -77,8 +90,11 @@ blob_one r x y fx fy a b = let d = digest_one x.0 y.0 fx fy (text_one _ _ _ a.0 
 
 -- ---- the order of the rows is that of the items
 
-root_ordered : (stored rows : List Row) → AreLoaded root_cells (rises ∷ []) stored rows → AreOrdered nat_cmp IsRootRow FitsRoot rows
+root_ordered : (stored rows : List Row) → AreLoaded root2_cells (rises ∷ []) stored rows → AreOrdered nat_cmp IsRootRow FitsRoot rows
 root_ordered stored rows l before r s rest x y e rx sy fx fy less = true≢false (sym (after_less _ _ (int_less (column s 0) (column r 0) y.0 x.0 sy.0 rx.0 ∙ less)) ∙ l.sorted before r s rest e)
+
+first_ordered : (stored rows : List Row) → AreLoaded root_cells (rises ∷ []) stored rows → AreOrdered nat_cmp IsFirstRow FitsFirst rows
+first_ordered stored rows l before r s rest x y e rx sy fx fy less = true≢false (sym (after_less _ _ (int_less (column s 0) (column r 0) y.0 x.0 sy.0 rx.0 ∙ less)) ∙ l.sorted before r s rest e)
 
 shelf_ordered : (stored rows : List Row) → AreLoaded (with_rowid shelf_cells) (rises ∷ rises ∷ []) stored rows → AreOrdered row_cmp IsShelfRow FitsShelf rows
 shelf_ordered stored rows l before r s rest x y e rx sy fx fy less =
@@ -92,7 +108,7 @@ blob_ordered stored rows l before r s rest x y e rx sy fx fy less =
     true≢false (sym (after_less _ _ (text_less (column s 0) (column r 0) _ _ sy.1.0 rx.1.0 ∙ digits_less y.0 x.0 fy.1 fx.1 less)) ∙ l.sorted before r s rest e)
 
 pub all_sorted : (trees : Trees) (a : Answers) → AreAnswers trees a → AreSorted a
-all_sorted trees a is = record { root = root_ordered _ _ is.root; shelf = shelf_ordered _ _ is.shelf; blob = blob_ordered _ _ is.blob }
+all_sorted trees a is = record { root = first_ordered _ _ is.root; shelf = shelf_ordered _ _ is.shelf; blob = blob_ordered _ _ is.blob; root2 = root_ordered _ _ is.root2 }
 
 -- ---- the items are what is held
 
@@ -102,41 +118,67 @@ items_rows None (Some y) = refl
 items_rows (Some x) None = refl
 items_rows (Some x) (Some y) = refl
 
-one_cells : (s : Row) → IsOne (version_cells s) → version_cells s ≡ version_row
-one_cells s is = ap (λ v. v ∷ []) is
+one_cells : (n : ℕ) (s : Row) → IsOf n (version_cells s) → version_cells s ≡ version_row n
+one_cells n s is = ap (λ v. v ∷ []) is
 
-version_rows : (stored rows : List Row) → AreLoaded version_cells [] stored rows → ((r : Row) → Has rows r → IsOne r) → rows ≢ [] → IsNumbered stored → AreRows version_cells stored (version_row ∷ [])
-version_rows stored rows l ones some ids = record {
+version_rows : (n : ℕ) (stored rows : List Row) → AreLoaded version_cells [] stored rows → ((r : Row) → Has rows r → IsOf n r) → rows ≢ [] → IsNumbered stored → AreRows version_cells stored (version_row n ∷ [])
+version_rows n stored rows l ones some ids = record {
   keyed = ids.keyed;
   numbered = ids.numbered;
-  sound = λ s h. inl (one_cells s (ones (version_cells s) (l.each s h)));
+  sound = λ s h. inl (one_cells n s (ones (version_cells s) (l.each s h)));
   complete = λ c h. go rows some l.from ones c h;
 }
   where
-    go : (rs : List Row) → rs ≢ [] → ((x : Row) → Has rs x → (r : Row) × Has stored r × (x ≡ version_cells r)) → ((r : Row) → Has rs r → IsOne r) → (c : Row) → Has (version_row ∷ []) c → (x : Row) × Has stored x × (version_cells x ≡ c)
+    go : (rs : List Row) → rs ≢ [] → ((x : Row) → Has rs x → (r : Row) × Has stored r × (x ≡ version_cells r)) → ((r : Row) → Has rs r → IsOf n r) → (c : Row) → Has (version_row n ∷ []) c → (x : Row) × Has stored x × (version_cells x ≡ c)
     go [] some from ones c h = absurd (some refl)
     go (r ∷ rs) some from ones c (inl is) =
         let s = from r (inl refl) in
-        (s.0, s.1, one_cells s.0 (subst IsOne s.2 (ones r (inl refl))) ∙ sym is)
+        (s.0, s.1, one_cells n s.0 (subst (IsOf n) s.2 (ones r (inl refl))) ∙ sym is)
     go (r ∷ rs) some from ones c (inr none) = absurd none
 
-pub holds_items : (trees : Trees) (a : Answers) (t : Contents) → AllComeOnce a → AreAnswers trees a → AreContents a t → ((r : Row) → Has a.version r → IsOne r) → a.version ≢ [] → HoldsTables trees t
-holds_items trees a t n is items ones some = record {
-  root = read_all IsRootRow FitsRoot root_row root_cells root_cells _ _ _ is.root root_are t.roots items.root (numbered_by root_cells 0 (λ r. refl) _ _ is.root.once n.root);
-  current = subst (AreRows current_cells (trees 1)) (items_rows t.timestamp t.snapshot)
-      (read_all IsSlotRow FitsSlot (λ x. slot_row x.0 x.1) (with_rowid current_cells) current_cells _ _ _ is.current slot_are _ items.current (numbered_by (with_rowid current_cells) 3 (λ r. refl) _ _ is.current.once n.current));
-  shelf = read_all IsShelfRow FitsShelf shelf_row (with_rowid shelf_cells) shelf_cells _ _ _ is.shelf shelf_are t.shelf items.shelf (numbered_by (with_rowid shelf_cells) 3 (λ r. refl) _ _ is.shelf.once n.shelf);
-  blob = read_all IsBlobRow FitsBlob blob_row (with_rowid blob_cells) blob_cells _ _ _ is.blob blob_are t.blobs items.blob (numbered_by (with_rowid blob_cells) 2 (λ r. refl) _ _ is.blob.once n.blob);
-  version = version_rows _ _ is.version ones some (numbered_by version_cells 0 (λ r. refl) _ _ is.version.once n.version);
+-- the tables of which the two schemas hold the same
+held_current : (trees : Trees) (a : Answers) (t : Contents) → AllComeOnce a → AreAnswers trees a → AreRead IsSlotRow FitsSlot a.current (current_items t.timestamp t.snapshot) → AreRows current_cells (trees 1) (current_rows t.timestamp t.snapshot)
+held_current trees a t n is read = subst (AreRows current_cells (trees 1)) (items_rows t.timestamp t.snapshot)
+    (read_all IsSlotRow FitsSlot (λ x. slot_row x.0 x.1) (with_rowid current_cells) current_cells _ _ _ is.current slot_are _ read (numbered_by (with_rowid current_cells) 3 (λ r. refl) _ _ is.current.once n.current))
+
+held_shelf : (trees : Trees) (a : Answers) (t : Contents) → AllComeOnce a → AreAnswers trees a → AreRead IsShelfRow FitsShelf a.shelf t.shelf → AreRows shelf_cells (trees 3) (map shelf_row t.shelf)
+held_shelf trees a t n is read =
+    read_all IsShelfRow FitsShelf shelf_row (with_rowid shelf_cells) shelf_cells _ _ _ is.shelf shelf_are t.shelf read (numbered_by (with_rowid shelf_cells) 3 (λ r. refl) _ _ is.shelf.once n.shelf)
+
+held_blob : (trees : Trees) (a : Answers) (t : Contents) → AllComeOnce a → AreAnswers trees a → AreRead IsBlobRow FitsBlob a.blob t.blobs → AreRows blob_cells (trees 5) (map blob_row t.blobs)
+held_blob trees a t n is read =
+    read_all IsBlobRow FitsBlob blob_row (with_rowid blob_cells) blob_cells _ _ _ is.blob blob_are t.blobs read (numbered_by (with_rowid blob_cells) 2 (λ r. refl) _ _ is.blob.once n.blob)
+
+-- a table whose answer has no row is empty
+empty_held : (shown : Row → Row) (keys : _) (stored rows : List Row) → AreLoaded shown keys stored rows → rows ≡ [] → AreRows shown stored []
+empty_held shown keys stored rows l none = subst (λ r. AreRows shown r []) (sym (none_answered keys stored rows l none)) (no_stored shown)
+
+pub holds_as : (is_first : Bool) (trees : Trees) (a : Answers) (t : Contents) → AllComeOnce a → AreAnswers trees a → AreContents is_first a t → Tell is_first a.version → a.version ≢ [] → HoldsAs is_first trees t
+holds_as true trees a t n is items ones some = record {
+  profiles = all_from (λ (r : ℕ × (ℕ × List ℕ)). r.1.0 ≡ 1) t.roots (λ x h. (items.root.0.read.fit x h).1);
+  root = read_all IsFirstRow FitsFirst first_row root_cells root_cells _ _ _ is.root first_are t.roots items.root.0.read (numbered_by root_cells 0 (λ r. refl) _ _ is.root.once n.root);
+  current = held_current trees a t n is items.current;
+  shelf = held_shelf trees a t n is items.shelf;
+  blob = held_blob trees a t n is items.blob;
+  version = version_rows 1 _ _ is.version ones some (numbered_by version_cells 0 (λ r. refl) _ _ is.version.once n.version);
+  root2 = empty_held root2_cells _ _ _ is.root2 items.root.1;
+}
+holds_as false trees a t n is items ones some = record {
+  root = empty_held root_cells _ _ _ is.root items.root.1;
+  current = held_current trees a t n is items.current;
+  shelf = held_shelf trees a t n is items.shelf;
+  blob = held_blob trees a t n is items.blob;
+  version = version_rows 2 _ _ is.version ones some (numbered_by version_cells 0 (λ r. refl) _ _ is.version.once n.version);
+  root2 = read_all IsRootRow FitsRoot root_row root2_cells root2_cells _ _ _ is.root2 root_are t.roots items.root.0.read (numbered_by root2_cells 0 (λ r. refl) _ _ is.root2.once n.root2);
 }
 
-pub bare_items : (trees : Trees) (a : Answers) (t : Contents) → AreAnswers trees a → AreContents a t → a.version ≡ [] → t ≡ no_rows → AreBare trees
+pub bare_items : (trees : Trees) (a : Answers) (t : Contents) → AreAnswers trees a → AreContents false a t → a.version ≡ [] → t ≡ no_rows → AreBare trees
 bare_items trees a t is items none bare =
-    let root = none_stored _ _ _ _ is.root items.root (ap (λ (u : Contents). u.roots) bare) in
+    let root2 = none_stored _ _ _ _ is.root2 items.root.0.read (ap (λ (u : Contents). u.roots) bare) in
     let current = none_stored _ _ _ _ is.current items.current (ap (λ (u : Contents). current_items u.timestamp u.snapshot) bare) in
     let shelf = none_stored _ _ _ _ is.shelf items.shelf (ap (λ (u : Contents). u.shelf) bare) in
     let blob = none_stored _ _ _ _ is.blob items.blob (ap (λ (u : Contents). u.blobs) bare) in
-    (root, (current, (shelf, (blob, (none_answered _ _ _ is.version none, tt)))))
+    (none_answered _ _ _ is.root items.root.1, (current, (shelf, (blob, (none_answered _ _ _ is.version none, (root2, tt))))))
 
 -- ---- what is damaged stands for nothing
 
@@ -169,45 +211,98 @@ current_fits (Some v) (Some w) fa fb x (inl is) = subst FitsSlot (sym is) (inl r
 current_fits (Some v) (Some w) fa fb x (inr (inl is)) = subst FitsSlot (sym is) (inr refl, fb w refl)
 current_fits (Some v) (Some w) fa fb x (inr (inr none)) = absurd none
 
-damaged_version : (trees : Trees) (a : Answers) → AreAnswers trees a → (r : Row) → Has a.version r → (IsOne r → ⊥) → (t : Contents) → StandsFor trees t → ⊥
-damaged_version trees a is r h bad t (inl holds) =
-    let s = is.version.from r h in
-    bad (subst IsOne (sym s.2) (only (holds.version.sound s.0 s.1)))
+-- all rows of `schema` are those of this version
+only : (n : ℕ) (stored : List Row) → AreRows version_cells stored (version_row n ∷ []) → (rows : List Row) → AreLoaded version_cells [] stored rows → (r : Row) → Has rows r → IsOf n r
+only n stored are rows l r h =
+    let s = l.from r h in
+    subst (IsOf n) (sym s.2) (alone (are.sound s.0 s.1))
   where
-    only : {c : Row} → Has (version_row ∷ []) c → IsOne c
-    only (inl e) = subst IsOne (sym e) refl
-    only (inr none) = absurd none
-damaged_version trees a is r h bad t (inr bare) = let s = is.version.from r h in subst (λ xs. Has xs s.0) bare.0.1.1.1.1.0 s.1
+    alone : {c : Row} → Has (version_row n ∷ []) c → IsOf n c
+    alone (inl e) = subst (IsOf n) (sym e) refl
+    alone (inr none) = absurd none
+
+-- and there is one
+one_told : (n : ℕ) (stored : List Row) → AreRows version_cells stored (version_row n ∷ []) → (rows : List Row) → AreLoaded version_cells [] stored rows → (r : Row) × Has rows r × IsOf n r
+one_told n stored are rows l =
+    let s = are.complete (version_row n) (inl refl) in
+    (version_cells s.0, l.each s.0 s.1, ap (λ (c : Row). column c 0) s.2)
+
+not_both : (r : Row) → IsOf 1 r → IsOf 2 r → ⊥
+not_both r one two = let e : Int (pos 1) ≡ Int (pos 2) = sym one ∙ two in cc
+
+-- a table with no row answers none
+answers_none : {shown : Row → Row} (keys : _) (stored rows : List Row) → AreLoaded shown keys stored rows → stored ≡ [] → (r : Row) → Has rows r → ⊥
+answers_none keys stored rows l none r h = let s = l.from r h in subst (λ xs. Has xs s.0) none s.1
+
+damaged_mixed : (trees : Trees) (a : Answers) → AreAnswers trees a → (r s : Row) → Has a.version r → (IsOf 1 r → ⊥) → Has a.version s → (IsOf 2 s → ⊥) → (t : Contents) → StandsFor trees t → ⊥
+damaged_mixed trees a is r s in_r not_one in_s not_two t (inl holds) = not_two (only 2 _ holds.version _ is.version s in_s)
+damaged_mixed trees a is r s in_r not_one in_s not_two t (inr (inl holds)) = not_one (only 1 _ holds.version _ is.version r in_r)
+damaged_mixed trees a is r s in_r not_one in_s not_two t (inr (inr bare)) = answers_none _ _ _ is.version bare.0.1.1.1.1.0 r in_r
+
+damaged_crossed : (trees : Trees) (a : Answers) → AreAnswers trees a → (is_first : Bool) (r : Row) → Tell is_first a.version → Has (if is_first then a.root2 else a.root) r → (t : Contents) → StandsFor trees t → ⊥
+damaged_crossed trees a is true r ones h t (inl holds) = let s = one_told 2 _ holds.version _ is.version in not_both s.0 (ones s.0 s.1) s.2
+damaged_crossed trees a is true r ones h t (inr (inl holds)) = answers_none _ _ _ is.root2 (none_held _ holds.root2) r h
+damaged_crossed trees a is true r ones h t (inr (inr bare)) = answers_none _ _ _ is.root2 bare.0.1.1.1.1.1.0 r h
+damaged_crossed trees a is false r twos h t (inl holds) = answers_none _ _ _ is.root (none_held _ holds.root) r h
+damaged_crossed trees a is false r twos h t (inr (inl holds)) = let s = one_told 1 _ holds.version _ is.version in not_both s.0 s.2 (twos s.0 s.1)
+damaged_crossed trees a is false r twos h t (inr (inr bare)) = answers_none _ _ _ is.root bare.0.0 r h
+
+-- the tables of which the two schemas hold the same
+damaged_current : (trees : Trees) (a : Answers) → AreAnswers trees a → AreSpoiled IsSlotRow FitsSlot a.current → (t : Contents) → IsFit t → AreRows current_cells (trees 1) (current_rows t.timestamp t.snapshot) → ⊥
+damaged_current trees a is bad t fit held =
+    no_items IsSlotRow FitsSlot (λ x. slot_row x.0 x.1) (with_rowid current_cells) current_cells _ _ _ is.current slot_reads slot_one bad (current_items t.timestamp t.snapshot) (current_fits t.timestamp t.snapshot fit.timestamp fit.snapshot) (current_keyed t.timestamp t.snapshot)
+    (subst (AreRows current_cells (trees 1)) (sym (items_rows t.timestamp t.snapshot)) held)
+
+damaged_shelf : (trees : Trees) (a : Answers) → AreAnswers trees a → AreSpoiled IsShelfRow FitsShelf a.shelf → (t : Contents) → IsFit t → AreRows shelf_cells (trees 3) (map shelf_row t.shelf) → ⊥
+damaged_shelf trees a is bad t fit held = no_items IsShelfRow FitsShelf shelf_row (with_rowid shelf_cells) shelf_cells _ _ _ is.shelf shelf_reads shelf_one bad t.shelf (λ x h. all_has FitsShelf t.shelf x fit.shelf h) fit.one_row held
+
+damaged_blob : (trees : Trees) (a : Answers) → AreAnswers trees a → AreSpoiled IsLengthRow FitsLength a.blob → (t : Contents) → IsFit t → HaveDigests t → AreRows blob_cells (trees 5) (map blob_row t.blobs) → ⊥
+damaged_blob trees a is bad t fit right held =
+    no_items IsBlobRow FitsFile blob_row (with_rowid blob_cells) blob_cells _ _ _ is.blob blob_reads (λ r x y fx fy. blob_one r x y fx.0 fy.0) (spoiled_files a.blob bad) t.blobs
+    (λ x h. (all_has FitsBlob t.blobs x fit.blobs h, all_has (λ y. sha256 y.1 ≡ y.0) t.blobs x right h)) fit.one_blob held
+
+-- a root of schema 1
+pub first_fits : (t : Contents) → IsFit t → AllByRecursion (λ r. r.1.0 ≡ 1) t.roots → (x : ℕ × (ℕ × List ℕ)) → Has t.roots x → FitsFirst x
+first_fits t fit ones x h = ((all_has FitsRoot t.roots x fit.roots h).0, all_has (λ (r : ℕ × (ℕ × List ℕ)). r.1.0 ≡ 1) t.roots x ones h)
 
 pub damaged_items : (trees : Trees) (a : Answers) → AreAnswers trees a → AreDamaged a → (t : Contents) → IsFit t → HaveDigests t → StandsFor trees t → ⊥
-damaged_items trees a is (root bad) t fit right (inl holds) = no_items IsRootRow FitsRoot root_row root_cells root_cells _ _ _ is.root root_reads root_one bad t.roots (λ x h. all_has FitsRoot t.roots x fit.roots h) fit.one_root holds.root
-damaged_items trees a is (root bad) t fit right (inr bare) = not_bare _ IsRootRow FitsRoot _ _ is.root bad bare.0.0
-damaged_items trees a is (current bad) t fit right (inl holds) =
-    no_items IsSlotRow FitsSlot (λ x. slot_row x.0 x.1) (with_rowid current_cells) current_cells _ _ _ is.current slot_reads slot_one bad (current_items t.timestamp t.snapshot) (current_fits t.timestamp t.snapshot fit.timestamp fit.snapshot) (current_keyed t.timestamp t.snapshot)
-    (subst (AreRows current_cells (trees 1)) (sym (items_rows t.timestamp t.snapshot)) holds.current)
-damaged_items trees a is (current bad) t fit right (inr bare) = not_bare _ IsSlotRow FitsSlot _ _ is.current bad bare.0.1.0
-damaged_items trees a is (shelf bad) t fit right (inl holds) = no_items IsShelfRow FitsShelf shelf_row (with_rowid shelf_cells) shelf_cells _ _ _ is.shelf shelf_reads shelf_one bad t.shelf (λ x h. all_has FitsShelf t.shelf x fit.shelf h) fit.one_row holds.shelf
-damaged_items trees a is (shelf bad) t fit right (inr bare) = not_bare _ IsShelfRow FitsShelf _ _ is.shelf bad bare.0.1.1.0
-damaged_items trees a is (blob bad) t fit right (inl holds) =
-    no_items IsBlobRow FitsFile blob_row (with_rowid blob_cells) blob_cells _ _ _ is.blob blob_reads (λ r x y fx fy. blob_one r x y fx.0 fy.0) (spoiled_files a.blob bad) t.blobs
-    (λ x h. (all_has FitsBlob t.blobs x fit.blobs h, all_has (λ y. sha256 y.1 ≡ y.0) t.blobs x right h)) fit.one_blob holds.blob
-damaged_items trees a is (blob bad) t fit right (inr bare) = not_bare _ IsLengthRow FitsLength _ _ is.blob bad bare.0.1.1.1.0
-damaged_items trees a is (version r h bad) t fit right stands = damaged_version trees a is r h bad t stands
+damaged_items trees a is (root bad) t fit right (inl holds) = not_bare _ IsFirstRow FitsFirst _ _ is.root bad (none_held _ holds.root)
+damaged_items trees a is (root bad) t fit right (inr (inl holds)) = no_items IsFirstRow FitsFirst first_row root_cells root_cells _ _ _ is.root first_reads first_one bad t.roots (first_fits t fit holds.profiles) fit.one_root holds.root
+damaged_items trees a is (root bad) t fit right (inr (inr bare)) = not_bare _ IsFirstRow FitsFirst _ _ is.root bad bare.0.0
+damaged_items trees a is (root2 bad) t fit right (inl holds) = no_items IsRootRow FitsRoot root_row root2_cells root2_cells _ _ _ is.root2 root_reads root_one bad t.roots (λ x h. all_has FitsRoot t.roots x fit.roots h) fit.one_root holds.root2
+damaged_items trees a is (root2 bad) t fit right (inr (inl holds)) = not_bare _ IsRootRow FitsRoot _ _ is.root2 bad (none_held _ holds.root2)
+damaged_items trees a is (root2 bad) t fit right (inr (inr bare)) = not_bare _ IsRootRow FitsRoot _ _ is.root2 bad bare.0.1.1.1.1.1.0
+damaged_items trees a is (current bad) t fit right (inl holds) = damaged_current trees a is bad t fit holds.current
+damaged_items trees a is (current bad) t fit right (inr (inl holds)) = damaged_current trees a is bad t fit holds.current
+damaged_items trees a is (current bad) t fit right (inr (inr bare)) = not_bare _ IsSlotRow FitsSlot _ _ is.current bad bare.0.1.0
+damaged_items trees a is (shelf bad) t fit right (inl holds) = damaged_shelf trees a is bad t fit holds.shelf
+damaged_items trees a is (shelf bad) t fit right (inr (inl holds)) = damaged_shelf trees a is bad t fit holds.shelf
+damaged_items trees a is (shelf bad) t fit right (inr (inr bare)) = not_bare _ IsShelfRow FitsShelf _ _ is.shelf bad bare.0.1.1.0
+damaged_items trees a is (blob bad) t fit right (inl holds) = damaged_blob trees a is bad t fit right holds.blob
+damaged_items trees a is (blob bad) t fit right (inr (inl holds)) = damaged_blob trees a is bad t fit right holds.blob
+damaged_items trees a is (blob bad) t fit right (inr (inr bare)) = not_bare _ IsLengthRow FitsLength _ _ is.blob bad bare.0.1.1.1.0
+damaged_items trees a is (mixed r s in_r not_one in_s not_two) t fit right stands = damaged_mixed trees a is r s in_r not_one in_s not_two t stands
+damaged_items trees a is (crossed is_first r told h) t fit right stands = damaged_crossed trees a is is_first r told h t stands
 
 no_slots : (a b : Option (ℕ × List ℕ)) → current_items a b ≡ [] → (a ≡ None) × (b ≡ None)
 no_slots None None e = (refl, refl)
 no_slots (Some v) b e = absurd (let f = e in cc)
 no_slots None (Some w) e = absurd (let f = e in cc)
 
-pub unbegun : (trees : Trees) (a : Answers) (t : Contents) → AreAnswers trees a → AreContents a t → a.version ≡ [] → IsUnbegun trees t
+pub late_contents : (is_first : Bool) (a : Answers) (t : Contents) → is_first ≡ false → AreContents is_first a t → AreContents false a t
+late_contents is_first a t is are = subst (λ b. AreContents b a t) is are
+
+pub unbegun : (trees : Trees) (a : Answers) (t : Contents) → AreAnswers trees a → AreContents false a t → a.version ≡ [] → IsUnbegun trees t
 unbegun trees a t is items none = record { bare = bare_items trees a t is items none; other = other }
   where
+    untold : (n : ℕ) → AreRows version_cells (trees 7) (version_row n ∷ []) → ⊥
+    untold n are = let s = one_told n _ are _ is.version in subst (λ xs. Has xs s.0) none s.1
+
     other : t ≢ no_rows → (u : Contents) → StandsFor trees u → ⊥
-    other not u (inl holds) =
-        let s = holds.version.complete version_row (inl refl) in
-        subst (λ xs. Has xs (version_cells s.0)) none (is.version.each s.0 s.1)
-    other not u (inr bare) =
-        let roots = none_read _ _ _ _ is.root items.root bare.0.0 in
+    other not u (inl holds) = untold 2 holds.version
+    other not u (inr (inl holds)) = untold 1 holds.version
+    other not u (inr (inr bare)) =
+        let roots = none_read _ _ _ _ is.root2 items.root.0.read bare.0.1.1.1.1.1.0 in
         let slots = no_slots t.timestamp t.snapshot (none_read _ _ _ _ is.current items.current bare.0.1.0) in
         let rows = none_read _ _ _ _ is.shelf items.shelf bare.0.1.1.0 in
         let blobs = none_read _ _ _ _ is.blob items.blob bare.0.1.1.1.0 in
@@ -215,7 +310,15 @@ unbegun trees a t is items none = record { bare = bare_items trees a t is items 
 
 -- ---- what was read fits
 
-module _ (a : Answers) (m : MetadataRows) (lengths : List (List ℕ × ℕ)) (items : AreItems a m lengths) where
+roots_rise : (is_first : Bool) (a : Answers) (roots : List (ℕ × (ℕ × List ℕ))) → AreRoots is_first a roots → IsStrictlySortedBy nat_cmp (map (λ r. r.0) roots)
+roots_rise true a roots are = are.0.rising
+roots_rise false a roots are = are.0.rising
+
+roots_fit : (is_first : Bool) (a : Answers) (roots : List (ℕ × (ℕ × List ℕ))) → AreRoots is_first a roots → (x : ℕ × (ℕ × List ℕ)) → Has roots x → FitsRoot x
+roots_fit true a roots are x h = let fits = are.0.read.fit x h in (fits.0, subst (λ n. n < 2 ^ 32) (sym fits.1) (omega arith))
+roots_fit false a roots are x h = are.0.read.fit x h
+
+module _ (is_first : Bool) (a : Answers) (m : MetadataRows) (lengths : List (List ℕ × ℕ)) (items : AreItems is_first a m lengths) where
   -- the rows that were read
   abbrev pub rows_read : Contents
   rows_read = contents_with m (files_of a.blob lengths items.blob.read.from)
@@ -224,8 +327,8 @@ module _ (a : Answers) (m : MetadataRows) (lengths : List (List ℕ × ℕ)) (it
   rows_fit =
       let up = subst (IsStrictlySortedBy (slice_cmp nat_cmp)) (sym (keys_are a.blob lengths items.blob.read.from)) items.blob.rising in
       record {
-        roots = all_from FitsRoot rows_read.roots items.root.read.fit;
-        one_root = rising_keyed nat_cmp nat_cmp_total rows_read.roots items.root.rising;
+        roots = all_from FitsRoot rows_read.roots (roots_fit is_first a rows_read.roots items.root);
+        one_root = rising_keyed nat_cmp nat_cmp_total rows_read.roots (roots_rise is_first a rows_read.roots items.root);
         timestamp = λ r is. (items.current.fit (codes "timestamp", r) (has_timestamp rows_read.timestamp rows_read.snapshot r is)).1;
         snapshot = λ r is. (items.current.fit (codes "snapshot", r) (has_snapshot rows_read.timestamp rows_read.snapshot r is)).1;
         shelf = all_from FitsShelf rows_read.shelf items.shelf.read.fit;
@@ -236,7 +339,7 @@ module _ (a : Answers) (m : MetadataRows) (lengths : List (List ℕ × ℕ)) (it
 
   rows_rise : AreRising rows_read
   rows_rise = record {
-    roots = items.root.rising;
+    roots = roots_rise is_first a rows_read.roots items.root;
     shelf = items.shelf.rising;
     blobs = subst (IsStrictlySortedBy (slice_cmp nat_cmp)) (sym (keys_are a.blob lengths items.blob.read.from)) items.blob.rising;
   }
@@ -250,8 +353,8 @@ module _ (a : Answers) (m : MetadataRows) (lengths : List (List ℕ × ℕ)) (it
     rising = rows_rise;
   }
 
-  pub items_are : AreSingle a.blob → AreContents a rows_read
-  items_are single = record { root = items.root.read; current = items.current; shelf = items.shelf.read; blob = files_read a.blob lengths items.blob.read single }
+  pub items_are : AreSingle a.blob → AreContents is_first a rows_read
+  items_are single = record { root = items.root; current = items.current; shelf = items.shelf.read; blob = files_read a.blob lengths items.blob.read single }
 
 -- ---- no rows
 
@@ -283,3 +386,38 @@ read_nothing m lengths t is none empty = is.rows ∙ ap (contents_with m) (unmap
 
 pub read_some : (m : MetadataRows) (lengths : List (List ℕ × ℕ)) (t : Contents) → IsReadAs m lengths t → t ≡ no_rows → (contents_with m t.blobs ≡ no_rows) × (lengths ≡ [])
 read_some m lengths t is none = (sym is.rows ∙ none, is.files ∙ ap (λ (u : Contents). lengths_of u.blobs) none)
+
+-- ---- the roots of the one table, where the other has none
+
+gathered_none : {K V : Type 0} {cmp : K → K → Ordering} {Reads : Row → K × V → Type 0} {Fits : K × V → Type 0} (rows : List Row) (items : List (K × V)) → AreGathered cmp Reads Fits rows items → items ≡ [] → rows ≡ []
+gathered_none rows items g none = no_member rows (λ r h. let it = g.read.each r h in subst (λ xs. Has xs it.0) none it.1)
+
+gathered_some : {K V : Type 0} {cmp : K → K → Ordering} {Reads : Row → K × V → Type 0} {Fits : K × V → Type 0} (rows : List Row) (items : List (K × V)) → AreGathered cmp Reads Fits rows items → items ≢ [] → (r : Row) × Has rows r
+gathered_some rows [] g some = absurd (some refl)
+gathered_some rows (x ∷ items) g some = let it = g.read.from x (inl refl) in (it.0, it.1)
+
+abbrev Roots : Type 0
+Roots = Vec (ℕ × ℕ × Vec ℕ Global) Global
+
+pub one_read : (is_first : Bool) (a : Answers) (first second v : Roots) → AreGathered nat_cmp IsFirstRow FitsFirst a.root (map root_shows first.items) → AreGathered nat_cmp IsRootRow FitsRoot a.root2 (map root_shows second.items)
+    → v ≡ (if is_first then first else second) → (if is_first then second else first).items ≡ [] → AreRoots is_first a (map root_shows v.items)
+one_read true a first second v f s is none = (subst (λ (w : Roots). AreGathered nat_cmp IsFirstRow FitsFirst a.root (map root_shows w.items)) (sym is) f, gathered_none a.root2 _ s (ap (map root_shows) none))
+one_read false a first second v f s is none = (subst (λ (w : Roots). AreGathered nat_cmp IsRootRow FitsRoot a.root2 (map root_shows w.items)) (sym is) s, gathered_none a.root _ f (ap (map root_shows) none))
+
+pub crossed_by : (is_first : Bool) (a : Answers) (first second : Roots) → AreGathered nat_cmp IsFirstRow FitsFirst a.root (map root_shows first.items) → AreGathered nat_cmp IsRootRow FitsRoot a.root2 (map root_shows second.items)
+    → Tell is_first a.version → (if is_first then second else first).items ≢ [] → AreDamaged a
+crossed_by true a first second f s told some = let it = gathered_some a.root2 (map root_shows second.items) s (λ e. some (unmapped root_shows second.items e)) in crossed true it.0 told it.1
+crossed_by false a first second f s told some = let it = gathered_some a.root (map root_shows first.items) f (λ e. some (unmapped root_shows first.items e)) in crossed false it.0 told it.1
+
+-- what the rows of `schema` tell
+pub told_from : (rows : List Row) (begun first second is_first : Bool) → AreVersions rows begun first second → (first ≡ true) ⊎ (second ≡ true) → ((begun ≡ true) × (is_first ≡ first)) ⊎ ((begun ≡ false) × (is_first ≡ false))
+    → Tell is_first rows
+told_from rows begun first second is_first v either (inr b) = λ r h. absurd (subst (λ rs. Has rs r) (v.none b.0) h)
+told_from rows begun true second is_first v either (inl b) = subst (λ f. Tell f rows) (sym b.1) (v.first.each refl)
+told_from rows begun false second is_first v (inl e) (inl b) = absurd (let f = e in cc)
+told_from rows begun false second is_first v (inr e) (inl b) = subst (λ f. Tell f rows) (sym b.1) (v.second.each e)
+
+-- an item of `blob` is what it shows
+pub as_shown : (xs : List (List ℕ × ℕ)) → map length_shows xs ≡ xs
+as_shown [] = refl
+as_shown (x ∷ xs) = ap (λ ys. x ∷ ys) (as_shown xs)

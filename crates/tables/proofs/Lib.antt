@@ -1,4 +1,6 @@
 pub mod Texts
+pub mod CellLemmas
+pub mod Absent
 pub mod Statements
 pub mod Changes
 pub mod Removals

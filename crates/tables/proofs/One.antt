@@ -24,14 +24,14 @@ use Rattle.sql_tables.specs.Writing.{has_text}
 use Rattle.sql_tables.proofs.AnswerLemmas.{plain_query, answer_from, answer_has}
 use Rattle.sql_tables.proofs.Queries.{commits_nothing}
 use Rattle.sql_tables.specs.Described.{followed}
-use Rattle.tables.specs.Schema.{HasFive, five}
+use Rattle.tables.specs.Schema.{HasSix, six}
 use Rattle.tables.specs.Rows.{blob_cells}
 use Rattle.tables.proofs.Removals.{text_is}
 use Rattle.tables.proofs.Texts.{by_text, select_one, select_one_is, select_one_quiet, select_one_unlisted}
 
-module _ (digits : List ℕ) (old new : State) (rows : List Row) (has : HasFive old.now.schema) (h : Shown select_one (Text digits ∷ []) old new rows) where
+module _ (digits : List ℕ) (old new : State) (rows : List Row) (has : HasSix old.now.schema) (h : Shown select_one (Text digits ∷ []) old new rows) where
   answer : IsAnswer (plain_query 5 by_text (col 1 2 ∷ []) []) (overlay old.now.trees []) (Text digits ∷ []) rows
-  answer = (reads_as select_one (Text digits ∷ []) old new (followed five has.0) has.1 (Select (record { lets = []; body = plain_query 5 by_text (col 1 2 ∷ []) [] }) _) (select_one_is has.0).0 (select_one_is has.0).1 (select_one_unlisted has.0) rows h).answer Null
+  answer = (reads_as select_one (Text digits ∷ []) old new (followed six has.0) has.1 (Select (record { lets = []; body = plain_query 5 by_text (col 1 2 ∷ []) [] }) _) (select_one_is has.0).0 (select_one_is has.0).1 (select_one_unlisted has.0) rows h).answer Null
 
   pub one_from : (x : Row) → Has rows x → (r : Row) × Has (old.now.trees 5) r × (has_text digits (blob_cells r) ≡ true) × (x ≡ column r 2 ∷ [])
   one_from x there = let r = answer_from 5 by_text (col 1 2 ∷ []) [] old.now.trees (Text digits ∷ []) rows answer x there in (r.0, r.1, sym (text_is digits r.0) ∙ r.2, r.3)
@@ -44,14 +44,14 @@ one_quietly digits old new = commits_nothing select_one (Text digits ∷ []) old
 
 -- ---- what asking leaves
 
-pub one_same : (params : Row) (old new : State) (rows : List Row) → HasFive old.now.schema → Shown select_one params old new rows → IsUnchanged old new
+pub one_same : (params : Row) (old new : State) (rows : List Row) → HasSix old.now.schema → Shown select_one params old new rows → IsUnchanged old new
 unfolding Shown
 one_same params old new rows has h =
     let known = sym h.1.is ∙ ap (λ s. understood s select_one) has.1 in
     let none : h.0.returning ≡ None = (subst IsPlain (sym known) (select_one_is has.0).1).0 in
     (subst (ShowsRows old new select_one h.0 (timed params h.0.formats h.1.now) rows) none h.2).3
 
-pub one_failed : (params : Row) (old new : State) (e : Error) → HasFive old.now.schema → FailsToQuery select_one params old new e → IsUnchanged old new ⊎ IsRolledBack old new
+pub one_failed : (params : Row) (old new : State) (e : Error) → HasSix old.now.schema → FailsToQuery select_one params old new e → IsUnchanged old new ⊎ IsRolledBack old new
 unfolding FailsToQuery IsNotRun
 one_failed params old new e has (inl (inl none)) = inl none.1
 one_failed params old new e has (inl (inr fails)) = inr fails.3

@@ -1,18 +1,22 @@
 -- What an opening and a look at the connection leave.
-use Rattle.std.proofs.Common.{◌≡◌, ◌⊎◌, inl, inr, IsTrue, IfOk, OnOk, Result, Ok, Err, Bool, true, sym, subst, arith, ◌∙◌}
+use Rattle.std.proofs.Common.{◌≡◌, ◌≢◌, ◌⊎◌, inl, inr, ℕ, [], IsTrue, IfOk, OnOk, Result, Ok, Err, Bool, true, false, sym, subst, arith, ◌∙◌}
 use Rattle.sqlite.specs.Effect.{Database}
 use Rattle.sqlite.specs.State.{State, HasCleanDisk, IsUnchanged, IsRolledBack, Survives}
 use Rattle.sqlite.proofs.StateLemmas.{survives_then}
 use Rattle.sqlite_trees.specs.Tree.{Trees}
-use Rattle.tables.specs.Schema.{HasFive}
-use Rattle.tables.proofs.Beginnings.{five_after}
+use Rattle.sql_tables.specs.Schema.{counted}
+use Rattle.tables.specs.Schema.{HasSix, first_schema}
+use Rattle.tables.specs.Migration.{IsEarlier}
+use Rattle.tables.specs.steps.Loading.{HoldsAs}
+use Rattle.tables.specs.steps.Migrating.{HasSome}
+use Rattle.tables.proofs.Beginnings.{none_held, root2_absent, six_after, some_after, tables_from_counted}
 use Rattle.contents.specs.Contents.{Contents, no_rows}
-use Rattle.tables.specs.Tables.{AreBare, HoldsTables, HoldsWhole, IsStore}
+use Rattle.tables.specs.Tables.{AreBare, HoldsFirst, HoldsTables, HoldsWhole, IsStore, StandsFor}
 
-pub loaded_store : (old new : State) (t : Contents) → IsUnchanged old new → old.now ≡ old.committed → HasFive old.now.schema → HoldsTables old.now.trees t → IsStore new t
+pub loaded_store : (old new : State) (t : Contents) → IsUnchanged old new → old.now ≡ old.committed → HasSix old.now.schema → HoldsTables old.now.trees t → IsStore new t
 loaded_store old new t same settled schema holds = record {
   is_open = same.0.is_open;
-  schema = five_after same.0.now_is schema;
+  schema = six_after same.0.now_is schema;
   settled = same.0.now_is ∙ settled ∙ sym same.0.committed_is;
   holds = subst (λ (d : Database). HoldsTables d.trees t) (sym same.0.now_is) holds;
 }
@@ -20,7 +24,7 @@ loaded_store old new t same settled schema holds = record {
 store_same : (old new : State) (t : Contents) → IsUnchanged old new → IsStore old t → IsStore new t
 store_same old new t same is = record {
   is_open = same.0.is_open;
-  schema = five_after same.0.now_is is.schema;
+  schema = six_after same.0.now_is is.schema;
   settled = same.0.now_is ∙ is.settled ∙ sym same.0.committed_is;
   holds = subst (λ (d : Database). HoldsTables d.trees t) (sym same.0.now_is) is.holds;
 }
@@ -31,10 +35,22 @@ store_back old new t stays back is =
     let now : new.now ≡ old.now = both.0 ∙ sym is.settled in
     record {
       is_open = stays;
-      schema = five_after now is.schema;
+      schema = six_after now is.schema;
       settled = both.0 ∙ sym both.1;
       holds = subst (λ (d : Database). HoldsTables d.trees t) (sym now) is.holds;
     }
+
+-- two steps that change nothing
+pub unchanged_then : (a b c : State) → IsUnchanged a b → IsUnchanged b c → IsUnchanged a c
+unchanged_then a b c one two = (
+  record { was_open = one.0.was_open; is_open = two.0.is_open; now_is = two.0.now_is ∙ one.0.now_is; committed_is = two.0.committed_is ∙ one.0.committed_is; mode = two.0.mode ∙ one.0.mode },
+  record { changes = two.1.changes ∙ one.1.changes; last_rowid = two.1.last_rowid ∙ one.1.last_rowid },
+  two.2 ∙ one.2,
+)
+
+-- two steps that commit nothing
+pub quiet_then : (a b c : State) → Survives a b (λ _. ⊥) → Survives b c (λ _. ⊥) → Survives a c (λ _. ⊥)
+quiet_then a b c one two = survives_then a b c (λ _. ⊥) (λ _. ⊥) (λ _. ⊥) (λ _ db none. none) (λ _ db none. none) one two
 
 -- ---- one look at `schema`
 
@@ -48,19 +64,63 @@ pub both_ok : {A E : Type 0} (P : A → Type 0) (H Q : Type 0) (r : Result A E) 
 both_ok P H Q (Ok a) p q = (p, q)
 both_ok P H Q (Err e) p q = tt
 
+-- ---- what was read is a store, or an earlier one
+
+-- the tables that were asked are as they were
+abbrev Asked : State → Contents → Bool → Type 0
+Asked s t is_first = HoldsAs is_first (counted s.now.schema s.now.trees) t
+
+pub stands_as : (is_first : Bool) (trees : Trees) (t : Contents) → HoldsAs is_first trees t → StandsFor trees t
+stands_as true trees t holds = inr (inl holds)
+stands_as false trees t holds = inl holds
+
+pub late_store : (count : ℕ) (old new : State) (t : Contents) (is_first : Bool) → IsUnchanged old new → old.now ≡ old.committed → HasSome count old.now.schema → Asked old t is_first → is_first ≡ false → count ≢ 5
+    → IsStore new t
+late_store count old new t true same settled some holds late not_five = absurd (let f = late in cc)
+late_store count old new t false same settled (inl first) holds late not_five = absurd (not_five first.0)
+late_store count old new t false same settled (inr all) holds late not_five = loaded_store old new t same settled all.1 (tables_from_counted old.now.schema old.now.trees t all.1 holds)
+
+pub early_store : (count : ℕ) (old new : State) (t : Contents) (is_first : Bool) → IsUnchanged old new → old.now ≡ old.committed → HasSome count old.now.schema → Asked old t is_first → (is_first ≡ true) ⊎ (count ≡ 5)
+    → IsEarlier new t
+early_store count old new t is_first same settled some holds early = record {
+  is_open = same.0.is_open;
+  schema = subst (λ (d : Database). (d.schema ≡ first_schema) ⊎ HasSix d.schema) (sym same.0.now_is) (schema_is some);
+  settled = same.0.now_is ∙ settled ∙ sym same.0.committed_is;
+  holds = subst (λ (d : Database). HoldsFirst (counted d.schema d.trees) t ⊎ HoldsTables (counted d.schema d.trees) t) (sym same.0.now_is) (either is_first holds);
+  lacks = subst (λ (d : Database). counted d.schema d.trees 8 ≡ []) (sym same.0.now_is) (lacks is_first early holds);
+}
+  where
+    schema_is : HasSome count old.now.schema → (old.now.schema ≡ first_schema) ⊎ HasSix old.now.schema
+    schema_is (inl first) = inl first.1
+    schema_is (inr all) = inr all.1
+
+    either : (b : Bool) → Asked old t b → HoldsFirst (counted old.now.schema old.now.trees) t ⊎ HoldsTables (counted old.now.schema old.now.trees) t
+    either true h = inl h
+    either false h = inr h
+
+    absent : HasSome count old.now.schema → count ≡ 5 → counted old.now.schema old.now.trees 8 ≡ []
+    absent (inl first) is = root2_absent old.now.schema old.now.trees first.1
+    absent (inr all) is = absurd (omega (arith, all.0, is))
+
+    lacks : (b : Bool) → (b ≡ true) ⊎ (count ≡ 5) → Asked old t b → counted old.now.schema old.now.trees 8 ≡ []
+    lacks true e h = none_held _ h.root2
+    lacks false (inl set) h = absurd (let f = set in cc)
+    lacks false (inr is) h = absent some is
+
 -- ---- the row of `schema` is put behind a look at the tables
 
-abbrev pub Begins : State → Trees → Type 0
-Begins s trees = HasFive s.now.schema → IsTrue s.is_open × AreBare s.now.trees × HoldsWhole trees no_rows
+abbrev pub Begins : ℕ → State → Trees → Type 0
+Begins count s trees = HasSome count s.now.schema → IsTrue s.is_open × AreBare (counted s.now.schema s.now.trees) × HoldsWhole trees no_rows
 
-pub began : (old mid end : State) (is_bare : Bool) → (HasCleanDisk mid → HasFive old.now.schema → IsUnchanged old mid) → (HasCleanDisk mid → HasFive old.now.schema → is_bare ≡ true → AreBare old.now.trees)
-    → Survives old mid (λ _. ⊥) → Survives mid end (λ trees. (is_bare ≡ true) × IsTrue mid.is_open × (HasFive mid.now.schema → AreBare mid.now.trees → HoldsWhole trees no_rows)) → Survives old end (Begins old)
-began old mid end is_bare unchanged empty quiet writes =
-    let Q = λ (trees : Trees). (is_bare ≡ true) × IsTrue mid.is_open × (HasFive mid.now.schema → AreBare mid.now.trees → HoldsWhole trees no_rows) in
-    survives_then old mid end (λ _. ⊥) Q (Begins old) (λ _ db none. absurd none)
+pub began : (count : ℕ) (old mid end : State) (is_bare : Bool) → (HasCleanDisk mid → HasSome count old.now.schema → IsUnchanged old mid)
+    → (HasCleanDisk mid → HasSome count old.now.schema → is_bare ≡ true → AreBare (counted old.now.schema old.now.trees)) → Survives old mid (λ _. ⊥)
+    → Survives mid end (λ trees. (is_bare ≡ true) × IsTrue mid.is_open × (HasSome count mid.now.schema → AreBare (counted mid.now.schema mid.now.trees) → HoldsWhole trees no_rows)) → Survives old end (Begins count old)
+began count old mid end is_bare unchanged empty quiet writes =
+    let Q = λ (trees : Trees). (is_bare ≡ true) × IsTrue mid.is_open × (HasSome count mid.now.schema → AreBare (counted mid.now.schema mid.now.trees) → HoldsWhole trees no_rows) in
+    survives_then old mid end (λ _. ⊥) Q (Begins count old) (λ _ db none. absurd none)
     (λ clean db h schema.
     let early : HasCleanDisk mid = omega (arith, clean, writes.clean) in
     let same : IsUnchanged old mid = unchanged early schema in
     let bare = empty early schema h.0 in
-    (same.0.was_open, bare, h.2 (five_after same.0.now_is schema) (subst (λ (d : Database). AreBare d.trees) (sym same.0.now_is) bare)))
+    (same.0.was_open, bare, h.2 (some_after count same.0.now_is schema) (subst (λ (d : Database). AreBare (counted d.schema d.trees)) (sym same.0.now_is) bare)))
     quiet writes

@@ -3,7 +3,7 @@ use Rattle.std.proofs.Common.{◌≡◌, ◌⊎◌, inl, inr, ℕ, List, [], ◌
 use Rattle.sqlite.specs.Order.{Row}
 use Rattle.sqlite_rules.specs.Lists.{Has}
 use Rattle.sqlite_rules.proofs.ListLemmas.{has_left, has_right, has_either}
-use Rattle.tables.specs.steps.Loading.{IsSlotRow, FitsSlot, slot_items, current_items, HaveSlots, AreVersions, IsOne}
+use Rattle.tables.specs.steps.Loading.{IsSlotRow, FitsSlot, slot_items, current_items, HaveSlots, AreAll, IsOf}
 use Rattle.sql_tables.specs.Loading.{AreRead, AreSpoiled}
 use Rattle.sql_tables.proofs.ItemLemmas.{read_more}
 
@@ -66,21 +66,17 @@ slots_more rows a b filled whole bad = record { whole = λ e. whole (set_not fil
 
 -- the rows of `schema`
 
-some_rows : (rows : List Row) (r : Row) → rows ++ r ∷ [] ≡ [] → ⊥
+pub some_rows : (rows : List Row) (r : Row) → rows ++ r ∷ [] ≡ [] → ⊥
 some_rows rows r e = subst (λ rs. Has rs r) e (has_right rows _ r (inl refl))
 
-pub versions_more : (rows : List Row) (r : Row) (begun other : Bool) → AreVersions rows begun other → IsOne r → AreVersions (rows ++ r ∷ []) true other
-versions_more rows r begun other v one = record {
-  ones = λ e s h. elim (has_either rows (r ∷ []) s h) [ inl was ↦ v.ones e s was | inr (inl is) ↦ subst IsOne (sym is) one | inr (inr none) ↦ absurd none ];
-  other = λ e. let it = v.other e in (it.0, has_left rows _ it.0 it.1, it.2);
-  some = λ _ e. some_rows rows r e;
-  none = λ e. absurd (let f = e in cc);
+pub all_more : (n : ℕ) (rows : List Row) (r : Row) (were : Bool) → IsOf n r → AreAll n rows were → AreAll n (rows ++ r ∷ []) were
+all_more n rows r were is all = record {
+  each = λ e s h. elim (has_either rows (r ∷ []) s h) [ inl was ↦ all.each e s was | inr (inl same) ↦ subst (IsOf n) (sym same) is | inr (inr none) ↦ absurd none ];
+  other = λ e. let it = all.other e in (it.0, has_left rows _ it.0 it.1, it.2);
 }
 
-pub versions_other : (rows : List Row) (r : Row) → (IsOne r → ⊥) → AreVersions (rows ++ r ∷ []) true true
-versions_other rows r bad = record {
-  ones = λ e. absurd (let f = e in cc);
+pub all_other : (n : ℕ) (rows : List Row) (r : Row) → (IsOf n r → ⊥) → AreAll n (rows ++ r ∷ []) false
+all_other n rows r bad = record {
+  each = λ e. absurd (let f = e in cc);
   other = λ _. (r, has_right rows _ r (inl refl), bad);
-  some = λ _ e. some_rows rows r e;
-  none = λ e. absurd (let f = e in cc);
 }

@@ -8,7 +8,7 @@ use Rattle.tables.specs.Tables.{AreBare, AreRising, HaveDigests, IsFit}
 use Rattle.sql_tables.specs.Schema.{counted}
 pub use Rattle.sql_tables.specs.Opening.{IsSettled}
 
--- what stands for no rows yet: no table of the five, some or all, without a row
+-- what stands for no rows yet: no table of the six, some or all, without a row
 abbrev pub StandsEmpty : State → Type 0
 StandsEmpty s = IsBeginning s.now.schema × AreBare (counted s.now.schema s.now.trees)
 

@@ -1,4 +1,4 @@
--- The five tables as data, and the schema that they are.
+-- The six tables as data, and the schema that they are.
 use Rattle.std.specs.Prelude.{[], ◌∷◌, codes, take, List, ℕ}
 use Rattle.sqlite.specs.Schema.{Schema}
 use Rattle.sqlite.specs.Kind.TheVariants.{Integer, Text, Any}
@@ -67,27 +67,34 @@ root2_table = record {
 }
 
 -- in the order in which they are made
-abbrev pub five : List Description
-five = root_table ∷ current_table ∷ shelf_table ∷ blob_table ∷ version_table ∷ []
-
-abbrev pub the_schema : Schema
-the_schema = schema_of five
-
--- The first tables of the five, with their indexes: `current`, `shelf` and `blob`, the second to the fourth, have one each.
-abbrev pub beginning : ℕ → Schema
-beginning count = schema_of (take count five)
-
--- The five are there, in their order. Further tables, indexes and views may stand behind them, if none refers to one of the five.
-abbrev pub HasFive : Schema → Type 0
-HasFive = HasAll five
-
--- The tables are the first of the five in the order in which they are made: none or some, and nothing else, or all.
-abbrev pub IsBeginning : Schema → Type 0
-IsBeginning = BeginsWith five
-
--- the tables of schema 2, of which `root` stays and is empty
 abbrev pub six : List Description
 six = root_table ∷ current_table ∷ shelf_table ∷ blob_table ∷ version_table ∷ root2_table ∷ []
 
+-- Schema 2 has all six, of which `root` stays and is empty.
+abbrev pub the_schema : Schema
+the_schema = schema_of six
+
+-- The first tables of the six, with their indexes: `current`, `shelf` and `blob`, the second to the fourth, have one each.
+abbrev pub beginning : ℕ → Schema
+beginning count = schema_of (take count six)
+
+-- The six are there, in their order. Further tables, indexes and views may stand behind them, if none refers to one of the six.
 abbrev pub HasSix : Schema → Type 0
 HasSix = HasAll six
+
+-- The tables are the first of the six in the order in which they are made: none or some, and nothing else, or all.
+abbrev pub IsBeginning : Schema → Type 0
+IsBeginning = BeginsWith six
+
+-- ---- schema 1
+
+-- The tables of schema 1, which are the first of the six.
+abbrev pub five : List Description
+five = root_table ∷ current_table ∷ shelf_table ∷ blob_table ∷ version_table ∷ []
+
+abbrev pub first_schema : Schema
+first_schema = schema_of five
+
+-- The five are there, whatever stands behind them: nothing, or `root2` and what may stand behind that.
+abbrev pub HasFive : Schema → Type 0
+HasFive = HasAll five

@@ -18,15 +18,20 @@ use Rattle.tables.specs.declared.change.Change.TheVariants.{PutRoot, Emptied, Pu
 use Rattle.contents.specs.Contents.{Contents, no_rows}
 pub use Rattle.sql_tables.specs.Cells.{IsDigest}
 use Rattle.sql_tables.specs.Described.{AreEmpty}
-use Rattle.tables.specs.Schema.{the_schema, HasFive, IsBeginning}
-use Rattle.tables.specs.Rows.{root_cells, current_cells, shelf_cells, blob_cells, version_cells}
+use Rattle.tables.specs.Schema.{the_schema, HasSix, IsBeginning}
+use Rattle.tables.specs.Rows.{root_cells, root2_cells, current_cells, shelf_cells, blob_cells, version_cells}
 use Rattle.sql_tables.specs.Rows.{AreRows, AreKeyed}
 use Rattle.sql_tables.specs.Schema.{counted}
 
 -- ---- the cells of the rows
 
-abbrev pub root_row : ℕ × List ℕ → Row
-root_row r = Int (pos r.0) ∷ Blob r.1 ∷ []
+-- a root of `root2`: version, profile and bytes
+abbrev pub root_row : ℕ × (ℕ × List ℕ) → Row
+root_row r = Int (pos r.0) ∷ Int (pos r.1.0) ∷ Blob r.1.1 ∷ []
+
+-- the same of `root`, under schema 1: version and bytes
+abbrev pub first_row : ℕ × (ℕ × List ℕ) → Row
+first_row r = Int (pos r.0) ∷ Blob r.1.1 ∷ []
 
 abbrev pub slot_row : List ℕ → ℕ × List ℕ → Row
 slot_row slot r = Text slot ∷ Int (pos r.0) ∷ Blob r.1 ∷ []
@@ -45,39 +50,50 @@ abbrev pub blob_row : List ℕ × List ℕ → Row
 blob_row r = Text (encode_lower r.0) ∷ Blob r.1 ∷ []
 
 -- the one row of `schema`
-abbrev pub version_row : Row
-version_row = Int (pos 1) ∷ []
+abbrev pub version_row : ℕ → Row
+version_row n = Int (pos n) ∷ []
 
 -- ---- what is held
 
--- the trees of the five tables hold these rows, as sets, and schema 1
+-- The trees of the six tables hold these rows, as sets, and schema 2: the roots stand in `root2`, and `root` is empty.
 pub record HoldsTables (trees : Trees) (t : Contents) : Type 0 where
-  pub root : AreRows root_cells (trees 0) (map root_row t.roots)
+  pub root : AreRows root_cells (trees 0) []
   pub current : AreRows current_cells (trees 1) (current_rows t.timestamp t.snapshot)
   pub shelf : AreRows shelf_cells (trees 3) (map shelf_row t.shelf)
   pub blob : AreRows blob_cells (trees 5) (map blob_row t.blobs)
-  pub version : AreRows version_cells (trees 7) (version_row ∷ [])
+  pub version : AreRows version_cells (trees 7) (version_row 2 ∷ [])
+  pub root2 : AreRows root2_cells (trees 8) (map root_row t.roots)
 
--- The same, and all five tables are there: so say the trees themselves, which list them. No other opening of these trees finds fewer.
+-- The same of schema 1: each root has profile 1 and stands in `root`, and `root2` is empty.
+pub record HoldsFirst (trees : Trees) (t : Contents) : Type 0 where
+  pub profiles : AllByRecursion (λ r. r.1.0 ≡ 1) t.roots
+  pub root : AreRows root_cells (trees 0) (map first_row t.roots)
+  pub current : AreRows current_cells (trees 1) (current_rows t.timestamp t.snapshot)
+  pub shelf : AreRows shelf_cells (trees 3) (map shelf_row t.shelf)
+  pub blob : AreRows blob_cells (trees 5) (map blob_row t.blobs)
+  pub version : AreRows version_cells (trees 7) (version_row 1 ∷ [])
+  pub root2 : AreRows root2_cells (trees 8) []
+
+-- Schema 2, and all six tables are there: so say the trees themselves, which list them. No other opening of these trees finds fewer.
 abbrev pub HoldsWhole : Trees → Contents → Type 0
-HoldsWhole trees t = (db : Database) × (db.trees ≡ trees) × IsDatabase db × HasFive db.schema × HoldsTables trees t
+HoldsWhole trees t = (db : Database) × (db.trees ≡ trees) × IsDatabase db × HasSix db.schema × HoldsTables trees t
 
--- between two transactions: the connection is open, the five tables are there, and hold these rows
+-- between two transactions: the connection is open, the six tables are there, and hold these rows and schema 2
 pub record IsStore (s : State) (t : Contents) : Type 0 where
   pub is_open : IsTrue s.is_open
-  pub schema : HasFive s.now.schema
+  pub schema : HasSix s.now.schema
   pub settled : s.now ≡ s.committed
   pub holds : HoldsTables s.now.trees t
 
--- no row in any of the five tables
+-- no row in any of the six tables
 abbrev pub AreBare : Trees → Type 0
 AreBare = AreEmpty the_schema
 
--- What the trees of the five tables stand for. Five empty tables are no rows yet.
+-- What the trees of the six tables stand for. Six empty tables are no rows yet.
 abbrev pub StandsFor : Trees → Contents → Type 0
-StandsFor trees t = HoldsTables trees t ⊎ (AreBare trees × (t ≡ no_rows))
+StandsFor trees t = HoldsTables trees t ⊎ (HoldsFirst trees t ⊎ (AreBare trees × (t ≡ no_rows)))
 
--- What a database stands for: it has the first of the five tables, or all, and they hold the rows, and the absent ones count as empty.
+-- What a database stands for: it has the first of the six tables, or all, and they hold the rows, and the absent ones count as empty.
 abbrev pub Stands : Database → Contents → Type 0
 Stands db t = IsBeginning db.schema × StandsFor (counted db.schema db.trees) t
 
@@ -91,11 +107,12 @@ pub record AreSame (t u : Contents) : Type 0 where
 
 -- ---- what fits the columns
 
+-- a version, and so a profile, has 32 bits
 abbrev pub IsVersion : ℕ → Type 0
 IsVersion n = n < 2 ^ 32
 
 pub record IsFit (t : Contents) : Type 0 where
-  pub roots : AllByRecursion (λ r. IsVersion r.0) t.roots
+  pub roots : AllByRecursion (λ r. IsVersion r.0 × IsVersion r.1.0) t.roots
   pub one_root : AreKeyed t.roots
   pub timestamp : (r : _) → t.timestamp ≡ Some r → IsVersion r.0
   pub snapshot : (r : _) → t.snapshot ≡ Some r → IsVersion r.0
@@ -121,7 +138,7 @@ pub record AreRising (t : Contents) : Type 0 where
 -- ---- changes
 
 -- a put stands behind the rows that are there
-abbrev pub with_root : ℕ × List ℕ → Contents → Contents
+abbrev pub with_root : ℕ × (ℕ × List ℕ) → Contents → Contents
 with_root r t = record t { roots = t.roots ++ r ∷ [] }
 
 abbrev pub with_timestamp : ℕ × List ℕ → Contents → Contents
@@ -155,7 +172,7 @@ abbrev pub without_blob : List ℕ → Contents → Contents
 without_blob digest t = record t { blobs = filter (λ r. not (is_blob_of digest r)) t.blobs }
 
 abbrev pub after : Change → Contents → Contents
-after (PutRoot version bytes) t = with_root (version, bytes.now) t
+after (PutRoot version profile bytes) t = with_root (version, (profile, bytes.now)) t
 after Emptied t = emptied t
 after (PutTimestamp version bytes) t = with_timestamp (version, bytes.now) t
 after (PutSnapshot version bytes) t = with_snapshot (version, bytes.now) t

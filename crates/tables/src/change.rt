@@ -3,8 +3,8 @@
 /// One change of the rows. It borrows all bytes.
 #[derive(Debug, Clone, Copy)]
 pub enum Change<'a> {
-    /// A root of this version more.
-    PutRoot(u32, &'a [u8]),
+    /// A root of this version and profile more.
+    PutRoot(u32, u32, &'a [u8]),
     /// All rows of `current` and `shelf` go.
     Emptied,
     /// The row `timestamp` of `current`, in place of the one that is there.

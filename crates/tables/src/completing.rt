@@ -1,9 +1,9 @@
-// Completing a database whose tables are the first of the five, or none.
+// Completing a database whose tables are the first of the six, or none.
 ghost use Rattle.std.specs.Prelude.{◌≡◌, ◌<◌, ◌≤◌, true, false, IsTrue, IfOk, OnOk};
 ghost use Rattle.sqlite_trees.specs.Tree.{Trees};
 ghost use Rattle.sqlite.specs.State.{HasCleanDisk, IsUnchanged, KeepsCommit, Survives};
 ghost use Rattle.sqlite.specs.Held.{state};
-ghost use Rattle.tables.specs.Schema.{the_schema, beginning, five};
+ghost use Rattle.tables.specs.Schema.{the_schema, beginning, six};
 ghost use Rattle.sql_tables.specs.Described.{LacksRest};
 ghost use Rattle.contents.specs.Contents.{no_rows};
 ghost use Rattle.tables.specs.Tables.{AreBare, HoldsWhole, IsStore};
@@ -11,11 +11,11 @@ ghost use Rattle.sql_tables.specs.Schema.{counted};
 ghost use Rattle.tables.specs.steps.Writing.{IsInside, no_cells};
 ghost use Rattle.sql_tables.specs.Making.{IsMade};
 
-use crate::described::five_tables;
+use crate::described::six_tables;
 use crate::making::{make_rest, put_version};
 use sqlite::{Alter, Connection, Error, Transaction};
 
-// Whether any of the five tables has a row.
+// Whether any of the six tables has a row.
 fn has_rows<S: Alter>(tx: &mut Transaction<'_, S>) -> Result<bool, Error>
     ensures same_reference { tx.new.conn.ghost_name ≡ tx.old.conn.ghost_name }
     ensures rows { HasCleanDisk (state S.Store tx.new.conn.now) → (state S.Store tx.old.conn.now).now.schema ≡ the_schema
@@ -24,16 +24,16 @@ fn has_rows<S: Alter>(tx: &mut Transaction<'_, S>) -> Result<bool, Error>
     ensures was_open { HasCleanDisk (state S.Store tx.new.conn.now) → OnOk result (IsTrue (state S.Store tx.old.conn.now).is_open) }
     ensures survives { Survives (state S.Store tx.old.conn.now) (state S.Store tx.new.conn.now) (λ _. ⊥) }
 {
-    sql_tables::has_rows(tx, &five_tables())
+    sql_tables::has_rows(tx, &six_tables())
 }
 
 // Makes the tables that are absent, and puts the row of `schema` where no table has a row. Answers whether none has.
 fn fill<S: Alter>(tx: &mut Transaction<'_, S>, count: usize) -> Result<bool, Error>
-    requires { count ≤ 5 }
+    requires { count ≤ 6 }
     ensures same_reference { tx.new.conn.ghost_name ≡ tx.old.conn.ghost_name }
-    ensures made { HasCleanDisk (state S.Store tx.new.conn.now) → (rows : Trees) → LacksRest five count rows → IsMade rows (beginning count) (state S.Store tx.old.conn.now)
+    ensures made { HasCleanDisk (state S.Store tx.new.conn.now) → (rows : Trees) → LacksRest six count rows → IsMade rows (beginning count) (state S.Store tx.old.conn.now)
         → IfOk result (λ bare. (IsTrue bare → AreBare rows × IsInside (state S.Store tx.new.conn.now) no_cells) × (bare ≡ false → AreBare rows → ⊥)) }
-    ensures kept { HasCleanDisk (state S.Store tx.new.conn.now) → (rows : Trees) → LacksRest five count rows → IsMade rows (beginning count) (state S.Store tx.old.conn.now)
+    ensures kept { HasCleanDisk (state S.Store tx.new.conn.now) → (rows : Trees) → LacksRest six count rows → IsMade rows (beginning count) (state S.Store tx.old.conn.now)
         → IfOk result (λ bare. bare ≡ false → KeepsCommit (state S.Store tx.old.conn.now) (state S.Store tx.new.conn.now)) }
     ensures was_open { HasCleanDisk (state S.Store tx.new.conn.now) → OnOk result (IsTrue (state S.Store tx.old.conn.now).is_open) }
     ensures survives { Survives (state S.Store tx.old.conn.now) (state S.Store tx.new.conn.now) (λ _. ⊥) }

@@ -3,7 +3,7 @@ ghost use Rattle.std.specs.Prelude.{◌≡◌, ◌≢◌, ◌++◌, [], ◌∷�
 ghost use Rattle.contents.specs.Contents.{slot_view, value_view};
 ghost use Rattle.sqlite.specs.Order.{Row};
 ghost use Rattle.sql_tables.specs.Loading.{AreRead};
-ghost use Rattle.tables.specs.steps.Loading.{AreVersions, FitsSlot, HaveSlots, IsOne, IsSlotRow, current_items, slot_name};
+ghost use Rattle.tables.specs.steps.Loading.{AreAll, AreVersions, FitsSlot, HaveSlots, IsOf, IsSlotRow, current_items, slot_name};
 
 use sql_tables::{TakeRows, blob_at, is_same, number_at, text_at};
 use sqlite::Row;
@@ -114,44 +114,56 @@ impl TakeRows for Current {
     }
 }
 
-fn is_one(row: &Row) -> bool
-    ensures yes { IsTrue result → IsOne row.now }
-    ensures no { result ≡ false → IsOne row.now → ⊥ }
+// Whether the row of `schema` is that of this version.
+fn is_of(row: &Row, version: u32) -> bool
+    ensures yes { IsTrue result → IsOf version row.now }
+    ensures no { result ≡ false → IsOf version row.now → ⊥ }
 {
-    matches!(number_at(row, 0), Some(1))
+    match number_at(row, 0) {
+        Some(number) => number == version,
+        None => false,
+    }
 }
 
-// The rows of `schema`: whether there is one, and whether one is not 1.
+// Whether all rows are of this version, with one more, where those before it are so or not.
+fn are_still(row: &Row, version: u32, were: bool) -> bool
+    ensures { (rows : List Row) → AreAll version rows were → AreAll version (rows ++ row.now ∷ []) result }
+{
+    if is_of(row, version) { were } else { false }
+}
+
+// The rows of `schema`: whether there is one, and whether all are 1, and whether all are 2.
 #[derive(Drop)]
 pub(crate) struct Versions {
     pub is_begun: bool,
-    pub is_other: bool,
+    pub is_first: bool,
+    pub is_second: bool,
 }
 
 impl Versions {
     // Of no rows yet.
     pub(crate) fn new() -> Versions
-        ensures { AreVersions [] result.is_begun result.is_other }
+        ensures { AreVersions [] result.is_begun result.is_first result.is_second }
     {
         Versions {
             is_begun: false,
-            is_other: false,
+            is_first: true,
+            is_second: true,
         }
     }
 }
 
 impl TakeRows for Versions {
-    ghost Took = { λ rows v. AreVersions rows v.is_begun v.is_other };
+    ghost Took = { λ rows v. AreVersions rows v.is_begun v.is_first v.is_second };
 
     ghost ROWID = { 0 };
 
     const ROWID: usize = 0;
 
     fn take_row(&mut self, row: &Row) -> Result<(), AllocError> {
-        if !is_one(row) {
-            self.is_other = true;
-        }
         self.is_begun = true;
+        self.is_first = are_still(row, 1, self.is_first);
+        self.is_second = are_still(row, 2, self.is_second);
         Ok(())
     }
 }

@@ -1,7 +1,7 @@
-// The five tables as data.
+// The six tables as data.
 ghost use Rattle.std.specs.Prelude.{◌≡◌, map};
 ghost use Rattle.sql_tables.specs.Described.{described_view};
-ghost use Rattle.tables.specs.Schema.{five, six};
+ghost use Rattle.tables.specs.Schema.{six};
 
 use sql_tables::{Described, Key};
 use sqlite_schema::schema::Kind;
@@ -36,9 +36,9 @@ static SHELF_KEY: [(&[usize], &[u8]); 1] = [(&[1, 2], b"sqlite_autoindex_shelf_1
 
 static BLOB_KEY: [(&[usize], &[u8]); 1] = [(&[1], b"sqlite_autoindex_blob_1")];
 
-// The five tables, in the order in which they are made.
-pub(crate) fn five_tables() -> [Described<'static>; 5]
-    ensures { map described_view result ≡ five }
+// The six tables, in the order in which they are made.
+pub(crate) fn six_tables() -> [Described<'static>; 6]
+    ensures { map described_view result ≡ six }
 {
     [
         Described {
@@ -81,20 +81,6 @@ pub(crate) fn five_tables() -> [Described<'static>; 5]
             make: "CREATE TABLE schema (version INTEGER NOT NULL PRIMARY KEY)",
             look: "SELECT version FROM schema",
         },
-    ]
-}
-
-// The tables of schema 2, in the order in which they are made.
-pub(crate) fn six_tables() -> [Described<'static>; 6]
-    ensures { map described_view result ≡ six }
-{
-    let [root, current, shelf, blob, version] = five_tables();
-    [
-        root,
-        current,
-        shelf,
-        blob,
-        version,
         Described {
             name: b"root2",
             columns: &ROOT2,

@@ -9,7 +9,7 @@ pub enum StoreFault {
     /// The rows are those of no contents that fit. No fault of the database stands for it.
     #[error("damaged")]
     Damaged,
-    /// A call of the database answered a fault other than want of memory, or its tables are not these five.
+    /// A call of the database answered a fault other than want of memory, or its tables are not these six.
     #[error("database")]
     Database,
     /// Memory was refused, in the database or beside it.

@@ -1,4 +1,4 @@
-//! The five tables of a release repository, over the crate `sqlite`.
+//! The six tables of a release repository, over the crate `sqlite`.
 #![tactic(auto)]
 
 mod blobs;
@@ -25,4 +25,5 @@ pub use laws::{one_contents, rows_are_sets};
 pub use making::renew;
 pub use migrating::migrate;
 pub use opening::{check_open, prepare};
+pub use shape::{has_first_schema, has_others_behind};
 pub use writing::write_all;

@@ -1,34 +1,54 @@
 // Asking for the rows of all tables.
-ghost use Rattle.std.specs.Prelude.{◌≡◌, ◌≢◌, [], ◌∷◌, List, false, true, Err, IfErr, IfOk, OnOk, IsTrue};
+ghost use Rattle.std.specs.Prelude.{◌≡◌, ◌≢◌, [], ◌∷◌, List, false, true, Err, IfErr, IfOk, OnOk, IsTrue, if◌then◌else◌};
 ghost use Rattle.std.specs.Ordering.{nat_cmp};
 ghost use Rattle.std.specs.Cmp.Lexicographic.{slice_cmp};
 ghost use Rattle.sqlite.specs.Order.{Row};
 ghost use Rattle.sqlite.specs.State.{HasCleanDisk, IsUnchanged, Survives};
 ghost use Rattle.sqlite.specs.Held.{state};
 ghost use Rattle.contents.specs.Contents.{slot_view};
-ghost use Rattle.tables.specs.Schema.{HasFive};
-ghost use Rattle.tables.specs.Rows.{root_cells, current_cells, shelf_cells, blob_cells, version_cells};
+ghost use Rattle.tables.specs.Schema.{HasFive, HasSix};
+ghost use Rattle.tables.specs.Rows.{root_cells, root2_cells, current_cells, shelf_cells, blob_cells, version_cells};
 ghost use Rattle.tables.specs.Tables.{row_cmp};
-ghost use Rattle.tables.specs.steps.Loading.{AllComeOnce, Answers, AreAnswers, AreDamaged, AreItems, AreSorted, AreTaken, AreVersions, FitsLength, FitsRoot, FitsShelf, HaveSlots, IsGathered, IsLengthRow, IsOne, IsRootRow, IsShelfRow, document_shows, length_shows, root_shows};
+ghost use Rattle.sql_tables.specs.Schema.{counted};
+ghost use Rattle.tables.specs.steps.Migrating.{HasSome};
+ghost use Rattle.tables.specs.steps.Loading.{AllComeOnce, Answers, AreAnswers, AreDamaged, AreItems, AreSorted, AreTaken, AreVersions, FitsFirst, FitsLength, FitsRoot, FitsShelf, HaveSlots, IsFirstRow, IsGathered, IsLengthRow, IsRootRow, Tell, IsShelfRow, document_shows, length_shows, root_shows};
 ghost use Rattle.sql_tables.specs.Loading.{AreLoaded, ComeOnce, rises, with_rowid};
-ghost use Rattle.sqlite_rules.specs.Lists.{Has};
 
 use crate::current::{Current, Versions};
 use crate::faults::StoreFault;
-use crate::reading::{Documents, Files, Roots};
+use crate::reading::{Documents, Files, FirstRoots, Roots};
 use contents::MetadataRows;
 use sql_tables::{gather, take_rows};
 use sqlite::{Alter, Connection};
 use std::alloc::Global;
 
-// The roots, by version, which is the rowid.
-fn root_rows<S: Alter>(
+// The roots of `root`, by version, which is the rowid.
+fn first_rows<S: Alter>(
     alloc: Global,
     conn: &mut Connection<S>,
-) -> Result<(Option<Vec<(u32, Vec<u8>)>>, bool), StoreFault>
-    ensures rows { IfOk result (λ p. (rows : List Row) × (IsTrue p.1 → ComeOnce 0 rows) × IsGathered nat_cmp IsRootRow FitsRoot root_shows rows p.0
+) -> Result<(Option<Vec<(u32, u32, Vec<u8>)>>, bool), StoreFault>
+    ensures rows { IfOk result (λ p. (rows : List Row) × (IsTrue p.1 → ComeOnce 0 rows) × IsGathered nat_cmp IsFirstRow FitsFirst root_shows rows p.0
         × (HasCleanDisk (state S.Store conn.new) → HasFive (state S.Store conn.old).now.schema → AreLoaded root_cells (rises ∷ []) ((state S.Store conn.old).now.trees 0) rows)) }
     ensures unchanged { HasCleanDisk (state S.Store conn.new) → HasFive (state S.Store conn.old).now.schema → OnOk result (IsUnchanged (state S.Store conn.old) (state S.Store conn.new)) }
+    ensures fault { result ≢ Err StoreFault.Damaged }
+    ensures mode { conn.old.in_transaction ≡ false → conn.new.in_transaction ≡ false }
+    ensures survives { Survives (state S.Store conn.old) (state S.Store conn.new) (λ _. ⊥) }
+{
+    Ok(gather::<S, FirstRoots>(
+        alloc,
+        conn,
+        "SELECT version, bytes FROM root ORDER BY version",
+    )?)
+}
+
+// The roots of `root2`, by version, which is the rowid.
+fn second_rows<S: Alter>(
+    alloc: Global,
+    conn: &mut Connection<S>,
+) -> Result<(Option<Vec<(u32, u32, Vec<u8>)>>, bool), StoreFault>
+    ensures rows { IfOk result (λ p. (rows : List Row) × (IsTrue p.1 → ComeOnce 0 rows) × IsGathered nat_cmp IsRootRow FitsRoot root_shows rows p.0
+        × (HasCleanDisk (state S.Store conn.new) → HasSix (state S.Store conn.old).now.schema → AreLoaded root2_cells (rises ∷ []) ((state S.Store conn.old).now.trees 8) rows)) }
+    ensures unchanged { HasCleanDisk (state S.Store conn.new) → HasSix (state S.Store conn.old).now.schema → OnOk result (IsUnchanged (state S.Store conn.old) (state S.Store conn.new)) }
     ensures fault { result ≢ Err StoreFault.Damaged }
     ensures mode { conn.old.in_transaction ≡ false → conn.new.in_transaction ≡ false }
     ensures survives { Survives (state S.Store conn.old) (state S.Store conn.new) (λ _. ⊥) }
@@ -36,8 +56,27 @@ fn root_rows<S: Alter>(
     Ok(gather::<S, Roots>(
         alloc,
         conn,
-        "SELECT version, bytes FROM root ORDER BY version",
+        "SELECT version, profile, bytes FROM root2 ORDER BY version",
     )?)
+}
+
+// The roots of `root2`, where so many of the six tables are there. Where it is absent, it counts as empty and is not asked.
+fn root_rows<S: Alter>(
+    alloc: Global,
+    conn: &mut Connection<S>,
+    count: usize,
+) -> Result<(Option<Vec<(u32, u32, Vec<u8>)>>, bool), StoreFault>
+    ensures rows { IfOk result (λ p. (rows : List Row) × (IsTrue p.1 → ComeOnce 0 rows) × IsGathered nat_cmp IsRootRow FitsRoot root_shows rows p.0
+        × (HasCleanDisk (state S.Store conn.new) → HasSome count (state S.Store conn.old).now.schema → AreLoaded root2_cells (rises ∷ []) (counted (state S.Store conn.old).now.schema (state S.Store conn.old).now.trees 8) rows)) }
+    ensures unchanged { HasCleanDisk (state S.Store conn.new) → HasSome count (state S.Store conn.old).now.schema → IsTrue (state S.Store conn.old).is_open → OnOk result (IsUnchanged (state S.Store conn.old) (state S.Store conn.new)) }
+    ensures fault { result ≢ Err StoreFault.Damaged }
+    ensures mode { conn.old.in_transaction ≡ false → conn.new.in_transaction ≡ false }
+    ensures survives { Survives (state S.Store conn.old) (state S.Store conn.new) (λ _. ⊥) }
+{
+    if count == 5 {
+        return Ok((Some(Vec::new(alloc)), true));
+    }
+    second_rows(alloc, conn)
 }
 
 // The slots of `current`.
@@ -103,7 +142,7 @@ fn version_rows<S: Alter>(
     alloc: Global,
     conn: &mut Connection<S>,
 ) -> Result<(Versions, bool), StoreFault>
-    ensures rows { IfOk result (λ p. (rows : List Row) × (IsTrue p.1 → ComeOnce 0 rows) × AreVersions rows p.0.is_begun p.0.is_other
+    ensures rows { IfOk result (λ p. (rows : List Row) × (IsTrue p.1 → ComeOnce 0 rows) × AreVersions rows p.0.is_begun p.0.is_first p.0.is_second
         × (HasCleanDisk (state S.Store conn.new) → HasFive (state S.Store conn.old).now.schema → AreLoaded version_cells [] ((state S.Store conn.old).now.trees 7) rows)) }
     ensures unchanged { HasCleanDisk (state S.Store conn.new) → HasFive (state S.Store conn.old).now.schema → OnOk result (IsUnchanged (state S.Store conn.old) (state S.Store conn.new)) }
     ensures fault { result ≢ Err StoreFault.Damaged }
@@ -113,83 +152,123 @@ fn version_rows<S: Alter>(
     Ok(take_rows(alloc, conn, "SELECT version FROM schema", Versions::new())?)
 }
 
-// What was read of all tables.
+// What was read of all tables: the roots of `root` and those of `root2` apart.
 #[derive(Drop)]
 pub(crate) struct Taken {
-    pub roots: Option<Vec<(u32, Vec<u8>)>>,
+    pub first_roots: Option<Vec<(u32, u32, Vec<u8>)>>,
     pub current: Current,
     pub shelf: Option<Vec<(String, u32, Vec<u8>)>>,
     pub blobs: Option<Vec<([u8; 32], usize)>>,
     pub versions: Versions,
+    pub roots: Option<Vec<(u32, u32, Vec<u8>)>>,
 }
 
 // A fault unless the rowids of each table are integers and come once.
 fn check_rowids(
-    root: bool,
+    first: bool,
     current: bool,
     shelf: bool,
     blob: bool,
     version: bool,
+    root: bool,
 ) -> Result<(), StoreFault>
-    ensures once { OnOk result (IsTrue root × IsTrue current × IsTrue shelf × IsTrue blob × IsTrue version) }
+    ensures once { OnOk result (IsTrue first × IsTrue current × IsTrue shelf × IsTrue blob × IsTrue version × IsTrue root) }
     ensures fault { result ≢ Err StoreFault.Damaged }
 {
-    if root && current && shelf && blob && version {
+    if first && current && shelf && blob && version && root {
         Ok(())
     } else {
         Err(StoreFault::Database)
     }
 }
 
-// Reads the rows of all tables.
-pub(crate) fn ask<S: Alter>(alloc: Global, conn: &mut Connection<S>) -> Result<Taken, StoreFault>
+// Reads the rows of all tables, where so many of the six are there.
+pub(crate) fn ask<S: Alter>(
+    alloc: Global,
+    conn: &mut Connection<S>,
+    count: usize,
+) -> Result<Taken, StoreFault>
     ensures rows { IfOk result (λ t. (a : Answers) × AllComeOnce a × AreTaken a t
-        × (HasCleanDisk (state S.Store conn.new) → HasFive (state S.Store conn.old).now.schema → AreAnswers (state S.Store conn.old).now.trees a)) }
-    ensures unchanged { HasCleanDisk (state S.Store conn.new) → HasFive (state S.Store conn.old).now.schema → OnOk result (IsUnchanged (state S.Store conn.old) (state S.Store conn.new)) }
+        × (HasCleanDisk (state S.Store conn.new) → HasSome count (state S.Store conn.old).now.schema → AreAnswers (counted (state S.Store conn.old).now.schema (state S.Store conn.old).now.trees) a)) }
+    ensures unchanged { HasCleanDisk (state S.Store conn.new) → HasSome count (state S.Store conn.old).now.schema → OnOk result (IsUnchanged (state S.Store conn.old) (state S.Store conn.new)) }
     ensures fault { result ≢ Err StoreFault.Damaged }
     ensures mode { conn.old.in_transaction ≡ false → conn.new.in_transaction ≡ false }
     ensures survives { Survives (state S.Store conn.old) (state S.Store conn.new) (λ _. ⊥) }
 {
-    let (roots, root_once) = root_rows(alloc, conn)?;
+    let (first_roots, first_once) = first_rows(alloc, conn)?;
     let (current, current_once) = current_rows(alloc, conn)?;
     let (shelf, shelf_once) = shelf_rows(alloc, conn)?;
     let (blobs, blob_once) = blob_rows(alloc, conn)?;
     let (versions, version_once) = version_rows(alloc, conn)?;
-    check_rowids(root_once, current_once, shelf_once, blob_once, version_once)?;
+    let (roots, root_once) = root_rows(alloc, conn, count)?;
+    check_rowids(
+        first_once,
+        current_once,
+        shelf_once,
+        blob_once,
+        version_once,
+        root_once,
+    )?;
     Ok(Taken {
-        roots,
+        first_roots,
         current,
         shelf,
         blobs,
         versions,
+        roots,
     })
+}
+
+// The roots of the one table, where the other has none: `Damaged` else.
+fn one_of(
+    first: Vec<(u32, u32, Vec<u8>)>,
+    second: Vec<(u32, u32, Vec<u8>)>,
+    is_first: bool,
+) -> Result<Vec<(u32, u32, Vec<u8>)>, StoreFault>
+    ensures roots { IfOk result (λ v. v ≡ (if is_first then first else second)) }
+    ensures none { OnOk result ((if is_first then second else first).items ≡ []) }
+    ensures some { IfErr result (λ f. (f ≡ StoreFault.Damaged) × ((if is_first then second else first).items ≢ [])) }
+{
+    let (roots, others) = if is_first {
+        (first, second)
+    } else {
+        (second, first)
+    };
+    if !others.is_empty() {
+        return Err(StoreFault::Damaged);
+    }
+    Ok(roots)
 }
 
 /// The rows of the metadata, and digest and length of each target file.
 pub(crate) type Rows = (MetadataRows, Vec<([u8; 32], usize)>);
 
-// The items of the rows, and whether `schema` has its row.
-pub(crate) fn rows_of(taken: Taken) -> Result<(Rows, bool), StoreFault>
-    ensures read { (a : Answers) → AreTaken a taken → IfOk result (λ p. AreItems a p.0.0 p.0.1.items) }
-    ensures ones { (a : Answers) → AreTaken a taken → OnOk result ((r : Row) → Has a.version r → IsOne r) }
+// The items of the rows, whether `schema` has a row, and whether that is 1.
+pub(crate) fn rows_of(taken: Taken) -> Result<(Rows, bool, bool), StoreFault>
+    ensures read { (a : Answers) → AreTaken a taken → IfOk result (λ p. AreItems p.2 a p.0.0 p.0.1.items) }
+    ensures told { (a : Answers) → AreTaken a taken → IfOk result (λ p. Tell p.2 a.version) }
     ensures some { (a : Answers) → AreTaken a taken → IfOk result (λ p. p.1 ≡ true → a.version ≢ []) }
-    ensures none { (a : Answers) → AreTaken a taken → IfOk result (λ p. p.1 ≡ false → a.version ≡ []) }
+    ensures none { (a : Answers) → AreTaken a taken → IfOk result (λ p. p.1 ≡ false → (a.version ≡ []) × (p.2 ≡ false)) }
     ensures damaged { (a : Answers) → AreTaken a taken → result ≡ Err StoreFault.Damaged → AreSorted a → AreDamaged a }
     ensures fault { IfErr result (λ f. f ≡ StoreFault.Damaged) }
 {
     let Taken {
-        roots,
+        first_roots,
         current,
         shelf,
         blobs,
         versions,
+        roots,
     } = taken;
-    if versions.is_other {
+    if !versions.is_first && !versions.is_second {
         return Err(StoreFault::Damaged);
     }
     if current.is_spoiled {
         return Err(StoreFault::Damaged);
     }
+    let Some(first_roots) = first_roots else {
+        return Err(StoreFault::Damaged);
+    };
     let Some(roots) = roots else {
         return Err(StoreFault::Damaged);
     };
@@ -199,11 +278,12 @@ pub(crate) fn rows_of(taken: Taken) -> Result<(Rows, bool), StoreFault>
     let Some(blobs) = blobs else {
         return Err(StoreFault::Damaged);
     };
+    let is_first = versions.is_begun && versions.is_first;
     let metadata = MetadataRows {
-        roots,
+        roots: one_of(first_roots, roots, is_first)?,
         timestamp: current.timestamp,
         snapshot: current.snapshot,
         shelf,
     };
-    Ok(((metadata, blobs), versions.is_begun))
+    Ok(((metadata, blobs), versions.is_begun, is_first))
 }

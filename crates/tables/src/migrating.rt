@@ -2,34 +2,23 @@
 ghost use Rattle.std.specs.Prelude.{◌≡◌, ◌≢◌, ◌≤◌, ◌++◌, ◌∷◌, [], map, false, Err, IsTrue, OnErr, OnOk};
 ghost use Rattle.sqlite.specs.State.{HasCleanDisk, KeepsCommit, Survives};
 ghost use Rattle.sqlite.specs.Held.{state};
-ghost use Rattle.contents.specs.Contents.{Contents, value_view};
+ghost use Rattle.contents.specs.Contents.{Contents};
 ghost use Rattle.sql_tables.specs.Described.{HasFirst};
 ghost use Rattle.tables.specs.Schema.{six};
-ghost use Rattle.tables.specs.Migration.{HoldsSecondWhole, IsFirstStore, IsSecondStore, root2_row, second_version_row};
-ghost use Rattle.tables.specs.steps.Migrating.{IsAmid, IsEarly, SixCells, first_cells, second_cells};
+ghost use Rattle.tables.specs.Tables.{HoldsWhole, IsStore, root_row, version_row};
+ghost use Rattle.tables.specs.Migration.{IsEarlier};
+ghost use Rattle.tables.specs.steps.Writing.{Cells, IsInside};
+ghost use Rattle.tables.specs.steps.Migrating.{IsEarly, brought};
 
-use crate::described::six_tables;
 use crate::faults::StoreFault;
-use crate::shape::beginning_of_six;
+use crate::making::make_root2;
+use crate::shape::beginning_of;
 use sqlite::{Alter, Connection, Error, Transaction, params};
-
-// Makes `root2`, where it is absent: so many of the six tables are there.
-fn make_root2<S: Alter>(tx: &mut Transaction<'_, S>, count: usize) -> Result<(), Error>
-    ensures same_reference { tx.new.conn.ghost_name ≡ tx.old.conn.ghost_name }
-    ensures wrote { HasCleanDisk (state S.Store tx.new.conn.now) → (t : Contents) → IsEarly count (state S.Store tx.old.conn.now) t → OnOk result (IsAmid (state S.Store tx.new.conn.now) (first_cells t)) }
-    ensures kept { HasCleanDisk (state S.Store tx.new.conn.now) → KeepsCommit (state S.Store tx.old.conn.now) (state S.Store tx.new.conn.now) }
-    ensures survives { Survives (state S.Store tx.old.conn.now) (state S.Store tx.new.conn.now) (λ _. ⊥) }
-{
-    if count == 5 {
-        return sql_tables::make_rest(tx, &six_tables(), count);
-    }
-    Ok(())
-}
 
 // No row of `root` stays.
 fn empty_root<S: Alter>(tx: &mut Transaction<'_, S>) -> Result<(), Error>
     ensures same_reference { tx.new.conn.ghost_name ≡ tx.old.conn.ghost_name }
-    ensures wrote { HasCleanDisk (state S.Store tx.new.conn.now) → (c : SixCells) → IsAmid (state S.Store tx.old.conn.now) c → OnOk result (IsAmid (state S.Store tx.new.conn.now) (record c { root = [] })) }
+    ensures wrote { HasCleanDisk (state S.Store tx.new.conn.now) → (c : Cells) → IsInside (state S.Store tx.old.conn.now) c → OnOk result (IsInside (state S.Store tx.new.conn.now) (record c { root = [] })) }
     ensures kept { HasCleanDisk (state S.Store tx.new.conn.now) → KeepsCommit (state S.Store tx.old.conn.now) (state S.Store tx.new.conn.now) }
     ensures survives { Survives (state S.Store tx.old.conn.now) (state S.Store tx.new.conn.now) (λ _. ⊥) }
 {
@@ -40,7 +29,7 @@ fn empty_root<S: Alter>(tx: &mut Transaction<'_, S>) -> Result<(), Error>
 // A root more, of profile 1.
 fn add_root<S: Alter>(tx: &mut Transaction<'_, S>, version: u32, bytes: &[u8]) -> Result<(), Error>
     ensures same_reference { tx.new.conn.ghost_name ≡ tx.old.conn.ghost_name }
-    ensures wrote { HasCleanDisk (state S.Store tx.new.conn.now) → (c : SixCells) → IsAmid (state S.Store tx.old.conn.now) c → OnOk result (IsAmid (state S.Store tx.new.conn.now) (record c { root2 = c.root2 ++ root2_row (version, bytes.now) ∷ [] })) }
+    ensures wrote { HasCleanDisk (state S.Store tx.new.conn.now) → (c : Cells) → IsInside (state S.Store tx.old.conn.now) c → OnOk result (IsInside (state S.Store tx.new.conn.now) (record c { root2 = c.root2 ++ root_row (version, (1, bytes.now)) ∷ [] })) }
     ensures kept { HasCleanDisk (state S.Store tx.new.conn.now) → KeepsCommit (state S.Store tx.old.conn.now) (state S.Store tx.new.conn.now) }
     ensures survives { Survives (state S.Store tx.old.conn.now) (state S.Store tx.new.conn.now) (λ _. ⊥) }
 {
@@ -52,17 +41,15 @@ fn add_root<S: Alter>(tx: &mut Transaction<'_, S>, version: u32, bytes: &[u8]) -
 }
 
 // The roots, in their order.
-fn add_roots<S: Alter>(tx: &mut Transaction<'_, S>, roots: &[(u32, Vec<u8>)]) -> Result<(), Error>
+fn add_roots<S: Alter>(tx: &mut Transaction<'_, S>, roots: &[(u32, &[u8])]) -> Result<(), Error>
     ensures same_reference { tx.new.conn.ghost_name ≡ tx.old.conn.ghost_name }
-    ensures wrote { HasCleanDisk (state S.Store tx.new.conn.now) → (c : SixCells) → IsAmid (state S.Store tx.old.conn.now) c
-        → OnOk result (IsAmid (state S.Store tx.new.conn.now) (record c { root2 = c.root2 ++ map root2_row (map value_view roots.now) })) }
+    ensures wrote { HasCleanDisk (state S.Store tx.new.conn.now) → (c : Cells) → IsInside (state S.Store tx.old.conn.now) c
+        → OnOk result (IsInside (state S.Store tx.new.conn.now) (record c { root2 = c.root2 ++ map root_row (map (λ r. (r.0, (1, r.1.now))) roots.now) })) }
     ensures kept { HasCleanDisk (state S.Store tx.new.conn.now) → KeepsCommit (state S.Store tx.old.conn.now) (state S.Store tx.new.conn.now) }
     ensures survives { Survives (state S.Store tx.old.conn.now) (state S.Store tx.new.conn.now) (λ _. ⊥) }
 {
-    let mut rest = roots;
-    'roots: while let Some((root, later)) = rest.split_first() {
-        add_root(tx, root.0, &root.1)?;
-        rest = later;
+    'roots: for root in roots {
+        add_root(tx, root.0, root.1)?;
     }
     Ok(())
 }
@@ -70,7 +57,7 @@ fn add_roots<S: Alter>(tx: &mut Transaction<'_, S>, roots: &[(u32, Vec<u8>)]) ->
 // No row of `schema` stays.
 fn empty_version<S: Alter>(tx: &mut Transaction<'_, S>) -> Result<(), Error>
     ensures same_reference { tx.new.conn.ghost_name ≡ tx.old.conn.ghost_name }
-    ensures wrote { HasCleanDisk (state S.Store tx.new.conn.now) → (c : SixCells) → IsAmid (state S.Store tx.old.conn.now) c → OnOk result (IsAmid (state S.Store tx.new.conn.now) (record c { version = [] })) }
+    ensures wrote { HasCleanDisk (state S.Store tx.new.conn.now) → (c : Cells) → IsInside (state S.Store tx.old.conn.now) c → OnOk result (IsInside (state S.Store tx.new.conn.now) (record c { version = [] })) }
     ensures kept { HasCleanDisk (state S.Store tx.new.conn.now) → KeepsCommit (state S.Store tx.old.conn.now) (state S.Store tx.new.conn.now) }
     ensures survives { Survives (state S.Store tx.old.conn.now) (state S.Store tx.new.conn.now) (λ _. ⊥) }
 {
@@ -81,7 +68,7 @@ fn empty_version<S: Alter>(tx: &mut Transaction<'_, S>) -> Result<(), Error>
 // The row of schema 2.
 fn add_version<S: Alter>(tx: &mut Transaction<'_, S>) -> Result<(), Error>
     ensures same_reference { tx.new.conn.ghost_name ≡ tx.old.conn.ghost_name }
-    ensures wrote { HasCleanDisk (state S.Store tx.new.conn.now) → (c : SixCells) → IsAmid (state S.Store tx.old.conn.now) c → OnOk result (IsAmid (state S.Store tx.new.conn.now) (record c { version = c.version ++ second_version_row ∷ [] })) }
+    ensures wrote { HasCleanDisk (state S.Store tx.new.conn.now) → (c : Cells) → IsInside (state S.Store tx.old.conn.now) c → OnOk result (IsInside (state S.Store tx.new.conn.now) (record c { version = c.version ++ version_row 2 ∷ [] })) }
     ensures kept { HasCleanDisk (state S.Store tx.new.conn.now) → KeepsCommit (state S.Store tx.old.conn.now) (state S.Store tx.new.conn.now) }
     ensures survives { Survives (state S.Store tx.old.conn.now) (state S.Store tx.new.conn.now) (λ _. ⊥) }
 {
@@ -93,11 +80,11 @@ fn add_version<S: Alter>(tx: &mut Transaction<'_, S>) -> Result<(), Error>
 fn bring<S: Alter>(
     tx: &mut Transaction<'_, S>,
     count: usize,
-    roots: &[(u32, Vec<u8>)],
+    roots: &[(u32, &[u8])],
 ) -> Result<(), Error>
     ensures same_reference { tx.new.conn.ghost_name ≡ tx.old.conn.ghost_name }
-    ensures wrote { HasCleanDisk (state S.Store tx.new.conn.now) → (t : Contents) → IsEarly count (state S.Store tx.old.conn.now) t → t.roots ≡ map value_view roots.now
-        → OnOk result (IsAmid (state S.Store tx.new.conn.now) (second_cells t)) }
+    ensures wrote { HasCleanDisk (state S.Store tx.new.conn.now) → (c : Cells) → IsEarly count (state S.Store tx.old.conn.now) c
+        → OnOk result (IsInside (state S.Store tx.new.conn.now) (brought c (map (λ r. (r.0, (1, r.1.now))) roots.now))) }
     ensures kept { HasCleanDisk (state S.Store tx.new.conn.now) → KeepsCommit (state S.Store tx.old.conn.now) (state S.Store tx.new.conn.now) }
     ensures survives { Survives (state S.Store tx.old.conn.now) (state S.Store tx.new.conn.now) (λ _. ⊥) }
 {
@@ -112,17 +99,17 @@ fn bring<S: Alter>(
 fn bring_over<S: Alter>(
     conn: &mut Connection<S>,
     count: usize,
-    roots: &[(u32, Vec<u8>)],
+    roots: &[(u32, &[u8])],
 ) -> Result<(), Error>
     requires autocommit { conn.old.in_transaction ≡ false }
     requires some { HasFirst six count conn.old.schema }
     ensures autocommit { conn.new.in_transaction ≡ false }
-    ensures wrote { HasCleanDisk (state S.Store conn.new) → (t : Contents) → IsFirstStore (state S.Store conn.old) t → t.roots ≡ map value_view roots.now → OnOk result (IsSecondStore (state S.Store conn.new) t) }
-    ensures kept { HasCleanDisk (state S.Store conn.new) → IsTrue (state S.Store conn.new).is_open → (t : Contents) → IsFirstStore (state S.Store conn.old) t → t.roots ≡ map value_view roots.now
-        → OnErr result (IsFirstStore (state S.Store conn.new) t) }
+    ensures wrote { HasCleanDisk (state S.Store conn.new) → (t : Contents) → IsEarlier (state S.Store conn.old) t → t.roots ≡ map (λ r. (r.0, (1, r.1.now))) roots.now → OnOk result (IsStore (state S.Store conn.new) t) }
+    ensures kept { HasCleanDisk (state S.Store conn.new) → IsTrue (state S.Store conn.new).is_open → (t : Contents) → IsEarlier (state S.Store conn.old) t → t.roots ≡ map (λ r. (r.0, (1, r.1.now))) roots.now
+        → OnErr result (IsEarlier (state S.Store conn.new) t) }
     ensures was_open { HasCleanDisk (state S.Store conn.new) → IsTrue (state S.Store conn.new).is_open → IsTrue (state S.Store conn.old).is_open }
     ensures crash { Survives (state S.Store conn.old) (state S.Store conn.new)
-        (λ trees. (t : Contents) → IsFirstStore (state S.Store conn.old) t → t.roots ≡ map value_view roots.now → HoldsSecondWhole trees t) }
+        (λ trees. (t : Contents) → IsEarlier (state S.Store conn.old) t → t.roots ≡ map (λ r. (r.0, (1, r.1.now))) roots.now → HoldsWhole trees t) }
 {
     let _ = conn.schema();
     let mut tx = conn.transaction();
@@ -130,27 +117,24 @@ fn bring_over<S: Alter>(
     tx.commit()
 }
 
-/// Brings tables of schema 1, which hold these roots by version, to schema 2, in one transaction: `root2` is made where it is absent,
-/// the roots move there with profile 1, and the row of `schema` is 2. A crash leaves schema 1 whole or schema 2 whole.
+/// Brings tables of an earlier store, which hold these roots by version, to schema 2, in one transaction: `root2` is made where it is absent,
+/// the roots move there with profile 1, and the row of `schema` is 2. A crash leaves what was there whole or schema 2 whole.
 ///
 /// - `Database`: a call of the database answered a fault, and the tables are as they were, if the connection is still open; or there are
-///   others than the five tables of schema 1 and nothing else, or the six of schema 2, behind which others may stand: then nothing is made.
+///   others than the five tables of schema 1 and nothing else, or all six, behind which others may stand: then nothing is made.
 /// - `OutOfMemory`: memory was refused.
-pub fn migrate<S: Alter>(
-    conn: &mut Connection<S>,
-    roots: &[(u32, Vec<u8>)],
-) -> Result<(), StoreFault>
+pub fn migrate<S: Alter>(conn: &mut Connection<S>, roots: &[(u32, &[u8])]) -> Result<(), StoreFault>
     requires { conn.old.in_transaction ≡ false }
     ensures autocommit { conn.new.in_transaction ≡ false }
-    ensures wrote { HasCleanDisk (state S.Store conn.new) → (t : Contents) → IsFirstStore (state S.Store conn.old) t → t.roots ≡ map value_view roots.now → OnOk result (IsSecondStore (state S.Store conn.new) t) }
-    ensures kept { HasCleanDisk (state S.Store conn.new) → IsTrue (state S.Store conn.new).is_open → (t : Contents) → IsFirstStore (state S.Store conn.old) t → t.roots ≡ map value_view roots.now
-        → OnErr result (IsFirstStore (state S.Store conn.new) t) }
+    ensures wrote { HasCleanDisk (state S.Store conn.new) → (t : Contents) → IsEarlier (state S.Store conn.old) t → t.roots ≡ map (λ r. (r.0, (1, r.1.now))) roots.now → OnOk result (IsStore (state S.Store conn.new) t) }
+    ensures kept { HasCleanDisk (state S.Store conn.new) → IsTrue (state S.Store conn.new).is_open → (t : Contents) → IsEarlier (state S.Store conn.old) t → t.roots ≡ map (λ r. (r.0, (1, r.1.now))) roots.now
+        → OnErr result (IsEarlier (state S.Store conn.new) t) }
     ensures was_open { HasCleanDisk (state S.Store conn.new) → IsTrue (state S.Store conn.new).is_open → IsTrue (state S.Store conn.old).is_open }
     ensures crash { Survives (state S.Store conn.old) (state S.Store conn.new)
-        (λ trees. (t : Contents) → IsFirstStore (state S.Store conn.old) t → t.roots ≡ map value_view roots.now → HoldsSecondWhole trees t) }
+        (λ trees. (t : Contents) → IsEarlier (state S.Store conn.old) t → t.roots ≡ map (λ r. (r.0, (1, r.1.now))) roots.now → HoldsWhole trees t) }
     ensures fault { result ≢ Err StoreFault.Damaged }
 {
-    let Some(count) = beginning_of_six(conn.schema()) else {
+    let Some(count) = beginning_of(conn.schema()) else {
         return Err(StoreFault::Database);
     };
     if count < 5 {

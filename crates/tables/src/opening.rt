@@ -1,14 +1,16 @@
 // Opening: the tables are made, or what they hold is read.
-ghost use Rattle.std.specs.Prelude.{◌≡◌, ◌≢◌, ◌<◌, ℕ, [], true, false, Err, IfOk, OnOk, IsTrue};
+ghost use Rattle.std.specs.Prelude.{◌≡◌, ◌≢◌, ◌<◌, ◌⊎◌, ℕ, [], true, false, Err, IfOk, OnOk, IsTrue};
 ghost use Rattle.sqlite.specs.State.{HasCleanDisk, IsLive, IsUnchanged, KeepsCommit, Survives};
 ghost use Rattle.sqlite.specs.Held.{state};
-ghost use Rattle.tables.specs.Schema.{beginning, HasFive, IsBeginning};
+ghost use Rattle.tables.specs.Schema.{beginning, IsBeginning};
 ghost use Rattle.contents.specs.Contents as plain;
 ghost use Rattle.contents.specs.Contents.{contents_with, no_rows};
-ghost use Rattle.tables.specs.Tables.{HoldsTables, HoldsWhole, HaveDigests, IsStore, IsFit, AreBare, Stands, StandsFor};
+ghost use Rattle.tables.specs.Tables.{HoldsWhole, HaveDigests, IsStore, IsFit, AreBare, Stands, StandsFor};
 ghost use Rattle.sql_tables.specs.Schema.{counted};
 ghost use Rattle.tables.specs.Opening.{IsReadAs, IsSettled, StandsEmpty};
-ghost use Rattle.tables.specs.steps.Loading.{IsUnbegun};
+ghost use Rattle.tables.specs.Migration.{IsEarlier};
+ghost use Rattle.tables.specs.steps.Loading.{HoldsAs, IsUnbegun};
+ghost use Rattle.tables.specs.steps.Migrating.{HasSome};
 
 use crate::completing::complete;
 use crate::faults::StoreFault;
@@ -19,20 +21,24 @@ use contents::MetadataRows;
 use sqlite::{Alter, Connection};
 use std::alloc::Global;
 
-// What the five tables hold, and whether `schema` has its row.
-fn gather<S: Alter>(alloc: Global, conn: &mut Connection<S>) -> Result<(Rows, bool), StoreFault>
+// What the six tables hold, where so many of them are there, whether `schema` has a row, and whether that is 1.
+fn gather<S: Alter>(
+    alloc: Global,
+    conn: &mut Connection<S>,
+    count: usize,
+) -> Result<(Rows, bool, bool), StoreFault>
     ensures read { IfOk result (λ p. (t : plain.Contents) × IsReadAs p.0.0 p.0.1.items t
-        × (HasCleanDisk (state S.Store conn.new) → HasFive (state S.Store conn.old).now.schema → IsLive (state S.Store conn.old)
-        → (p.1 ≡ true → HoldsTables (state S.Store conn.old).now.trees t) × (p.1 ≡ false → IsUnbegun (state S.Store conn.old).now.trees t))) }
-    ensures damaged { HasCleanDisk (state S.Store conn.new) → HasFive (state S.Store conn.old).now.schema → result ≡ Err StoreFault.Damaged
-        → (t : plain.Contents) → IsFit t → HaveDigests t → StandsFor (state S.Store conn.old).now.trees t → ⊥ }
-    ensures kept { HasCleanDisk (state S.Store conn.new) → HasFive (state S.Store conn.old).now.schema → result ≡ Err StoreFault.Damaged → KeepsCommit (state S.Store conn.old) (state S.Store conn.new) }
-    ensures was_open { HasCleanDisk (state S.Store conn.new) → HasFive (state S.Store conn.old).now.schema → result ≡ Err StoreFault.Damaged → IsTrue (state S.Store conn.old).is_open }
-    ensures unchanged { HasCleanDisk (state S.Store conn.new) → HasFive (state S.Store conn.old).now.schema → OnOk result (IsUnchanged (state S.Store conn.old) (state S.Store conn.new)) }
+        × (HasCleanDisk (state S.Store conn.new) → HasSome count (state S.Store conn.old).now.schema → IsLive (state S.Store conn.old)
+        → (p.1 ≡ true → HoldsAs p.2 (counted (state S.Store conn.old).now.schema (state S.Store conn.old).now.trees) t) × (p.1 ≡ false → IsUnbegun (counted (state S.Store conn.old).now.schema (state S.Store conn.old).now.trees) t))) }
+    ensures damaged { HasCleanDisk (state S.Store conn.new) → HasSome count (state S.Store conn.old).now.schema → result ≡ Err StoreFault.Damaged
+        → (t : plain.Contents) → IsFit t → HaveDigests t → StandsFor (counted (state S.Store conn.old).now.schema (state S.Store conn.old).now.trees) t → ⊥ }
+    ensures kept { HasCleanDisk (state S.Store conn.new) → HasSome count (state S.Store conn.old).now.schema → result ≡ Err StoreFault.Damaged → KeepsCommit (state S.Store conn.old) (state S.Store conn.new) }
+    ensures was_open { HasCleanDisk (state S.Store conn.new) → HasSome count (state S.Store conn.old).now.schema → result ≡ Err StoreFault.Damaged → IsTrue (state S.Store conn.old).is_open }
+    ensures unchanged { HasCleanDisk (state S.Store conn.new) → HasSome count (state S.Store conn.old).now.schema → OnOk result (IsUnchanged (state S.Store conn.old) (state S.Store conn.new)) }
     ensures mode { conn.old.in_transaction ≡ false → conn.new.in_transaction ≡ false }
     ensures survives { Survives (state S.Store conn.old) (state S.Store conn.new) (λ _. ⊥) }
 {
-    let taken = ask(alloc, conn)?;
+    let taken = ask(alloc, conn, count)?;
     Ok(rows_of(taken)?)
 }
 
@@ -44,59 +50,76 @@ fn are_none(rows: &Rows) -> bool
     rows.0.is_empty() && rows.1.is_empty()
 }
 
-// Puts the row of `schema` where nothing was read.
-fn begin_bare<S: Alter>(conn: &mut Connection<S>, is_bare: bool) -> Result<(), StoreFault>
+// Puts the row of `schema` where nothing was read, and makes `root2` where it is absent.
+fn begin_bare<S: Alter>(
+    conn: &mut Connection<S>,
+    count: usize,
+    is_bare: bool,
+) -> Result<(), StoreFault>
     requires { conn.old.in_transaction ≡ false }
     ensures autocommit { conn.new.in_transaction ≡ false }
     ensures bare { OnOk result (is_bare ≡ true) }
-    ensures begun { HasCleanDisk (state S.Store conn.new) → HasFive (state S.Store conn.old).now.schema → AreBare (state S.Store conn.old).now.trees → OnOk result (IsStore (state S.Store conn.new) no_rows) }
+    ensures begun { HasCleanDisk (state S.Store conn.new) → HasSome count (state S.Store conn.old).now.schema → AreBare (counted (state S.Store conn.old).now.schema (state S.Store conn.old).now.trees) → OnOk result (IsStore (state S.Store conn.new) no_rows) }
     ensures damaged { result ≡ Err StoreFault.Damaged → is_bare ≡ false }
     ensures told { is_bare ≡ false → (result ≡ Err StoreFault.Damaged) × (conn.new ≡ conn.old) }
     ensures crash { Survives (state S.Store conn.old) (state S.Store conn.new) (λ trees. (is_bare ≡ true) × IsTrue (state S.Store conn.old).is_open
-        × (HasFive (state S.Store conn.old).now.schema → AreBare (state S.Store conn.old).now.trees → HoldsWhole trees no_rows)) }
+        × (HasSome count (state S.Store conn.old).now.schema → AreBare (counted (state S.Store conn.old).now.schema (state S.Store conn.old).now.trees) → HoldsWhole trees no_rows)) }
 {
     if !is_bare {
         return Err(StoreFault::Damaged);
     }
-    begin(conn)?;
+    begin(conn, count)?;
     Ok(())
 }
 
-// What the five tables hold. Where all are empty, the row of `schema` is put.
-fn load<S: Alter>(alloc: Global, conn: &mut Connection<S>) -> Result<Rows, StoreFault>
+// Whether the store is an earlier one: `schema` has the row 1, or `root2` is absent.
+fn is_early(is_first: bool, count: usize) -> bool
+    ensures early { IsTrue result → (is_first ≡ true) ⊎ (count ≡ 5) }
+    ensures late { result ≡ false → (is_first ≡ false) × (count ≢ 5) }
+{
+    is_first || count == 5
+}
+
+// What the six tables hold, where so many of them are there, and whether the store is an earlier one. Where all are empty, the row of
+// `schema` is put.
+fn load<S: Alter>(
+    alloc: Global,
+    conn: &mut Connection<S>,
+    count: usize,
+) -> Result<(MetadataRows, Vec<([u8; 32], usize)>, bool), StoreFault>
     requires { conn.old.in_transaction ≡ false }
     ensures autocommit { conn.new.in_transaction ≡ false }
     ensures loaded { IfOk result (λ r. (t : plain.Contents) × IsReadAs r.0 r.1.items t
-        × (HasCleanDisk (state S.Store conn.new) → IsSettled (state S.Store conn.old) → HasFive (state S.Store conn.old).now.schema → IsLive (state S.Store conn.old)
-        → StandsFor (state S.Store conn.old).now.trees t × IsStore (state S.Store conn.new) t)) }
-    ensures was_open { HasCleanDisk (state S.Store conn.new) → HasFive (state S.Store conn.old).now.schema → OnOk result (IsTrue (state S.Store conn.old).is_open) }
-    ensures found_open { HasCleanDisk (state S.Store conn.new) → HasFive (state S.Store conn.old).now.schema → result ≡ Err StoreFault.Damaged → IsTrue (state S.Store conn.old).is_open }
-    ensures damaged { HasCleanDisk (state S.Store conn.new) → HasFive (state S.Store conn.old).now.schema → IsLive (state S.Store conn.old) → result ≡ Err StoreFault.Damaged
-        → (t : plain.Contents) → IsFit t → HaveDigests t → StandsFor (state S.Store conn.old).now.trees t → ⊥ }
-    ensures kept { HasCleanDisk (state S.Store conn.new) → HasFive (state S.Store conn.old).now.schema → result ≡ Err StoreFault.Damaged → KeepsCommit (state S.Store conn.old) (state S.Store conn.new) }
-    ensures crash { IsLive (state S.Store conn.old) → Survives (state S.Store conn.old) (state S.Store conn.new) (λ trees. HasFive (state S.Store conn.old).now.schema
-        → IsTrue (state S.Store conn.old).is_open × AreBare (state S.Store conn.old).now.trees × HoldsWhole trees no_rows) }
+        × (HasCleanDisk (state S.Store conn.new) → IsSettled (state S.Store conn.old) → HasSome count (state S.Store conn.old).now.schema → IsLive (state S.Store conn.old)
+        → StandsFor (counted (state S.Store conn.old).now.schema (state S.Store conn.old).now.trees) t × (r.2 ≡ false → IsStore (state S.Store conn.new) t) × (r.2 ≡ true → IsEarlier (state S.Store conn.new) t))) }
+    ensures was_open { HasCleanDisk (state S.Store conn.new) → HasSome count (state S.Store conn.old).now.schema → OnOk result (IsTrue (state S.Store conn.old).is_open) }
+    ensures found_open { HasCleanDisk (state S.Store conn.new) → HasSome count (state S.Store conn.old).now.schema → result ≡ Err StoreFault.Damaged → IsTrue (state S.Store conn.old).is_open }
+    ensures damaged { HasCleanDisk (state S.Store conn.new) → HasSome count (state S.Store conn.old).now.schema → IsLive (state S.Store conn.old) → result ≡ Err StoreFault.Damaged
+        → (t : plain.Contents) → IsFit t → HaveDigests t → StandsFor (counted (state S.Store conn.old).now.schema (state S.Store conn.old).now.trees) t → ⊥ }
+    ensures kept { HasCleanDisk (state S.Store conn.new) → HasSome count (state S.Store conn.old).now.schema → result ≡ Err StoreFault.Damaged → KeepsCommit (state S.Store conn.old) (state S.Store conn.new) }
+    ensures crash { IsLive (state S.Store conn.old) → Survives (state S.Store conn.old) (state S.Store conn.new) (λ trees. HasSome count (state S.Store conn.old).now.schema
+        → IsTrue (state S.Store conn.old).is_open × AreBare (counted (state S.Store conn.old).now.schema (state S.Store conn.old).now.trees) × HoldsWhole trees no_rows) }
 {
-    let (rows, is_begun) = gather(alloc, conn)?;
+    let (rows, is_begun, is_first) = gather(alloc, conn, count)?;
     if is_begun {
-        return Ok(rows);
+        return Ok((rows.0, rows.1, is_early(is_first, count)));
     }
-    begin_bare(conn, are_none(&rows))?;
-    Ok(rows)
+    begin_bare(conn, count, are_none(&rows))?;
+    Ok((rows.0, rows.1, false))
 }
 
-// The first of the five tables, or none, hold no row: the others are made, and the row of `schema` is put.
+// The first of the tables, or none, hold no row: the others are made, and the row of `schema` is put.
 fn complete_bare<S: Alter>(
     alloc: Global,
     conn: &mut Connection<S>,
     count: usize,
-) -> Result<Rows, StoreFault>
+) -> Result<(MetadataRows, Vec<([u8; 32], usize)>, bool), StoreFault>
     requires autocommit { conn.old.in_transaction ≡ false }
     requires few { count < 5 }
     ensures autocommit { conn.new.in_transaction ≡ false }
     ensures made { HasCleanDisk (state S.Store conn.new) → (state S.Store conn.old).now.schema ≡ beginning count
         → OnOk result (AreBare (counted (beginning count) (state S.Store conn.old).now.trees) × IsStore (state S.Store conn.new) no_rows) }
-    ensures empty { IfOk result (λ r. IsReadAs r.0 r.1.items no_rows) }
+    ensures empty { IfOk result (λ r. IsReadAs r.0 r.1.items no_rows × (r.2 ≡ false)) }
     ensures was_open { HasCleanDisk (state S.Store conn.new) → OnOk result (IsTrue (state S.Store conn.old).is_open) }
     ensures found_open { HasCleanDisk (state S.Store conn.new) → result ≡ Err StoreFault.Damaged → IsTrue (state S.Store conn.old).is_open }
     ensures damaged { HasCleanDisk (state S.Store conn.new) → (state S.Store conn.old).now.schema ≡ beginning count → result ≡ Err StoreFault.Damaged
@@ -106,40 +129,41 @@ fn complete_bare<S: Alter>(
         → AreBare (counted (beginning count) (state S.Store conn.old).now.trees) × HoldsWhole trees no_rows)) }
 {
     if complete(conn, count)? {
-        Ok((MetadataRows::empty(alloc), Vec::new(alloc)))
+        Ok((MetadataRows::empty(alloc), Vec::new(alloc), false))
     } else {
         Err(StoreFault::Damaged)
     }
 }
 
-/// Reads what the five tables hold: the rows of the metadata, and digest and length of each target file, by digest. The bytes
-/// of a target file are read once, and let go once their SHA-256 was compared with their digest.
+/// Reads what the six tables hold: the rows of the metadata, and digest and length of each target file, by digest; and whether the store
+/// is an earlier one, which `migrate` brings to schema 2: `schema` has the row 1, or `root2` is absent. The bytes of a target file are
+/// read once, and let go once their SHA-256 was compared with their digest.
 ///
 /// The first of the tables in the order in which they are made may stand alone, and there may be none: a table that is absent
-/// counts as empty. Where all are empty, those that are absent are made and version 1 is put into `schema`, in one transaction.
-/// Call `renew` before: it gives what `loaded` asks for.
+/// counts as empty. Where all are empty, those that are absent are made and version 2 is put into `schema`, in one transaction; then the
+/// store is no earlier one. Call `renew` before: it gives what `loaded` asks for.
 ///
 /// - `Damaged`: the tables hold no rows that fit their columns and whose target files have their digests, or `schema` has another
-///   row than 1 or none beside rows, also where it is absent. A value of another type than its column's, a version outside 32
-///   bits, a role that is not UTF-8, a digest that is not 64 hex digits of lower case or not that of its bytes, and a third slot in
-///   `current` do not fit. Nothing is made.
-/// - `Database`: a call of the database answered a fault, or the database has other tables than the first of these five in
-///   their order and nothing else, or all five (no other is tried; behind all five may stand further tables, indexes and views,
-///   if no foreign key is onto one of the five), or the rowids that it answered are not integers that come once, which by its
+///   row than 1 or 2, both, or none beside rows, also where it is absent. Under 2 a row in `root` is damage, and under 1 one in `root2`. A
+///   value of another type than its column's, a version or profile outside 32 bits, a role that is not UTF-8, a digest that is not 64 hex
+///   digits of lower case or not that of its bytes, and a third slot in `current` do not fit. Nothing is made.
+/// - `Database`: a call of the database answered a fault, or the database has other tables than the first of these six in
+///   their order and nothing else, or all six (no other is tried; behind all six may stand further tables, indexes and views,
+///   if no foreign key is onto one of the six), or the rowids that it answered are not integers that come once, which by its
 ///   own laws they are.
 /// - `OutOfMemory`: memory was refused.
 pub fn prepare<S: Alter>(
     alloc: Global,
     conn: &mut Connection<S>,
-) -> Result<(MetadataRows, Vec<([u8; 32], usize)>), StoreFault>
+) -> Result<(MetadataRows, Vec<([u8; 32], usize)>, bool), StoreFault>
     requires { conn.old.in_transaction ≡ false }
     ensures autocommit { conn.new.in_transaction ≡ false }
     ensures schema { IfOk result (λ _. IsBeginning conn.old.schema) }
     ensures ours { result ≡ Err StoreFault.Damaged → IsBeginning conn.old.schema }
     ensures foreign { (IsBeginning conn.old.schema → ⊥) → (result ≡ Err StoreFault.Database) × (conn.new ≡ conn.old) }
-    ensures made { HasCleanDisk (state S.Store conn.new) → (count : ℕ) → count < 5 → conn.old.schema ≡ beginning count → IfOk result (λ r. IsReadAs r.0 r.1.items no_rows × StandsEmpty (state S.Store conn.old) × IsStore (state S.Store conn.new) no_rows) }
+    ensures made { HasCleanDisk (state S.Store conn.new) → (count : ℕ) → count < 5 → conn.old.schema ≡ beginning count → IfOk result (λ r. IsReadAs r.0 r.1.items no_rows × StandsEmpty (state S.Store conn.old) × IsStore (state S.Store conn.new) no_rows × (r.2 ≡ false)) }
     ensures loaded { IfOk result (λ r. (t : plain.Contents) × IsReadAs r.0 r.1.items t
-        × (HasCleanDisk (state S.Store conn.new) → IsSettled (state S.Store conn.old) → Stands (state S.Store conn.old).now t × IsStore (state S.Store conn.new) t)) }
+        × (HasCleanDisk (state S.Store conn.new) → IsSettled (state S.Store conn.old) → Stands (state S.Store conn.old).now t × (r.2 ≡ false → IsStore (state S.Store conn.new) t) × (r.2 ≡ true → IsEarlier (state S.Store conn.new) t))) }
     ensures was_open { HasCleanDisk (state S.Store conn.new) → OnOk result (IsTrue (state S.Store conn.old).is_open) }
     ensures found_open { HasCleanDisk (state S.Store conn.new) → result ≡ Err StoreFault.Damaged → IsTrue (state S.Store conn.old).is_open }
     ensures live { IsLive (state S.Store conn.old) }
@@ -151,8 +175,8 @@ pub fn prepare<S: Alter>(
     let Some(count) = beginning_of(conn.schema()) else {
         return Err(StoreFault::Database);
     };
-    if count == 5 {
-        return load(alloc, conn);
+    if count >= 5 {
+        return load(alloc, conn, count);
     }
     complete_bare(alloc, conn, count)
 }

@@ -1,5 +1,5 @@
-// The rows of `root`, `shelf` and `blob` as items.
-ghost use Rattle.std.specs.Prelude.{◌≢◌, ◌≡◌, ◌<◌, List, ℕ, IfSome, MatchOption, string_bytes};
+// The rows of `root`, `root2`, `shelf` and `blob` as items.
+ghost use Rattle.std.specs.Prelude.{◌≢◌, ◌≡◌, ◌<◌, List, ℕ, IfSome, IsTrue, MatchOption, false, string_bytes};
 ghost use Rattle.std.specs.List.{AllByRecursion};
 ghost use Rattle.std.specs.Ordering.{nat_cmp};
 ghost use Rattle.std.specs.Cmp.Lexicographic.{slice_cmp};
@@ -7,7 +7,7 @@ ghost use Rattle.std.proofs.lemmas.Cmp.{nat_cmp_total, nat_list_cmp_total, on_to
 ghost use Rattle.std.proofs.lemmas.Map.Lookups.{exact_bytes, exact_pairs, exact_unsigned};
 ghost use Rattle.hex.specs.Hex.{encode_lower};
 ghost use Rattle.tables.specs.Tables.{IsDigest, row_cmp};
-ghost use Rattle.tables.specs.steps.Loading.{FitsLength, FitsRoot, FitsShelf, IsLengthRow, IsRootRow, IsShelfRow, length_shows};
+ghost use Rattle.tables.specs.steps.Loading.{FitsFirst, FitsLength, FitsRoot, FitsShelf, IsFirstRow, IsLengthRow, IsRootRow, IsShelfRow, length_shows, root_shows};
 
 use crate::cells::{has_digest, text_order};
 use sql_tables::{Item, blob_at, digest_of, is_same, number_at, text_at};
@@ -15,17 +15,26 @@ use sqlite::Row;
 use std::alloc::{AllocError, Global};
 use std::cmp::Ordering;
 
-// Roots, by their version, which is the rowid.
+// Whether two roots have one profile and the same bytes.
+fn is_same_root(one: &(u32, u32, Vec<u8>), other: &(u32, u32, Vec<u8>)) -> bool
+    ensures same { IsTrue result → (root_shows one.now).1 ≡ (root_shows other.now).1 }
+    ensures other { result ≡ false → (root_shows one.now).1 ≢ (root_shows other.now).1 }
+{
+    let same = is_same(one.2.as_slice(), other.2.as_slice());
+    one.1 == other.1 && same
+}
+
+// Roots of `root2`, by their version, which is the rowid.
 pub(crate) struct Roots;
 
 impl Item for Roots {
-    type Of = (u32, Vec<u8>);
+    type Of = (u32, u32, Vec<u8>);
 
     ghost Key = { ℕ };
 
-    ghost Kept = { List ℕ };
+    ghost Kept = { ℕ × List ℕ };
 
-    ghost shows = { λ r. (r.0, r.1.items) };
+    ghost shows = { root_shows };
 
     ghost key_cmp = { nat_cmp };
 
@@ -37,22 +46,70 @@ impl Item for Roots {
 
     const ROWID: usize = 0;
 
-    fn read(alloc: Global, row: &Row) -> Result<Option<(u32, Vec<u8>)>, AllocError> {
+    fn read(alloc: Global, row: &Row) -> Result<Option<(u32, u32, Vec<u8>)>, AllocError> {
+        let Some(version) = number_at(row, 0) else {
+            return Ok(None);
+        };
+        let Some(profile) = number_at(row, 1) else {
+            return Ok(None);
+        };
+        let Some(bytes) = blob_at(row, 2) else {
+            return Ok(None);
+        };
+        Ok(Some((version, profile, Vec::from_slice(alloc, bytes)?)))
+    }
+
+    fn order(one: &(u32, u32, Vec<u8>), other: &(u32, u32, Vec<u8>)) -> Ordering {
+        one.0.cmp(&other.0)
+    }
+
+    fn is_equal(one: &(u32, u32, Vec<u8>), other: &(u32, u32, Vec<u8>)) -> bool {
+        is_same_root(one, other)
+    }
+
+    ghost total = { nat_cmp_total };
+
+    ghost exact = { exact_unsigned };
+}
+
+// Roots of `root`, which have profile 1, by their version, which is the rowid.
+pub(crate) struct FirstRoots;
+
+impl Item for FirstRoots {
+    type Of = (u32, u32, Vec<u8>);
+
+    ghost Key = { ℕ };
+
+    ghost Kept = { ℕ × List ℕ };
+
+    ghost shows = { root_shows };
+
+    ghost key_cmp = { nat_cmp };
+
+    ghost Reads = { IsFirstRow };
+
+    ghost Fits = { FitsFirst };
+
+    ghost ROWID = { 0 };
+
+    const ROWID: usize = 0;
+
+    fn read(alloc: Global, row: &Row) -> Result<Option<(u32, u32, Vec<u8>)>, AllocError> {
         let Some(version) = number_at(row, 0) else {
             return Ok(None);
         };
         let Some(bytes) = blob_at(row, 1) else {
             return Ok(None);
         };
-        Ok(Some((version, Vec::from_slice(alloc, bytes)?)))
+        Ok(Some((version, 1, Vec::from_slice(alloc, bytes)?)))
     }
 
-    fn order(one: &(u32, Vec<u8>), other: &(u32, Vec<u8>)) -> Ordering {
+    fn order(one: &(u32, u32, Vec<u8>), other: &(u32, u32, Vec<u8>)) -> Ordering {
         one.0.cmp(&other.0)
     }
 
-    fn is_equal(one: &(u32, Vec<u8>), other: &(u32, Vec<u8>)) -> bool {
-        is_same(one.1.as_slice(), other.1.as_slice())
+    fn is_equal(one: &(u32, u32, Vec<u8>), other: &(u32, u32, Vec<u8>)) -> bool {
+        is_same_root(one, other)
     }
 
     ghost total = { nat_cmp_total };

@@ -14,15 +14,20 @@ use sqlite::{Alter, Connection, Error, Transaction, params};
 use sqlite_value::value::ValueRef;
 
 // A root more.
-fn put_root<S: Alter>(tx: &mut Transaction<'_, S>, version: u32, bytes: &[u8]) -> Result<(), Error>
+fn put_root<S: Alter>(
+    tx: &mut Transaction<'_, S>,
+    version: u32,
+    profile: u32,
+    bytes: &[u8],
+) -> Result<(), Error>
     ensures same_reference { tx.new.conn.ghost_name ≡ tx.old.conn.ghost_name }
-    ensures wrote { HasCleanDisk (state S.Store tx.new.conn.now) → (t : Contents) → IsInside (state S.Store tx.old.conn.now) (cells_of t) → OnOk result (IsInside (state S.Store tx.new.conn.now) (cells_of (with_root (version, bytes.now) t))) }
+    ensures wrote { HasCleanDisk (state S.Store tx.new.conn.now) → (t : Contents) → IsInside (state S.Store tx.old.conn.now) (cells_of t) → OnOk result (IsInside (state S.Store tx.new.conn.now) (cells_of (with_root (version, (profile, bytes.now)) t))) }
     ensures kept { HasCleanDisk (state S.Store tx.new.conn.now) → KeepsCommit (state S.Store tx.old.conn.now) (state S.Store tx.new.conn.now) }
     ensures survives { Survives (state S.Store tx.old.conn.now) (state S.Store tx.new.conn.now) (λ _. ⊥) }
 {
     tx.execute(
-        "INSERT INTO root (version, bytes) VALUES (?1, ?2)",
-        params![version, bytes],
+        "INSERT INTO root2 (version, profile, bytes) VALUES (?1, ?2, ?3)",
+        params![version, profile, bytes],
     )?;
     Ok(())
 }
@@ -219,7 +224,7 @@ fn write<S: Alter>(tx: &mut Transaction<'_, S>, change: &Change<'_>) -> Result<(
     ensures survives { Survives (state S.Store tx.old.conn.now) (state S.Store tx.new.conn.now) (λ _. ⊥) }
 {
     match change {
-        Change::PutRoot(version, bytes) => put_root(tx, *version, bytes),
+        Change::PutRoot(version, profile, bytes) => put_root(tx, *version, *profile, bytes),
         Change::Emptied => empty(tx),
         Change::PutTimestamp(version, bytes) => put_timestamp(tx, *version, bytes),
         Change::PutSnapshot(version, bytes) => put_snapshot(tx, *version, bytes),

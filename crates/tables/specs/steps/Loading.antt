@@ -13,19 +13,27 @@ use Rattle.sqlite_rules.specs.Lists.{Has}
 use Rattle.contents.specs.Contents.{slot_view}
 use Rattle.contents.specs.declared.MetadataRows.{MetadataRows}
 use Rattle.tables.specs.declared.loading.Taken.{Taken}
-use Rattle.tables.specs.Rows.{root_cells, current_cells, shelf_cells, blob_cells, version_cells}
+use Rattle.tables.specs.Rows.{root_cells, root2_cells, current_cells, shelf_cells, blob_cells, version_cells}
 use Rattle.std.specs.Cmp.Lexicographic.{slice_cmp}
 use Rattle.contents.specs.Contents.{Contents, no_rows}
-use Rattle.tables.specs.Tables.{IsVersion, IsDigest, row_cmp, AreBare, StandsFor}
+use Rattle.tables.specs.Tables.{IsVersion, IsDigest, row_cmp, AreBare, HoldsFirst, HoldsTables, StandsFor}
 use Rattle.sql_tables.specs.Loading.{AreGathered, AreLoaded, AreOrdered, AreRead, AreSpoiled, ComeOnce, rises, with_rowid}
 
 -- ---- the items of a table: a key and a value each
 
-abbrev pub IsRootRow : Row → ℕ × List ℕ → Type 0
-IsRootRow x r = (column x 0 ≡ Int (pos r.0)) × (column x 1 ≡ Blob r.1)
+-- of `root2`
+abbrev pub IsRootRow : Row → ℕ × (ℕ × List ℕ) → Type 0
+IsRootRow x r = (column x 0 ≡ Int (pos r.0)) × (column x 1 ≡ Int (pos r.1.0)) × (column x 2 ≡ Blob r.1.1)
 
-abbrev pub FitsRoot : ℕ × List ℕ → Type 0
-FitsRoot r = IsVersion r.0
+abbrev pub FitsRoot : ℕ × (ℕ × List ℕ) → Type 0
+FitsRoot r = IsVersion r.0 × IsVersion r.1.0
+
+-- of `root`, where each root has profile 1
+abbrev pub IsFirstRow : Row → ℕ × (ℕ × List ℕ) → Type 0
+IsFirstRow x r = (column x 0 ≡ Int (pos r.0)) × (column x 1 ≡ Blob r.1.1)
+
+abbrev pub FitsFirst : ℕ × (ℕ × List ℕ) → Type 0
+FitsFirst r = IsVersion r.0 × (r.1.0 ≡ 1)
 
 abbrev pub IsSlotRow : Row → List ℕ × (ℕ × List ℕ) → Type 0
 IsSlotRow x r = (column x 0 ≡ Text r.0) × (column x 1 ≡ Int (pos r.1.0)) × (column x 2 ≡ Blob r.1.1)
@@ -67,31 +75,37 @@ slot_items slot (Some r) = (slot, r) ∷ []
 abbrev pub current_items : Option (ℕ × List ℕ) → Option (ℕ × List ℕ) → List (List ℕ × (ℕ × List ℕ))
 current_items timestamp snapshot = slot_items (codes "timestamp") timestamp ++ slot_items (codes "snapshot") snapshot
 
--- the rows of `schema` hold version 1
-abbrev pub IsOne : Row → Type 0
-IsOne x = column x 0 ≡ Int (pos 1)
+-- the row of `schema` is that of this version
+abbrev pub IsOf : ℕ → Row → Type 0
+IsOf n x = column x 0 ≡ Int (pos n)
 
 -- what was made of the rows of `current`: two slots, unless they are spoiled
 pub record HaveSlots (rows : List Row) (timestamp snapshot : Option (ℕ × List ℕ)) (is_spoiled : Bool) : Type 0 where
   pub whole : is_spoiled ≡ false → AreRead IsSlotRow FitsSlot rows (current_items timestamp snapshot)
   pub spoiled : is_spoiled ≡ true → AreSpoiled IsSlotRow FitsSlot rows
 
+-- whether the rows of `schema` are all those of this version
+pub record AreAll (n : ℕ) (rows : List Row) (are : Bool) : Type 0 where
+  pub each : are ≡ true → (r : Row) → Has rows r → IsOf n r
+  pub other : are ≡ false → (r : Row) × Has rows r × (IsOf n r → ⊥)
+
 -- what was told of the rows of `schema`
-pub record AreVersions (rows : List Row) (is_begun is_other : Bool) : Type 0 where
-  pub ones : is_other ≡ false → (r : Row) → Has rows r → IsOne r
-  pub other : is_other ≡ true → (r : Row) × Has rows r × (IsOne r → ⊥)
+pub record AreVersions (rows : List Row) (is_begun is_first is_second : Bool) : Type 0 where
   pub some : is_begun ≡ true → rows ≢ []
   pub none : is_begun ≡ false → rows ≡ []
+  pub first : AreAll 1 rows is_first
+  pub second : AreAll 2 rows is_second
 
--- ---- all five tables
+-- ---- all tables
 
--- what the five queries answer
+-- what the queries answer
 pub record Answers : Type 0 where
   pub root : List Row
   pub current : List Row
   pub shelf : List Row
   pub blob : List Row
   pub version : List Row
+  pub root2 : List Row
 
 pub record AreAnswers (trees : Trees) (a : Answers) : Type 0 where
   pub root : AreLoaded root_cells (rises ∷ []) (trees 0) a.root
@@ -99,6 +113,7 @@ pub record AreAnswers (trees : Trees) (a : Answers) : Type 0 where
   pub shelf : AreLoaded (with_rowid shelf_cells) (rises ∷ rises ∷ []) (trees 3) a.shelf
   pub blob : AreLoaded (with_rowid blob_cells) (rises ∷ []) (trees 5) a.blob
   pub version : AreLoaded version_cells [] (trees 7) a.version
+  pub root2 : AreLoaded root2_cells (rises ∷ []) (trees 8) a.root2
 
 -- the rowids of each answer come once
 pub record AllComeOnce (a : Answers) : Type 0 where
@@ -107,10 +122,11 @@ pub record AllComeOnce (a : Answers) : Type 0 where
   pub shelf : ComeOnce 3 a.shelf
   pub blob : ComeOnce 2 a.blob
   pub version : ComeOnce 0 a.version
+  pub root2 : ComeOnce 0 a.root2
 
 -- the items of the code
-abbrev pub root_shows : ℕ × Vec ℕ Global → ℕ × List ℕ
-root_shows r = (r.0, r.1.items)
+abbrev pub root_shows : ℕ × ℕ × Vec ℕ Global → ℕ × (ℕ × List ℕ)
+root_shows r = (r.0, (r.1, r.2.items))
 
 abbrev pub document_shows : String Global × ℕ × Vec ℕ Global → (List ℕ × ℕ) × List ℕ
 document_shows r = ((string_bytes r.0, r.1), r.2.items)
@@ -124,37 +140,56 @@ IsGathered cmp Reads Fits shows rows o = MatchOption o (AreOrdered cmp Reads Fit
 
 -- what was made of the answers
 pub record AreTaken (a : Answers) (t : Taken) : Type 0 where
-  pub root : IsGathered nat_cmp IsRootRow FitsRoot root_shows a.root t.roots
+  pub root : IsGathered nat_cmp IsFirstRow FitsFirst root_shows a.root t.first_roots
   pub current : HaveSlots a.current (slot_view t.current.timestamp) (slot_view t.current.snapshot) t.current.is_spoiled
   pub shelf : IsGathered row_cmp IsShelfRow FitsShelf document_shows a.shelf t.shelf
   pub blob : IsGathered (slice_cmp nat_cmp) IsLengthRow FitsLength length_shows a.blob t.blobs
-  pub version : AreVersions a.version t.versions.is_begun t.versions.is_other
+  pub version : AreVersions a.version t.versions.is_begun t.versions.is_first t.versions.is_second
+  pub root2 : IsGathered nat_cmp IsRootRow FitsRoot root_shows a.root2 t.roots
+
+-- The roots under schema 1, or under schema 2: those of the one table, and the other has none. Without a row of `schema` it is as under 2.
+abbrev pub AreRoots : Bool → Answers → List (ℕ × (ℕ × List ℕ)) → Type 0
+AreRoots true a roots = AreGathered nat_cmp IsFirstRow FitsFirst a.root roots × (a.root2 ≡ [])
+AreRoots false a roots = AreGathered nat_cmp IsRootRow FitsRoot a.root2 roots × (a.root ≡ [])
 
 -- the items of the answers
-pub record AreItems (a : Answers) (m : MetadataRows) (lengths : List (List ℕ × ℕ)) : Type 0 where
-  pub root : AreGathered nat_cmp IsRootRow FitsRoot a.root (map root_shows m.roots.items)
+pub record AreItems (is_first : Bool) (a : Answers) (m : MetadataRows) (lengths : List (List ℕ × ℕ)) : Type 0 where
+  pub root : AreRoots is_first a (map root_shows m.roots.items)
   pub current : AreRead IsSlotRow FitsSlot a.current (current_items (slot_view m.timestamp) (slot_view m.snapshot))
   pub shelf : AreGathered row_cmp IsShelfRow FitsShelf a.shelf (map document_shows m.shelf.items)
   pub blob : AreGathered (slice_cmp nat_cmp) IsLengthRow FitsLength a.blob lengths
 
 -- and the rows that they are
-pub record AreContents (a : Answers) (t : Contents) : Type 0 where
-  pub root : AreRead IsRootRow FitsRoot a.root t.roots
+pub record AreContents (is_first : Bool) (a : Answers) (t : Contents) : Type 0 where
+  pub root : AreRoots is_first a t.roots
   pub current : AreRead IsSlotRow FitsSlot a.current (current_items t.timestamp t.snapshot)
   pub shelf : AreRead IsShelfRow FitsShelf a.shelf t.shelf
   pub blob : AreRead IsBlobRow FitsBlob a.blob t.blobs
 
 pub record AreSorted (a : Answers) : Type 0 where
-  pub root : AreOrdered nat_cmp IsRootRow FitsRoot a.root
+  pub root : AreOrdered nat_cmp IsFirstRow FitsFirst a.root
   pub shelf : AreOrdered row_cmp IsShelfRow FitsShelf a.shelf
   pub blob : AreOrdered (slice_cmp nat_cmp) IsLengthRow FitsLength a.blob
+  pub root2 : AreOrdered nat_cmp IsRootRow FitsRoot a.root2
 
+-- the rows of `schema` are all 1, or all 2
+abbrev pub Tell : Bool → List Row → Type 0
+Tell is_first rows = (r : Row) → Has rows r → IsOf (if is_first then 1 else 2) r
+
+-- `mixed` are rows of `schema` that are not all of one version, `crossed` is a root in the table of the other schema.
 pub data AreDamaged (a : Answers) : Type 0 where
-  root : AreSpoiled IsRootRow FitsRoot a.root → AreDamaged a
+  root : AreSpoiled IsFirstRow FitsFirst a.root → AreDamaged a
   current : AreSpoiled IsSlotRow FitsSlot a.current → AreDamaged a
   shelf : AreSpoiled IsShelfRow FitsShelf a.shelf → AreDamaged a
   blob : AreSpoiled IsLengthRow FitsLength a.blob → AreDamaged a
-  version : (r : Row) → Has a.version r → (IsOne r → ⊥) → AreDamaged a
+  root2 : AreSpoiled IsRootRow FitsRoot a.root2 → AreDamaged a
+  mixed : (r s : Row) → Has a.version r → (IsOf 1 r → ⊥) → Has a.version s → (IsOf 2 s → ⊥) → AreDamaged a
+  crossed : (is_first : Bool) (r : Row) → Tell is_first a.version → Has (if is_first then a.root2 else a.root) r → AreDamaged a
+
+-- what the trees hold that were read: schema 1, or schema 2
+abbrev pub HoldsAs : Bool → Trees → Contents → Type 0
+HoldsAs true trees t = HoldsFirst trees t
+HoldsAs false trees t = HoldsTables trees t
 
 -- What was read where `schema` has no row: either nothing is there, or the trees stand for nothing.
 pub record IsUnbegun (trees : Trees) (t : Contents) : Type 0 where

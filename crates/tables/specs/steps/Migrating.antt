@@ -1,56 +1,46 @@
 -- What the tables hold inside the transaction that brings them to schema 2, cell by cell.
-use Rattle.std.specs.Prelude.{◌≡◌, ◌⊎◌, ℕ, List, [], ◌∷◌, map, IsTrue}
-use Rattle.sqlite.specs.Order.{Row}
+use Rattle.std.specs.Prelude.{◌≡◌, ◌⊎◌, ℕ, List, [], ◌∷◌, ◌++◌, map, IsTrue}
 use Rattle.sqlite.specs.Effect.{IsDatabase}
 use Rattle.sqlite.specs.State.{State}
 use Rattle.sqlite.specs.Schema.{Schema}
-use Rattle.sql_tables.specs.Inside as of_list
+use Rattle.sqlite_trees.specs.Tree.{Trees}
+use Rattle.sql_tables.specs.Rows.{AreRows}
 use Rattle.sql_tables.specs.Schema.{counted}
 use Rattle.contents.specs.Contents.{Contents}
-use Rattle.tables.specs.Schema.{six, the_schema, HasSix}
-use Rattle.tables.specs.Tables.{HoldsTables, root_row, current_rows, shelf_row, blob_row, version_row}
-use Rattle.tables.specs.Migration.{root2_row, second_version_row}
-
-pub record SixCells : Type 0 where
-  pub root : List Row
-  pub current : List Row
-  pub shelf : List Row
-  pub blob : List Row
-  pub version : List Row
-  pub root2 : List Row
-
--- by the places of the tables
-abbrev pub listed_six : SixCells → List (List Row)
-listed_six c = c.root ∷ c.current ∷ c.shelf ∷ c.blob ∷ c.version ∷ c.root2 ∷ []
-
--- under schema 1, with an empty `root2`
-abbrev pub first_cells : Contents → SixCells
-first_cells t = record {
-  root = map root_row t.roots;
-  current = current_rows t.timestamp t.snapshot;
-  shelf = map shelf_row t.shelf;
-  blob = map blob_row t.blobs;
-  version = version_row ∷ [];
-  root2 = [];
-}
-
--- the same rows under schema 2
-abbrev pub second_cells : Contents → SixCells
-second_cells t = record (first_cells t) { root = []; version = second_version_row ∷ []; root2 = map root2_row t.roots }
-
-pub record IsAmid (s : State) (c : SixCells) : Type 0 where
-  pub tables : of_list.IsInside six s (listed_six c)
-  pub sound : IsDatabase s.now
+use Rattle.tables.specs.Rows.{root_cells, root2_cells, current_cells, shelf_cells, blob_cells, version_cells}
+use Rattle.tables.specs.Schema.{first_schema, HasSix}
+use Rattle.tables.specs.Tables.{first_row, root_row, version_row}
+use Rattle.tables.specs.steps.Writing.{Cells, cells_of}
 
 -- so many of the six tables are there: five and nothing else, or all
 abbrev pub HasSome : ℕ → Schema → Type 0
-HasSome count schema = ((count ≡ 5) × (schema ≡ the_schema)) ⊎ ((count ≡ 6) × HasSix schema)
+HasSome count schema = ((count ≡ 5) × (schema ≡ first_schema)) ⊎ ((count ≡ 6) × HasSix schema)
 
--- the transaction has begun, over tables of schema 1
-pub record IsEarly (count : ℕ) (s : State) (t : Contents) : Type 0 where
+-- the trees of the six tables hold these cells, as sets
+pub record HoldsCells (trees : Trees) (c : Cells) : Type 0 where
+  pub root : AreRows root_cells (trees 0) c.root
+  pub current : AreRows current_cells (trees 1) c.current
+  pub shelf : AreRows shelf_cells (trees 3) c.shelf
+  pub blob : AreRows blob_cells (trees 5) c.blob
+  pub version : AreRows version_cells (trees 7) c.version
+  pub root2 : AreRows root2_cells (trees 8) c.root2
+
+-- the transaction has begun, and `root2` may be absent
+pub record IsEarly (count : ℕ) (s : State) (c : Cells) : Type 0 where
   pub is_open : IsTrue s.is_open
   pub inside : IsTrue s.in_transaction
   pub sound : IsDatabase s.now
   pub some : HasSome count s.now.schema
-  pub lacks : counted s.now.schema s.now.trees 8 ≡ []
-  pub holds : HoldsTables s.now.trees t
+  pub holds : HoldsCells (counted s.now.schema s.now.trees) c
+
+-- no row at all, not even in `schema`
+abbrev pub bare_cells : Cells
+bare_cells = record { root = []; current = []; shelf = []; blob = []; version = []; root2 = [] }
+
+-- under schema 1
+abbrev pub first_cells : Contents → Cells
+first_cells t = record (cells_of t) { root = map first_row t.roots; version = version_row 1 ∷ []; root2 = [] }
+
+-- the rows of schema 2 in the place of those of schema 1, with these roots behind those of `root2`
+abbrev pub brought : Cells → List (ℕ × (ℕ × List ℕ)) → Cells
+brought c roots = record c { root = []; version = version_row 2 ∷ []; root2 = c.root2 ++ map root_row roots }

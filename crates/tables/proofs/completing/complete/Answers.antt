@@ -4,7 +4,7 @@ use Rattle.sqlite.specs.Held.{state}
 use Rattle.sqlite.specs.State.{HasCleanDisk, KeepsCommit, Survives}
 use Rattle.sqlite.proofs.StateLemmas.{survives_then}
 use Rattle.sqlite.proofs.Callers.{survives_begin}
-use Rattle.tables.specs.Schema.{beginning, five}
+use Rattle.tables.specs.Schema.{beginning, six}
 use Rattle.contents.specs.Contents.{no_rows}
 use Rattle.tables.specs.Tables.{AreBare, HoldsWhole, IsStore}
 use Rattle.sql_tables.specs.Schema.{counted}
@@ -27,7 +27,7 @@ returns-then-not-branch-clause-found g c clean schema =
     let begun : IsMade rows (beginning c.args.count) (state g.S.Store c.transaction-tx.result.conn.now) =
     subst (λ h. IsMade rows (beginning c.args.count) (state g.S.Store h)) (sym c.transaction-tx.ensures.begun)
     (record { is_open = is_open; inside = refl; schema_is = schema; holds = as_counted (beginning c.args.count) old.now.trees }) in
-    let made = c.in_ok-fill.ensures.made early rows (lacks five c.args.count old.now.trees) begun in
+    let made = c.in_ok-fill.ensures.made early rows (lacks six c.args.count old.now.trees) begun in
     (λ e. absurd (true≢false (sym e)), λ _. made.1 c.if-not-branch.true)
 
 pub returns-then-not-branch-clause-kept : goal.returns-then-not-branch-clause-kept
@@ -43,7 +43,7 @@ returns-then-not-branch-clause-kept g c clean schema =
     let begun : IsMade rows (beginning c.args.count) (state g.S.Store c.transaction-tx.result.conn.now) =
     subst (λ h. IsMade rows (beginning c.args.count) (state g.S.Store h)) (sym c.transaction-tx.ensures.begun)
     (record { is_open = is_open; inside = refl; schema_is = schema; holds = as_counted (beginning c.args.count) old.now.trees }) in
-    let kept = c.in_ok-fill.ensures.kept early rows (lacks five c.args.count old.now.trees) begun c.if-not-branch.true in
+    let kept = c.in_ok-fill.ensures.kept early rows (lacks six c.args.count old.now.trees) begun c.if-not-branch.true in
     let first : KeepsCommit old tx = record {
       was_open = λ stays. subst (λ h. IsTrue (state g.S.Store h).is_open) c.transaction-tx.ensures.begun (kept.was_open stays);
       committed = λ stays. kept.committed stays ∙ ap (λ h. (state g.S.Store h).committed) c.transaction-tx.ensures.begun;
@@ -64,7 +64,7 @@ returns-clause-found g c clean schema =
     let begun : IsMade rows (beginning c.args.count) (state g.S.Store c.transaction-tx.result.conn.now) =
     subst (λ h. IsMade rows (beginning c.args.count) (state g.S.Store h)) (sym c.transaction-tx.ensures.begun)
     (record { is_open = is_open; inside = refl; schema_is = schema; holds = as_counted (beginning c.args.count) old.now.trees }) in
-    let made = (c.in_ok-fill.ensures.made early rows (lacks five c.args.count old.now.trees) begun).0 c.if-not-branch.false in (
+    let made = (c.in_ok-fill.ensures.made early rows (lacks six c.args.count old.now.trees) begun).0 c.if-not-branch.false in (
       λ _. (made.0, subst (λ h. IsStore (state g.S.Store h) no_rows) same (committed tx (state g.S.Store end) no_rows made.1 (c.in_ok-commit.ensures.ok late).1)),
       λ e. absurd (true≢false e),
     )
@@ -86,7 +86,7 @@ returns-clause-crash g c =
     let is_open = subst (λ h. IsTrue (state g.S.Store h).is_open) c.transaction-tx.ensures.begun (c.in_ok-fill.ensures.was_open early) in (
       is_open,
       λ schema.
-          let made = (c.in_ok-fill.ensures.made early rows (lacks five c.args.count old.now.trees) (begun is_open schema)).0 c.if-not-branch.false in
+          let made = (c.in_ok-fill.ensures.made early rows (lacks six c.args.count old.now.trees) (begun is_open schema)).0 c.if-not-branch.false in
           (made.0, to_whole made.1 db is),
     ))
     first c.commit.ensures.survives in
@@ -110,7 +110,7 @@ returns-in_err-commit-clause-crash g c =
     let is_open = subst (λ h. IsTrue (state g.S.Store h).is_open) c.transaction-tx.ensures.begun (c.in_ok-fill.ensures.was_open early) in (
       is_open,
       λ schema.
-          let made = (c.in_ok-fill.ensures.made early rows (lacks five c.args.count old.now.trees) (begun is_open schema)).0 c.if-not-branch.false in
+          let made = (c.in_ok-fill.ensures.made early rows (lacks six c.args.count old.now.trees) (begun is_open schema)).0 c.if-not-branch.false in
           (made.0, to_whole made.1 db is),
     ))
     first c.commit.ensures.survives in

@@ -4,7 +4,7 @@ use Rattle.sqlite.specs.State.{HasCleanDisk}
 use Rattle.sql_tables.proofs.Beginnings.{bare_made}
 use Rattle.sql_tables.proofs.Calls.{made_same, keeps_then, unchanged_keeps}
 use Rattle.tables.specs.Schema.{the_schema}
-use Rattle.tables.proofs.MakingLemmas.{made_bare, made_five}
+use Rattle.tables.proofs.MakingLemmas.{made_bare, made_six}
 use Rattle.tables.proofs.completing.fill.Goals as goal
 
 pub returns-clause-made : goal.returns-clause-made
@@ -17,7 +17,7 @@ returns-clause-made g c clean rows lacks is =
     let bare = bare_made rows the_schema one full ((c.in_ok-has_rows.ensures.rows late full.schema_is).0 c.if-branch.false) in
     let same = c.in_ok-has_rows.ensures.unchanged late full.schema_is in
     let after = made_same rows the_schema one two same full in
-    (λ _. (bare, c.in_ok-put_version.ensures.wrote clean after.is_open after.inside (made_five rows two after) (made_bare rows two after bare)), λ e. absurd (true≢false e))
+    (λ _. (bare, c.in_ok-put_version.ensures.wrote clean after.is_open after.inside (made_six rows two after) (made_bare rows two after bare)), λ e. absurd (true≢false e))
 
 pub returns-then-branch-clause-kept : goal.returns-then-branch-clause-kept
 returns-then-branch-clause-kept g c clean rows lacks is =

@@ -1,22 +1,32 @@
-use Rattle.std.proofs.Common.{[], ◌∷◌}
+use Rattle.std.proofs.Common.{◌≡◌, ◌∷◌, [], subst, sym}
 use Rattle.sqlite.specs.Held.{state}
-use Rattle.sql_tables.specs.Loading.{rises}
-use Rattle.sql_tables.proofs.Queries.{read_quietly}
-use Rattle.tables.specs.Rows.{root_cells}
-use Rattle.sql_tables.specs.Described.{followed}
-use Rattle.sql_tables.proofs.Shapes.{none_behind}
-use Rattle.tables.specs.Schema.{five}
-use Rattle.tables.proofs.Selects.{reads_root}
+use Rattle.sqlite.proofs.StateLemmas.{unchanged}
+use Rattle.sql_tables.specs.Loading.{AreLoaded, rises}
+use Rattle.sql_tables.proofs.Calls.{IfOk_then}
+use Rattle.tables.specs.Rows.{root2_cells}
+use Rattle.tables.proofs.Absent.{absent_gathered, absent_loaded, all_six, none_come}
+use Rattle.tables.proofs.Beginnings.{root2_counted}
 use Rattle.tables.proofs.loading.root_rows.Goals as goal
 
+pub returns-then-count-eq5-clause-rows : goal.returns-then-count-eq5-clause-rows
+returns-then-count-eq5-clause-rows g c =
+    let s = state g.S.Store c.args.conn.now in
+    ([], (λ _. none_come), absent_gathered c.new.result c.new.ensures.items, λ clean some. absent_loaded c.args.count s.now.schema s.now.trees c.if-count-eq5.true some)
+
+pub returns-then-count-eq5-clause-unchanged : goal.returns-then-count-eq5-clause-unchanged
+returns-then-count-eq5-clause-unchanged g c clean some there = unchanged (state g.S.Store c.args.conn.now) there
+
 pub returns-clause-rows : goal.returns-clause-rows
-returns-clause-rows g c = let it = c.in_ok-gather.ensures.rows in (it.0, it.1, it.2, λ clean has. it.3 clean (followed five has.0) 0 root_cells (rises ∷ []) (reads_root has.0) has.1)
+returns-clause-rows g c =
+    let s = state g.S.Store c.args.conn.now in
+    IfOk_then c.second_rows.result c.second_rows.ensures.rows (λ p it. (
+      it.0,
+      it.1,
+      it.2,
+      λ clean some.
+          let has = all_six c.args.count s.now.schema c.if-count-eq5.false some in
+          subst (λ r. AreLoaded root2_cells (rises ∷ []) r it.0) (sym (root2_counted s.now.schema s.now.trees has)) (it.3 clean has),
+    ))
 
 pub returns-clause-unchanged : goal.returns-clause-unchanged
-returns-clause-unchanged g c clean has = c.in_ok-gather.ensures.unchanged clean (followed five has.0) 0 root_cells (rises ∷ []) (reads_root has.0) has.1
-
-pub returns-clause-survives : goal.returns-clause-survives
-returns-clause-survives g c = read_quietly (reads_root none_behind) (state g.S.Store c.args.conn.now) (state g.S.Store c.gather.new.conn) c.gather.ensures.survives
-
-pub returns-in_err-gather-clause-survives : goal.returns-in_err-gather-clause-survives
-returns-in_err-gather-clause-survives g c = read_quietly (reads_root none_behind) (state g.S.Store c.args.conn.now) (state g.S.Store c.gather.new.conn) c.gather.ensures.survives
+returns-clause-unchanged g c clean some there = c.second_rows.ensures.unchanged clean (all_six c.args.count (state g.S.Store c.args.conn.now).now.schema c.if-count-eq5.false some)

@@ -9,4 +9,4 @@ pub returns-clause-wrote : goal.returns-clause-wrote
 returns-clause-wrote g c clean =
     let old = state g.S.Store c.args.tx.now.conn.now in
     let new = state g.S.Store c.make_rest.new.tx.conn.now in
-    subst (λ (ds : List Description). AllMake ds → (rows : _) → LacksRest ds c.args.count rows → IsMade rows (beginning ds c.args.count) old → OnOk c.make_rest.result (IsMade rows (schema_of ds) new)) c.five_tables.ensures (c.make_rest.ensures.wrote clean) all_make
+    subst (λ (ds : List Description). AllMake ds → (rows : _) → LacksRest ds c.args.count rows → IsMade rows (beginning ds c.args.count) old → OnOk c.make_rest.result (IsMade rows (schema_of ds) new)) c.six_tables.ensures (c.make_rest.ensures.wrote clean) all_make

@@ -1,11 +1,11 @@
-use Rattle.std.proofs.Common.{arith, subst, sym, ◌++◌, ◌∷◌, [], ◌∙◌}
+use Rattle.std.proofs.Common.{◌≡◌, ◌∙◌, map, take, slice_index_or, ap, [], arith, subst, sym}
+use Rattle.std.proofs.lemmas.List.{take_all}
 use Rattle.sqlite.specs.State.{HasCleanDisk}
 use Rattle.sqlite.specs.Held.{state}
 use Rattle.sqlite.proofs.StateLemmas.{survives_then}
 use Rattle.sql_tables.proofs.Calls.{keeps_then}
-use Rattle.tables.specs.Migration.{root2_row}
-use Rattle.tables.specs.steps.Migrating.{IsAmid}
-use Rattle.tables.proofs.Migrated.{all_there, one_more}
+use Rattle.tables.specs.steps.Writing.{IsInside}
+use Rattle.tables.proofs.Migrated.{more_taken, no_more, one_more, with_roots}
 use Rattle.tables.proofs.migrating.add_roots.Goals as goal
 
 pub roots-preserved : goal.roots-preserved
@@ -13,21 +13,18 @@ roots-preserved g c =
     let old = state g.S.Store c.args.tx.now.conn.now in
     let was = state g.S.Store c.roots.tx.conn.now in
     let now = state g.S.Store c.add_root.new.tx.conn.now in
+    let at = c.roots.root-index in
     let so = c.roots.invariant in
-    let root = c.in-Some.root.now in
     let early : HasCleanDisk now → HasCleanDisk was = λ clean. omega (arith, c.add_root.ensures.survives.clean) in (
       c.add_root.ensures.same_reference ∙ so.0,
       survives_then old was now (λ _. ⊥) (λ _. ⊥) (λ _. ⊥) (λ _ db none. none) (λ _ db none. none) so.1 c.add_root.ensures.survives,
       λ clean. keeps_then old was now (so.2 (early clean)) (c.add_root.ensures.kept clean),
       λ clean cells is.
-          let (d, at, same) = so.3 (early clean) cells is in (
-            record d { root2 = d.root2 ++ root2_row (root.0, root.1.items) ∷ [] },
-            subst (λ bytes. IsAmid now (record d { root2 = d.root2 ++ root2_row (root.0, bytes) ∷ [] })) c.deref.ensures.value (c.in_ok-add_root.ensures.wrote clean d at),
-            one_more d root c.in-Some.later.now c.roots.rest.now c.in-Some.ensures.cases.0 ∙ same,
-          ),
+          let more = more_taken c.args.roots.now (λ r. (r.0, (1, r.1.now))) at (0, record { ref_ptr = (0, 0); now = [] }) (omega arith) in
+          subst (IsInside now) (sym (ap (with_roots cells) more ∙ one_more cells _ _)) (c.in_ok-add_root.ensures.wrote clean _ (so.3 (early clean) cells is)),
     )
 
 pub returns-clause-wrote : goal.returns-clause-wrote
 returns-clause-wrote g c clean cells is =
-    let (d, at, same) = c.roots.invariant.3 clean cells is in
-    subst (IsAmid (state g.S.Store c.roots.tx.conn.now)) (sym (all_there d c.roots.rest.now c.in_default.ensures.cases) ∙ same) at
+    let whole : take c.roots.root-index c.args.roots.now ≡ c.args.roots.now = take_all c.roots.root-index c.args.roots.now (omega arith) in
+    subst (λ rs. IsInside (state g.S.Store c.roots.tx.conn.now) (with_roots cells (map (λ r. (r.0, (1, r.1.now))) rs))) whole (c.roots.invariant.3 clean cells is)

@@ -1,10 +1,11 @@
+use Rattle.std.proofs.Common.{refl}
 use Rattle.sqlite.specs.Held.{state}
 use Rattle.tables.proofs.Beginnings.{stands_bare}
 use Rattle.tables.proofs.ItemLemmas.{nothing_read}
 use Rattle.tables.proofs.opening.complete_bare.Goals as goal
 
 pub returns-then-branch-clause-empty : goal.returns-then-branch-clause-empty
-returns-then-branch-clause-empty g c = nothing_read c.empty.result c.new.result.items c.empty.ensures c.new.ensures.items
+returns-then-branch-clause-empty g c = (nothing_read c.empty.result c.new.result.items c.empty.ensures c.new.ensures.items, refl)
 
 pub returns-else-branch-clause-damaged : goal.returns-else-branch-clause-damaged
 returns-else-branch-clause-damaged g c clean schema is t stands =

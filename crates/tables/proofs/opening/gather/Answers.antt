@@ -1,10 +1,13 @@
-use Rattle.std.proofs.Common.{Err, ap, refl}
+use Rattle.std.proofs.Common.{Err, ap, refl, subst}
 use Rattle.sqlite.specs.Held.{state}
 use Rattle.sql_tables.proofs.Gathering.{handed_on}
 use Rattle.sql_tables.proofs.NumberLemmas.{numbered_by}
-use Rattle.sql_tables.specs.Loading.{with_rowid}
+use Rattle.sql_tables.specs.Loading.{AreLoaded, rises, with_rowid}
+use Rattle.std.proofs.Common.{◌∷◌, []}
+use Rattle.sql_tables.specs.Schema.{counted}
 use Rattle.tables.specs.Rows.{blob_cells}
-use Rattle.tables.proofs.ItemLemmas.{holds_items, unbegun, items_are, items_read, rows_read, damaged_items, all_sorted}
+use Rattle.tables.proofs.Beginnings.{blob_counted, some_five}
+use Rattle.tables.proofs.ItemLemmas.{holds_as, late_contents, unbegun, items_are, items_read, rows_read, damaged_items, all_sorted}
 use Rattle.tables.proofs.Singles.{read_single}
 use Rattle.tables.proofs.opening.gather.Goals as goal
 
@@ -15,22 +18,29 @@ returns-clause-read g c =
     let told = c.in_ok-rows_of.ensures in
     let m = c.in_ok-rows_of.field-0.0.0 in
     let lengths = c.in_ok-rows_of.field-0.0.1.items in
+    let is_first = c.in_ok-rows_of.field-0.2 in
     let items = told.read it.0 it.2 in (
-      rows_read it.0 m lengths items,
-      items_read it.0 m lengths items,
-      λ clean schema live.
-          let rows = it.3 clean schema in
-          let sound = (live (c.in_ok-taken.ensures.unchanged clean schema).0.was_open).0 in
-          let ids = numbered_by (with_rowid blob_cells) 2 (λ r. refl) _ _ rows.blob.once it.1.blob in
-          let are = items_are it.0 m lengths items (read_single old.now _ it.0.blob sound schema ids rows.blob) in (
-            λ flag. holds_items old.now.trees it.0 (rows_read it.0 m lengths items) it.1 rows are (told.ones it.0 it.2) (told.some it.0 it.2 flag),
-            λ flag. unbegun old.now.trees it.0 (rows_read it.0 m lengths items) rows are (told.none it.0 it.2 flag),
+      rows_read is_first it.0 m lengths items,
+      items_read is_first it.0 m lengths items,
+      λ clean some live.
+          let trees = counted old.now.schema old.now.trees in
+          let rows = it.3 clean some in
+          let has = some_five c.args.count old.now.schema some in
+          let sound = (live (c.in_ok-taken.ensures.unchanged clean some).0.was_open).0 in
+          let blob = subst (λ r. AreLoaded (with_rowid blob_cells) (rises ∷ []) r it.0.blob) (blob_counted old.now.schema old.now.trees has) rows.blob in
+          let ids = numbered_by (with_rowid blob_cells) 2 (λ r. refl) _ _ blob.once it.1.blob in
+          let are = items_are is_first it.0 m lengths items (read_single old.now _ it.0.blob sound has ids blob) in (
+            λ flag. holds_as is_first trees it.0 (rows_read is_first it.0 m lengths items) it.1 rows are (told.told it.0 it.2) (told.some it.0 it.2 flag),
+            λ flag.
+                let none = told.none it.0 it.2 flag in
+                unbegun trees it.0 (rows_read is_first it.0 m lengths items) rows (late_contents is_first it.0 _ none.1 are) none.0,
           ),
     )
 
 pub returns-in_err-rows_of-clause-damaged : goal.returns-in_err-rows_of-clause-damaged
-returns-in_err-rows_of-clause-damaged g c clean schema is t fit right stands =
-    let trees = (state g.S.Store c.args.conn.now).now.trees in
+returns-in_err-rows_of-clause-damaged g c clean some is t fit right stands =
+    let db = (state g.S.Store c.args.conn.now).now in
+    let trees = counted db.schema db.trees in
     let it = c.in_ok-taken.ensures.rows in
-    let rows = it.3 clean schema in
+    let rows = it.3 clean some in
     damaged_items trees it.0 rows (c.in_err-rows_of.ensures.damaged it.0 it.2 (ap Err (handed_on c.from_residual-in_err-rows_of.result c.from_residual-in_err-rows_of.ensures.1 is)) (all_sorted trees it.0 rows)) t fit right stands

@@ -27,7 +27,7 @@ writes-preserved g c =
     let now = state g.S.Store c.write.new.tx.conn.now in
     let at = c.writes.change-index in
     let so = c.writes.invariant in
-    let none : Change = PutRoot 0 (record { ref_ptr = (0, 0); now = [] }) in
+    let none : Change = PutRoot 0 0 (record { ref_ptr = (0, 0); now = [] }) in
     let item = slice_index_or c.args.changes.now at none in
     let more : take (at + 1) c.args.changes.now ≡ take at c.args.changes.now ++ item ∷ [] = take_more c.args.changes.now at none (omega arith) in
     let early : HasCleanDisk now → HasCleanDisk was = λ clean. omega (arith, c.write.ensures.survives.clean) in (
