@@ -24,7 +24,7 @@ no_more_rows t = ap (λ l. record t { shelf = l }) (append-nil t.shelf)
 pub no_more_blobs : (t : Contents) → more_blobs [] t ≡ t
 no_more_blobs t = ap (λ l. record t { blobs = l }) (append-nil t.blobs)
 
-pub roots_then : (r : ℕ × Bytes) (rs : List (ℕ × Bytes)) (t : Contents) → more_roots rs (more_roots (r ∷ []) t) ≡ more_roots (r ∷ rs) t
+pub roots_then : (r : ℕ × (ℕ × Bytes)) (rs : List (ℕ × (ℕ × Bytes))) (t : Contents) → more_roots rs (more_roots (r ∷ []) t) ≡ more_roots (r ∷ rs) t
 roots_then r rs t = ap (λ l. record t { roots = l }) (append_snoc t.roots r rs)
 
 pub rows_then : (r : Place × Bytes) (rs : List (Place × Bytes)) (t : Contents) → more_rows rs (more_rows (r ∷ []) t) ≡ more_rows (r ∷ rs) t

@@ -1,5 +1,5 @@
 -- What a call does, from what the machine answers.
-use Rattle.std.proofs.Common.{◌≡◌, ◌⊎◌, inl, inr, ℕ, true, false, List, Option, Some, None, Result, Ok, Err, Bor, refl, sym, ap, subst, ◌∙◌, arith}
+use Rattle.std.proofs.Common.{◌≡◌, ◌⊎◌, inl, inr, ℕ, true, false, List, Option, Some, None, Result, Ok, Err, refl, sym, ap, subst, ◌∙◌, arith}
 use Rattle.std.specs.Prelude.{IfOk, IsTrue, OnErr, OnOk, length}
 use Rattle.sqlite.specs.State as database
 use Rattle.sqlite.specs.State.{HasCleanDisk, Survives}
@@ -10,8 +10,8 @@ use Rattle.denials.specs.Orders.{Order, Same}
 use Rattle.machine.specs.State.{State, IsState, metadata_of}
 use Rattle.machine.specs.Commands as commands
 use Rattle.machine.specs.Effects.{applied, brought, on_state}
-use Rattle.machine.specs.Runs.{Command, Leads, Outcome, Reply, Steps, leads, settled, Init, Batch, OfferOne, PutBlob, Prune, Metadata, Target, Begun, BatchDone, Offered, Stored, Pruned, pruned_reply, FileBytes, Absent, Refused}
-use Rattle.machine.specs.Answers.{Answers, CountsGone, changes, unchanged, refused, AnswersBatch, done, denied, Gives, gives, denies}
+use Rattle.machine.specs.Runs.{Command, Leads, Outcome, Reply, Steps, leads, settled, Init, Batch, OfferOne, PutBlob, Prune, Metadata, Target, Begun, BatchDone, Offered, Stored, Pruned, FileBytes, Absent, Refused}
+use Rattle.machine.specs.Answers.{Answers, CountsGone, changes, unchanged, refused, AnswersBatch, done, denied}
 use Rattle.denials.specs.Views.{denial_view}
 use Rattle.machine.specs.Views.{effects_view}
 use Rattle.machine.specs.declared.effects.Effects.{Effects}

@@ -20,23 +20,23 @@ use Rattle.sha2.proofs.Facts256.{length-sha256}
 use Rattle.sqlite_rules.specs.Lists.{Has}
 use Rattle.path_patterns.specs.Bytes.{is_digit, is_lower, is_name_byte, is_name_start}
 use Rattle.path_patterns.specs.Grammar.{IsName}
-use Rattle.metadata.specs.Documents.{Root, Timestamp, Snapshot, Targets}
+use Rattle.metadata.specs.Documents.{Profile, Root, Timestamp, Snapshot, Targets, first_profile, second_profile}
 use Rattle.metadata.specs.File.{Bytes, File, Form, IsFileOf, root_form, timestamp_form, snapshot_form, targets_form}
 use Rattle.delegations.specs.Delegation.{before}
 use Rattle.delegations.specs.Rows.{Place, Rises, Rows, place_before}
 use Rattle.machine.specs.State.{State, IsBlob, IsHeldUnder, IsRootChain, IsShelfRow, IsState, kept_root}
 use Rattle.machine.specs.Effects.{last_or}
 use Rattle.machine.specs.steps.Loading.{FollowOn, IsChain, laid}
-use Rattle.machine.specs.Contents.{contents_of, numbered, shelf_rows}
+use Rattle.machine.specs.Contents.{contents_of, profile_number, root_row_of, shelf_rows}
 use Rattle.contents.specs.Contents.{Contents}
 use Rattle.machine.specs.steps.Stored.{IsStored, Together}
 use Rattle.machine.proofs.RootChains.{chain_tells}
 use Rattle.machine.proofs.ShapedOnce.{Shapes}
 use Rattle.machine.proofs.RowsOfOneState.{FilesOf, files_of, stored_read, stored_rows}
 use Rattle.tables.proofs.Orders.{row_cmp_total}
-use Rattle.sqlite.specs.Order.{Row}
 use Rattle.sqlite_trees.specs.Tree.{Trees}
-use Rattle.tables.specs.Tables.{AreRising, AreSame, HaveDigests, HoldsTables, IsDigest, StandsFor, version_row, IsFit, IsVersion, row_cmp}
+use Rattle.tables.proofs.SetLemmas.{one_stood}
+use Rattle.tables.specs.Tables.{AreRising, AreSame, HaveDigests, IsDigest, StandsFor, IsFit, IsVersion, row_cmp}
 use Rattle.sql_tables.specs.Rows.{AreKeyed}
 use Rattle.store.specs.StateRows.{rows_of}
 
@@ -64,8 +64,12 @@ are_digests (b ∷ bs) h = (subst IsDigest (All-head IsBlob b bs h).digest (dige
 
 -- ---- versions and names
 
-root_fits : (f : File Root) → IsFileOf root_form f → IsVersion f.body.version
-root_fits f h = let v = h.read.body.head.1.0 in omega (arith, h.read.body.head.1.2.2)
+profile_fits : (p : Profile) → IsVersion (profile_number p)
+profile_fits first_profile = omega arith
+profile_fits second_profile = omega arith
+
+root_fits : (f : File Root) → IsFileOf root_form f → IsVersion f.body.version × IsVersion (profile_number f.body.profile)
+root_fits f h = let v = h.read.body.head.1.0 in (omega (arith, h.read.body.head.1.2.2), profile_fits f.body.profile)
 
 timestamp_fits : (f : File Timestamp) → IsFileOf timestamp_form f → IsVersion f.body.version
 timestamp_fits f h = omega (arith, h.read.body.head.1.2.2)
@@ -190,16 +194,16 @@ all_rows P Q f each [] h = tt
 all_rows P Q f each (x ∷ xs) h = (each x (All-head P x xs h), all_rows P Q f each xs (All-tail P x xs h))
 
 above_files : (n : ℕ) (f : File Root) (more : List (File Root)) → n < f.body.version → FollowOn f more
-    → AllByRecursion (λ y. nat_cmp n y ≡ Less) (map (λ r. r.0) (map (numbered (λ b. b.version)) (f ∷ more)))
+    → AllByRecursion (λ y. nat_cmp n y ≡ Less) (map (λ r. r.0) (map root_row_of (f ∷ more)))
 above_files n f [] h follows = (sym (nat_cmp_is n f.body.version Less h), tt)
 above_files n f (g ∷ gs) h follows = (sym (nat_cmp_is n f.body.version Less h), above_files n g gs (omega (arith, h, follows.0.next)) follows.1)
 
-files_rise : (f : File Root) (more : List (File Root)) → FollowOn f more → IsStrictlySortedBy nat_cmp (map (λ r. r.0) (map (numbered (λ b. b.version)) (f ∷ more)))
+files_rise : (f : File Root) (more : List (File Root)) → FollowOn f more → IsStrictlySortedBy nat_cmp (map (λ r. r.0) (map root_row_of (f ∷ more)))
 unfolding IsStrictlySortedBy
 files_rise f [] follows = (tt, tt)
 files_rise f (g ∷ gs) follows = (above_files f.body.version g gs (omega (arith, follows.0.next)) follows.1, files_rise g gs follows.1)
 
-chain_rises : (fs : List (File Root)) → IsChain fs → IsStrictlySortedBy nat_cmp (map (λ r. r.0) (map (numbered (λ b. b.version)) fs))
+chain_rises : (fs : List (File Root)) → IsChain fs → IsStrictlySortedBy nat_cmp (map (λ r. r.0) (map root_row_of fs))
 unfolding IsStrictlySortedBy
 chain_rises [] chain = tt
 chain_rises (f ∷ fs) chain = files_rise f fs chain.1
@@ -216,7 +220,7 @@ module _ (law : Shapes) (S : State) (s : IsState S) where
   the_files : FilesOf S
   the_files = files_of law S s
 
-  roots_are : map (numbered (λ b. b.version)) the_files.files.roots ≡ (contents_of S).roots
+  roots_are : map root_row_of the_files.files.roots ≡ (contents_of S).roots
   roots_are = ap (λ C. C.roots) (stored_rows (contents_of S) the_files.files the_files.stored)
 
   roots_read : All (IsFileOf root_form) the_files.files.roots
@@ -257,8 +261,8 @@ module _ (law : Shapes) (S : State) (s : IsState S) where
 
   pub state_fits : IsFit (rows_of S)
   state_fits = record {
-    roots = subst (AllByRecursion (λ r. IsVersion r.0)) roots_are
-        (all_rows (IsFileOf root_form) (λ r. IsVersion r.0) (numbered (λ b. b.version)) root_fits the_files.files.roots roots_read);
+    roots = subst (AllByRecursion (λ r. IsVersion r.0 × IsVersion r.1.0)) roots_are
+        (all_rows (IsFileOf root_form) (λ r. IsVersion r.0 × IsVersion r.1.0) root_row_of root_fits the_files.files.roots roots_read);
     one_root = keyed nat_cmp nat_cmp_total (contents_of S).roots roots_rise;
     timestamp = slot_fits timestamp_form (λ t. t.version) timestamp_fits (contents_of S).timestamp the_files.files.timestamp the_files.stored.timestamp;
     snapshot = slot_fits snapshot_form (λ b. b.version) snapshot_fits (contents_of S).snapshot the_files.files.snapshot the_files.stored.snapshot;
@@ -281,7 +285,7 @@ same_tables t u up up' same =
     let blobs : t.blobs ≡ u.blobs = one_list (slice_cmp nat_cmp) nat_list_cmp_total t.blobs u.blobs up.blobs up'.blobs same.blobs in
     fields roots same.timestamp same.snapshot shelf blobs
   where
-    fields : {r r' : List (ℕ × Bytes)} {a a' b b' : Option (ℕ × Bytes)} {p p' : List (Place × Bytes)} {d d' : List (Bytes × Bytes)}
+    fields : {r r' : List (ℕ × (ℕ × Bytes))} {a a' b b' : Option (ℕ × Bytes)} {p p' : List (Place × Bytes)} {d d' : List (Bytes × Bytes)}
         → r ≡ r' → a ≡ a' → b ≡ b' → p ≡ p' → d ≡ d'
         → ◌≡◌ {A = Contents} (record { roots = r; timestamp = a; snapshot = b; shelf = p; blobs = d })
         (record { roots = r'; timestamp = a'; snapshot = b'; shelf = p'; blobs = d' })
@@ -289,14 +293,6 @@ same_tables t u up up' same =
 
 -- ---- what a database stands for
 
-not_bare : (trees : Trees) (t : Contents) → HoldsTables trees t → trees 7 ≡ [] → ⊥
-not_bare trees t h none =
-    let row = h.version.complete version_row (inl refl) in
-    subst (λ (rows : List Row). Has rows row.0) none row.1
-
-pub one_stands : (trees : Trees) (t u : Contents) → ((t u : Contents) → IsFit t → IsFit u → HoldsTables trees t → HoldsTables trees u → AreSame t u)
-    → IsFit t → IsFit u → AreRising t → AreRising u → StandsFor trees t → StandsFor trees u → t ≡ u
-one_stands trees t u law fit fit' up up' (inl h) (inl k) = same_tables t u up up' (law t u fit fit' h k)
-one_stands trees t u law fit fit' up up' (inl h) (inr k) = absurd (not_bare trees t h k.0.1.1.1.1.0)
-one_stands trees t u law fit fit' up up' (inr h) (inl k) = absurd (not_bare trees u k h.0.1.1.1.1.0)
-one_stands trees t u law fit fit' up up' (inr h) (inr k) = h.1 ∙ sym k.1
+-- trees stand for the rows of one contents that rise
+pub one_stands : (trees : Trees) (t u : Contents) → IsFit t → IsFit u → AreRising t → AreRising u → StandsFor trees t → StandsFor trees u → t ≡ u
+one_stands trees t u fit fit' up up' h k = same_tables t u up up' (one_stood trees t u fit fit' h k)

@@ -1,19 +1,18 @@
 -- What goes of a state's rows is what goes of the state.
-use Rattle.std.proofs.Common.{◌≡◌, ℕ, ◌+◌, ◌*◌, ◌/◌, ◌%◌, ◌<◌, Bool, true, false, cond, not, List, [], ◌∷◌, map, filter, length, drop, nat_lt, zero, suc, slice_index, Option, Some, None, refl, sym, ap, ◌∙◌, subst, bytes_eq, arith}
+use Rattle.std.proofs.Common.{◌≡◌, ℕ, ◌+◌, ◌/◌, ◌%◌, ◌<◌, Bool, true, false, not, List, [], ◌∷◌, filter, length, drop, nat_lt, zero, suc, slice_index, Some, None, refl, sym, ap, ◌∙◌, bytes_eq, arith}
 use Rattle.std.proofs.lemmas.Bool.{false_from_ne_true, ltb-false, ltb-true}
 use Rattle.std.proofs.lemmas.Slice.Eq.{bytes_eq-Decides}
-use Rattle.std.specs.Prelude.{All}
 use Rattle.std.specs.List.{AllByRecursion}
 use Rattle.hex.specs.Hex.{encode_lower, encode_with, hex_digit_value, lower_digits}
 use Rattle.hex.proofs.HexLemmas.{IsDigits-lower_digits}
 use Rattle.metadata.specs.File.{Bytes}
 use Rattle.delegations.specs.Rows.{Place, Rows, same_place}
-use Rattle.machine.specs.Contents.{contents_of, shelf_rows}
+use Rattle.machine.specs.Contents.{shelf_rows}
 use Rattle.machine.specs.Effects.{without}
-use Rattle.machine.specs.State.{State, IsBlob, IsState}
+use Rattle.machine.specs.State.{State}
 use Rattle.machine.proofs.GoneKeys.{filter_so, map_filter}
 use Rattle.contents.specs.Contents.{Contents}
-use Rattle.tables.specs.Tables.{IsDigest, is_blob_of, is_row_of, without_blob, without_row}
+use Rattle.tables.specs.Tables.{IsDigest, is_blob_of, is_row_of, without_row}
 use Rattle.store.specs.StateRows.{rows_of}
 use Rattle.store.specs.steps.Changed.{blobs_gone, rows_gone}
 

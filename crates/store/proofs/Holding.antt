@@ -3,7 +3,7 @@ use Rattle.std.proofs.Common.{List, subst₂}
 use Rattle.sqlite.specs.Order.{Row}
 use Rattle.sqlite.specs.State.{State}
 use Rattle.sqlite_trees.specs.Tree.{Trees}
-use Rattle.tables.specs.Rows.{root_cells, current_cells, shelf_cells, blob_cells}
+use Rattle.tables.specs.Rows.{root2_cells, current_cells, shelf_cells, blob_cells}
 use Rattle.sql_tables.specs.Rows.{AreRows}
 use Rattle.tables.specs.Tables.{AreSame, HoldsTables, HoldsWhole, IsStore, root_row, current_rows, shelf_row, blob_row}
 use Rattle.contents.specs.Contents.{Contents}
@@ -19,15 +19,16 @@ rows_as shown rows cells others same are = record {
 
 pub holds_as : (trees : Trees) (t u : Contents) → AreSame t u → HoldsTables trees t → HoldsTables trees u
 holds_as trees t u same holds = record {
-  root = rows_as root_cells (trees 0) _ _ (same_map root_row t.roots u.roots same.roots) holds.root;
+  root = holds.root;
   current = subst₂ (λ a b. AreRows current_cells (trees 1) (current_rows a b)) same.timestamp same.snapshot holds.current;
   shelf = rows_as shelf_cells (trees 3) _ _ (same_map shelf_row t.shelf u.shelf same.shelf) holds.shelf;
   blob = rows_as blob_cells (trees 5) _ _ (same_map blob_row t.blobs u.blobs same.blobs) holds.blob;
   version = holds.version;
+  root2 = rows_as root2_cells (trees 8) _ _ (same_map root_row t.roots u.roots same.roots) holds.root2;
 }
 
 pub whole_as : (trees : Trees) (t u : Contents) → AreSame t u → HoldsWhole trees t → HoldsWhole trees u
-whole_as trees t u same (db, is, sound, five, holds) = (db, is, sound, five, holds_as trees t u same holds)
+whole_as trees t u same (db, is, sound, six, holds) = (db, is, sound, six, holds_as trees t u same holds)
 
 pub store_as : (s : State) (t u : Contents) → AreSame t u → IsStore s t → IsStore s u
 store_as s t u same is = record { is_open = is.is_open; schema = is.schema; settled = is.settled; holds = holds_as s.now.trees t u same is.holds }

@@ -3,8 +3,10 @@ pub mod SameRows
 pub mod Gone
 pub mod Holding
 pub mod Applying
+pub mod FirstProfiles
 pub mod Fitting
 pub mod Loads
+pub mod Renewing
 pub mod Reopening
 pub mod Standings
 pub mod Targets

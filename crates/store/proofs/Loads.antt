@@ -1,11 +1,9 @@
 -- The target files that the tables of a store hold.
-use Rattle.std.proofs.Common.{◌≡◌, ◌∙◌, inl, inr, ℕ, List, [], ◌∷◌, map, ap, arith, refl, subst, sym}
-use Rattle.std.specs.Prelude.{◌↔◌, All, IsTrue}
+use Rattle.std.proofs.Common.{◌≡◌, ◌∙◌, inl, inr, List, [], ◌∷◌, map, ap, refl, subst, sym}
+use Rattle.std.specs.Prelude.{◌↔◌, All}
 use Rattle.std.specs.List.{AllByRecursion}
 use Rattle.std.proofs.lemmas.List.Elements.{All-from_recursion, All-head, All-tail}
 use Rattle.sha2.specs.Sha256.{sha256}
-use Rattle.sqlite.specs.declared.types.Value.TheVariants.{Text, Blob}
-use Rattle.sqlite.specs.Order.{Row}
 use Rattle.sqlite.specs.State as database
 use Rattle.sqlite.specs.State.{HasCleanDisk}
 use Rattle.sqlite_rules.specs.Lists.{Has}
@@ -13,12 +11,11 @@ use Rattle.hex.specs.Hex.{encode_lower}
 use Rattle.metadata.specs.File.{Bytes}
 use Rattle.contents.specs.Contents.{Contents}
 use Rattle.machine.specs.State.{State, IsBlob, IsState}
-use Rattle.tables.specs.Rows.{blob_cells}
 use Rattle.tables.specs.Tables.{IsStore, blob_row}
 use Rattle.sql_tables.proofs.RowLemmas.{has_map, map_has}
 use Rattle.sql_tables.specs.Rows.{AreKeyed}
 use Rattle.store.specs.StateRows.{rows_of}
-use Rattle.store.specs.steps.Loading.{HasFile, ReadsOnly}
+use Rattle.store.specs.steps.Loading.{HasFile}
 
 -- the bytes of two rows that are one
 row_bytes : (x y : Bytes × Bytes) → blob_row x ≡ blob_row y → (encode_lower x.0 ≡ encode_lower y.0) × (x.1 ≡ y.1)

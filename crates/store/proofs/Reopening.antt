@@ -6,16 +6,15 @@ use Rattle.sqlite.specs.Effect.{Database, IsDatabase}
 use Rattle.sqlite.specs.State as database
 use Rattle.sqlite.specs.State.{IsLive}
 use Rattle.sqlite_trees.specs.Tree.{Trees}
-use Rattle.contents.specs.Contents.{Contents, no_rows}
+use Rattle.contents.specs.Contents.{Contents}
 use Rattle.machine.proofs.RowsOfOneState.{one_state}
 use Rattle.machine.proofs.ShapedOnce.{Shapes}
 use Rattle.machine.specs.Runs.{Command, Reply, Steps}
-use Rattle.machine.specs.State.{State, IsState, nothing}
+use Rattle.machine.specs.State.{State, IsState}
 use Rattle.sql_tables.proofs.Listed.{same_tables}
 use Rattle.sql_tables.specs.Opening.{IsSettled}
 use Rattle.sql_tables.specs.Schema.{counted, is_there}
 use Rattle.tables.proofs.Beginnings.{to_counted}
-use Rattle.tables.proofs.SetLemmas.{one_set}
 use Rattle.tables.specs.Tables.{HoldsWhole, IsStore, StandsFor, HoldsTables}
 use Rattle.tables.specs.declared.faults.StoreFault.{StoreFault}
 use Rattle.tables.specs.declared.faults.StoreFault.TheVariants as faults
@@ -23,11 +22,11 @@ use Rattle.store.proofs.Fitting.{one_stands, state_fits, state_rises}
 use Rattle.store.specs.Applies.{HoldsReply, HoldsStep, IsEither}
 use Rattle.store.specs.StateRows.{Begins, HoldsNoState, Reopens, RestsAt, TreesStand, rows_of}
 
--- ---- all five tables
+-- ---- all six tables
 
 pub whole_stands : (trees : Trees) (t : Contents) → HoldsWhole trees t → TreesStand trees t
-whole_stands trees t (db, same, sound, five, holds) =
-    (db, same, sound, ((5, inr (refl, five)), to_counted db.schema db.trees t five (inl (subst (λ (d : Trees). HoldsTables d t) (sym same) holds))))
+whole_stands trees t (db, same, sound, six, holds) =
+    (db, same, sound, ((6, inr (refl, six)), to_counted db.schema db.trees t six (inl (subst (λ (d : Trees). HoldsTables d t) (sym same) holds))))
 
 pub store_whole : (s : database.State) (t : Contents) → IsTrue s.is_open → IsLive s → IsStore s t → (trees : Trees) → trees ≡ s.committed.trees → HoldsWhole trees t
 store_whole s t there live is trees left =
@@ -49,7 +48,7 @@ module _ (law : Shapes) where
   stands_once trees U V valid valid' (d, d_is, d_sound, d_stands) (e, e_is, e_sound, e_stands) =
       let there = subst (λ (x : Trees). StandsFor x (rows_of U)) (alike d e d_sound e_sound (d_is ∙ sym e_is)) d_stands.1 in
       one_state law V U valid' valid
-      (one_stands (counted e.schema e.trees) (rows_of V) (rows_of U) (one_set (counted e.schema e.trees)) (state_fits law V valid') (state_fits law U valid) (state_rises law V valid') (state_rises law U valid) e_stands.1 there)
+      (one_stands (counted e.schema e.trees) (rows_of V) (rows_of U) (state_fits law V valid') (state_fits law U valid) (state_rises law V valid') (state_rises law U valid) e_stands.1 there)
 
   pub never_damaged : (trees : Trees) (U : State) → IsState U → TreesStand trees (rows_of U) → HoldsNoState trees → ⊥
   never_damaged trees U valid (d, d_is, d_sound, d_stands) (e, e_is, e_sound, begins, none) =
@@ -88,9 +87,9 @@ module _ (once : (trees : Trees) (U V : State) → IsState U → IsState V → T
       of (T, step, after) = (T, steps U T c now reply valid step, whole_stands trees (rows_of T) after, step)
 
   -- after an opening, or in it
-  pub reopens_same : IsState nothing → (s : database.State) (U : State) (trees : Trees) → (IsTrue s.is_open → (d : Trees) → s.may_leave d → d ≡ s.committed.trees) → IsSettled s → IsLive s
+  pub reopens_same : (s : database.State) (U : State) (trees : Trees) → (IsTrue s.is_open → (d : Trees) → s.may_leave d → d ≡ s.committed.trees) → IsSettled s → IsLive s
       → RestsAt s U → ∥ s.may_leave trees ⊎ Begins s trees ∥₁ → Reopens trees (λ V. V ≡ U)
-  reopens_same valid s U trees committed settled live rests left = reopens (λ V. V ≡ U) trees (∥∥₁_map left of)
+  reopens_same s U trees committed settled live rests left = reopens (λ V. V ≡ U) trees (∥∥₁_map left of)
     where
       at_rest : (b : _) → s.is_open ≡ b → s.may_leave trees → TreesStand trees (rows_of U)
       at_rest true is may = subst (λ (d : Trees). TreesStand d (rows_of U)) (sym (committed is trees may)) (rests.committed is)
@@ -98,7 +97,7 @@ module _ (once : (trees : Trees) (U V : State) → IsState U → IsState V → T
 
       of : s.may_leave trees ⊎ Begins s trees → Found (λ V. V ≡ U) trees
       of (inl may) = (U, rests.valid, at_rest s.is_open refl may, refl)
-      of (inr (there, empty, whole)) =
-          let none : TreesStand s.committed.trees (rows_of nothing) = (s.now, ap (λ (d : Database). d.trees) (settled there), (live there).0, (empty.0, inr (empty.1, refl))) in
-          let same : U ≡ nothing = once s.committed.trees nothing U valid rests.valid none (rests.committed there) in
-          (U, rests.valid, subst (λ (V : State). TreesStand trees (rows_of V)) (sym same) (whole_stands trees no_rows whole), refl)
+      of (inr (there, (V, valid, stands, whole))) =
+          let found : TreesStand s.committed.trees (rows_of V) = (s.now, ap (λ (d : Database). d.trees) (settled there), (live there).0, stands) in
+          let same : U ≡ V = once s.committed.trees V U valid rests.valid found (rests.committed there) in
+          (U, rests.valid, subst (λ (W : State). TreesStand trees (rows_of W)) (sym same) (whole_stands trees (rows_of V) whole), refl)

@@ -91,7 +91,7 @@ roots_same S E = of E.roots refl
         sym (new_same (applied S E).trusted (last_version (r ∷ rs)) (ap (λ l. unwrap_or (option_map (λ root. root.body.version) (last_or S.trusted.root l)) 0) e)
         (length S.trusted.roots) (r ∷ rs) (many ∙ ap (λ l. length S.trusted.roots + length l) e))
 
-as_fields : (gone : Bool) (t s : Option (ℕ × Bytes)) (roots : List (ℕ × Bytes)) (rows : List (Place × Bytes)) (blobs : List (Bytes × Bytes)) (T : Contents)
+as_fields : (gone : Bool) (t s : Option (ℕ × Bytes)) (roots : List (ℕ × (ℕ × Bytes))) (rows : List (Place × Bytes)) (blobs : List (Bytes × Bytes)) (T : Contents)
     → more_blobs blobs (more_rows rows (new_snapshot s (new_timestamp t (emptied_if gone (more_roots roots T)))))
     ≡ record { roots = T.roots ++ roots; timestamp = renewed gone T.timestamp t; snapshot = renewed gone T.snapshot s; shelf = cond gone [] T.shelf ++ rows; blobs = T.blobs ++ blobs }
 as_fields true None None roots rows blobs T = refl

@@ -1,5 +1,5 @@
 -- Commands that check no signatures in a search.
-use Rattle.std.proofs.Common.{◌≡◌, ℕ, arith, refl}
+use Rattle.std.proofs.Common.{ℕ, arith, refl}
 use Rattle.delegations.specs.Verdicts.{Table}
 use Rattle.machine.specs.Knowing.{IsKnown}
 use Rattle.machine.specs.Runs.{Command, Init, Batch, OfferOne, PutBlob, Prune, Metadata, Target}

@@ -15,7 +15,7 @@ use Rattle.tables.specs.declared.faults.StoreFault.{StoreFault}
 use Rattle.tables.specs.declared.faults.StoreFault.TheVariants.{Damaged, Database, OutOfMemory}
 use Rattle.store.specs.declared.command.Reply.{Reply as Answer}
 
--- the trees hold the rows of the state that the command leaves, in all five tables
+-- the trees hold the rows of the state that the command leaves, in all six tables
 abbrev pub HoldsStep : State → Command → ℕ → Trees → Type 0
 HoldsStep S command now trees = (U : State) × (reply : Reply) × Steps S command now (U, reply) × HoldsWhole trees (rows_of U)
 
@@ -44,7 +44,7 @@ Makes A B command now (Err Database) = Keeps A B
 Makes A B command now (Err Damaged) = ⊥
 
 -- A command is made, and the store may be used on. A crash inside the call leaves the rows from before it or those from after it, and a crash after the call those of
--- the state at which the store then stands, each in trees that list all five tables.
+-- the state at which the store then stands, each in trees that list all six tables.
 pub record Applies (kept left : Kept) (old new : database.State) (command : Command) (now : ℕ) (r : Result Answer StoreFault) : Type 0 where
   pub makes : Makes (seen kept old) (seen left new) command now r
   pub stays : StaysOpen old new

@@ -5,7 +5,7 @@ use Rattle.sqlite.specs.State as connection
 use Rattle.sqlite_trees.specs.View.{doubt}
 use Rattle.machine.specs.State.{State, IsState}
 use Rattle.machine.specs.Held.{held_of}
-use Rattle.tables.specs.Schema.{HasFive}
+use Rattle.tables.specs.Schema.{HasSix}
 use Rattle.tables.specs.Tables.{HoldsTables}
 use Rattle.store.specs.StateRows.{Kept, OpensTo, rows_of}
 
@@ -30,9 +30,9 @@ pub record IsStateOf (kept : Kept) (S : State) : Type 0 where
   pub valid : IsState S
   pub held : held_of S ≡ kept
 
--- between two transactions: the five tables are there, and hold the rows of the state
+-- between two transactions: the six tables are there, and hold the rows of the state
 pub record HoldsRows (A : Standing) (S : State) : Type 0 where
-  pub schema : HasFive A.database.schema
+  pub schema : HasSix A.database.schema
   pub settled : A.database ≡ A.committed
   pub holds : HoldsTables A.database.trees (rows_of S)
 

@@ -6,12 +6,11 @@ use Rattle.machine.specs.State.{State, IsState}
 use Rattle.machine.specs.Held.{Held}
 use Rattle.machine.specs.Room.{WithPlaces}
 use Rattle.machine.specs.Contents.{contents_of}
-use Rattle.contents.specs.Contents.{Contents, no_rows}
+use Rattle.contents.specs.Contents.{Contents}
 use Rattle.sqlite.specs.Effect.{Database, IsDatabase}
 use Rattle.sqlite_trees.specs.Tree.{Trees}
 use Rattle.tables.specs.Schema.{IsBeginning}
 use Rattle.tables.specs.Tables.{HoldsWhole, Stands}
-use Rattle.tables.specs.Opening.{StandsEmpty}
 use Rattle.tables.specs.declared.faults.StoreFault.{StoreFault}
 use Rattle.tables.specs.declared.faults.StoreFault.TheVariants as faults
 use Rattle.sqlite.specs.State as database
@@ -34,11 +33,12 @@ shown_code {S} store kept =
 abbrev pub rows_of : State → Contents
 rows_of S = contents_of S
 
--- What the trees of a database stand for, whose schema is read from them. No table, or no row in any, is the empty state.
+-- What the trees of a database stand for, whose schema is read from them: schema 2, or schema 1 with roots of profile 1. No table, or no row
+-- in any, is the empty state.
 abbrev pub TreesStand : Trees → Contents → Type 0
 TreesStand trees t = (db : Database) × (db.trees ≡ trees) × IsDatabase db × Stands db t
 
--- The tables of a database of these trees are the first of the five, or all, and stand for the rows of no state.
+-- The tables of a database of these trees are the first of the six, or all, and stand for the rows of no state.
 abbrev pub HoldsNoState : Trees → Type 0
 HoldsNoState trees =
     (db : Database) × (db.trees ≡ trees) × IsDatabase db × IsBeginning db.schema × ((S : State) → IsState S → Stands db (rows_of S) → ⊥)
@@ -55,9 +55,9 @@ OpensTo trees (Err faults.OutOfMemory) = ⊤
 abbrev pub Reopens : Trees → (State → Type 0) → Type 0
 Reopens trees IsFound = (r : Result State StoreFault) → OpensTo trees r → (r ≢ Err faults.Damaged) × IfOk r (λ S. ∥ IsFound S ∥₁)
 
--- What an opening writes: the connection was open, its tables stood without a row, and all five hold the rows of the empty state.
+-- What an opening writes: the connection was open, and all six tables hold the rows of the state for which its tables stood.
 abbrev pub Begins : database.State → Trees → Type 0
-Begins s trees = IsTrue s.is_open × StandsEmpty s × HoldsWhole trees no_rows
+Begins s trees = IsTrue s.is_open × ((S : State) × IsState S × Stands s.now (rows_of S) × HoldsWhole trees (rows_of S))
 
 -- What a connection shows stands for the state: what was committed, while it is open, and once it is shut whatever a crash may leave.
 pub record RestsAt (s : database.State) (S : State) : Type 0 where

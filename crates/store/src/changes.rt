@@ -16,7 +16,7 @@ ghost use Rattle.store.specs.StateRows.{rows_of};
 ghost use Rattle.store.specs.steps.Changed.{blobs_gone, changed, emptied_if, last_version, more_blobs, more_roots, more_rows, new_roots, new_snapshot, new_timestamp, rows_gone};
 
 use delegations::Row;
-use machine::{Blob, Effects, rows_stay};
+use machine::{Blob, Effects, profile_number, rows_stay};
 use metadata::{File, Root, Snapshot, Timestamp};
 use path_patterns::{Digest, RoleName};
 use sqlite::{Alter, Connection};
@@ -64,7 +64,8 @@ fn put_roots_to<'a>(
     let mut rest = roots;
     'roots: while let Some((root, later)) = rest.split_first() {
         let version = last.saturating_sub(later.len() as u32);
-        changes.push(Change::PutRoot(version, root.source.bytes()))?;
+        let profile = profile_number(root.body.profile);
+        changes.push(Change::PutRoot(version, profile, root.source.bytes()))?;
         rest = later;
     }
     Ok(())

@@ -18,7 +18,7 @@ use crate::command::{Command, Reply};
 use crate::laws::{leaves_committed, trees_tell_state};
 use crate::opening::Unopened;
 use crate::store::Store;
-use machine::{nothing_is_valid, stays_valid};
+use machine::stays_valid;
 use metadata::Moment;
 use sql_tables::close;
 use sqlite::{Connection, FileStore, Files};
@@ -60,8 +60,8 @@ pub fn apply_and_close<D: Disk + Drop>(
 }
 
 /// Opens a store over two files in which no transaction is under way, as `Store::open_over` does, and hands them back. Whatever a crash
-/// leaves of them, inside the opening or after it, the next open finds what it could have found before, or the rows of the empty state where
-/// the tables stood empty. Nothing is said where a wrong answer of the disks was taken as true.
+/// leaves of them, inside the opening or after it, the next open finds what it could have found before, or all six tables with the rows of the
+/// state for which the tables stood. Nothing is said where a wrong answer of the disks was taken as true.
 pub fn open_and_close<D: Disk + Drop>(
     alloc: Global,
     conn: Connection<FileStore<D>>,
@@ -74,7 +74,6 @@ pub fn open_and_close<D: Disk + Drop>(
         → (left : Image) → outcomes D.Disk files.log files.db left → (found : Trees) → IsFound left found
         → Reopens found (λ V. V ≡ U)) }
 {
-    nothing_is_valid();
     trees_tell_state();
     leaves_committed(&conn);
     match Store::open_over(alloc, conn) {

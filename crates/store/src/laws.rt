@@ -1,17 +1,24 @@
 //! What is known of the state that a store stands for, and of what a crash leaves.
-ghost use Rattle.std.specs.Prelude.{◌≡◌, false, IsTrue};
+ghost use Rattle.std.specs.Prelude.{◌≡◌, ◌↔◌, ◌≤◌, false, codes, nat_eq, option_map, ℕ, IsTrue, Option};
 ghost use Rattle.contents.specs.Contents.{Contents};
 ghost use Rattle.sqlite.specs.Held.{state};
 ghost use Rattle.sqlite.specs.State.{HasCleanDisk, IsLive};
 ghost use Rattle.sqlite_trees.specs.Tree.{Trees};
+ghost use Rattle.delegations.specs.Rows.{value_at};
+ghost use Rattle.denials.specs.Orders.{Judged};
+ghost use Rattle.machine.specs.Before.{grants_before};
+ghost use Rattle.machine.specs.Commands.{grants};
 ghost use Rattle.machine.specs.State as trust;
-ghost use Rattle.machine.specs.State.{IsState};
+ghost use Rattle.machine.specs.State.{IsState, dotted, metadata_of};
+ghost use Rattle.metadata.specs.File.{Bytes};
+ghost use Rattle.metadata.specs.Parts.{last_number};
 ghost use Rattle.tables.specs.Opening.{IsSettled};
-ghost use Rattle.tables.specs.Tables.{HoldsWhole, IsStore};
+ghost use Rattle.tables.specs.Tables.{HoldsFirst, HoldsWhole, IsStore};
 ghost use Rattle.store.specs.Standing.{StandsAt, seen};
 ghost use Rattle.store.specs.StateRows.{HoldsNoState, TreesStand, rows_of};
 
 use crate::store::Store;
+use machine::{first_profile_as_before, names_find};
 use metadata::{one_document, one_shape};
 use sqlite::{Alter, Connection};
 use tables::one_contents;
@@ -32,7 +39,7 @@ pub fn stands<S: Alter>(store: &Store<S>)
 }
 
 /// A law, which does nothing: trees stand for the rows of one state or of none, whichever database they are read as. Those that hold the
-/// rows of a state in all five tables, as a crash leaves them, stand for that state.
+/// rows of a state in all six tables, as a crash leaves them, stand for that state.
 pub fn trees_tell_state()
     ensures whole { (trees : Trees) (t : Contents) → HoldsWhole trees t → TreesStand trees t }
     ensures once { (trees : Trees) (U V : trust.State) → IsState U → IsState V → TreesStand trees (rows_of U) → TreesStand trees (rows_of V) → V ≡ U }
@@ -40,6 +47,19 @@ pub fn trees_tell_state()
 {
     one_document();
     one_shape();
+}
+
+/// A law, which does nothing: the state for which tables of schema 1 stand has roots of the first profile alone. So behind its migration, which
+/// leaves that state, each request for a target has the end that it had before roots had profiles, and each root is found under the name under
+/// which its row was found in `root`.
+pub fn migration_keeps_answers()
+    ensures targets { (trees : Trees) (S : trust.State) → IsState S → HoldsFirst trees (rows_of S)
+        → (path : Bytes) (asked : Option Bytes) (now : ℕ) (r : Judged Bytes) → grants S path asked now r ↔ grants_before S path asked now r }
+    ensures roots { (trees : Trees) (S : trust.State) → IsState S → HoldsFirst trees (rows_of S) → (n : ℕ) → n ≤ last_number
+        → metadata_of S.trusted (dotted n (codes "root")) ≡ option_map (λ r. r.1) (value_at nat_eq (rows_of S).roots n) }
+{
+    first_profile_as_before();
+    names_find();
 }
 
 // A law, which does nothing: while a connection is open a crash leaves just what was committed, and between two transactions that is
@@ -53,7 +73,7 @@ pub(crate) fn leaves_committed<S: Alter>(conn: &Connection<S>)
     let _ = conn.schema();
 }
 
-// A law, which does nothing: a crash leaves just the rows that the tables hold, and all five tables.
+// A law, which does nothing: a crash leaves just the rows that the tables hold, and all six tables.
 pub(crate) fn leaves_rows<S: Alter>(conn: &Connection<S>)
     ensures { (t : Contents) → IsTrue (state S.Store conn.now).is_open → IsStore (state S.Store conn.now) t → (trees : Trees) → (state S.Store conn.now).may_leave trees → HoldsWhole trees t }
 {

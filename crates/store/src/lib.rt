@@ -11,7 +11,7 @@ mod stored_rows;
 
 pub use closing::{apply_and_close, open_and_close};
 pub use command::{Command, Reply};
-pub use laws::{stands, trees_tell_state};
+pub use laws::{migration_keeps_answers, stands, trees_tell_state};
 pub use machine::{
     Denial, Digest, Held, Moment, Offer, RoleName, State, TargetPath, get, metadata_file,
 };

@@ -1,23 +1,25 @@
 //! Opening a store: the rows that stand in the tables become a state.
-ghost use Rattle.std.specs.Prelude.{◌≡◌, ◌≢◌, false, Err, MatchOption, MatchResult, IfErr, IfOk, OnOk, IsSomeAnd, IsTrue};
+ghost use Rattle.std.specs.Prelude.{◌≡◌, ◌≢◌, true, false, Err, MatchOption, MatchResult, IfErr, IfOk, OnOk, IsSomeAnd, IsTrue};
 ghost use Rattle.sqlite.specs.Held.{state};
 ghost use Rattle.sqlite.specs.State.{HasCleanDisk, IsLive, Survives};
 ghost use Rattle.sqlite_trees.specs.Tree.{Trees};
 ghost use Rattle.tables.specs.Opening.{IsSettled};
 ghost use Rattle.tables.specs.Schema.{IsBeginning};
+ghost use Rattle.tables.specs.Migration.{IsEarlier};
 ghost use Rattle.tables.specs.Tables.{HoldsWhole, IsStore, Stands};
 ghost use Rattle.store.specs.Standing.{IsStateOf, Opens, StandsAt, seen};
 ghost use Rattle.store.specs.StateRows.{Begins, OpensTo, rows_of};
 ghost use Rattle.machine.specs.State as trust;
 ghost use Rattle.machine.specs.State.{IsState};
 
+use crate::laws::leaves_committed;
 use crate::store::Store;
 use crate::stored_rows::StoredRows;
-use machine::Held;
+use machine::{Held, nothing_is_valid};
 use metadata::{one_document, one_shape};
 use sqlite::{Alter, Connection};
 use std::alloc::Global;
-use tables::{StoreFault, one_contents, prepare, renew};
+use tables::{StoreFault, migrate, prepare, renew};
 
 /// Why no store was opened, and the connection, where there still is one.
 #[derive(Drop)]
@@ -28,14 +30,15 @@ pub struct Unopened<S: Alter> {
 
 impl<S: Alter + Drop> Store<S> {
     /// Opens a store over a connection: the state is read from its tables, where one that is absent counts as empty. Where all
-    /// are empty, those that are absent are made, in one transaction. What was not committed over the connection is undone; where
+    /// are empty, those that are absent are made, in one transaction. Tables of schema 1 are brought to schema 2 in one transaction,
+    /// once their rows are known to be those of a state. What was not committed over the connection is undone; where
     /// there was such a thing, its clock and step limit are lost.
     ///
     /// - `Damaged`: the tables are those of a store, or the first of them, and their rows are those of no state.
-    /// - `Database`: a call of the database answered a fault, or its tables are other than the first of the five of a store and
-    ///   nothing else, or all five, in the order in which they are made, or the rowids that it answered are not integers that
-    ///   come once, which by its own laws they are. Behind all five may stand further tables, indexes and views, if no foreign
-    ///   key is onto one of the five.
+    /// - `Database`: a call of the database answered a fault, or its tables are other than the first of the six of a store and
+    ///   nothing else, or all six, in the order in which they are made, or the rowids that it answered are not integers that
+    ///   come once, which by its own laws they are. Behind all six may stand further tables, indexes and views, if no foreign
+    ///   key is onto one of the six.
     /// - `OutOfMemory`: memory was refused.
     pub fn open(alloc: Global, conn: Connection<S>) -> Result<Store<S>, StoreFault>
         ensures opened { IfOk result (λ s. Opens (state S.Store conn) (seen s.kept (state S.Store s.conn))) }
@@ -52,8 +55,8 @@ impl<S: Alter + Drop> Store<S> {
 
     /// The same as `open`, and where no transaction was under way the connection is given back on each fault. Where the rows are
     /// those of no state it is given back too, so that it can be said of every kind of disk; `open` says it of those that cannot
-    /// give a wrong answer, such as one in memory. Whether it opens or not, a crash leaves what it left before, or the empty state
-    /// where the tables stood empty.
+    /// give a wrong answer, such as one in memory. Whether it opens or not, a crash leaves what it left before, or all six tables with
+    /// the rows of the state for which the tables stood.
     pub fn open_over(alloc: Global, conn: Connection<S>) -> Result<Store<S>, Unopened<S>>
         ensures opened { IfOk result (λ s. Opens (state S.Store conn) (seen s.kept (state S.Store s.conn))) }
         ensures fault { IfErr result (λ u. MatchOption u.conn (u.fault ≢ StoreFault.Damaged) (λ c. HasCleanDisk (state S.Store c) → OpensTo (state S.Store conn).committed.trees (Err u.fault))) }
@@ -82,7 +85,8 @@ impl<S: Alter + Drop> Store<S> {
     }
 }
 
-// What is held of the state that stands in the tables. Where they have no row, those that are absent are made.
+// What is held of the state that stands in the tables. Where they have no row, those that are absent are made, and where they are those of
+// schema 1, they become those of schema 2.
 fn read_state<S: Alter>(alloc: Global, conn: &mut Connection<S>) -> Result<Held, StoreFault>
     requires { conn.old.in_transaction ≡ false }
     ensures autocommit { conn.new.in_transaction ≡ false }
@@ -97,11 +101,39 @@ fn read_state<S: Alter>(alloc: Global, conn: &mut Connection<S>) -> Result<Held,
 {
     one_document();
     one_shape();
-    one_contents();
+    nothing_is_valid();
+    leaves_committed(conn);
     let read = prepare(alloc, conn)?;
     match Held::load(alloc, read.0, read.1) {
-        Ok(Some(held)) => Ok(held),
+        Ok(Some(held)) => match renew_schema(alloc, conn, &held, read.2) {
+            Ok(()) => Ok(held),
+            Err(fault) => Err(fault),
+        },
         Ok(None) => Err(StoreFault::Damaged),
         Err(_) => Err(StoreFault::OutOfMemory),
     }
+}
+
+// Brings the tables to schema 2 where they are earlier ones.
+fn renew_schema<S: Alter>(
+    alloc: Global,
+    conn: &mut Connection<S>,
+    held: &Held,
+    is_earlier: bool,
+) -> Result<(), StoreFault>
+    requires { conn.old.in_transaction ≡ false }
+    ensures autocommit { conn.new.in_transaction ≡ false }
+    ensures whole { is_earlier ≡ false → conn.new ≡ conn.old }
+    ensures wrote { HasCleanDisk (state S.Store conn.new) → is_earlier ≡ true → (U : trust.State) → IsStateOf held.now.held U → IsEarlier (state S.Store conn.old) (rows_of U)
+        → OnOk result (IsStore (state S.Store conn.new) (rows_of U)) }
+    ensures was_open { HasCleanDisk (state S.Store conn.new) → IsTrue (state S.Store conn.new).is_open → IsTrue (state S.Store conn.old).is_open }
+    ensures crash { Survives (state S.Store conn.old) (state S.Store conn.new) (λ trees. (is_earlier ≡ true)
+        × ((U : trust.State) → IsStateOf held.now.held U → IsEarlier (state S.Store conn.old) (rows_of U) → HoldsWhole trees (rows_of U))) }
+    ensures fault { result ≢ Err StoreFault.Damaged }
+{
+    if !is_earlier {
+        return Ok(());
+    }
+    let roots = held.roots(alloc)?;
+    migrate(conn, &roots)
 }

@@ -22,7 +22,7 @@ use std::marker::Model;
 use tables::{StoreFault, check_open, load_blob};
 
 /// A connection between two transactions. While it is open, and unless a wrong answer of the disk was taken as true, it is one to the
-/// five tables.
+/// six tables.
 #[derive(Drop)]
 pub(crate) struct StoredRows<S: Alter> {
     conn: Connection<S>,
@@ -85,7 +85,7 @@ impl<S: Alter> StoredRows<S> {
         write(alloc, &mut self.conn, effects)
     }
 
-    /// A law, which does nothing: a crash leaves just the rows that the tables hold, and all five tables.
+    /// A law, which does nothing: a crash leaves just the rows that the tables hold, and all six tables.
     pub fn rests(&self)
         ensures { (t : Contents) → IsTrue (state S.Store self.now).is_open → IsStore (state S.Store self.now) t → (trees : Trees) → (state S.Store self.now).may_leave trees → HoldsWhole trees t }
     {

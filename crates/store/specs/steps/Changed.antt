@@ -2,22 +2,22 @@
 use Rattle.std.specs.Prelude.{ℕ, ◌-◌, Bool, List, [], ◌∷◌, ◌++◌, cond, length, Option, Some, None, option_map, unwrap_or}
 use Rattle.metadata.specs.File.{Bytes, File}
 use Rattle.metadata.specs.Documents.{Root}
-use Rattle.machine.specs.Contents.{numbered, shelf_rows}
+use Rattle.machine.specs.Contents.{numbered, profile_number, shelf_rows}
 use Rattle.contents.specs.Contents.{Contents}
 use Rattle.delegations.specs.Rows.{Place}
 use Rattle.machine.specs.Effects.{Effects, last_or}
 use Rattle.tables.specs.Tables.{emptied, without_blob, without_row}
 
 -- the rows of new roots: the last has its own version, and they rise by one
-abbrev pub new_roots : ℕ → List (File Root) → List (ℕ × Bytes)
+abbrev pub new_roots : ℕ → List (File Root) → List (ℕ × (ℕ × Bytes))
 new_roots last [] = []
-new_roots last (root ∷ roots) = (last - length roots, root.bytes) ∷ new_roots last roots
+new_roots last (root ∷ roots) = (last - length roots, (profile_number root.body.profile, root.bytes)) ∷ new_roots last roots
 
 abbrev pub last_version : List (File Root) → ℕ
 last_version roots = unwrap_or (option_map (λ root. root.body.version) (last_or None roots)) 0
 
 -- what changes make of rows: new ones stand behind those that are there
-abbrev pub more_roots : List (ℕ × Bytes) → Contents → Contents
+abbrev pub more_roots : List (ℕ × (ℕ × Bytes)) → Contents → Contents
 more_roots new t = record t { roots = t.roots ++ new }
 
 abbrev pub emptied_if : Bool → Contents → Contents

@@ -14,7 +14,7 @@ returns-in-Ok g c = record {
       (c.in-Ok.ensures.crash quiet).crash early found (subst (λ k. (file_state k).may_leave found) c.into_connection.ensures may));
   reopened = λ quiet honest U rests left out found finds.
       let early = subst (λ k. HasCleanDisk (file_state k)) c.into_connection.ensures (c.close.ensures.clean honest) in
-      reopens_same c.trees_tell_state.ensures.once c.trees_tell_state.ensures.sound c.nothing_is_valid.ensures (file_state c.args.conn) U found
+      reopens_same c.trees_tell_state.ensures.once c.trees_tell_state.ensures.sound (file_state c.args.conn) U found
       c.leaves_committed.ensures.left (c.leaves_committed.ensures.settled quiet) c.leaves_committed.ensures.live rests
       (∥∥₁_map (c.close.ensures.left honest left out found finds) (λ may.
       (c.in-Ok.ensures.crash quiet).crash early found (subst (λ k. (file_state k).may_leave found) c.into_connection.ensures may)));
@@ -27,7 +27,7 @@ returns-in-Some g c = record {
       ∥∥₁_map (c.close-in-Some.ensures.left honest left out found finds) (λ may. survives.crash (c.close-in-Some.ensures.clean honest) found may);
   reopened = λ quiet honest U rests left out found finds.
       let survives = subst (λ o. IsSomeAnd o (λ k. Survives (file_state c.args.conn) (file_state k) (λ trees. Begins (file_state c.args.conn) trees))) c.in-Some.is (c.in-Err.ensures.crash quiet) in
-      reopens_same c.trees_tell_state.ensures.once c.trees_tell_state.ensures.sound c.nothing_is_valid.ensures (file_state c.args.conn) U found
+      reopens_same c.trees_tell_state.ensures.once c.trees_tell_state.ensures.sound (file_state c.args.conn) U found
       c.leaves_committed.ensures.left (c.leaves_committed.ensures.settled quiet) c.leaves_committed.ensures.live rests
       (∥∥₁_map (c.close-in-Some.ensures.left honest left out found finds) (λ may. survives.crash (c.close-in-Some.ensures.clean honest) found may));
 }

@@ -1,4 +1,4 @@
-use Rattle.std.proofs.Common.{◌≡◌, ◌∙◌, Err, ap, sym, subst}
+use Rattle.std.proofs.Common.{◌≡◌, ◌∙◌, Bool, true, false, Err, ap, arith, refl, sym, subst}
 use Rattle.std.proofs.lemmas.Result.{err_from_is_err_and}
 use Rattle.std.proofs.lemmas.List.Elements.{All-from_recursion}
 use Rattle.sha2.specs.Sha256.{sha256}
@@ -6,26 +6,77 @@ use Rattle.sqlite.specs.Held.{state}
 use Rattle.contents.specs.Contents.{Contents}
 use Rattle.machine.proofs.ShapedOnce.{Shapes}
 use Rattle.tables.specs.declared.faults.StoreFault.TheVariants.{Damaged}
+use Rattle.tables.specs.Migration.{IsEarlier}
 use Rattle.tables.specs.Tables.{IsStore, Stands}
+use Rattle.store.specs.Standing.{IsStateOf}
 use Rattle.sql_tables.specs.Schema.{counted}
 use Rattle.store.specs.StateRows.{rows_of}
 use Rattle.store.proofs.Fitting.{one_stands, state_digests, state_fits, state_rises}
+use Rattle.store.proofs.Renewing.{prepares, renews}
 use Rattle.store.proofs.opening.read_state.Goals as goal
 
-pub returns-in-Ok-Some-clause-loaded : goal.returns-in-Ok-Some-clause-loaded
-returns-in-Ok-Some-clause-loaded g c =
+pub returns-in-Ok-clause-loaded : goal.returns-in-Ok-clause-loaded
+returns-in-Ok-clause-loaded g c =
     let (t, read, stood) = c.in_ok-read.ensures.loaded in
     let some = rw (c.in-Ok-Some.field-0-is) at c.in-Ok-Some.ensures.some in
     let (S, valid, rows, held) = some t.blobs (sym read.files) (All-from_recursion (λ b. sha256 b.1 ≡ b.0) t.blobs read.digests) in
-    let same : t ≡ rows_of S = read.rows ∙ sym rows in (
+    let same : t ≡ rows_of S = read.rows ∙ sym rows in
+    let is : IsStateOf c.in-Ok-Some.held.held S = record { valid = valid; held = held } in (
       S,
-      record { valid = valid; held = held },
+      is,
       (λ clean settled.
-          let found = stood clean settled in (
+          let found = stood (omega (arith, clean, c.renew_schema.ensures.crash.clean)) settled in (
             subst (λ (t : Contents). Stands (state g.S.Store c.args.conn.now).now t) same found.0,
-            subst (λ (t : Contents). IsStore (state g.S.Store c.prepare.new.conn) t) same found.1,
+            store c.in_ok-read.read.2
+                (λ e. subst (λ k. IsStore (state g.S.Store k) (rows_of S)) (sym (c.renew_schema.ensures.whole e)) (subst (λ (t : Contents). IsStore (state g.S.Store c.prepare.new.conn) t) same (found.1 e)))
+                (λ e. c.in-Ok.ensures.wrote clean e S is (subst (λ (t : Contents). IsEarlier (state g.S.Store c.prepare.new.conn) t) same (found.2 e))),
           )),
     )
+  where
+    store : {A : Type 0} (b : Bool) → (b ≡ false → A) → (b ≡ true → A) → A
+    store true f g = g refl
+    store false f g = f refl
+
+pub returns-in-Ok-clause-crash : goal.returns-in-Ok-clause-crash
+returns-in-Ok-clause-crash g c =
+    let (t, read, stood) = c.in_ok-read.ensures.loaded in
+    let some = rw (c.in-Ok-Some.field-0-is) at c.in-Ok-Some.ensures.some in
+    let (S, valid, rows, held) = some t.blobs (sym read.files) (All-from_recursion (λ b. sha256 b.1 ≡ b.0) t.blobs read.digests) in
+    let same : t ≡ rows_of S = read.rows ∙ sym rows in
+    renews c.nothing_is_valid.ensures c.in-Ok-Some.held.held c.in_ok-read.read.2 (state g.S.Store c.args.conn.now) (state g.S.Store c.prepare.new.conn) (state g.S.Store c.renew_schema.new.conn) S
+    (record { valid = valid; held = held })
+    (λ clean.
+    let found = stood clean (c.leaves_committed.ensures.settled c.requires) in (
+      c.in_ok-read.ensures.was_open clean,
+      subst (λ (t : Contents). Stands (state g.S.Store c.args.conn.now).now t) same found.0,
+      λ e. subst (λ (t : Contents). IsEarlier (state g.S.Store c.prepare.new.conn) t) same (found.2 e),
+    ))
+    c.prepare.ensures.crash c.renew_schema.ensures.crash
+
+pub returns-in-Err-renew_schema-clause-crash : goal.returns-in-Err-renew_schema-clause-crash
+returns-in-Err-renew_schema-clause-crash g c =
+    let (t, read, stood) = c.in_ok-read.ensures.loaded in
+    let some = rw (c.in-Ok-Some.field-0-is) at c.in-Ok-Some.ensures.some in
+    let (S, valid, rows, held) = some t.blobs (sym read.files) (All-from_recursion (λ b. sha256 b.1 ≡ b.0) t.blobs read.digests) in
+    let same : t ≡ rows_of S = read.rows ∙ sym rows in
+    renews c.nothing_is_valid.ensures c.in-Ok-Some.held.held c.in_ok-read.read.2 (state g.S.Store c.args.conn.now) (state g.S.Store c.prepare.new.conn) (state g.S.Store c.renew_schema.new.conn) S
+    (record { valid = valid; held = held })
+    (λ clean.
+    let found = stood clean (c.leaves_committed.ensures.settled c.requires) in (
+      c.in_ok-read.ensures.was_open clean,
+      subst (λ (t : Contents). Stands (state g.S.Store c.args.conn.now).now t) same found.0,
+      λ e. subst (λ (t : Contents). IsEarlier (state g.S.Store c.prepare.new.conn) t) same (found.2 e),
+    ))
+    c.prepare.ensures.crash c.renew_schema.ensures.crash
+
+pub returns-in_err-read-clause-crash : goal.returns-in_err-read-clause-crash
+returns-in_err-read-clause-crash g c = prepares c.nothing_is_valid.ensures (state g.S.Store c.args.conn.now) (state g.S.Store c.prepare.new.conn) c.prepare.ensures.crash
+
+pub returns-in-Ok-None-clause-crash : goal.returns-in-Ok-None-clause-crash
+returns-in-Ok-None-clause-crash g c = prepares c.nothing_is_valid.ensures (state g.S.Store c.args.conn.now) (state g.S.Store c.prepare.new.conn) c.prepare.ensures.crash
+
+pub returns-in-Err-clause-crash : goal.returns-in-Err-clause-crash
+returns-in-Err-clause-crash g c = prepares c.nothing_is_valid.ensures (state g.S.Store c.args.conn.now) (state g.S.Store c.prepare.new.conn) c.prepare.ensures.crash
 
 pub returns-in_err-read-clause-damaged : goal.returns-in_err-read-clause-damaged
 returns-in_err-read-clause-damaged g c clean settled same =
@@ -48,6 +99,6 @@ returns-in-Ok-None-clause-damaged g c clean settled same =
       c.in_ok-read.ensures.schema,
       λ U valid stands.
           none t.blobs (sym read.files) U valid
-          (one_stands trees (rows_of U) t (c.one_contents.ensures trees) (state_fits law U valid) read.fit (state_rises law U valid) read.rising stands.1 (stood clean settled).0.1
+          (one_stands trees (rows_of U) t (state_fits law U valid) read.fit (state_rises law U valid) read.rising stands.1 (stood clean settled).0.1
           ∙ read.rows),
     )

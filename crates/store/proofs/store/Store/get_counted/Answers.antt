@@ -1,5 +1,5 @@
 use Rattle.std.proofs.Common.{arith, refl, sym, subst}
-use Rattle.std.specs.Prelude.{IsTrue, None, option_map}
+use Rattle.std.specs.Prelude.{IsTrue, None}
 use Rattle.sqlite.specs.Held.{state}
 use Rattle.sqlite.specs.State.{HasCleanDisk}
 use Rattle.machine.specs.Commands.{grants}

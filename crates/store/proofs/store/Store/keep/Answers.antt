@@ -1,7 +1,6 @@
-use Rattle.std.proofs.Common.{◌≡◌, ◌∙◌, ◌⊎◌, inl, inr, ap, arith, sym, subst}
+use Rattle.std.proofs.Common.{◌≡◌, ◌∙◌, inl, inr, ap, arith, sym, subst}
 use Rattle.std.specs.Prelude.{IsTrue}
 use Rattle.sqlite.specs.Held.{state}
-use Rattle.sqlite.specs.State.{HasCleanDisk}
 use Rattle.machine.specs.Effects.{Effects, applied}
 use Rattle.machine.specs.Held.{Held, IsHeld, held_of, held_with}
 use Rattle.machine.specs.State.{State}

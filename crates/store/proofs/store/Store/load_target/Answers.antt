@@ -1,5 +1,5 @@
-use Rattle.std.proofs.Common.{◌≡◌, ◌⊎◌, inl, inr, arith, sym, subst}
-use Rattle.std.specs.Prelude.{IsTrue, None, option_map}
+use Rattle.std.proofs.Common.{arith, sym, subst}
+use Rattle.std.specs.Prelude.{IsTrue, option_map}
 use Rattle.sqlite.specs.Held.{state}
 use Rattle.sqlite.specs.State.{HasCleanDisk}
 use Rattle.machine.specs.Commands.{grants}
@@ -8,7 +8,6 @@ use Rattle.machine.specs.State.{State}
 use Rattle.store.specs.Standing.{StandsAt, seen}
 use Rattle.store.specs.StateRows.{rows_of}
 use Rattle.store.specs.Ticks.{TicksFew}
-use Rattle.store.specs.steps.Loading.{ReadsOnly}
 use Rattle.store.proofs.Fitting.{blobs_keyed}
 use Rattle.store.proofs.Loads.{holds_blobs}
 use Rattle.store.proofs.Standings.{reads_if, store_at}

@@ -1,4 +1,4 @@
-use Rattle.std.proofs.Common.{◌≡◌, ◌∙◌, None, Some, ap, subst, sym}
+use Rattle.std.proofs.Common.{◌≡◌, ◌∙◌, None, Some, subst, sym}
 use Rattle.sqlite.specs.Held.{state}
 use Rattle.machine.specs.Held.{Held}
 use Rattle.machine.specs.State.{metadata_of}
