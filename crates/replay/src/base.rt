@@ -13,8 +13,9 @@ pub enum Base {
     None,
 }
 
-// A line for each row of the five tables, with the bytes in hex.
+// A line for each row of the six tables, with the bytes in hex.
 const ROWS: &str = "SELECT 'root ' || version || ' ' || lower(hex(bytes)) FROM root
+    UNION ALL SELECT 'root2 ' || version || ' ' || profile || ' ' || lower(hex(bytes)) FROM root2
     UNION ALL SELECT 'current ' || slot || ' ' || version || ' ' || lower(hex(bytes)) FROM current
     UNION ALL SELECT 'shelf ' || role || ' ' || version || ' ' || lower(hex(bytes)) FROM shelf
     UNION ALL SELECT 'blob ' || digest || ' ' || lower(hex(bytes)) FROM blob
@@ -122,7 +123,7 @@ impl Base {
         }
     }
 
-    /// A line for each row of the five tables: its table, its key, and its bytes in hex. A store that was open is opened again.
+    /// A line for each row of the six tables: its table, its key, and its bytes in hex. A store that was open is opened again.
     pub fn rows(&mut self, alloc: Global) -> Result<Vec<String>, StoreFault> {
         let is_open = self.is_open();
         self.shut();

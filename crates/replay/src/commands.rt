@@ -255,7 +255,7 @@ impl Session {
         Ok(told(self.alloc, if done.is_ok() { "done" } else { "failed" })?)
     }
 
-    /// `rows`: a line for each row of the five tables.
+    /// `rows`: a line for each row of the six tables.
     pub fn look(&mut self) -> Result<String, LineFault> {
         let mut rows = self.base.rows(self.alloc);
         if rows.is_err() {

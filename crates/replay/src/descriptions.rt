@@ -10,7 +10,8 @@ use canonical_json::write;
 use metadata::Kind;
 use signed_files::{
     Delegation, Entry, Keys, LayoutReference, Leaf, Listing, Root, Rule, Step, Targets, Value,
-    layout_signed, link_signed, meta_signed, root_signed, signed_file, targets_signed,
+    layout_signed, link_signed, meta_signed, root_signed, signed_file, targets_signed, text_value,
+    texts, with_member,
 };
 use std::alloc::Global;
 
@@ -43,6 +44,8 @@ struct Description {
     kind: Kind,
     version: u32,
     expires: String,
+    spec_version: Option<String>,
+    required: Option<Vec<String>>,
     rules: Rules,
     entries: Vec<(String, Entry)>,
     listings: Vec<(String, Listing)>,
@@ -77,6 +80,8 @@ impl Description {
             kind,
             version: 1,
             expires: String::new(alloc),
+            spec_version: None,
+            required: None,
             rules,
             entries: Vec::new(alloc),
             listings: Vec::new(alloc),
@@ -114,6 +119,14 @@ impl Description {
         if name == "expires" {
             let text = if value == "now" { now } else { value };
             self.expires = String::from_str(self.alloc, text)?;
+            return Ok(());
+        }
+        if name == "spec" {
+            self.spec_version = Some(String::from_str(self.alloc, value)?);
+            return Ok(());
+        }
+        if name == "require" {
+            self.required = Some(patterns_of(self.alloc, value)?);
             return Ok(());
         }
         match self.kind {
@@ -242,7 +255,7 @@ impl Description {
 
     // The bytes of the signed part.
     fn written(&self, keys: &Keys) -> Result<Vec<u8>, LineFault> {
-        let value = self.signed(keys)?;
+        let value = self.with_said(self.signed(keys)?)?;
         let mut bytes = Vec::new(self.alloc);
         match write(&value, &mut bytes) {
             Ok(()) => Ok(bytes),
@@ -271,6 +284,20 @@ impl Description {
         })
     }
 
+    // The signed part with the `spec_version` and the `layout_required` that the words say.
+    fn with_said(&self, signed: Value) -> Result<Value, LineFault> {
+        let mut value = signed;
+        if let Some(text) = &self.spec_version {
+            let text = text_value(self.alloc, text.as_str())?;
+            value = with_member(self.alloc, value, "spec_version", text)?;
+        }
+        if let Some(patterns) = &self.required {
+            let patterns = texts(self.alloc, patterns)?;
+            value = with_member(self.alloc, value, "layout_required", patterns)?;
+        }
+        Ok(value)
+    }
+
     fn root(&self) -> Root<'_> {
         Root {
             version: self.version,
@@ -291,6 +318,18 @@ impl Description {
             delegations: &self.delegations,
         }
     }
+}
+
+// The patterns of a word, with commas between them; an empty word has none.
+fn patterns_of(alloc: Global, value: &str) -> Result<Vec<String>, LineFault> {
+    let mut patterns = Vec::new(alloc);
+    if value.is_empty() {
+        return Ok(patterns);
+    }
+    for pattern in value.split(',') {
+        patterns.push(String::from_str(alloc, pattern)?)?;
+    }
+    Ok(patterns)
 }
 
 fn make_rule(keys: &mut Keys, rule: &Rule) -> Result<(), LineFault> {

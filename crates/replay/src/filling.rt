@@ -32,7 +32,7 @@ fn put_row(conn: &mut Connection<MemStore>, role: u32, bytes: &[u8]) -> Result<(
 fn put_root(alloc: Global, conn: &mut Connection<MemStore>, version: u32) -> Result<(), Error> {
     let file = root_file(alloc, version)?;
     conn.execute(
-        "INSERT INTO root (version, bytes) VALUES (?1, ?2)",
+        "INSERT INTO root2 (version, profile, bytes) VALUES (?1, 1, ?2)",
         params![version, file.as_bytes()],
     )?;
     Ok(())

@@ -9,7 +9,7 @@ use std::alloc::{AllocError, Global};
 // A row of a version and bytes.
 type Versioned = (u32, Vec<u8>);
 
-const ROOTS: &str = "SELECT version, bytes FROM root ORDER BY version";
+const ROOTS: &str = "SELECT version, profile, bytes FROM root2 ORDER BY version";
 
 const TIMESTAMP: &str = "SELECT version, bytes FROM current WHERE slot = 'timestamp'";
 
@@ -62,21 +62,23 @@ fn read_metadata(
     conn: &mut Connection<MemStore>,
     metadata: &mut MetadataRows,
 ) -> Result<(), Error> {
-    read_versioned(conn, ROOTS, &mut metadata.roots)?;
+    read_roots(conn, &mut metadata.roots)?;
     read_current(conn, TIMESTAMP, &mut metadata.timestamp)?;
     read_current(conn, SNAPSHOT, &mut metadata.snapshot)?;
     read_shelf(conn, &mut metadata.shelf)
 }
 
-// The rows of a version and bytes that a query finds.
-fn read_versioned(
+fn read_roots(
     conn: &mut Connection<MemStore>,
-    text: &str,
-    found: &mut Vec<Versioned>,
+    found: &mut Vec<(u32, u32, Vec<u8>)>,
 ) -> Result<(), Error> {
-    let rows = conn.query_all(text, &[])?;
+    let rows = conn.query_all(ROOTS, &[])?;
     for row in rows.iter() {
-        found.push(versioned(row)?).map_err(AllocError::from)?;
+        let version: u32 = row.get(0)?;
+        let profile: u32 = row.get(1)?;
+        found
+            .push((version, profile, row.get(2)?))
+            .map_err(AllocError::from)?;
     }
     Ok(())
 }

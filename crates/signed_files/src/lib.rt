@@ -20,6 +20,6 @@ pub use fault::Fault;
 pub use keys::Keys;
 pub use layouts::{Link, Step, layout_signed, link_signed};
 pub use lms::OtsType;
-pub use members::Members;
+pub use members::{Members, text_value, texts, with_member};
 pub use path_patterns::Digest;
 pub use signing::{Leaf, signed_file};

@@ -60,6 +60,22 @@ impl Members {
     }
 }
 
+/// An object with this member, in the place of those of its name. What is no object stays as it is.
+pub fn with_member(
+    alloc: Global,
+    signed: Value,
+    name: &str,
+    value: Value,
+) -> Result<Value, AllocError> {
+    let Value::Object(list) = signed else {
+        return Ok(signed);
+    };
+    let mut members = Members { alloc, list };
+    members.list.retain(|held| held.0.as_str() != name);
+    members.put(name, value)?;
+    Ok(members.object())
+}
+
 /// A text of its own.
 pub fn text_value(alloc: Global, text: &str) -> Result<Value, AllocError> {
     Ok(Value::Text(String::from_str(alloc, text)?))

@@ -3,7 +3,7 @@ use crate::documents::{ROOT, SNAPSHOT, TARGETS, TIMESTAMP};
 use metadata::{digest_of, read_date_time};
 use sqlite::types::ValueRef;
 use sqlite::{Connection, FileStore, Files, Row};
-use sqlite_disk::{Crash, Fuse, Memory};
+use sqlite_disk::{Crash, Disk, Fuse, Memory};
 use sqlite_pager::Options;
 use std::alloc::Global;
 use std::process::Abort;
@@ -36,14 +36,19 @@ const ALONE: [Step; 6] = [
 
 const TOGETHER: [Step; 4] = [Step::Init, Step::Batch, Step::Put, Step::Prune];
 
-// The rows of each of the five tables.
-const QUERIES: [&str; 5] = [
+// The rows of each of the six tables, of which schema 1 had the first five.
+const QUERIES: [&str; 6] = [
     "SELECT version, bytes FROM root ORDER BY version",
     "SELECT slot, version, bytes FROM current ORDER BY slot",
     "SELECT role, version, bytes FROM shelf ORDER BY role, version",
     "SELECT digest, bytes FROM blob ORDER BY digest",
     "SELECT version FROM schema",
+    "SELECT version, profile, bytes FROM root2 ORDER BY version",
 ];
+
+// Back to schema 1.
+const BACK: &str =
+    "INSERT INTO root (version, bytes) SELECT version, bytes FROM root2; DROP TABLE root2; DELETE FROM schema; INSERT INTO schema (version) VALUES (1)";
 
 fn command<'a>(step: Step, documents: &'a [Document<'a>]) -> Command<'a> {
     match step {
@@ -119,13 +124,44 @@ fn rows_after(alloc: Global, mut files: Files<Fuse<Memory>>) -> Result<Vec<Row>,
         return Err(Fail::from("no store"));
     };
     let mut conn = store.into_connection();
+    rows_of(alloc, &mut conn)
+}
+
+// The rows of the six tables, or of the five where there is no sixth.
+fn rows_of(alloc: Global, conn: &mut Connection<Disks>) -> Result<Vec<Row>, Fail> {
+    let count = match conn.query_all(QUERIES[5], &[]) {
+        Ok(_) => 6,
+        Err(_) => 5,
+    };
     let mut rows = Vec::new(alloc);
-    for query in &QUERIES {
+    for query in &QUERIES[..count] {
         for row in conn.query_all(query, &[])? {
             rows.push(row)?;
         }
     }
     Ok(rows)
+}
+
+// The connection to these files, if it is opened.
+fn connected(alloc: Global, files: Files<Fuse<Memory>>) -> Option<Connection<Disks>> {
+    match Connection::open_files(alloc, files, Options::new(1)) {
+        Ok(conn) => Some(conn),
+        Err(_) => None,
+    }
+}
+
+// The rows that stand in files after a crash, and the files.
+fn rows_left(
+    alloc: Global,
+    mut files: Files<Fuse<Memory>>,
+) -> Result<(Vec<Row>, Files<Fuse<Memory>>), Fail> {
+    files.log.crash();
+    files.db.crash();
+    let Some(mut conn) = connected(alloc, files) else {
+        return Err(Fail::from("no connection"));
+    };
+    let rows = rows_of(alloc, &mut conn)?;
+    Ok((rows, conn.into_store().close()))
 }
 
 fn is_same_value(one: ValueRef<'_>, other: ValueRef<'_>) -> bool {
@@ -223,6 +259,106 @@ fn stops_at_each_call(
         }
     }
     Err(Fail::from("never at the end"))
+}
+
+// The files of a database of schema 1.
+fn first_schema<'a>(
+    alloc: Global,
+    documents: &'a [Document<'a>],
+    now: Moment,
+) -> Result<Files<Fuse<Memory>>, Fail> {
+    let files = new_files(alloc, u64::MAX, u64::MAX);
+    let left = run(alloc, files, &TOGETHER[..3], documents, now)?;
+    let Some(mut conn) = connected(alloc, left.files) else {
+        return Err(Fail::from("no connection"));
+    };
+    conn.execute_batch(BACK)?;
+    Ok(conn.into_store().close())
+}
+
+// A copy of a file, which stops after so many calls.
+fn copied(alloc: Global, file: &Fuse<Memory>, calls: u64) -> Result<Fuse<Memory>, Fail> {
+    let mut copy = Memory::new(alloc);
+    match copy.write_at(0, file.inner().bytes()) {
+        Ok(()) => Ok(Fuse::new(copy, calls)),
+        Err(_) => Err(Fail::from("no copy")),
+    }
+}
+
+fn copies(
+    alloc: Global,
+    files: &Files<Fuse<Memory>>,
+    stops_log: bool,
+    calls: u64,
+) -> Result<Files<Fuse<Memory>>, Fail> {
+    let (log, db) = if stops_log {
+        (calls, u64::MAX)
+    } else {
+        (u64::MAX, calls)
+    };
+    Ok(Files {
+        log: copied(alloc, &files.log, log)?,
+        db: copied(alloc, &files.db, db)?,
+    })
+}
+
+// Opens a store over the files: whether it is open, and the files.
+fn migrated(
+    alloc: Global,
+    files: Files<Fuse<Memory>>,
+) -> Result<(bool, Files<Fuse<Memory>>), Fail> {
+    match opened(alloc, files) {
+        Ok(store) => Ok((true, store.into_connection().into_store().close())),
+        Err(Some(files)) => Ok((false, files)),
+        Err(None) => Err(Fail::from("no files")),
+    }
+}
+
+// An opening of a database of schema 1 stops at each of its calls in turn, until none is left. Each leaves schema 1 whole or schema 2 whole,
+// and the next open brings it to schema 2.
+fn stops_at_each_call_of_a_migration(
+    rt: &(impl Abort + AllocGlobal),
+    stops_log: bool,
+) -> Result<(), Fail> {
+    let alloc = rt.alloc();
+    let now = read_date_time("2030-01-01T00:00:00Z").expect(rt, "a moment");
+    let role = RoleName::read(alloc, "targets")?.expect(rt, "a role");
+    let documents = [
+        (Offer::Timestamp, TIMESTAMP.as_bytes()),
+        (Offer::Snapshot, SNAPSHOT.as_bytes()),
+        (Offer::Targets(role), TARGETS.as_bytes()),
+    ];
+    let before = first_schema(alloc, &documents, now)?;
+    let (first, before) = rows_left(alloc, before)?;
+    let files = new_files(alloc, u64::MAX, u64::MAX);
+    let calm = run(alloc, files, &TOGETHER[..3], &documents, now)?;
+    let second = rows_after(alloc, calm.files)?;
+    assert!(rt; !are_same(&first, &second));
+    for calls in 0..2_000u64 {
+        let (is_open, files) = migrated(alloc, copies(alloc, &before, stops_log, calls)?)?;
+        let (found, files) = rows_left(alloc, files)?;
+        let is_second = are_same(&found, &second);
+        assert!(rt; is_second || are_same(&found, &first), "{calls} calls");
+        assert!(rt;
+            are_same(&rows_after(alloc, files)?, &second),
+            "{calls} calls"
+        );
+        if is_open {
+            assert!(rt; is_second, "{calls} calls");
+            return Ok(());
+        }
+    }
+    Err(Fail::from("never at the end"))
+}
+
+#[test]
+fn the_log_stops_in_a_migration(rt: HostRuntime) -> Result<(), Fail> {
+    stops_at_each_call_of_a_migration(&rt, true)
+}
+
+#[test]
+fn the_database_stops_in_a_migration(rt: HostRuntime) -> Result<(), Fail> {
+    stops_at_each_call_of_a_migration(&rt, false)
 }
 
 #[test]
