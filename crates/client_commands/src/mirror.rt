@@ -21,6 +21,7 @@ pub struct Mirror<'a, 'n, 'e, E: Write> {
     notes: &'n mut Notes<'e, E>,
     is_watched: bool,
     bytes: u64,
+    lacks_timestamp: bool,
 }
 
 impl<'a, 'n, 'e, E: Write> Mirror<'a, 'n, 'e, E> {
@@ -35,7 +36,13 @@ impl<'a, 'n, 'e, E: Write> Mirror<'a, 'n, 'e, E> {
             notes,
             is_watched: rt.stderr().is_terminal(),
             bytes: 0,
+            lacks_timestamp: false,
         }
+    }
+
+    /// Whether it answered that it has no timestamp.
+    pub fn lacks_timestamp(&self) -> bool {
+        self.lacks_timestamp
     }
 
     // A connection to the port, and when it was begun.
@@ -71,7 +78,10 @@ impl<'a, 'n, 'e, E: Write> Mirror<'a, 'n, 'e, E> {
                 self.bytes = self.bytes.saturating_add(count);
                 self.notes.tell(&name, &Count(count));
             }
-            Ok(None) => self.notes.tell(&name, &"none"),
+            Ok(None) => {
+                self.lacks_timestamp |= name == "metadata/timestamp.json";
+                self.notes.tell(&name, &"none");
+            }
             Err(fault) => self.notes.tell(&name, fault),
         }
     }

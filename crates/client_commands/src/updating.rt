@@ -2,14 +2,17 @@
 use crate::fault::fault_of_client;
 use crate::mirror::Mirror;
 use command_support::{Fault, Notes, moment, print};
-use commands::{Work, worked};
+use commands::{Versions, Work, tell_standing, worked};
+use connections::Port;
 use metadata::Moment;
 use sqlite::Alter;
-use std::io::Write;
+use std::fmt;
+use std::io::{IsTerminal, Write};
 use store::Store;
 
 /// Takes new roots, the timestamp and the snapshot from the repository at the port of 127.0.0.1 into the state in the database
-/// file, each where the state's own rules accept it, and prints `updated`.
+/// file, each where the state's own rules accept it, and prints `updated`. It warns where the repository has no timestamp, or the one that is
+/// held then has expired: from then on nothing is granted.
 pub fn update<O: Write, E: Write>(
     rt: &HostRuntime,
     db: &str,
@@ -41,16 +44,61 @@ impl Work for Updating<'_> {
         state: &mut Store<S>,
         notes: &mut Notes<'_, E>,
     ) -> Result<(), Fault> {
-        let done = {
+        let alloc = self.rt.alloc();
+        let before = Versions::of(alloc, state, self.now);
+        let (done, lacks_timestamp) = {
             let mut mirror = Mirror::new(self.rt, self.port, notes);
-            client::update(self.rt.alloc(), state, &mut mirror, self.now)
+            let done = client::update(alloc, state, &mut mirror, self.now);
+            (done, mirror.lacks_timestamp())
         };
         match done {
-            Ok(()) => Ok(()),
+            Ok(()) => {
+                self.tell_found(before, state, notes);
+                if lacks_timestamp {
+                    notes.warn(&Port(self.port), &"no timestamp");
+                }
+                Ok(())
+            }
             Err(fault) => {
                 notes.tell(&self.db, &fault);
                 Err(fault_of_client(fault))
             }
         }
+    }
+}
+
+impl Updating<'_> {
+    // Tells the versions before and behind an update and the first expiry, and warns of a timestamp that has expired.
+    fn tell_found<S: Alter, E: Write>(
+        &self,
+        before: Versions,
+        state: &mut Store<S>,
+        notes: &mut Notes<'_, E>,
+    ) {
+        let alloc = self.rt.alloc();
+        let found = Versions::of(alloc, state, self.now);
+        notes.tell(&self.db, &Found { before, found });
+        if notes.are_told() {
+            tell_standing(alloc, self.db, state, self.now, notes);
+        } else if self.rt.stderr().is_terminal() {
+            notes.progress(&Found { before, found });
+        }
+        if found.has_expired(self.now) {
+            notes.warn(&self.db, &"the timestamp has expired");
+        }
+    }
+}
+
+// The versions before an update and behind it.
+#[derive(Clone, Copy)]
+struct Found {
+    before: Versions,
+    found: Versions,
+}
+
+impl fmt::Display for Found {
+    fn fmt<W: fmt::Write>(&self, f: &mut fmt::Formatter<W>) -> fmt::Result {
+        let Found { before, found } = self;
+        write!(f, "{found}; before: {before}")
     }
 }

@@ -2,18 +2,45 @@
 use crate::fault::Fault;
 use crate::notes::Notes;
 use sqlite::{Connection, Error, ErrorCode, FileFrom, FileStore, Wary};
-use std::fs::File;
+use std::alloc::AllocError;
+use std::fs::{self, File};
 use std::io::Write;
 
-/// A connection to a database file, which is made where there is none. Of what a torn write leaves, nothing is supposed.
+// The bytes of a log without a change: its head.
+const LOG_HEAD: u64 = 41;
+
+/// A connection to a database file, which is made where there is none. Of what a torn write leaves, nothing is supposed. Where the file is
+/// empty or absent and beside it stands a log with changes, it is `Damaged`, and both are let be.
 pub fn connected<E: Write>(
     rt: &HostRuntime,
     db: &str,
     notes: &mut Notes<'_, E>,
 ) -> Result<Connection<FileStore<FileFrom<Wary>>>, Fault> {
+    if is_log_alone(rt, db)? {
+        notes.tell(&db, &"empty or absent, beside a log with changes");
+        return Err(Fault::Damaged);
+    }
     match Connection::open_from(rt, db, false, Wary) {
         Ok(conn) => Ok(conn),
         Err((error, _)) => Err(unopened(rt, db, &error, notes)),
+    }
+}
+
+// Whether the database file is empty or absent, and its log has changes, which an opening would throw away. No crash leaves that: a
+// database has its first byte before its log has a change.
+fn is_log_alone(rt: &HostRuntime, db: &str) -> Result<bool, AllocError> {
+    if length_of(rt, db) > 0 {
+        return Ok(false);
+    }
+    let log = format!(in rt.alloc(); "{db}-wal")?;
+    Ok(length_of(rt, log.as_str()) > LOG_HEAD)
+}
+
+// The bytes of a file, none where there is no file.
+fn length_of(rt: &HostRuntime, path: &str) -> u64 {
+    match fs::metadata(rt, path) {
+        Ok(found) => found.len(),
+        Err(_) => 0,
     }
 }
 

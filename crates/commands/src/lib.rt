@@ -6,6 +6,7 @@ mod arguments;
 mod faults;
 mod files;
 mod repository;
+mod standing;
 
 pub use arguments::{batch_of, documents_of, told};
 pub use command_support::{Denial, Fault, Notes};
@@ -13,4 +14,5 @@ pub use faults::{fault_of_store, refused};
 pub use files::{InputFile, read_all};
 pub use machine::Offer;
 pub use repository::{Work, applied, is_shut, worked};
+pub use standing::{Versions, tell_standing};
 pub use store::{Reply, StoreFault};

@@ -8,6 +8,7 @@ use sqlite_disk::Disk;
 use std::alloc::Global;
 use std::io::Write;
 use store::{Command, Reply, Store, StoreFault};
+use tables::{has_first_schema, has_others_behind};
 
 /// What is done over an open repository.
 pub trait Work {
@@ -56,14 +57,25 @@ fn worked_over<S: Alter + Drop, W: Work, E: Write>(
     work: &mut W,
     notes: &mut Notes<'_, E>,
 ) -> (Result<W::Done, Fault>, Option<Connection<S>>) {
+    let is_first = has_first_schema(conn.schema());
+    let has_others = has_others_behind(conn.schema());
     match Store::open(alloc, conn) {
         Ok(repository) => {
+            if is_first {
+                notes.tell(&db, &"schema 1 was brought to schema 2");
+            }
             let mut repository = repository;
             let done = work.work(&mut repository, notes);
             (done, Some(repository.into_connection()))
         }
         Err(fault) => {
             notes.tell(&db, &fault);
+            if has_others {
+                notes.tell(
+                    &db,
+                    &"other tables, indexes or views stand behind those of schema 1",
+                );
+            }
             (Err(fault_of_store(fault)), None)
         }
     }

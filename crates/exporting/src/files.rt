@@ -1,12 +1,15 @@
 //! The files of a repository in a folder, under the names that clients ask for.
-use command_support::{DOCUMENT_LIMIT, Denial, Fault, Notes, file_fault, put_in_place};
+use command_support::{Denial, Fault, Notes, file_fault, put_in_place};
 use commands::fault_of_store;
-use metadata::{Body, Kind, Listing, Moment, ShapeFault, Snapshot, Targets, read_document};
+use limits::BLOB_LIMIT;
+use metadata::{
+    Body, Kind, Listing, Moment, ShapeFault, Snapshot, Targets, digest_of, read_document,
+};
 use path_patterns::consistent_name;
 use sqlite::Alter;
 use std::alloc::{AllocError, Global};
 use std::fs::{self, File, Metadata};
-use std::io::{self, Read, Write};
+use std::io::{self, ErrorKind, Read, Write};
 use store::{Command, Reply, Store};
 
 /// A repository that is written into a folder. What is told of it has the name of its database file.
@@ -155,14 +158,14 @@ impl<'a, S: Alter> Exporting<'a, S> {
         Ok(())
     }
 
-    // The file of a target, where the repository grants it. One of its length that stands there already is not written again.
+    // The file of a target, where the repository grants it. One of its digest that stands there already is not written again.
     fn write_target_file<E: Write>(
         &mut self,
         listing: &Listing,
         notes: &mut Notes<'_, E>,
     ) -> Result<(), Fault> {
         let place = self.target_place(listing)?;
-        if has_length(self.rt, place.as_str(), u64::from(listing.length)) {
+        if has_digest(self.rt, place.as_str(), listing) {
             return Ok(());
         }
         let command = Command::Target(listing.path.as_str(), Some(listing.digest));
@@ -178,7 +181,7 @@ impl<'a, S: Alter> Exporting<'a, S> {
         format!(in self.alloc(); "{folder}/targets/{name}")
     }
 
-    // What was answered for a target. A denial is told.
+    // What was answered for a target. A denial is told, and so is a place that no file can have.
     fn write_reply<E: Write>(
         &mut self,
         place: &str,
@@ -187,12 +190,36 @@ impl<'a, S: Alter> Exporting<'a, S> {
         notes: &mut Notes<'_, E>,
     ) -> Result<(), Fault> {
         match reply {
-            Reply::Bytes(bytes) => self.write(place, bytes, notes),
+            Reply::Bytes(bytes) => self.write_target(place, listing, bytes, notes),
             Reply::Denied(denial, _) => {
                 notes.tell(&listing.path.as_str(), &denial.name());
                 Ok(())
             }
             _ => Ok(()),
+        }
+    }
+
+    // The file of a target in its place. A path may be one that no folder takes, since its name is too long or is that of a folder of another
+    // target: such a one is warned of and left out, for one role that lists it may not keep all others from being exported.
+    fn write_target<E: Write>(
+        &mut self,
+        place: &str,
+        listing: &Listing,
+        bytes: &[u8],
+        notes: &mut Notes<'_, E>,
+    ) -> Result<(), Fault> {
+        match put_in_folder(self.rt, place, bytes) {
+            Ok(()) => {
+                self.written = self.written.saturating_add(1);
+                Ok(())
+            }
+            Err(error) => match why_left_out(error.kind()) {
+                Some(why) => {
+                    notes.warn(&listing.path.as_str(), &why);
+                    Ok(())
+                }
+                None => Err(unwritten(place, &error, notes)),
+            },
         }
     }
 
@@ -247,10 +274,7 @@ impl<'a, S: Alter> Exporting<'a, S> {
                 self.written = self.written.saturating_add(1);
                 Ok(())
             }
-            Err(error) => {
-                notes.tell(&place, &error);
-                Err(file_fault(&error))
-            }
+            Err(error) => Err(unwritten(place, &error, notes)),
         }
     }
 
@@ -290,6 +314,34 @@ impl<'a, S: Alter> Exporting<'a, S> {
     }
 }
 
+// Why a target has no place in the folder, if that is the fault.
+fn why_left_out(kind: ErrorKind) -> Option<&'static str> {
+    match kind {
+        ErrorKind::InvalidFilename => Some("not exported: its name is too long for a file"),
+        ErrorKind::NotADirectory | ErrorKind::IsADirectory | ErrorKind::AlreadyExists => {
+            Some("not exported: another file stands in its place")
+        }
+        ErrorKind::InvalidInput => Some("not exported: what stands in its place is no file"),
+        _ => None,
+    }
+}
+
+fn unwritten<E: Write>(place: &str, error: &io::Error, notes: &mut Notes<'_, E>) -> Fault {
+    notes.tell(&place, error);
+    file_fault(error)
+}
+
+// Whether the file of the target stands there. What is no file, a link too, is not looked into.
+fn has_digest(rt: &HostRuntime, place: &str, listing: &Listing) -> bool {
+    if !has_length(rt, place, u64::from(listing.length)) {
+        return false;
+    }
+    match beginning(rt, place) {
+        Ok(found) => digest_of(&found) == listing.digest,
+        Err(_) => false,
+    }
+}
+
 // Whether a file of this length stands there.
 fn has_length(rt: &HostRuntime, place: &str, length: u64) -> bool {
     match fs::symlink_metadata(rt, place) {
@@ -302,20 +354,22 @@ fn is_file_of(found: &Metadata, length: u64) -> bool {
     found.len() == length && found.is_file()
 }
 
-// Whether a file of these bytes stands there.
+// Whether a file of these bytes stands there. What is no file, a link too, is not looked into.
 fn has_bytes(rt: &HostRuntime, place: &str, bytes: &[u8]) -> bool {
+    if !has_length(rt, place, bytes.len() as u64) {
+        return false;
+    }
     match beginning(rt, place) {
         Ok(found) => found.as_slice() == bytes,
         Err(_) => false,
     }
 }
 
-// The bytes of a metadata file, and of a longer file a beginning that is too long for one.
+// The bytes of a file, and of one that is longer than each that is exported a beginning that is too long, too.
 fn beginning(rt: &HostRuntime, place: &str) -> io::Result<Vec<u8>> {
     let file = File::open(rt, place)?;
     let mut bytes = Vec::new(rt.alloc());
-    file.take(DOCUMENT_LIMIT as u64 + 1)
-        .read_to_end(&mut bytes)?;
+    file.take(BLOB_LIMIT as u64 + 1).read_to_end(&mut bytes)?;
     Ok(bytes)
 }
 

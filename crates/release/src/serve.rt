@@ -1,7 +1,6 @@
 //! `serve`: answers HTTP requests from the repository.
-use crate::standing::tell_standing;
 use command_support::{Fault, Notes, moment, print};
-use commands::{Work, is_shut, worked};
+use commands::{Work, is_shut, tell_standing, worked};
 use connections::{
     Beginning, Incoming, Outgoing, Timer, answer_unavailable, end, listen, next_stream,
     tell_connection,

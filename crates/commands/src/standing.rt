@@ -1,4 +1,4 @@
-//! What is told of a repository before it is served: which root is trusted, and when the first of its documents expires.
+//! What is told of a repository before it is served, and of a client's own state: what is trusted, and when the first of its documents expires.
 use command_support::Notes;
 use metadata::{Body, Kind, Moment, Snapshot, read_document};
 use sqlite::Alter;
@@ -30,6 +30,71 @@ pub fn tell_standing<S: Alter, E: Write>(
     looked.at_all(version);
     if let Some(nearest) = looked.nearest {
         notes.tell(&db, &nearest);
+    }
+}
+
+/// The versions that are trusted, as notes tell them, and when the timestamp expires.
+#[derive(Clone, Copy)]
+pub struct Versions {
+    root: Option<u32>,
+    timestamp: Option<u32>,
+    snapshot: Option<u32>,
+    expires: Option<Moment>,
+}
+
+impl Versions {
+    /// Those of a repository or of a client's own state. The snapshot is the one that the timestamp names, if it is held.
+    pub fn of<S: Alter>(alloc: Global, repository: &mut Store<S>, now: Moment) -> Versions {
+        let mut found = Versions {
+            root: repository.root_version(),
+            timestamp: None,
+            snapshot: None,
+            expires: None,
+        };
+        if let Ok(Reply::Bytes(bytes)) = repository.apply(
+            Command::Metadata("timestamp.json"),
+            now,
+        ) {
+            if let Ok(document) = read_document(alloc, Kind::Timestamp, &bytes) {
+                if let Body::Timestamp(timestamp) = &document.body {
+                    found.timestamp = Some(timestamp.version);
+                    found.expires = Some(timestamp.expires);
+                    if repository.snapshot_due().is_none() {
+                        found.snapshot = Some(timestamp.snapshot.version);
+                    }
+                }
+            }
+        }
+        found
+    }
+
+    /// Whether the timestamp has expired, if there is one.
+    pub fn has_expired(&self, now: Moment) -> bool {
+        match self.expires {
+            Some(expires) => expires <= now,
+            None => false,
+        }
+    }
+}
+
+impl fmt::Display for Versions {
+    fn fmt<W: fmt::Write>(&self, f: &mut fmt::Formatter<W>) -> fmt::Result {
+        write_version(f, "root", self.root)?;
+        f.write_str(", ")?;
+        write_version(f, "timestamp", self.timestamp)?;
+        f.write_str(", ")?;
+        write_version(f, "snapshot", self.snapshot)
+    }
+}
+
+fn write_version<W: fmt::Write>(
+    f: &mut fmt::Formatter<W>,
+    kind: &str,
+    version: Option<u32>,
+) -> fmt::Result {
+    match version {
+        Some(version) => write!(f, "{kind} {version}"),
+        None => write!(f, "no {kind}"),
     }
 }
 
