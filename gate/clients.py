@@ -24,6 +24,7 @@ from served import AT, EXAMPLE, RELEASE, TOP, Wrong, read, repository, run, want
 HELLO = "50fe039463ca3069a2eec35c62c75eeb4221dba0b00ec35e32bffdc5fb42abc0.hello.txt"
 QUERIES = {
     "root": "SELECT version, bytes FROM root ORDER BY version",
+    "root2": "SELECT version, profile, bytes FROM root2 ORDER BY version",
     "current": "SELECT slot, version, bytes FROM current ORDER BY slot",
     "shelf": "SELECT role, version, bytes FROM shelf ORDER BY role, version",
     "blob": "SELECT digest, bytes FROM blob ORDER BY digest",
@@ -40,7 +41,8 @@ def rows_of(parts):
     shelf = [("targets", 1, read(f"{EXAMPLE}/targets.json"))] if "targets" in parts else []
     hello = read(f"{EXAMPLE}/hello.txt")
     blobs = [(hashlib.sha256(hello).hexdigest(), hello)] if "hello" in parts else []
-    return {"root": [(1, read(f"{EXAMPLE}/root.json"))], "current": slots, "shelf": shelf, "blob": blobs, "schema": [(1,)]}
+    roots = [(1, 1, read(f"{EXAMPLE}/root.json"))]
+    return {"root": [], "root2": roots, "current": slots, "shelf": shelf, "blob": blobs, "schema": [(2,)]}
 
 
 def rows(db):

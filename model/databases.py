@@ -27,32 +27,49 @@ def held_state():
     return state
 
 
-def insert_root(version, root_version=None, rules=None, signers=ROOT_SIGNERS):
-    text = make.signed_file(make.root(root_version or version, LIVE, rules or RULES), signers)
-    return "INSERT INTO root VALUES (?, ?)", (version, text)
+def insert_root(table, version, root_version=None, rules=None, signers=ROOT_SIGNERS, profile=1, required=None):
+    text = make.signed_file(make.root(root_version or version, LIVE, rules or RULES, required=required), signers)
+    row = (version, text) if table == "root" else (version, profile, text)
+    return f"INSERT INTO {table} VALUES ({', '.join('?' * len(row))})", row
 
 
-def root_changes(state):
-    yield "DELETE FROM root"
-    yield "DELETE FROM root WHERE version = 4"
-    yield "DELETE FROM root WHERE version = 3"
-    yield "UPDATE root SET version = 5 WHERE version = 4"
-    yield "UPDATE root SET version = 9 WHERE version = 3"
-    yield "UPDATE root SET bytes = ? WHERE version = 4", (state.timestamp.bytes,)
-    yield "UPDATE root SET bytes = x'00' WHERE version = 3"
-    yield "UPDATE root SET bytes = '{}' WHERE version = 3"
-    yield "UPDATE root SET bytes = CAST(bytes AS TEXT) WHERE version = 3"
-    for version in (6, 5, 2):
-        yield insert_root(version)
-    for version in (0, -1):
-        yield insert_root(version, 2)
-    yield insert_root(5, signers=ROOT_SIGNERS[:1])
-    for rules in (
-        {"timestamp": (KEYS[12:13], 1)}, {"timestamp": (KEYS[3:5], 2)}, {"targets": (KEYS[12:13], 1)},
-        {"root": (KEYS[12:14], 2)},
-    ):
-        yield insert_root(5, rules={**RULES, **rules})
-    yield insert_root(5, rules={**RULES, "root": (KEYS[12:14], 2)}, signers=ROOT_SIGNERS + KEYS[12:14])
+def root_changes(table):
+    """Changes of the roots, in the table that holds them."""
+    def changes(state):
+        yield f"DELETE FROM {table}"
+        yield f"DELETE FROM {table} WHERE version = 4"
+        yield f"DELETE FROM {table} WHERE version = 3"
+        yield f"UPDATE {table} SET version = 5 WHERE version = 4"
+        yield f"UPDATE {table} SET version = 9 WHERE version = 3"
+        yield f"UPDATE {table} SET bytes = ? WHERE version = 4", (state.timestamp.bytes,)
+        yield f"UPDATE {table} SET bytes = x'00' WHERE version = 3"
+        yield f"UPDATE {table} SET bytes = '{{}}' WHERE version = 3"
+        yield f"UPDATE {table} SET bytes = CAST(bytes AS TEXT) WHERE version = 3"
+        for version in (6, 5, 2):
+            yield insert_root(table, version)
+        for version in (0, -1):
+            yield insert_root(table, version, 2)
+        yield insert_root(table, 5, signers=ROOT_SIGNERS[:1])
+        for rules in (
+            {"timestamp": (KEYS[12:13], 1)}, {"timestamp": (KEYS[3:5], 2)}, {"targets": (KEYS[12:13], 1)},
+            {"root": (KEYS[12:14], 2)},
+        ):
+            yield insert_root(table, 5, rules={**RULES, **rules})
+        yield insert_root(table, 5, rules={**RULES, "root": (KEYS[12:14], 2)}, signers=ROOT_SIGNERS + KEYS[12:14])
+        for profile in (1, 2):
+            for required in (None, [], ["a", "b/*"]):
+                yield insert_root(table, 5, profile=profile, required=required)
+
+    return changes
+
+
+def profile_changes(_state):
+    """Changes of the profiles, and rows in `root`, where none may be."""
+    for profile in (0, 2, 3, -1, 2**32 + 1, "'1'", "'x'", "1.0", "1.5", "x'01'"):
+        yield f"UPDATE root2 SET profile = {profile} WHERE version = 3"
+    yield "UPDATE root2 SET profile = 2"
+    yield "INSERT INTO root SELECT version, bytes FROM root2 WHERE version = 3"
+    yield insert_root("root", 5)
 
 
 def current_changes(state):
@@ -105,28 +122,38 @@ def blob_changes(_state):
 
 def schema_changes(_state):
     yield "DELETE FROM schema"
-    for version in (2, 0, -1):
+    for version in (0, -1, 1, 2, 3):
         yield f"UPDATE schema SET version = {version}"
-    yield "INSERT INTO schema VALUES (2)"
+    for version in (1, 2, 3):
+        yield f"INSERT OR IGNORE INTO schema VALUES ({version})"
 
 
-def emptied():
+def emptied(roots):
     """Lists of tables that lose all their rows."""
-    data = ["root", "current", "shelf", "blob"]
+    data = [roots, "current", "shelf", "blob"]
     yield data
     yield data + ["schema"]
     yield data[1:]
     yield data[:3]
-    yield ["root", "current", "blob"]
+    yield [roots, "current", "blob"]
+
+
+# From schema 2 back to schema 1, as it was before there was `root2`, and with an empty `root2`.
+BACK = ["INSERT INTO root SELECT version, bytes FROM root2", "DROP TABLE root2", "UPDATE schema SET version = 1"]
+BACK_EMPTY = [BACK[0], "DELETE FROM root2", BACK[2]]
 
 
 def compare_damaged(session, _random):
     """Rows that are those of no state are refused, and left as they are; others go on."""
     state = held_state()
-    cases = [[]]
-    for changes in (root_changes, current_changes, shelf_changes, blob_changes, schema_changes):
-        cases += [[change] for change in changes(state)]
-    cases += [[f"DELETE FROM {table}" for table in listed] for listed in emptied()]
+    cases = []
+    for roots, begun in (("root2", []), ("root", BACK), ("root", BACK_EMPTY)):
+        cases.append(begun)
+        for changes in (root_changes(roots), current_changes, shelf_changes, blob_changes, schema_changes):
+            cases += [[*begun, change] for change in changes(state)]
+        cases += [[*begun, *(f"DELETE FROM {table}" for table in listed)] for listed in emptied(roots)]
+    cases += [[change] for change in profile_changes(state)]
+    cases.append([*BACK, "CREATE TABLE further(a)"])
     for case in cases:
         world = World(session, state)
         connection = sqlite3.connect(world.database)
@@ -141,15 +168,25 @@ def compare_put(session, database, label):
     """A put of one blob: what it prints, and the rows that it leaves."""
     before, _ = read_rows(database)
     after = {table: list(rows) for table, rows in before.items()}
-    if not tables.stand_for_a_state(before):
+    if not tables.are_opened(tables_in(database)):
+        wanted = REFUSED
+    elif not tables.stand_for_a_state(before):
         wanted = DAMAGED
     else:
-        after["schema"] = [(tables.SCHEMA_VERSION,)]
-        wanted = STORED if before["root"] else NO_ROOT
-        if before["root"]:
+        after = tables.migrated(before)
+        wanted = STORED if after["root2"] else NO_ROOT
+        if after["root2"]:
             after["blob"] = sorted({*before["blob"], (make.digest(BLOB), BLOB)})
     session.check(label, wanted, put_blob(session, database))
     session.check(f"{label}, rows", str(after), str(read_rows(database)[0]))
+
+
+def tables_in(database):
+    """The tables in the order in which they were made."""
+    connection = sqlite3.connect(database)
+    found = [name for (name,) in connection.execute("SELECT name FROM sqlite_master WHERE type = 'table'")]
+    connection.close()
+    return found
 
 
 def put_blob(session, database):
@@ -178,18 +215,19 @@ def build(session, listed, rows, before=(), after=(), statements=None):
 
 
 def compare_absent(session, _random):
-    """Every choice of the five tables, empty or with rows: only a beginning of the five is opened."""
-    held = tables.rows_of(held_state())
+    """Every choice of the six tables, empty or with rows: only a beginning of the six is opened."""
+    state = held_state()
+    versions = ({}, *({"schema": [(version,)]} for version in (1, 2, 3)))
     for count in range(len(tables.TABLES) + 1):
         for listed in itertools.combinations(tables.TABLES, count):
-            for rows in ({}, {"schema": [(tables.SCHEMA_VERSION,)]}, held):
+            for rows in (*versions, tables.rows_of(state), tables.first_rows_of(state)):
                 there = {table: rows.get(table, []) if table in listed else [] for table in tables.TABLES}
                 if not tables.are_opened(listed):
                     wanted = REFUSED
                 elif not tables.stand_for_a_state(there):
                     wanted = DAMAGED
                 else:
-                    wanted = STORED if there["root"] else NO_ROOT
+                    wanted = STORED if tables.migrated(there)["root2"] else NO_ROOT
                 database = build(session, listed, there)
                 session.check(f"tables {listed}", wanted, put_blob(session, database))
 
@@ -201,6 +239,7 @@ OTHER_STATEMENTS = {
              " PRIMARY KEY(role, version))",
     "blob": "CREATE TABLE blob(digest TEXT PRIMARY KEY NOT NULL, bytes BLOB NOT NULL)",
     "schema": "CREATE TABLE schema(version INTEGER PRIMARY KEY NOT NULL)",
+    "root2": "CREATE TABLE root2(version INTEGER PRIMARY KEY NOT NULL, profile INTEGER NOT NULL, bytes BLOB NOT NULL)",
 }
 FURTHER = [
     "CREATE TABLE further(a)", "CREATE INDEX further ON blob(digest)", "CREATE VIEW further AS SELECT 1",

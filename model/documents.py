@@ -78,6 +78,9 @@ def read_root(document, signed):
     roles = signed.get("roles")
     shape(type(roles) is dict and set(roles) == TOP_LEVEL_ROLES)
     document.rules = {role: read_rule(rule, document.keys) for role, rule in roles.items()}
+    document.required = []
+    if document.profile == 2 and "layout_required" in signed:
+        document.required = read_texts(signed["layout_required"], is_pattern)
     judge_ids(document.keys)
 
 
@@ -244,7 +247,10 @@ def read_expires(signed):
 def read_head(document, signed):
     """What the files of all roles have."""
     specification = signed.get("spec_version")
-    shape(type(specification) is str and re.fullmatch(r"1\.0\.[0-9]{1,3}", specification) is not None)
+    shape(type(specification) is str)
+    said = re.fullmatch(r"1\.0\.[0-9]{1,3}(\+p2)?", specification)
+    shape(said is not None and (said[1] is None or document.kind == "root"))
+    document.profile = 2 if said[1] else 1
     shape(is_whole(signed.get("version"), 1, LARGEST_NUMBER))
     document.version = signed["version"]
     document.expires = read_expires(signed)
@@ -253,6 +259,7 @@ def read_head(document, signed):
 def read_checked(kind, text):
     """The checks in their order: those of the envelope, type, members, key table."""
     document = Document()
+    document.kind = kind
     document.signatures, signed, document.signed_bytes = read_envelope(text)
     deny_unless(signed["_type"] == kind, "WrongType")
     document.bytes = text

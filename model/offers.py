@@ -141,7 +141,7 @@ class Offers:
         version = last.version if last else random.choice((0, 0, 0, 4, LARGEST_NUMBER - 2))
         version = max(version + random.choice((1,) * 14 + (0, 2, -1)), random.choice((0, 1, 1, 1)))
         expires = self.now + random.choice((9000, 30000, 100000)) if self.chance(0.8) else self.expiry()
-        root = make.root(version, expires, rules, random.sample(KEYS, random.choice((0, 0, 1, 3))))
+        root = make.root(version, expires, rules, random.sample(KEYS, random.choice((0, 0, 1, 3))), self.required(last))
         signers = self.signers(self.held_rule(state, "root")) if last else []
         signers += [key for key in self.signers(rules["root"]) if key not in signers]
         if self.chance(0.02):
@@ -149,6 +149,15 @@ class Offers:
         if self.chance(0.02):
             root["keys"][KEYS[1].id] = make.key_object(KEYS[0].public.hex())
         return self.finish(root, signers)
+
+    def required(self, last):
+        """Mostly a root of the profile before; at times profile 2, whose root requires layouts of some paths, and at times a lower one."""
+        of_second = self.chance(0.9) if last and last.profile == 2 else self.chance(0.08)
+        if not of_second:
+            return None
+        if last and last.profile == 2 and self.chance(0.5):
+            return last.required
+        return self.random.choice(([], [], ["b/*"], ["*"], ["A*", "d/*/f"], ["x.tgz", "q"]))
 
     def make_listings(self):
         """Files that are there, at times with another length or digest."""

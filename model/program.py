@@ -178,7 +178,7 @@ class Session:
         file.write_bytes(self.empty_database()[0])
         connection = sqlite3.connect(file)
         rows = tables.rows_of(state)
-        for table in ("root", "current", "shelf", "blob"):
+        for table in ("root2", "current", "shelf", "blob"):
             insert_rows(connection, table, rows[table])
         connection.commit()
         connection.close()
@@ -219,11 +219,13 @@ def insert_rows(connection, table, rows):
 
 
 def read_rows(database):
-    """The rows of all five tables, and what SQLite says of the file's soundness."""
+    """The rows of all six tables, of one that is absent none, and what SQLite says of the file's soundness."""
     connection = sqlite3.connect(database)
-    rows = {}
+    there = {name for (name,) in connection.execute("SELECT name FROM sqlite_master")}
+    rows = {table: [] for table in tables.TABLES}
     for table, order in tables.TABLES.items():
-        rows[table] = connection.execute(f"SELECT * FROM {table} ORDER BY {order}").fetchall()
+        if table in there:
+            rows[table] = connection.execute(f"SELECT * FROM {table} ORDER BY {order}").fetchall()
     sound = connection.execute("PRAGMA quick_check").fetchall()
     connection.close()
     return rows, sound

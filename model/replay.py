@@ -8,7 +8,7 @@ import tables
 from denials import Denied
 
 REPLAY = Path(os.environ.get("REPLAY") or Path(__file__).resolve().parent.parent / "crates/replay/out/replay")
-FORGET = "; ".join(f"DELETE FROM {table}" for table in ("root", "current", "shelf", "blob"))
+FORGET = "; ".join(f"DELETE FROM {table}" for table in ("root2", "current", "shelf", "blob"))
 
 
 def is_plain(text):

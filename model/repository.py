@@ -7,6 +7,7 @@ import layouts
 from denials import Denied, deny_unless
 from documents import is_live, meets, read_document
 from names import asked, is_target_path
+from patterns import matches_segmented
 
 MAXIMUM_ROOTS = 4096
 MAXIMUM_SHELF = 4096
@@ -56,6 +57,7 @@ def offer_root(state, text):
         return SAME
     root = read_document("root", text)
     deny_unless(root.version == last.version + 1, "RootVersion")
+    deny_unless(root.profile >= last.profile, "ProfileLowered")
     deny_unless(meets(last.rules["root"], root), "OldThreshold")
     deny_unless(meets(root.rules["root"], root), "NewThreshold")
     deny_unless(len(state.roots) < MAXIMUM_ROOTS, "Full")
@@ -214,10 +216,13 @@ def prune(state):
 def listed_file(state, path, now):
     """The bytes of a target, its digest, and what refers it to a layout."""
     role, (length, digest) = delegations.search(state, path, now)
+    reference = delegations.named_document(state, role).references.get(path)
+    required = any(matches_segmented(pattern, path) for pattern in state.roots[-1].required)
+    deny_unless(reference is not None or not required, "LayoutRequired")
     if digest not in state.blobs:
         raise Denied("BlobMissing", missing=(path, digest, length))
     deny_unless(len(state.blobs[digest]) == length, "BlobLength")
-    return state.blobs[digest], digest, delegations.named_document(state, role).references.get(path)
+    return state.blobs[digest], digest, reference
 
 
 def supporting_file(state, path, now):

@@ -44,7 +44,8 @@ def simple_state(count=1, first=1):
 
 def held_root(broken):
     expires = EXPIRED if "root expired" in broken else NOW + 5001
-    return signed_document("root", make.root(3, expires, RULES), RULES["root"][0][:2])
+    required = ["dir/*.bin"] if "layout required" in broken else [] if broken & {"profile", "second profile"} else None
+    return signed_document("root", make.root(3, expires, RULES, required=required), RULES["root"][0][:2])
 
 
 def held_targets(version):
@@ -190,7 +191,8 @@ def root_scene(broken):
         state.snapshot = held_snapshot(7, EXPIRED, {"targets": (2,)})
         state.timestamp = held_timestamp(EXPIRED, 8 if "incoherent" in broken else 7)
     version = 3 if "version equal" in broken else 2 if "version lower" in broken else 5 if "version" in broken else 4
-    root = make.root(version, EXPIRED if "expired" in broken else LIVE, rules)
+    required = ["a"] if "second profile" in broken and "profile" not in broken else None
+    root = make.root(version, EXPIRED if "expired" in broken else LIVE, rules, required=required)
     if "key id" in broken:
         root["keys"][ZEROS] = make.key_object(KEYS[15].public.hex())
     if "key name" in broken:
@@ -260,12 +262,12 @@ SCENES = {
         "incoherent", *SHAPES,
     ]),
     "root": (root_scene, [
-        "no root", "root expired", "same", "version", "version lower", "version equal", "key id", "key name",
+        "no root", "root expired", "same", "version", "version lower", "version equal", "profile", "second profile", "key id", "key name",
         "old threshold", "new threshold", "new root keys", "new timestamp threshold", "new snapshot key", "expired",
         "incoherent", *SHAPES,
     ]),
     "target": (target_scene, [
-        *LIVE_SNAPSHOT, *SAID, "path", "missing", "threshold", "unsigned", "expired", "not found", "no blob",
+        *LIVE_SNAPSHOT, *SAID, "path", "missing", "threshold", "unsigned", "expired", "not found", "layout required", "no blob",
         "blob length", "other digest", "its digest",
     ]),
 }

@@ -36,15 +36,23 @@ def document(kind, version, expires, members):
     return {**common, **members}
 
 
-def root(version, expires, rules, further_keys=()):
-    """`rules` has, for each role, its keys and its threshold."""
+def root(version, expires, rules, further_keys=(), required=None):
+    """`rules` has, for each role, its keys and its threshold. With a list `required` it has profile 2, and requires layouts of what these
+    patterns match; an empty one is left out."""
     keys = [key for role_keys, _ in rules.values() for key in role_keys]
     members = {
         "consistent_snapshot": True,
         "keys": key_table([*keys, *further_keys]),
         "roles": {role: rule(*rules[role]) for role in rules},
     }
-    return document("root", version, expires, members)
+    if required:
+        members["layout_required"] = required
+    signed = document("root", version, expires, members)
+    return signed if required is None else of_second_profile(signed)
+
+
+def of_second_profile(signed):
+    return {**signed, "spec_version": signed["spec_version"] + "+p2"}
 
 
 def entry(version, length=None, sha256=None):

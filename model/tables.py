@@ -1,4 +1,7 @@
-"""The five tables of a database: the rows of a state, and which rows and tables stand for one."""
+"""The six tables of a database: the rows of a state, and which rows and tables stand for one.
+
+Under schema 1 the roots stood in `root`, and there was no `root2`.
+"""
 import hashlib
 
 import repository
@@ -6,8 +9,11 @@ from documents import is_document, meets, read_document
 from names import is_hex, is_role_name
 
 # The tables in the order in which they are made, each with the columns that its rows are sorted by.
-TABLES = {"root": "version", "current": "slot", "shelf": "role, version", "blob": "digest", "schema": "version"}
-SCHEMA_VERSION = 1
+TABLES = {
+    "root": "version", "current": "slot", "shelf": "role, version", "blob": "digest", "schema": "version", "root2": "version",
+}
+SCHEMA_VERSION = 2
+FIRST_SCHEMA = 1
 
 
 def rows_of(state):
@@ -17,24 +23,37 @@ def rows_of(state):
     if state.timestamp:
         current.append(("timestamp", state.timestamp.version, state.timestamp.bytes))
     return {
-        "root": [(root.version, root.bytes) for root in state.roots],
+        "root": [],
         "current": current,
         "shelf": sorted((role, version, held.bytes) for (role, version), held in state.shelf.items()),
         "blob": sorted(state.blobs.items()),
         "schema": [(SCHEMA_VERSION,)],
+        "root2": [(root.version, root.profile, root.bytes) for root in state.roots],
     }
 
 
+def first_rows_of(state):
+    """The same under schema 1, for roots of profile 1."""
+    roots = [(root.version, root.bytes) for root in state.roots]
+    return {**rows_of(state), "root": roots, "schema": [(FIRST_SCHEMA,)], "root2": []}
+
+
+def migrated(rows):
+    """Rows under schema 2, as an opening leaves them."""
+    roots = [(version, 1, text) for version, text in rows["root"]]
+    return {**rows, "root": [], "schema": [(SCHEMA_VERSION,)], "root2": roots or rows["root2"]}
+
+
 def roots_stand(rows):
-    """Versions rise by one, and each root meets its own rule and its predecessor's."""
+    """Versions rise by one, profiles do not fall and are those of the bytes, and each root meets its own rule and its predecessor's."""
     last = None
-    for version, text in rows:
+    for version, profile, text in rows:
         if type(version) is not int or type(text) is not bytes or not is_document("root", text):
             return False
         root = read_document("root", text)
-        if root.version != version or not meets(root.rules["root"], root):
+        if root.version != version or root.profile != profile or not meets(root.rules["root"], root):
             return False
-        if last and (version != last.version + 1 or not meets(last.rules["root"], root)):
+        if last and (version != last.version + 1 or root.profile < last.profile or not meets(last.rules["root"], root)):
             return False
         last = root
     return len(rows) <= repository.MAXIMUM_ROOTS
@@ -76,17 +95,18 @@ def blobs_stand(rows):
 
 def stand_for_a_state(rows):
     """Whether rows, as a table's name with its rows in order, are those of a state."""
-    data = [table for table in TABLES if table != "schema"]
     if not any(rows.values()):
         return True
-    if rows["schema"] != [(SCHEMA_VERSION,)] or not roots_stand(rows["root"]):
+    if rows["schema"] == [(FIRST_SCHEMA,)] and not rows["root2"]:
+        return stand_for_a_state(migrated(rows))
+    if rows["schema"] != [(SCHEMA_VERSION,)] or rows["root"] or not roots_stand(rows["root2"]):
         return False
-    if not rows["root"]:
-        return not any(rows[table] for table in data)
-    last_root = read_document("root", rows["root"][-1][1])
+    if not rows["root2"]:
+        return not any(rows[table] for table in TABLES if table != "schema")
+    last_root = read_document("root", rows["root2"][-1][2])
     return current_stands(rows["current"], last_root) and shelf_stands(rows["shelf"]) and blobs_stand(rows["blob"])
 
 
 def are_opened(tables):
-    """A beginning of the five tables, or all with others behind them (docs/DECISIONS.md, "Which databases are opened")."""
+    """A beginning of the six tables, or all with others behind them (docs/DECISIONS.md, "Which databases are opened")."""
     return list(tables)[:len(TABLES)] == list(TABLES)[:len(tables)]

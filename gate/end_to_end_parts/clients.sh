@@ -54,12 +54,19 @@ faults_of_a_client() {
 }
 
 # What is told of a client: the names that it asks for, in their order, and what it got.
+# The first expiry of the example's root, timestamp and snapshot, in seconds.
+first_expiry() {
+    grep -oh '"expires":"[^"]*"' "$example"/{root,timestamp,snapshot}.json | cut -d '"' -f 4 | sort | head -n 1 | date -u -f - +%s
+}
+
 what_a_client_tells() {
     local db=$folder/told.db
     wants 0 'begun\n' '' init --at=$at --db "$db" "$example/root.json"
     serve --count 5
     wants 0 'updated\n' "metadata/2.root.json: none\nmetadata/timestamp.json: $(wc -c <"$example/timestamp.json") bytes\n$(
-        )metadata/1.snapshot.json: $(wc -c <"$example/snapshot.json") bytes\n" update -v --at=$at --db "$db" --port "$port"
+        )metadata/1.snapshot.json: $(wc -c <"$example/snapshot.json") bytes\n$(
+        )$db: root 1, timestamp 1, snapshot 1; before: root 1, no timestamp, no snapshot\n$db: root 1 is trusted\n$(
+        )$db: the first expiry is at $(first_expiry)\n" update -v --at=$at --db "$db" --port "$port"
     wants 0 'written\n' "metadata/1.targets.json: $(wc -c <"$example/targets.json") bytes\n$(
         )targets/$(sha256sum <"$example/hello.txt" | cut -c 1-64).hello.txt: 32 bytes\n" \
         get -v --at=$at --db "$db" --port "$port" --out "$folder/out.txt" hello.txt

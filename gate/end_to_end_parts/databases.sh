@@ -1,12 +1,13 @@
-# Databases that another program wrote: rows of no state, tables that are absent or others, and what stands behind the five.
+# Databases that another program wrote: rows of no state, tables that are absent or others, what stands behind the six, and schema 1.
 
-# The five tables, in the order in which they are made.
+# The six tables, in the order in which they are made. Schema 1 had the first five.
 tables=(
     'CREATE TABLE root (version INTEGER NOT NULL PRIMARY KEY, bytes BLOB NOT NULL)'
     'CREATE TABLE current (slot TEXT NOT NULL PRIMARY KEY, version INTEGER NOT NULL, bytes BLOB NOT NULL)'
     'CREATE TABLE shelf (role TEXT NOT NULL, version INTEGER NOT NULL, bytes BLOB NOT NULL, PRIMARY KEY (role, version))'
     'CREATE TABLE blob (digest TEXT NOT NULL PRIMARY KEY, bytes BLOB NOT NULL)'
     'CREATE TABLE schema (version INTEGER NOT NULL PRIMARY KEY)'
+    'CREATE TABLE root2 (version INTEGER NOT NULL PRIMARY KEY, profile INTEGER NOT NULL, bytes BLOB NOT NULL)'
 )
 
 # made DB: a new database of the statements on standard input.
@@ -38,9 +39,11 @@ rows_of_no_state() {
     local zeros=0000000000000000000000000000000000000000000000000000000000000000
     local upper=ABCDEF0123456789ABCDEF0123456789ABCDEF0123456789ABCDEF0123456789
     dump "$folder/db" "$folder/held.sql"
-    makes damaged "INSERT INTO root VALUES (-1, x'00')" "INSERT INTO root VALUES (4294967296, x'00')" "UPDATE root SET version = 4294967297" \
-        "INSERT INTO root VALUES (3, 'text')" "UPDATE root SET bytes = CAST(bytes AS TEXT)" "UPDATE root SET bytes = 5"
-    makes damaged "INSERT INTO current VALUES ('root', 1, x'00')" "INSERT INTO current SELECT 'root', version, bytes FROM root" \
+    makes damaged "INSERT INTO root2 VALUES (-1, 1, x'00')" "INSERT INTO root2 VALUES (4294967296, 1, x'00')" "UPDATE root2 SET version = 4294967297" \
+        "INSERT INTO root2 VALUES (3, 1, 'text')" "UPDATE root2 SET bytes = CAST(bytes AS TEXT)" "UPDATE root2 SET bytes = 5" \
+        "UPDATE root2 SET profile = 2" "UPDATE root2 SET profile = 0" "UPDATE root2 SET profile = 4294967297" "UPDATE root2 SET profile = 'one'" \
+        "UPDATE root2 SET profile = 1.5" "INSERT INTO root SELECT version, bytes FROM root2" "INSERT INTO root VALUES (-1, 'text')"
+    makes damaged "INSERT INTO current VALUES ('root', 1, x'00')" "INSERT INTO current SELECT 'root', version, bytes FROM root2" \
         "UPDATE current SET slot = x'00' WHERE slot = 'snapshot'" "UPDATE current SET slot = CAST(slot AS BLOB)" \
         "UPDATE current SET version = 'new' WHERE slot = 'snapshot'" "UPDATE current SET version = -1 WHERE slot = 'snapshot'" \
         "UPDATE current SET version = -4294967295" "UPDATE current SET bytes = 'text' WHERE slot = 'timestamp'" \
@@ -52,18 +55,18 @@ rows_of_no_state() {
     makes damaged "INSERT INTO blob VALUES ('00', x'00')" "INSERT INTO blob VALUES ('$upper', x'00')" "UPDATE blob SET digest = upper(digest)" \
         "UPDATE blob SET bytes = 'text'" "UPDATE blob SET bytes = CAST(bytes AS TEXT)" "INSERT INTO blob VALUES ('$zeros', x'00')" \
         "UPDATE blob SET bytes = (SELECT bytes FROM blob ORDER BY digest LIMIT 1)"
-    makes damaged "INSERT INTO schema VALUES (2)" "INSERT INTO schema VALUES (7)" "UPDATE schema SET version = 7" "DELETE FROM schema" \
-        "DROP TABLE schema" "DELETE FROM root; DELETE FROM current; DELETE FROM shelf; DELETE FROM blob; UPDATE schema SET version = 7"
+    makes damaged "INSERT INTO schema VALUES (1)" "INSERT INTO schema VALUES (7)" "UPDATE schema SET version = 7" "UPDATE schema SET version = 1" \
+        "DELETE FROM schema" "DROP TABLE root2" "DELETE FROM root2; DELETE FROM current; DELETE FROM shelf; DELETE FROM blob; UPDATE schema SET version = 7"
     { cat "$folder/held.sql" && echo "INSERT INTO shelf SELECT 'b', version, bytes FROM shelf;"; } | made "$folder/changed.db"
     wants 0 "$(sha256sum "$example/hello.txt" | cut -c1-64)\n" '' put --at=$at --db "$folder/changed.db" "$example/hello.txt"
 }
 
-# Only the first of the five tables, or all of them, are opened, where no other refers to one. Rows without the table of the version are of no state.
+# Only the first of the six tables, or all of them, are opened, where no other refers to one. Rows without the table of the version are of no state.
 tables_that_are_others() {
     local db=$folder/tables.db root=${tables[0]} current=${tables[1]} schema=${tables[4]} texts
-    makes database "DROP TABLE blob" "CREATE TABLE other (a REFERENCES blob (digest))" \
+    makes database "DROP TABLE blob" "DROP TABLE schema" "CREATE TABLE other (a REFERENCES blob (digest))" \
         "CREATE TABLE other (a, b REFERENCES other (a), c REFERENCES ROOT)" \
-        "DROP TABLE schema; CREATE TABLE other (a); $schema; INSERT INTO schema VALUES (1)"
+        "DROP TABLE schema; CREATE TABLE other (a); $schema; INSERT INTO schema VALUES (2)"
     for texts in "$current; $root" "$current" "$root; CREATE TABLE other (a)"; do
         made "$db" <<<"$texts;"
         stays database "$texts" "$db"
@@ -78,8 +81,8 @@ tables_that_are_others() {
 becomes_whole() {
     fills "$1"
     dump "$1" "$folder/after"
-    grep -E '^(INSERT INTO "?(root|current|shelf|blob|schema)"?|CREATE TABLE "?(root|current|shelf|blob|schema)"?) ' "$folder/after" >"$folder/five"
-    same "the five tables behind a beginning" "$folder/whole" "$folder/five"
+    grep -E '^(INSERT INTO "?(root|current|shelf|blob|schema|root2)"?|CREATE TABLE "?(root|current|shelf|blob|schema|root2)"?) ' "$folder/after" >"$folder/six"
+    same "the six tables behind a beginning" "$folder/whole" "$folder/six"
 }
 
 # fills DB: the database takes the example's root, documents and a file.
@@ -90,13 +93,13 @@ fills() {
     wants 0 "$(sha256sum "$example/hello.txt" | cut -c1-64)\n" '' put --at=$at --db "$1" "$example/hello.txt"
 }
 
-# Each beginning of the five tables is completed, and so are the five with others behind them, which stay.
+# Each beginning of the six tables is completed, and so are the six with others behind them, which stay.
 beginnings_are_completed() {
     local db=$folder/tables.db count further
     fills "$folder/alone.db"
     dump "$folder/alone.db" "$folder/dump"
     grep -E '^(INSERT|CREATE) ' "$folder/dump" >"$folder/whole"
-    for count in 1 2 3 4 5; do
+    for count in 1 2 3 4 5 6; do
         printf '%s;\n' "${tables[@]:0:count}" | made "$db"
         becomes_whole "$db"
     done
@@ -106,7 +109,7 @@ beginnings_are_completed() {
         becomes_whole "$db"
         printf '%s;\n' "${further//; /$';\n'}" >"$folder/further"
         grep -vxFf "$folder/whole" "$folder/after" | grep -E '^(INSERT|CREATE) ' >"$folder/left"
-        same "what stands behind the five stays: $further" "$folder/further" "$folder/left"
+        same "what stands behind the six stays: $further" "$folder/further" "$folder/left"
     done
 }
 
@@ -122,4 +125,46 @@ a_refused_row_takes_all_back() {
     same "the tables behind a refused row" "$folder/before" "$folder/after"
     sqlite3 "$db" 'DROP INDEX one'
     wants 0 '{"accepted":3,"same":0}\n' '' publish --at=$at --db "$db" "${words[@]}"
+}
+
+# first_schema STATEMENT..: a database as a release of before schema 2 wrote it, and then these statements.
+first_schema() {
+    rm -f "$folder/first.db"*
+    gzip -dc "$repository/gate/end_to_end_parts/schema_1.db.gz" >"$folder/first.db"
+    local statement
+    for statement in "$@"; do sqlite3 "$folder/first.db" "$statement"; done
+}
+
+# A database of schema 1 is brought to schema 2 once it was judged, with the same rows, and what it serves is what it served.
+schema_1_becomes_schema_2() {
+    local db=$folder/first.db statement
+    first_schema
+    rows "$db" 'SELECT version FROM schema' '1\n'
+    dump "$db" "$folder/dump"
+    grep -E '^INSERT INTO ' "$folder/dump" | sed -E 's/^INSERT INTO "?root"? VALUES\(([0-9]+),/INSERT INTO root2 VALUES(\1,1,/; s/^(INSERT INTO "?schema"? VALUES)\(1\)/\1(2)/' |
+        tr -d '"' | sort >"$folder/wanted"
+    wants 0 '{"accepted":0,"same":3}\n' '' publish --at=$at --db "$db" "timestamp:$example/timestamp.json" \
+        "snapshot:$example/snapshot.json" "targets:$example/targets.json"
+    dump "$db" "$folder/dump"
+    grep -E '^INSERT INTO ' "$folder/dump" | tr -d '"' | sort >"$folder/found"
+    same "the rows of schema 1, under schema 2" "$folder/wanted" "$folder/found"
+    rows "$db" 'PRAGMA integrity_check' 'ok\n'
+    first_schema
+    wants 0 "$(sha256sum "$example/hello.txt" | cut -c1-64)\n" "$db: schema 1 was brought to schema 2\n" put -v --at=$at --db "$db" "$example/hello.txt"
+    wants 0 "$(sha256sum "$example/hello.txt" | cut -c1-64)\n" '' put -v --at=$at --db "$db" "$example/hello.txt"
+    first_schema
+    served=$db
+    replies '200 OK' octet-stream "$example/hello.txt" /targets/hello.txt
+    replies '200 OK' json "$example/root.json" /metadata/1.root.json
+    replies '200 OK' json "$example/targets.json" /metadata/1.targets.json
+    served=$folder/db
+    for statement in "INSERT INTO schema VALUES (2)" "UPDATE root SET version = 2" "DELETE FROM schema" "UPDATE blob SET bytes = x'00'"; do
+        first_schema "$statement"
+        stays damaged "schema 1, $statement" "$db"
+    done
+    for statement in 'CREATE TABLE other (a)' 'CREATE INDEX by_bytes ON blob (bytes)' 'CREATE VIEW other AS SELECT version FROM root'; do
+        first_schema "$statement"
+        stays database "schema 1, $statement" "$db"
+        wants 3 '' "$db: database\n$db: other tables, indexes or views stand behind those of schema 1\nfault database\n" put -v --at=$at --db "$db" "$example/hello.txt"
+    done
 }

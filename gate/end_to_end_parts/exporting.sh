@@ -52,6 +52,78 @@ each_file_is_exported_once() {
     wants 3 '' 'fault file\n' export --at=$at --db "$served" --to "$served"
 }
 
+# own FILE SIGNED: a document with this signed part, signed by the one key of a repository of its own.
+own() {
+    printf '{"signatures":[],"signed":%s}' "$2" >"$folder/loose"
+    "$release" canon "$folder/loose" >"$folder/unsigned"
+    "$release" sign --book "$folder/own.book" --seed "$folder/own.seed" --ots 4 --height 5 "$folder/unsigned" >"$1" 2>"$folder/told"
+}
+
+# listed FILE: what targets metadata say of a file.
+listed() {
+    printf '{"hashes":{"sha256":"%s"},"length":%s}' "$(sha256sum <"$1" | cut -c1-64)" "$(wc -c <"$1")"
+}
+
+# A role may list paths that no folder takes: they are warned of, and all else is exported. What was changed in the folder is written again,
+# and what is no file is neither read nor followed.
+names_that_no_folder_takes() {
+    local key id role long digest common='"expires":"2031-01-01T00:00:00Z","spec_version":"1.0.31","version":1'
+    served=$folder/own.db
+    rm -rf "$folder/files"
+    (umask 077 && seed 9 "$folder/own.seed")
+    key=$("$release" key --seed "$folder/own.seed" --ots 4 --height 5)
+    id=$(printf %s "$key" | sha256sum | cut -c1-64)
+    role='{"keyids":["'$id'"],"threshold":1}'
+    long=$(printf 'a%.0s' $(seq 200))
+    digest=$(sha256sum <"$example/hello.txt" | cut -c1-64)
+    own "$folder/own.root" '{"_type":"root","consistent_snapshot":true,"expires":"2032-01-01T00:00:00Z","keys":{"'$id'":'$key'},"roles":{"root":'$role',"snapshot":'$role',"targets":'$role',"timestamp":'$role'},"spec_version":"1.0.31","version":1}'
+    own "$folder/own.targets" '{"_type":"targets","targets":{"'$long'":'$(listed "$example/hello.txt")',"dev/'$digest'.z/w":'$(listed "$example/empty.txt")',"dev/z":'$(listed "$example/hello.txt")',"plain":'$(listed "$example/hello.txt")'},'$common'}'
+    own "$folder/own.snapshot" '{"_type":"snapshot","meta":{"targets.json":{"version":1}},'$common'}'
+    own "$folder/own.timestamp" '{"_type":"timestamp","meta":{"snapshot.json":{"version":1}},'$common'}'
+    wants 0 'begun\n' '' init --at=$at --db "$served" "$folder/own.root"
+    wants 0 '{"accepted":3,"same":0}\n' '' publish --at=$at --db "$served" "timestamp:$folder/own.timestamp" "snapshot:$folder/own.snapshot" "targets:$folder/own.targets"
+    wants 0 "$digest\n" '' put --at=$at --db "$served" "$example/hello.txt"
+    wants 0 "$(sha256sum <"$example/empty.txt" | cut -c1-64)\n" '' put --at=$at --db "$served" "$example/empty.txt"
+    local told="warning: $long: not exported: its name is too long for a file\nwarning: dev/z: not exported: what stands in its place is no file\n"
+    wants 0 'exported 6\n' "$told" export --at=$at --db "$served" --to "$folder/files"
+    same "a file beside names that no folder takes" "$example/hello.txt" "$folder/files/targets/$digest.plain"
+    same "the timestamp beside names that no folder takes" "$folder/own.timestamp" "$folder/files/metadata/timestamp.json"
+    wants 0 'exported 0\n' "$told" export --at=$at --db "$served" --to "$folder/files"
+    tr a-z b-za <"$example/hello.txt" >"$folder/files/targets/$digest.plain"
+    wants 0 'exported 1\n' "$told" export --at=$at --db "$served" --to "$folder/files"
+    same "a file that was changed at its length" "$example/hello.txt" "$folder/files/targets/$digest.plain"
+    rm "$folder/files/targets/$digest.plain"
+    mkfifo "$folder/files/targets/$digest.plain"
+    wants 0 'exported 0\n' "${told}warning: plain: not exported: what stands in its place is no file\n" export --at=$at --db "$served" --to "$folder/files"
+    rm "$folder/files/targets/$digest.plain"
+    ln -s "$example/hello.txt" "$folder/files/targets/$digest.plain"
+    wants 0 'exported 0\n' "${told}warning: plain: not exported: what stands in its place is no file\n" export --at=$at --db "$served" --to "$folder/files"
+    rm "$folder/files/targets/$digest.plain" "$folder/files/metadata/1.root.json"
+    mkfifo "$folder/files/metadata/1.root.json"
+    wants 3 '' "${told}fault file\n" export --at=$at --db "$served" --to "$folder/files"
+    served=$folder/db
+}
+
+# A repository without a timestamp, and one whose newest timestamp has expired, look like success to an update: they are warned of.
+updates_that_look_like_success() {
+    local db=$folder/stale.db late=1924992000
+    wants 0 'begun\n' '' init --at=$at --db "$db" "$folder/own.root"
+    wants 0 'begun\n' '' init --at=$at --db "$folder/bare.db" "$folder/own.root"
+    served=$folder/bare.db
+    serve --count 2
+    wants 0 'updated\n' "warning: port $port: no timestamp\n" update --at=$at --db "$db" --port "$port"
+    served_one
+    served=$folder/own.db
+    serve --count 3
+    wants 0 'updated\n' '' update --at=$at --db "$db" --port "$port"
+    served_one
+    serve --count 2
+    wants 0 'updated\n' "warning: $db: the timestamp has expired\n" update --at=$late --db "$db" --port "$port"
+    served_one
+    wants 1 '' 'denied 15 TimestampExpired\n' get --at=$late --db "$db" --port "$port" --out "$folder/out.txt" plain
+    served=$folder/db
+}
+
 # nginx serves a client a target with a layout; one that the layout forbids is denied by the client itself.
 a_layout_is_mirrored() {
     local part client=$folder/exported.client.db

@@ -17,13 +17,34 @@ databases_that_are_none() {
     wants 0 'begun\n' '' init --at=$at --db "$folder/begun.db" "$example/root.json"
     dump "$folder/begun.db" "$folder/dump"
     sqlite3 "$folder/root.db" <"$folder/dump"
-    sqlite3 "$folder/root.db" 'UPDATE root SET version = 2'
+    sqlite3 "$folder/root.db" 'UPDATE root2 SET version = 2'
     wants 3 '' 'fault damaged\n' put --at=$at --db "$folder/root.db" "$example/root.json"
     sqlite3 "$folder/root.db" 'DROP TABLE root'
     wants 3 '' 'fault database\n' put --at=$at --db "$folder/root.db" "$example/root.json"
 }
 
-# Tables, indexes and views behind the five are let be. A foreign key onto one of the five is refused.
+# An empty or absent database or book beside a log with changes is refused, and the log stays, whole. A log without a change is none.
+logs_without_their_database() {
+    local name way log=$folder/alone.db-wal
+    wants 0 'begun\n' '' init --at=$at --db "$folder/alone.db" "$example/root.json"
+    cp "$log" "$folder/head"
+    printf '%4200s' '' >>"$log"
+    cp "$log" "$folder/frames"
+    for way in absent empty; do
+        rm "$folder/alone.db"
+        if [ "$way" = empty ]; then : >"$folder/alone.db"; fi
+        wants 3 '' 'fault damaged\n' put --at=$at --db "$folder/alone.db" "$example/hello.txt"
+        wants 3 '' "$folder/alone.db: empty or absent, beside a log with changes\nfault damaged\n" put -v --at=$at --db "$folder/alone.db" "$example/hello.txt"
+        wants 3 '' 'fault damaged\n' sign --book "$folder/alone.db" --seed "$folder/signing.seed" --ots 8 --height 5 "$folder/unsigned"
+        same "a log without its database, which is $way" "$folder/frames" "$log"
+        : >>"$folder/alone.db"
+    done
+    cp "$folder/head" "$log"
+    wants 1 '' 'denied 6 NoRoot\n' put --at=$at --db "$folder/alone.db" "$example/hello.txt"
+    rm "$folder/alone.db"*
+}
+
+# Tables, indexes and views behind the six are let be. A foreign key onto one of the six is refused.
 what_stands_behind_is_let_be() {
     local digest
     digest=$(sha256sum "$example/hello.txt" | cut -c1-64)

@@ -61,7 +61,8 @@ files_are_put() {
 
 the_tables_hold_the_rows() {
     local db=$folder/db
-    rows "$db" 'SELECT version, hex(bytes) FROM root' "1|$(hex "$example/root.json")\n"
+    rows "$db" 'SELECT version, hex(bytes) FROM root' ''
+    rows "$db" 'SELECT version, profile, hex(bytes) FROM root2' "1|1|$(hex "$example/root.json")\n"
     rows "$db" 'SELECT slot, version, hex(bytes) FROM current ORDER BY slot' \
         "snapshot|1|$(hex "$example/snapshot.json")\ntimestamp|1|$(hex "$example/timestamp.json")\n"
     rows "$db" 'SELECT role, version, hex(bytes) FROM shelf' "targets|1|$(hex "$example/targets.json")\n"
@@ -69,7 +70,7 @@ the_tables_hold_the_rows() {
         "$(for name in hello.txt empty.txt; do
             echo "$(sha256sum "$example/$name" | cut -c1-64)|$(hex "$example/$name")"
         done | sort)\n"
-    rows "$db" 'SELECT version FROM schema' '1\n'
+    rows "$db" 'SELECT version FROM schema' '2\n'
 }
 
 # What the snapshot does not list goes, by the command and by a request, and what is served stays.
