@@ -26,6 +26,14 @@ FURTHER_MEMBERS = [("zzz", 1), ("", None), ("é", {"a": []}), ("Z", []), ('"\\',
 OTHER_NAMES = """
     zzz A signatures signed _typf delegations custom meta targets keys roles é
 """.split() + [""]
+SPEC_VERSIONS = [
+    "1.0.0", "1.0.999", "1.0.1234", "1.0.", "1.0", "1.1.0", "1.0.31+p2", "1.0.0+p2", "1.0.999+p2", "1.0.1234+p2", "1.0.+p2", "1.0+p2", "1.1.0+p2",
+    "1.0.31+p1", "1.0.31+p3", "1.0.31+", "1.0.31+p", "1.0.31+p22", "1.0.31+P2", "1.0.31 +p2", "1.0.31+p2 ", "+p2", "1.0.3a+p2", "1.0.31-p2",
+]
+REQUIRED = [
+    None, 1, "a", {}, [], ["a"], ["a", "a"], ["*"], ["a/*/b?"], ["/a"], ["a//b"], [""], ["a" * 200], ["a" * 201], [1], ["a", None], ["a b"], [["a"]],
+    ["a"] * 64, ["a"] * 65,
+]
 TYPES = ["root", "timestamp", "snapshot", "targets", "mirrors", "layout", "link", "", None, 1]
 # The first bytes of the signed part that are spelled in another way, and how.
 SPELLINGS = [
@@ -84,6 +92,7 @@ class Cases:
         self.values()
         self.lists()
         self.members()
+        self.profiles()
         # The method that is named like the kind.
         getattr(self, self.kind)()
         self.envelopes()
@@ -129,6 +138,14 @@ class Cases:
         for name in OTHER_NAMES:
             for value in (1, {}, [], None):
                 self.sign(f"member {name!r}", {**self.signed, name: value})
+
+    def profiles(self):
+        """What `spec_version` may be, and what a root may require in either profile."""
+        for text in SPEC_VERSIONS:
+            self.sign(f"spec_version {text!r}", {**self.signed, "spec_version": text})
+        for profile in ("1.0.31", "1.0.0+p2"):
+            for required in REQUIRED:
+                self.sign(f"{profile} requires {required!r}", {**self.signed, "spec_version": profile, "layout_required": required})
 
     def meta(self, label, meta):
         self.sign(f"meta {label}", {**self.signed, "meta": meta})
