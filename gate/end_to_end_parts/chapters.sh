@@ -23,10 +23,25 @@ the_first_chapter() {
         printf 'begun\n{"accepted":3,"same":0}\n%s\n' "$(sha256sum <"$folder/first/hello.txt" | cut -c 1-64)"
         printf '{"accepted":1,"same":0}\n{"accepted":4,"same":0}\n'
         for name in tool.tgz layout.json write.json pack.json; do sha256sum <"$folder/first/$name" | cut -c 1-64; done
-        printf '{"accepted":3,"same":0}\n'
+        printf '{"accepted":3,"same":0}\n{"accepted":1,"same":0}\n'
     } >"$folder/first/wanted"
     grep -v '^listening' "$folder/first/out" >"$folder/first/said"
     same "what the chapter 'first' prints" "$folder/first/wanted" "$folder/first/said"
+}
+
+# A root of several people, a delegation, and other root keys.
+the_team_chapter() {
+    mkdir "$folder/team"
+    chapter team "$folder/team" TUTORIAL.md
+    {
+        printf 'begun\n{"accepted":4,"same":0}\n%s\n' "$(sha256sum <"$folder/team/tool" | cut -c 1-64)"
+        printf '{"accepted":1,"same":0}\n'
+    } >"$folder/team/wanted"
+    grep -v '^listening' "$folder/team/out" >"$folder/team/said"
+    same "what the chapter 'team' prints" "$folder/team/wanted" "$folder/team/said"
+    grep '^denied' "$folder/team/err" >"$folder/team/denied"
+    printf 'denied 9 OldThreshold at 0\ndenied 9 OldThreshold at 0\n' >"$folder/team/denied.wanted"
+    same "what is denied in the chapter 'team'" "$folder/team/denied.wanted" "$folder/team/denied"
 }
 
 the_backup_chapter() {
