@@ -1,14 +1,44 @@
-// A book over two files in memory, which stop at each of their calls in turn, and are opened again after the crash.
+// A book over two files in memory, each of which stops at each of its calls in turn, and is opened again after the crash.
 use leaf_book::{Book, BookFault};
 use lms::{KeyPair, OtsType, Params, Seed, SigningHeight};
 use signing::sign_message;
-use sqlite::{Connection, FileStore, Files};
+use sqlite::types::ValueRef;
+use sqlite::{Connection, FileStore, Files, Row};
 use sqlite_disk::{Crash, Fuse, Memory};
 use sqlite_pager::Options;
 use std::alloc::{AllocError, Global};
+use std::process::Abort;
 use std::test::Fail;
 
 type Disks = FileStore<Fuse<Memory>>;
+
+// The id of the pair's key.
+const KEY: &[u8] = b"34f4bb3f1c145bb86b4327af8a78f5372c7821cb812e3c6daca2fe7cca113db9";
+
+// All rows of the two tables.
+const SIGNERS: &str = "SELECT * FROM signer ORDER BY key";
+
+const LEAVES: &str = "SELECT * FROM leaf ORDER BY key, leaf";
+
+// What the steps put there, a row for each: the key with its LM-OTS type and its height, then a leaf for each of the two messages.
+const SIGNER_ROWS: [[ValueRef<'static>; 3]; 1] = [[
+    ValueRef::Text(KEY),
+    ValueRef::Int(3),
+    ValueRef::Int(5),
+]];
+
+const LEAF_ROWS: [[ValueRef<'static>; 3]; 2] = [
+    [
+        ValueRef::Text(KEY),
+        ValueRef::Int(0),
+        ValueRef::Blob(b"first"),
+    ],
+    [
+        ValueRef::Text(KEY),
+        ValueRef::Int(1),
+        ValueRef::Blob(b"second"),
+    ],
+];
 
 // The pair of the seed of ones, with 32 leaves.
 fn low_pair(alloc: Global) -> Result<KeyPair, AllocError> {
@@ -41,53 +71,169 @@ fn leaf_of(signature: &[u8]) -> u32 {
     }
 }
 
-// What was signed before the disks stopped, and the files, unless the opening that failed took them with it.
+// What was made before the disks stopped.
 #[derive(Drop)]
-struct Left {
+struct Made {
+    is_registered: bool,
     first: Option<Vec<u8>>,
     second: Option<Vec<u8>>,
-    files: Option<Files<Fuse<Memory>>>,
 }
 
-// The book of these files, or the files.
-fn opened(
+impl Made {
+    // How many steps that is.
+    fn count(&self) -> usize {
+        match (self.is_registered, &self.first, &self.second) {
+            (false, _, _) => 0,
+            (true, None, _) => 1,
+            (true, Some(_), None) => 2,
+            (true, Some(_), Some(_)) => 3,
+        }
+    }
+}
+
+const NOTHING: Made = Made {
+    is_registered: false,
+    first: None,
+    second: None,
+};
+
+// The steps, as far as the disks go along: the key is registered, and two messages are signed.
+fn make(alloc: Global, book: &mut Book<Disks>, pair: &KeyPair) -> Made {
+    let is_registered = book.register_pair(pair).is_ok();
+    let first = signature(alloc, book, pair, b"first").ok();
+    let second = signature(alloc, book, pair, b"second").ok();
+    Made {
+        is_registered,
+        first,
+        second,
+    }
+}
+
+// With a log of so many frames a change copies it into the database first.
+fn options(frames: usize) -> Options {
+    let mut options = Options::new(1);
+    options.checkpoint_frames = frames;
+    options
+}
+
+// The files of a connection that is done.
+fn closed(conn: Connection<Disks>) -> Files<Fuse<Memory>> {
+    conn.into_store().close()
+}
+
+// A connection over these files, or the files.
+fn connected(
     alloc: Global,
     files: Files<Fuse<Memory>>,
-) -> Result<Book<Disks>, Option<Files<Fuse<Memory>>>> {
+    frames: usize,
+) -> Result<Connection<Disks>, Files<Fuse<Memory>>> {
     if !files.may_be_used() {
-        return Err(Some(files));
+        return Err(files);
     }
-    let conn = match Connection::open_files(alloc, files, Options::new(1)) {
-        Ok(conn) => conn,
-        Err((_, left)) => return Err(Some(left.into_files())),
-    };
+    match Connection::open_files(alloc, files, options(frames)) {
+        Ok(conn) => Ok(conn),
+        Err((_, left)) => Err(left.into_files()),
+    }
+}
+
+// The book over a connection, or the files, unless the opening that failed took them with it.
+fn opened_over(
+    alloc: Global,
+    conn: Connection<Disks>,
+) -> Result<Book<Disks>, Option<Files<Fuse<Memory>>>> {
     match Book::open_over(alloc, conn) {
         Ok(book) => Ok(book),
         Err(unopened) => match unopened.conn {
-            Some(conn) => Err(Some(conn.into_store().close())),
+            Some(conn) => Err(Some(closed(conn))),
             None => Err(None),
         },
     }
 }
 
-// Two messages are signed over new files, as far as the disks go along.
-fn signs_two(alloc: Global, pair: &KeyPair, files: Files<Fuse<Memory>>) -> Left {
-    let mut book = match opened(alloc, files) {
-        Ok(book) => book,
-        Err(files) => {
-            return Left {
-                first: None,
-                second: None,
-                files,
-            };
+// The same over these files.
+fn opened(
+    alloc: Global,
+    files: Files<Fuse<Memory>>,
+    frames: usize,
+) -> Result<Book<Disks>, Option<Files<Fuse<Memory>>>> {
+    match connected(alloc, files, frames) {
+        Ok(conn) => opened_over(alloc, conn),
+        Err(files) => Err(Some(files)),
+    }
+}
+
+// The steps over a book, and its files.
+fn made_over(alloc: Global, mut book: Book<Disks>, pair: &KeyPair) -> (Made, Files<Fuse<Memory>>) {
+    let made = make(alloc, &mut book, pair);
+    (made, closed(book.into_connection()))
+}
+
+// The steps over new files, which are handed back, unless the opening that failed took them with it.
+fn run(
+    alloc: Global,
+    pair: &KeyPair,
+    files: Files<Fuse<Memory>>,
+    frames: usize,
+) -> (Made, Option<Files<Fuse<Memory>>>) {
+    match opened(alloc, files, frames) {
+        Ok(book) => {
+            let (made, files) = made_over(alloc, book, pair);
+            (made, Some(files))
         }
-    };
-    let first = signature(alloc, &mut book, pair, b"first").ok();
-    let second = signature(alloc, &mut book, pair, b"second").ok();
-    Left {
-        first,
-        second,
-        files: Some(book.into_connection().into_store().close()),
+        Err(files) => (NOTHING, files),
+    }
+}
+
+// All rows that the query answers.
+fn rows_of(conn: &mut Connection<Disks>, query: &str) -> Option<Vec<Row>> {
+    conn.query_all(query, &[]).ok()
+}
+
+fn is_same_value(one: ValueRef<'_>, other: ValueRef<'_>) -> bool {
+    match (one, other) {
+        (ValueRef::Int(a), ValueRef::Int(b)) => a == b,
+        (ValueRef::Text(a), ValueRef::Text(b)) => a == b,
+        (ValueRef::Blob(a), ValueRef::Blob(b)) => a == b,
+        _ => false,
+    }
+}
+
+fn is_row(row: &Row, wanted: &[ValueRef<'_>]) -> bool {
+    for at in 0..wanted.len() {
+        match row.get_ref(at) {
+            Ok(value) if is_same_value(value, wanted[at]) => {}
+            _ => return false,
+        }
+    }
+    row.column_count() == wanted.len()
+}
+
+// Whether the rows are just so many of the first of these.
+fn are_first(rows: &[Row], wanted: &[[ValueRef<'_>; 3]], count: usize) -> bool {
+    for at in 0..rows.len() {
+        if at >= wanted.len() || !is_row(&rows[at], &wanted[at]) {
+            return false;
+        }
+    }
+    rows.len() == count
+}
+
+// Whether the rows of both tables are just those behind so many steps.
+fn are_behind(signers: &[Row], leaves: &[Row], count: usize) -> bool {
+    are_first(signers, &SIGNER_ROWS, count.min(1))
+        && are_first(leaves, &LEAF_ROWS, count.saturating_sub(1))
+}
+
+// Whether the rows of both tables are just those behind so many steps, or behind one more.
+fn finds(conn: &mut Connection<Disks>, count: usize) -> bool {
+    let signers = rows_of(conn, SIGNERS);
+    let leaves = rows_of(conn, LEAVES);
+    match (&signers, &leaves) {
+        (Some(signers), Some(leaves)) => {
+            are_behind(signers, leaves, count)
+                || are_behind(signers, leaves, count.saturating_add(1))
+        }
+        _ => false,
     }
 }
 
@@ -99,35 +245,52 @@ fn is_again(before: &Option<Vec<u8>>, again: &[u8]) -> bool {
     }
 }
 
-// After the crash the book opens, and each message has one leaf, the one that it had.
+// Whether each message has one leaf, the one that it had.
+fn signs_again(alloc: Global, book: &mut Book<Disks>, pair: &KeyPair, made: &Made) -> bool {
+    let Ok(other) = signature(alloc, book, pair, b"other") else {
+        return false;
+    };
+    let Ok(first) = signature(alloc, book, pair, b"first") else {
+        return false;
+    };
+    let Ok(second) = signature(alloc, book, pair, b"second") else {
+        return false;
+    };
+    let [a, b, c] = [leaf_of(&other), leaf_of(&first), leaf_of(&second)];
+    is_again(&made.first, &first)
+        && is_again(&made.second, &second)
+        && a != b
+        && b != c
+        && c != a
+        && a < 3
+        && b < 3
+        && c < 3
+}
+
+// Whether the book has the rows behind the steps that were made, or behind one more, and each message its leaf.
+fn is_whole(alloc: Global, book: Book<Disks>, pair: &KeyPair, made: &Made) -> bool {
+    let mut conn = book.into_connection();
+    let has_rows = finds(&mut conn, made.count());
+    match opened_over(alloc, conn) {
+        Ok(mut book) => has_rows && signs_again(alloc, &mut book, pair, made),
+        Err(_) => false,
+    }
+}
+
+// Whether the book that opens after the crash is whole.
 fn is_whole_after(
     alloc: Global,
     pair: &KeyPair,
-    first: &Option<Vec<u8>>,
-    second: &Option<Vec<u8>>,
+    made: &Made,
     mut files: Files<Fuse<Memory>>,
-) -> Result<bool, Fail> {
+    frames: usize,
+) -> bool {
     files.log.crash();
     files.db.crash();
-    let Ok(mut book) = opened(alloc, files) else {
-        return Ok(false);
-    };
-    let other = signature(alloc, &mut book, pair, b"other")?;
-    let again = [
-        signature(alloc, &mut book, pair, b"first")?,
-        signature(alloc, &mut book, pair, b"second")?,
-    ];
-    let [a, b, c] = [leaf_of(&other), leaf_of(&again[0]), leaf_of(&again[1])];
-    Ok(
-        is_again(first, &again[0])
-            && is_again(second, &again[1])
-            && a != b
-            && b != c
-            && c != a
-            && a < 3
-            && b < 3
-            && c < 3,
-    )
+    match opened(alloc, files, frames) {
+        Ok(book) => is_whole(alloc, book, pair, made),
+        Err(_) => false,
+    }
 }
 
 // New files, which stop after so many calls of the log and of the database.
@@ -138,50 +301,67 @@ fn new_files(alloc: Global, log: u64, db: u64) -> Files<Fuse<Memory>> {
     }
 }
 
-// Whether the disks go along to the end, and then or before, what a crash leaves is whole.
-fn ends(alloc: Global, pair: &KeyPair, files: Files<Fuse<Memory>>) -> Result<Option<bool>, Fail> {
-    let Left {
-        first,
-        second,
-        files,
-    } = signs_two(alloc, pair, files);
-    let done = first.is_some() && second.is_some();
-    let is_whole = match files {
-        Some(files) => is_whole_after(alloc, pair, &first, &second, files)?,
-        None => true,
-    };
-    Ok(if is_whole { Some(done) } else { None })
+fn files_that_stop(alloc: Global, stops_log: bool, calls: u64) -> Files<Fuse<Memory>> {
+    if stops_log {
+        new_files(alloc, calls, u64::MAX)
+    } else {
+        new_files(alloc, u64::MAX, calls)
+    }
 }
 
-// The log stops at each of its calls in turn, until none is left: in the opening, in a registration and in two reservations.
+// How many steps were made before the files stopped, unless what the crash leaves is not whole.
+fn steps_before(
+    alloc: Global,
+    pair: &KeyPair,
+    files: Files<Fuse<Memory>>,
+    frames: usize,
+) -> Option<usize> {
+    let (made, files) = run(alloc, pair, files, frames);
+    let is_whole = match files {
+        Some(files) => is_whole_after(alloc, pair, &made, files, frames),
+        None => false,
+    };
+    if is_whole { Some(made.count()) } else { None }
+}
+
+// The file stops at each of its calls in turn, until none is left: in the opening, in the registration and in two reservations. It
+// answers how many calls there are.
+fn stops_at_each_call(
+    rt: &(impl Abort + AllocGlobal),
+    stops_log: bool,
+    frames: usize,
+) -> Result<u64, Fail> {
+    let alloc = rt.alloc();
+    let pair = low_pair(alloc)?;
+    for calls in 0..1_000u64 {
+        let files = files_that_stop(alloc, stops_log, calls);
+        match steps_before(alloc, &pair, files, frames) {
+            None => panic!(rt; "after {calls} calls"),
+            Some(3) => return Ok(calls),
+            Some(_) => {}
+        }
+    }
+    Err(Fail::from("never at the end"))
+}
+
 #[test]
 fn the_log_stops_at_each_call(rt: HostRuntime) -> Result<(), Fail> {
-    let pair = low_pair(rt.alloc())?;
-    for calls in 0..1_000u64 {
-        let files = new_files(rt.alloc(), calls, u64::MAX);
-        match ends(rt.alloc(), &pair, files)? {
-            None => panic!(rt; "after {calls} calls"),
-            Some(false) => {}
-            Some(true) => {
-                assert!(rt; calls > 10, "{calls}");
-                return Ok(());
-            }
-        }
-    }
-    Err(Fail::from("never signed"))
+    let calls = stops_at_each_call(&rt, true, 1_000)?;
+    assert!(rt; calls > 10, "{calls}");
+    Ok(())
 }
 
-// The same of the file of the database.
+// The log is copied into the database before each step but the first.
+#[test]
+fn the_log_stops_beside_copies(rt: HostRuntime) -> Result<(), Fail> {
+    let calls = stops_at_each_call(&rt, true, 1)?;
+    assert!(rt; calls > 20, "{calls}");
+    Ok(())
+}
+
 #[test]
 fn the_database_stops_at_each_call(rt: HostRuntime) -> Result<(), Fail> {
-    let pair = low_pair(rt.alloc())?;
-    for calls in 0..1_000u64 {
-        let files = new_files(rt.alloc(), u64::MAX, calls);
-        match ends(rt.alloc(), &pair, files)? {
-            None => panic!(rt; "after {calls} calls"),
-            Some(false) => {}
-            Some(true) => return Ok(()),
-        }
-    }
-    Err(Fail::from("never signed"))
+    let calls = stops_at_each_call(&rt, false, 1)?;
+    assert!(rt; calls > 10, "{calls}");
+    Ok(())
 }
