@@ -77,13 +77,15 @@ impl Updating<'_> {
     ) {
         let alloc = self.rt.alloc();
         let found = Versions::of(alloc, state, self.now);
-        notes.tell(&self.db, &Found { before, found });
+        let has_expired = found.has_expired(self.now);
+        let change = Change { before, found };
+        notes.tell(&self.db, &change);
         if notes.are_told() {
             tell_standing(alloc, self.db, state, self.now, notes);
         } else if self.rt.stderr().is_terminal() {
-            notes.progress(&Found { before, found });
+            notes.progress(&change);
         }
-        if found.has_expired(self.now) {
+        if has_expired {
             notes.warn(&self.db, &"the timestamp has expired");
         }
     }
@@ -91,14 +93,14 @@ impl Updating<'_> {
 
 // The versions before an update and behind it.
 #[derive(Clone, Copy)]
-struct Found {
+struct Change {
     before: Versions,
     found: Versions,
 }
 
-impl fmt::Display for Found {
+impl fmt::Display for Change {
     fn fmt<W: fmt::Write>(&self, f: &mut fmt::Formatter<W>) -> fmt::Result {
-        let Found { before, found } = self;
+        let Change { before, found } = self;
         write!(f, "{found}; before: {before}")
     }
 }
