@@ -144,6 +144,9 @@ fn rows_of(alloc: Global, conn: &mut Connection<Disks>) -> Result<Vec<Row>, Fail
 
 // The connection to these files, if it is opened.
 fn connected(alloc: Global, files: Files<Fuse<Memory>>) -> Option<Connection<Disks>> {
+    if !files.may_be_used() {
+        return None;
+    }
     match Connection::open_files(alloc, files, Options::new(1)) {
         Ok(conn) => Some(conn),
         Err(_) => None,
