@@ -48,6 +48,10 @@ impl<'a, S: Alter> Exporting<'a, S> {
             notes.tell(&self.db, &"denied");
             return Err(Fault::Denied(Denial::NoRoot, None));
         };
+        if is_no_folder(self.rt, self.folder) {
+            notes.tell(&self.folder, &"no folder");
+            return Err(Fault::File);
+        }
         let timestamp = self.file("timestamp.json", notes)?;
         if let Some(bytes) = &timestamp {
             self.write_named_snapshot(bytes, notes)?;
@@ -311,6 +315,14 @@ impl<'a, S: Alter> Exporting<'a, S> {
             Err(ShapeFault::OutOfMemory) => Err(Fault::Memory),
             Err(_) => Ok(None),
         }
+    }
+}
+
+// Whether something else than a folder stands there.
+fn is_no_folder(rt: &HostRuntime, folder: &str) -> bool {
+    match fs::metadata(rt, folder) {
+        Ok(found) => !found.is_dir(),
+        Err(_) => false,
     }
 }
 
