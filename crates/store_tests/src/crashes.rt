@@ -282,10 +282,10 @@ fn first_schema<'a>(
 // A copy of a file, which stops after so many calls.
 fn copied(alloc: Global, file: &Fuse<Memory>, calls: u64) -> Result<Fuse<Memory>, Fail> {
     let mut copy = Memory::new(alloc);
-    match copy.write_at(0, file.inner().bytes()) {
-        Ok(()) => Ok(Fuse::new(copy, calls)),
-        Err(_) => Err(Fail::from("no copy")),
+    if copy.write_at(0, file.inner().bytes()).is_err() || copy.sync().is_err() {
+        return Err(Fail::from("no copy"));
     }
+    Ok(Fuse::new(copy, calls))
 }
 
 fn copies(
