@@ -31,6 +31,7 @@ QUERIES = {
     "schema": "SELECT version FROM schema",
 }
 BROKEN = "fault network\n"
+LACKING = "warning: port {port}: no timestamp\n"
 UP = ("timestamp", "snapshot")
 FETCHED = (*UP, "targets")
 
@@ -117,7 +118,7 @@ def updates(clients, wrong, before, status, error, after, asked=None):
     db = clients.begun(before)
     mirror = Mirror(clients.folder, *wrong)
     words = ("update", *AT, "--db", db, "--port", str(mirror.port))
-    clients.ends(what, status, "" if status else "updated\n", error, *words)
+    clients.ends(what, status, "" if status else "updated\n", error.format(port=mirror.port), *words)
     names = mirror.asked()
     want(asked is None or names == asked, f"{what}: asked for {names}")
     want(rows(db) == rows_of(after), f"{what}: the rows")
@@ -153,8 +154,8 @@ UPDATES = [
     (("long", TIMESTAMP), (), 1, "denied 2 NotCanonical\n", ()),
     (("endless", TIMESTAMP), (), 3, BROKEN, ()),
     (("endless", SNAPSHOT), (), 3, BROKEN, ("timestamp",)),
-    (("withhold", TIMESTAMP), (), 0, "", ()),
-    (("forbid", TIMESTAMP), (), 0, "", ()),
+    (("withhold", TIMESTAMP), (), 0, LACKING, ()),
+    (("forbid", TIMESTAMP), (), 0, LACKING, ()),
     (("withhold", SNAPSHOT), (), 0, "", ("timestamp",)),
     (("file", ROOT, f"{EXAMPLE}/root.json"), (), 0, "", UP, 64 * [ROOT] + [TIMESTAMP, SNAPSHOT]),
     (("file", TIMESTAMP, f"{EXAMPLE}/snapshot.json"), (), 1, "denied 4 WrongType\n", ()),
@@ -210,7 +211,7 @@ def a_server_of_files(clients):
 
 
 def on_a_terminal(clients):
-    """A client whose standard error is a terminal tells there each name before it fetches it, and the bytes so far."""
+    """A client whose standard error is a terminal tells there each name before it fetches it, and the bytes so far, and at the end what it found."""
     db = clients.begun(())
     mirror = Mirror(clients.folder, "honest")
     terminal, end = pty.openpty()
@@ -222,6 +223,7 @@ def on_a_terminal(clients):
     mirror.asked()
     wanted = "".join(f"fetching {name}, {count} bytes so far\r\n" for name, count in
                      ((ROOT, 0), (TIMESTAMP, 0), (SNAPSHOT, len(read(f"{EXAMPLE}/timestamp.json")))))
+    wanted += "root 1, timestamp 1, snapshot 1; before: root 1, no timestamp, no snapshot\r\n"
     want((found.returncode, found.stdout, told) == (0, b"updated\n", wanted), f"on a terminal: {told!r}")
 
 
