@@ -9,6 +9,7 @@ import signed_documents as make
 from client_histories import Beside, source_of
 from client import Client
 from denials import Denied
+from documents import is_live
 from histories import GROUPS
 from layout_histories import LayoutHistory
 from offers import PATHS
@@ -87,10 +88,10 @@ class Programs(LayoutHistory):
         """A command of the client, with as many connections as it makes: its status, output and errors, and its rows."""
         subject = Client(self.client, source_of(self.world.state, {}, self.now))
         end = agreement.end_of(lambda: call(subject))
-        wanted = command_line.denied_line(end) if type(end) is Denied else (command_line.DONE, done, b"")
         server, port = self.world.session.start_server(self.world.database, self.now, max(1, len(subject.asked)))
         if server is None:
             return self.world.session.check("following: a server", b"listening", port)
+        wanted = command_line.denied_line(end) if type(end) is Denied else (command_line.DONE, done, self.warnings(words, subject, port))
         found = self.world.session.run(*words, "--db", str(self.database), "--port", str(port), "--at", str(self.now))
         server.kill()
         server.communicate()
@@ -98,6 +99,15 @@ class Programs(LayoutHistory):
         self.client = subject.state
         rows = tables.rows_of(self.client)
         return self.world.session.check("following: rows", rows, {table: read_rows(self.database)[0][table] for table in rows}) and as_wanted
+
+    def warnings(self, words, subject, port):
+        """What an update warns of: a timestamp that has expired, and a repository that has none."""
+        told = ""
+        if words == ["update"] and subject.state.timestamp and not is_live(subject.state.timestamp, self.now):
+            told += f"warning: {self.database}: the timestamp has expired\n"
+        if words == ["update"] and ("metadata/timestamp.json", None) in [(name, answer) for name, _, answer in subject.asked]:
+            told += f"warning: port {port}: no timestamp\n"
+        return told.encode()
 
     def follow(self):
         """An update and some targets, each beside what the server's own reply is."""
