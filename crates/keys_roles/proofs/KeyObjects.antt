@@ -4,7 +4,7 @@ use Rattle.std.specs.Prelude.{slice_index}
 use Rattle.std.specs.List.{AllByRecursion}
 use Rattle.hex.specs.Hex.{encode_lower, encode_with, lower_digits}
 use Rattle.canonical_json.specs.Spelling.{byte_spelling, text_spelling}
-use Rattle.keys_roles.specs.Plain.{lms}
+use Rattle.keys_roles.specs.Plain.{lms, hss}
 use Rattle.keys_roles.specs.Keys.{key_bytes}
 
 abbrev IsPlain : ℕ → Type 0
@@ -32,17 +32,25 @@ spelled_plain (b ∷ rest) =
 abbrev pub before_digits : List ℕ
 before_digits = codes "{\"keytype\":\"lms\",\"keyval\":{\"public\":\""
 
-abbrev pub behind_digits : List ℕ
-behind_digits = codes "\"},\"scheme\":\"lms-sha256\"}"
+abbrev pub behind_lms : List ℕ
+behind_lms = codes "\"},\"scheme\":\"lms-sha256\"}"
+
+abbrev pub behind_hss : List ℕ
+behind_hss = codes "\"},\"scheme\":\"hss-sha256\"}"
 
 regrouped : (s a b c d : List ℕ) → s ++ (a ++ (b ++ (c ++ d))) ≡ (((s ++ a) ++ b) ++ c) ++ d
 regrouped s a b c d = simp append_assoc
 
 -- the last member, behind its comma
-abbrev scheme_member : List ℕ
-scheme_member = 44 ∷ (text_spelling (codes "scheme") ++ 58 ∷ text_spelling (codes "lms-sha256"))
+abbrev scheme_member : List ℕ → List ℕ
+scheme_member name = 44 ∷ (text_spelling (codes "scheme") ++ 58 ∷ text_spelling name)
 
-pub key_bytes_are : (public : List ℕ) → (before_digits ++ encode_lower public) ++ behind_digits ≡ key_bytes (lms public)
-key_bytes_are public =
-    ap (λ digits. before_digits ++ (digits ++ behind_digits)) (sym (spelled_plain public))
-    ∙ ap (λ rest. before_digits ++ rest) (regrouped (flat_map byte_spelling (encode_lower public)) (34 ∷ []) (125 ∷ []) scheme_member (125 ∷ []))
+pub lms_bytes_are : (public : List ℕ) → (before_digits ++ encode_lower public) ++ behind_lms ≡ key_bytes (lms public)
+lms_bytes_are public =
+    ap (λ digits. before_digits ++ (digits ++ behind_lms)) (sym (spelled_plain public))
+    ∙ ap (λ rest. before_digits ++ rest) (regrouped (flat_map byte_spelling (encode_lower public)) (34 ∷ []) (125 ∷ []) (scheme_member (codes "lms-sha256")) (125 ∷ []))
+
+pub hss_bytes_are : (public : List ℕ) → (before_digits ++ encode_lower public) ++ behind_hss ≡ key_bytes (hss public)
+hss_bytes_are public =
+    ap (λ digits. before_digits ++ (digits ++ behind_hss)) (sym (spelled_plain public))
+    ∙ ap (λ rest. before_digits ++ rest) (regrouped (flat_map byte_spelling (encode_lower public)) (34 ∷ []) (125 ∷ []) (scheme_member (codes "hss-sha256")) (125 ∷ []))

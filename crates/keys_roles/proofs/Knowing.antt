@@ -4,7 +4,7 @@ use Rattle.std.specs.Prelude.{find}
 use Rattle.std.specs.List.{Contains, list_any}
 use Rattle.std.proofs.lemmas.Bool.{eq-eqb, eqb-true, or_cases, or_left, or_right}
 use Rattle.std.proofs.lemmas.Slice.Eq.{bytes_eq-Decides}
-use Rattle.keys_roles.specs.Plain.{Key, lms, Table, RoleRule, Signature, look_up}
+use Rattle.keys_roles.specs.Plain.{Key, lms, hss, Table, RoleRule, Signature, look_up}
 use Rattle.keys_roles.specs.Rules.{AreDistinct, SpellsSignature}
 use Rattle.keys_roles.specs.Verdicts.{Pair, same_key, same_pair, named_key, with_pair, pairs_from, Verdict, IsVerdict, AreVerdicts, is_known, unknown}
 use Rattle.keys_roles.specs.steps.Counting.{IsIn, TellOf}
@@ -34,6 +34,9 @@ tells signed entries place e (v ∷ vs) at are = (tells_one signed entries place
 -- the pair that was looked for is the one that was found
 same_key_is : (a b : Key) → same_key a b ≡ true → a ≡ b
 same_key_is (lms a) (lms b) h = ap lms ((bytes_eq-Decides a b).0 h)
+same_key_is (lms a) (hss b) h = absurd (cc)
+same_key_is (hss a) (lms b) h = absurd (cc)
+same_key_is (hss a) (hss b) h = ap hss ((bytes_eq-Decides a b).0 h)
 
 both : (a b : Bool) → (a && b) ≡ true → (a ≡ true) × (b ≡ true)
 both true true h = (refl, refl)
@@ -70,6 +73,7 @@ none_or false v o rest later h = later h
 -- a pair is known where one of the verdicts is on it
 same_key_self : (k : Key) → same_key k k ≡ true
 same_key_self (lms b) = (bytes_eq-Decides b b).1 refl
+same_key_self (hss b) = (bytes_eq-Decides b b).1 refl
 
 same_self : (p : Pair) → same_pair p p ≡ true
 same_self p = ap (λ b. b && same_key p.1 p.1) (eq-eqb p.0 p.0 refl) ∙ same_key_self p.1

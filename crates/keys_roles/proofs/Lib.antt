@@ -6,3 +6,4 @@ pub mod LookingUp
 pub mod Staying
 pub mod Signatures
 pub mod Tops
+pub mod LmsAlone

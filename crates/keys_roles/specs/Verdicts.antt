@@ -1,7 +1,7 @@
 -- What is known of a file's signatures before they are checked.
-use Rattle.std.specs.Prelude.{◌↔◌, ℕ, suc, Bool, cond, not, ◌&&◌, List, [], ◌∷◌, length, filter, slice_get, Option, Some, None, bytes_eq, nat_eq, IsTrue, IsSomeAnd}
+use Rattle.std.specs.Prelude.{◌↔◌, ℕ, suc, Bool, false, cond, not, ◌&&◌, List, [], ◌∷◌, length, filter, slice_get, Option, Some, None, bytes_eq, nat_eq, IsTrue, IsSomeAnd}
 use Rattle.std.specs.List.{AllByRecursion, list_any}
-use Rattle.keys_roles.specs.Plain.{Key, lms, Table, RoleRule, Signature, look_up}
+use Rattle.keys_roles.specs.Plain.{Key, lms, hss, Table, RoleRule, Signature, look_up}
 use Rattle.keys_roles.specs.Rules.{SpellsSignature}
 
 -- a signature entry by its place in the file's list, and a whole public key
@@ -10,6 +10,9 @@ Pair = ℕ × Key
 
 abbrev pub same_key : Key → Key → Bool
 same_key (lms a) (lms b) = bytes_eq a b
+same_key (lms a) (hss b) = false
+same_key (hss a) (lms b) = false
+same_key (hss a) (hss b) = bytes_eq a b
 
 abbrev pub same_pair : Pair → Pair → Bool
 same_pair p q = nat_eq p.0 q.0 && same_key p.1 q.1

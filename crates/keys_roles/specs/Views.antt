@@ -5,7 +5,7 @@ use Rattle.keys_roles.specs.Plain as plain
 use Rattle.keys_roles.specs.Verdicts as known
 use Rattle.keys_roles.specs.declared.KeyId.{KeyId}
 use Rattle.keys_roles.specs.declared.Key.{Key}
-use Rattle.keys_roles.specs.declared.Key.TheVariants.{Lms}
+use Rattle.keys_roles.specs.declared.Key.TheVariants.{Lms, Hss}
 use Rattle.keys_roles.specs.declared.KeyTable.{KeyTable}
 use Rattle.keys_roles.specs.declared.RoleRule.{RoleRule}
 use Rattle.keys_roles.specs.declared.Signature.{Signature}
@@ -16,6 +16,7 @@ id_text id = encode_lower id.0
 
 abbrev pub key_view : Key → plain.Key
 key_view (Lms public) = plain.lms public
+key_view (Hss public) = plain.hss public
 
 abbrev pub rows_view : List (KeyId × Key) → plain.Table
 rows_view rows = map (λ e. (id_text e.0, key_view e.1)) rows

@@ -5,7 +5,7 @@ ghost use Rattle.keys_roles.specs.Rules.{AreDigitsOf, SpellsSignature};
 ghost use Rattle.keys_roles.specs.Views.{key_view};
 
 use crate::Key;
-use lms::{Steps, verify};
+use lms::{Steps, verify, verify_hss};
 use path_patterns::are_hex_digits;
 
 // The bytes of the longest signature, one of eight levels.
@@ -40,6 +40,7 @@ fn verifies(key: &Key, signed: &[u8], signature: &[u8], steps: &mut Steps) -> bo
     steps.tick();
     match key {
         Key::Lms(public) => verify(public, signed, signature),
+        Key::Hss(public) => verify_hss(public, signed, signature),
     }
 }
 

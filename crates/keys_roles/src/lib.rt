@@ -13,7 +13,10 @@ pub struct KeyId(pub [u8; 32]);
 /// A public key with its scheme.
 #[derive(Debug, Clone, Copy, PartialEq, Eq)]
 pub enum Key {
+    /// `lms-sha256`: an LMS public key (RFC 8554, section 5.3).
     Lms([u8; 56]),
+    /// `hss-sha256`: the number of levels and the public key of the top one (RFC 8554, section 6).
+    Hss([u8; 60]),
 }
 
 /// Keys by their ids.
@@ -47,12 +50,14 @@ pub struct Verdict {
 
 mod digits;
 mod ids;
+mod laws;
 mod meeting;
 mod rotation;
 mod verdicts;
 
 pub use digits::read_digits;
 pub use ids::{key_id, key_object, top_key};
+pub use laws::lms_rules_as_before;
 pub use lms::Steps;
 pub use meeting::{meets, meets_counted, meets_with, meets_with_counted};
 pub use rotation::same_rule;

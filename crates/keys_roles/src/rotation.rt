@@ -77,5 +77,7 @@ fn same_key(old: &Key, new: &Key) -> bool
 {
     match (old, new) {
         (Key::Lms(old), Key::Lms(new)) => *old == *new,
+        (Key::Hss(old), Key::Hss(new)) => *old == *new,
+        (Key::Lms(_), Key::Hss(_)) | (Key::Hss(_), Key::Lms(_)) => false,
     }
 }

@@ -117,5 +117,7 @@ fn same_public(a: &Key, b: &Key) -> bool
 {
     match (a, b) {
         (Key::Lms(a), Key::Lms(b)) => *a == *b,
+        (Key::Hss(a), Key::Hss(b)) => *a == *b,
+        (Key::Lms(_), Key::Hss(_)) | (Key::Hss(_), Key::Lms(_)) => false,
     }
 }

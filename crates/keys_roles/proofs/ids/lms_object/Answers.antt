@@ -1,11 +1,10 @@
-use Rattle.std.proofs.Common.{ℕ, List, ◌++◌, ap, ◌∙◌}
-use Rattle.keys_roles.proofs.KeyObjects.{key_bytes_are, before_digits, behind_digits}
+use Rattle.std.proofs.Common.{◌≡◌, List, ℕ, ◌++◌, ap, subst, ◌∙◌}
+use Rattle.std.specs.Prelude.{IfOk}
+use Rattle.keys_roles.proofs.KeyObjects.{lms_bytes_are, before_digits, behind_lms}
 use Rattle.keys_roles.proofs.ids.lms_object.Goals as goal
 
 pub returns : goal.returns
 returns c =
-    let digits = c.digits_of-digits.result in
-    c.in_ok-extend_from_slice-2.ensures.items
-    ∙ ap (λ (xs : List ℕ). xs ++ behind_digits) (c.in_ok-extend_from_slice.ensures.items ∙ ap (λ (xs : List ℕ). xs ++ digits) c.in_ok-object.ensures.items)
-    ∙ ap (λ (d : List ℕ). (before_digits ++ d) ++ behind_digits) c.digits_of-digits.ensures
-    ∙ key_bytes_are c.args.public.now
+    subst (λ (bytes : List ℕ). IfOk c.object_around.result (λ object. object.items ≡ bytes))
+    (ap (λ d. (before_digits ++ d) ++ behind_lms) c.lms_digits.ensures ∙ lms_bytes_are c.args.public.now)
+    c.object_around.ensures
