@@ -10,7 +10,6 @@ pub mod FirstRoots
 pub mod Found
 pub mod Growing
 pub mod Halving
-pub mod HexBytes
 pub mod Ill
 pub mod Instants
 pub mod Judged

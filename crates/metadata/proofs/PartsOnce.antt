@@ -5,7 +5,8 @@ use Rattle.jiff.specs.Words.{epoch_day, days_in_month, is_leap_year}
 use Rattle.hex.specs.Hex.{encode_lower}
 use Rattle.canonical_json.specs.Json.{Json}
 use Rattle.canonical_json.specs.Spelling.{IsProper}
-use Rattle.keys_roles.specs.Plain.{lms, Table, RoleRule, Signature}
+use Rattle.keys_roles.specs.Plain.{lms, hss, Table, RoleRule, Signature}
+use Rattle.metadata.proofs.KeyObjects.{schemes_differ}
 use Rattle.metadata.specs.Documents.{MetaFile}
 use Rattle.metadata.specs.Members.{Has, IsArray, IsText, IsNumber}
 use Rattle.metadata.specs.Dates.{IsDateTime}
@@ -109,6 +110,12 @@ key-once v (lms a) (lms b) p h k =
     let both = sym h.0 ∙ k.0 in
     let digits : encode_lower a ≡ encode_lower b = cc in
     ap lms (hex-once a b h.1.1 k.1.1 digits)
+key-once v (hss a) (hss b) p h k =
+    let both = sym h.0 ∙ k.0 in
+    let digits : encode_lower a ≡ encode_lower b = cc in
+    ap hss (hex-once a b h.1.1 k.1.1 digits)
+key-once v (lms a) (hss b) p h k = absurd (schemes_differ a b (sym h.0 ∙ k.0))
+key-once v (hss a) (lms b) p h k = absurd (schemes_differ b a (sym k.0 ∙ h.0))
 
 pub pair-is : {A : Type 0} (d e : List ℕ × A) → d.0 ≡ e.0 → d.1 ≡ e.1 → d ≡ e
 pair-is d e p q = ap (λ z. (z, d.1)) p ∙ ap (λ z. (e.0, z)) q

@@ -44,10 +44,6 @@ IsHashes v digest = IsDigest digest × (v ≡ object (member (codes "sha256") (t
 abbrev pub AreBytes : ℕ → List ℕ → Type 0
 AreBytes n bytes = (length bytes ≡ n) × AllByRecursion (λ b. b < 256) bytes
 
--- {"public":..}
-abbrev pub IsKeyval : List ℕ → Json → Type 0
-IsKeyval public v = (v ≡ object (member (codes "public") (text (encode_lower public)) no_members)) × AreBytes 56 public
-
 abbrev pub IsKey : Json → Key → Type 0
 IsKey v k = (v ≡ key_object k) × AreBytes (public_len k) (public_bytes k)
 

@@ -5,7 +5,7 @@ ghost use Rattle.hex.specs.Hex.{encode_lower};
 ghost use Rattle.canonical_json.specs.Spelling.{IsProper};
 ghost use Rattle.canonical_json.specs.View.{view, items_view, members_view};
 ghost use Rattle.keys_roles.specs.Plain as plain;
-ghost use Rattle.keys_roles.specs.Plain.{look_up};
+ghost use Rattle.keys_roles.specs.Plain.{look_up, lms, hss};
 ghost use Rattle.keys_roles.specs.Rules.{AreDistinct};
 ghost use Rattle.keys_roles.specs.steps.Counting.{IsIn};
 ghost use Rattle.keys_roles.specs.Keys.{id_of};
@@ -13,15 +13,15 @@ ghost use Rattle.keys_roles.specs.Views.{id_text, ids_view, key_view, rows_view,
 ghost use Rattle.path_patterns.specs.Grammar.{IsHex};
 ghost use Rattle.metadata.specs.steps.Faults.{IsIll, IsMisnamed};
 ghost use Rattle.metadata.specs.Members.{Has, IsArray, IsText, IsNumber, ItemsAre, MembersAre};
-ghost use Rattle.metadata.specs.Parts.{IsKey, IsKeyval, AreBytes, IsRow, IsTable, NamesAreIds, NamesAreHex, IsRuleOver, HasRule, top_at, tops_of};
-ghost use Rattle.metadata.specs.steps.Spelled.{texts_view, spelled_rows, spelled_table, spelled_rule};
+ghost use Rattle.metadata.specs.Parts.{IsKey, AreBytes, IsRow, IsTable, NamesAreIds, NamesAreHex, IsRuleOver, HasRule, top_at, tops_of};
+ghost use Rattle.metadata.specs.steps.Spelled.{keyval_object, texts_view, spelled_rows, spelled_table, spelled_rule};
 
 use crate::documents::ShapeFault;
 use crate::members::{
     is_text, items_of, member_of, members_of, number_at, one_member, text_of, three_members,
 };
 use canonical_json::Value;
-use keys_roles::{Key, KeyId, KeyTable, NoMemory, RoleRule, key_id, top_key};
+use keys_roles::{Key, KeyId, KeyTable, NoMemory, RoleRule, key_id, read_digits, top_key};
 use path_patterns::{Digest, one_digest};
 use std::alloc::Global;
 
@@ -51,47 +51,57 @@ pub(crate) fn read_key(value: &Value) -> Option<Key>
     let Some((kind, keyval, scheme)) = three_members(value, "keytype", "keyval", "scheme") else {
         return None;
     };
-    if !is_text(kind, "lms") || !is_text(scheme, "lms-sha256") {
+    if !is_text(kind, "lms") {
         return None;
     }
-    let public = read_keyval(keyval)?;
-    Some(Key::Lms(public))
+    let digits = read_keyval(keyval)?;
+    if is_text(scheme, "lms-sha256") {
+        return read_lms(digits);
+    }
+    if is_text(scheme, "hss-sha256") {
+        return read_hss(digits);
+    }
+    None
 }
 
-// The 56 bytes that `keyval` holds.
-fn read_keyval(value: &Value) -> Option<[u8; 56]>
-    ensures { MatchOption result ((p : List ℕ) → IsKeyval p (view value.now) → ⊥) (λ p. IsKeyval p (view value.now)) }
+// The text that `keyval` holds.
+fn read_keyval(value: &Value) -> Option<&str>
+    ensures { MatchOption result ((t : List ℕ) → view value.now ≡ keyval_object t → ⊥) (λ t. view value.now ≡ keyval_object t.now) }
 {
     let public = one_member(value, "public")?;
-    let digits = text_of(public)?;
-    read_public(digits)
+    text_of(public)
 }
 
-// The 56 bytes that the text spells in hex digits of lower case.
-fn read_public(text: &str) -> Option<[u8; 56]>
+// The LMS key whose 56 bytes the text spells in hex digits of lower case.
+fn read_lms(text: &str) -> Option<Key>
     ensures { MatchOption result ((p : List ℕ) → AreBytes 56 p → text.now ≡ encode_lower p → ⊥)
-        (λ p. AreBytes 56 p × (text.now ≡ encode_lower p)) }
+        (λ k. (p : List ℕ) × (key_view k ≡ lms p) × AreBytes 56 p × (text.now ≡ encode_lower p)) }
 {
-    let mut bytes = [0; 56];
-    if hex::decode_to_slice(text.as_bytes(), &mut bytes).is_err() {
+    if text.len() != 112 {
         return None;
     }
-    let mut digits = [0; 112];
-    if spells(&bytes, text.as_bytes(), &mut digits) {
-        Some(bytes)
+    let mut public = [0; 56];
+    if read_digits(text.as_bytes(), &mut public) {
+        Some(Key::Lms(public))
     } else {
         None
     }
 }
 
-// Whether the digits are those of the bytes, which it writes as a text of its own.
-fn spells(bytes: &[u8], digits: &[u8], text: &mut [u8]) -> bool
-    requires bytes { length bytes.now ≡ 56 }
-    requires two { length text.old ≡ 112 }
-    ensures { IsTrue result ↔ (AreBytes 56 bytes.now × (digits.now ≡ encode_lower bytes.now)) }
+// The HSS key whose 60 bytes the text spells in hex digits of lower case.
+fn read_hss(text: &str) -> Option<Key>
+    ensures { MatchOption result ((p : List ℕ) → AreBytes 60 p → text.now ≡ encode_lower p → ⊥)
+        (λ k. (p : List ℕ) × (key_view k ≡ hss p) × AreBytes 60 p × (text.now ≡ encode_lower p)) }
 {
-    let _ = hex::encode_to_slice(bytes, &mut *text);
-    *digits == *text
+    if text.len() != 120 {
+        return None;
+    }
+    let mut public = [0; 60];
+    if read_digits(text.as_bytes(), &mut public) {
+        Some(Key::Hss(public))
+    } else {
+        None
+    }
 }
 
 /// The key table that the value is, whatever its names.

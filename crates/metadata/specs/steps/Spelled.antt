@@ -14,13 +14,17 @@ use Rattle.metadata.specs.declared.references.SpelledReference.{SpelledReference
 use Rattle.metadata.specs.declared.steps.SpelledStep.{SpelledStep}
 use Rattle.metadata.specs.declared.root.SpelledRoles.{SpelledRoles}
 use Rattle.metadata.specs.declared.root.Keyed.{Keyed}
-use Rattle.canonical_json.specs.Json.{Json}
+use Rattle.canonical_json.specs.Json.{Json, text, object, no_members, member}
 use Rattle.metadata.specs.Members.{Has}
 use Rattle.metadata.specs.Parts.{IsTable, IsRuleOver}
 use Rattle.metadata.specs.Bodies as bodies
 use Rattle.metadata.specs.Documents as documents
 use Rattle.metadata.specs.RuleViews.{rule_view as artifact_view}
 use Rattle.metadata.specs.Views.{scope_view}
+
+-- {"public":..} with this text
+abbrev pub keyval_object : List ℕ → Json
+keyval_object digits = object (member (codes "public") (text digits) no_members)
 
 abbrev pub texts_view : List (String Global) → List (List ℕ)
 texts_view ts = map string_bytes ts

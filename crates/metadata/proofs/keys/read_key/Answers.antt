@@ -1,4 +1,5 @@
 use Rattle.canonical_json.specs.View.{view}
+use Rattle.keys_roles.specs.Views.{key_view}
 use Rattle.metadata.proofs.KeyObjects.{no_key}
 use Rattle.metadata.proofs.keys.read_key.Goals as goal
 
