@@ -14,13 +14,14 @@ same() {
     checks=$((checks + 1))
 }
 
-# ends STATUS OUT ERR COMMAND..: the command ends so, and writes these texts, byte for byte.
+# ends STATUS OUT ERR COMMAND..: the command ends so, and writes these texts, byte for byte, but for how long an opening took.
 ends() {
     local status=$1 out=$2 err=$3 ended=0
     shift 3
     printf '%b' "$out" >"$folder/out.wanted"
     printf '%b' "$err" >"$folder/err.wanted"
     "$@" >"$folder/out" 2>"$folder/err" || ended=$?
+    sed -i -E '/: signatures checked: [0-9]+, opened in [0-9]+ ms$/d' "$folder/err"
     [ "$ended" = "$status" ] || fail "status $ended in place of $status: $*"
     same "standard output: $*" "$folder/out.wanted" "$folder/out"
     same "standard error: $*" "$folder/err.wanted" "$folder/err"

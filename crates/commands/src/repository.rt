@@ -5,8 +5,8 @@ use command_support::{Fault, Notes, connected};
 use metadata::Moment;
 use sqlite::{Alter, Connection, FileStore};
 use sqlite_disk::Disk;
-use std::alloc::Global;
 use std::io::Write;
+use std::time::Instant;
 use store::{Command, Reply, Store, StoreFault};
 use tables::{has_first_schema, has_others_behind};
 
@@ -30,19 +30,21 @@ pub fn worked<W: Work, E: Write>(
     work: &mut W,
     notes: &mut Notes<'_, E>,
 ) -> Result<W::Done, Fault> {
+    let began = Instant::now(rt).ok();
     let conn = connected(rt, db, notes)?;
-    worked_in(rt.alloc(), conn, db, work, notes)
+    worked_in(rt, began, conn, db, work, notes)
 }
 
 // The same over a connection to two files, which is closed.
 fn worked_in<D: Disk + Drop, W: Work, E: Write>(
-    alloc: Global,
+    rt: &HostRuntime,
+    began: Option<Instant>,
     conn: Connection<FileStore<D>>,
     db: &str,
     work: &mut W,
     notes: &mut Notes<'_, E>,
 ) -> Result<W::Done, Fault> {
-    let (done, conn) = worked_over(alloc, conn, db, work, notes);
+    let (done, conn) = worked_over(rt, began, conn, db, work, notes);
     if let Some(conn) = conn {
         let _ = conn.close();
     }
@@ -51,7 +53,8 @@ fn worked_in<D: Disk + Drop, W: Work, E: Write>(
 
 // The same over a connection, which is given back where a repository was opened.
 fn worked_over<S: Alter + Drop, W: Work, E: Write>(
-    alloc: Global,
+    rt: &HostRuntime,
+    began: Option<Instant>,
     conn: Connection<S>,
     db: &str,
     work: &mut W,
@@ -59,12 +62,15 @@ fn worked_over<S: Alter + Drop, W: Work, E: Write>(
 ) -> (Result<W::Done, Fault>, Option<Connection<S>>) {
     let is_first = has_first_schema(conn.schema());
     let has_others = has_others_behind(conn.schema());
-    match Store::open(alloc, conn) {
+    match Store::open(rt.alloc(), conn) {
         Ok(repository) => {
             if is_first {
                 notes.tell(&db, &"schema 1 was brought to schema 2");
             }
             let mut repository = repository;
+            if notes.are_told() {
+                tell_opening(rt, began, db, repository.held().known_signatures(), notes);
+            }
             let done = work.work(&mut repository, notes);
             (done, Some(repository.into_connection()))
         }
@@ -78,6 +84,28 @@ fn worked_over<S: Alter + Drop, W: Work, E: Write>(
             }
             (Err(fault_of_store(fault)), None)
         }
+    }
+}
+
+// Tells how many signatures an opening checked, and how long it took since it began.
+fn tell_opening<E: Write>(
+    rt: &HostRuntime,
+    began: Option<Instant>,
+    db: &str,
+    signatures: usize,
+    notes: &mut Notes<'_, E>,
+) {
+    let Some(began) = began else {
+        return;
+    };
+    let Ok(took) = began.elapsed(rt) else {
+        return;
+    };
+    let took = took.as_millis();
+    if let Ok(told) = format!(in rt.alloc();
+        "signatures checked: {signatures}, opened in {took} ms"
+    ) {
+        notes.tell(&db, &told);
     }
 }
 

@@ -8,7 +8,7 @@ ghost use Rattle.metadata.specs.File as files;
 ghost use Rattle.metadata.specs.FileViews.{targets_file};
 ghost use Rattle.delegations.specs.Rows.{AllFiles, row_at, same_place, value_at};
 ghost use Rattle.delegations.specs.Search.{doc};
-ghost use Rattle.delegations.specs.Verdicts.{AreListed, AreOfRows, AreTrue, IsComplete, known_at};
+ghost use Rattle.delegations.specs.Verdicts.{AreListed, AreOfRows, AreTrue, IsComplete, known_at, most_verdicts, verdict_count};
 ghost use Rattle.delegations.specs.Views.{edge_view, held_rows, known_row, row_views, rows_view, shelf_view, table_view};
 ghost use Rattle.delegations.specs.steps.Gathering.{AreEdges, IsRow};
 
@@ -60,11 +60,32 @@ impl Verdicts {
         }
     }
 
+    /// Of how many pairs of a signature and a key it is known whether the one verifies under the other, at most 2,048.
+    pub fn count(&self) -> usize
+        ensures { result ≡ verdict_count self.now }
+    {
+        count_of(&self.rows)
+    }
+
     pub(crate) fn rows(&self) -> &[RowVerdicts]
         ensures { table_view result.now ≡ self.now }
     {
         &self.rows
     }
+}
+
+// How many verdicts the rows have.
+fn count_of(rows: &[RowVerdicts]) -> usize
+    requires { verdict_count (table_view rows.now) ≤ most_verdicts }
+    ensures { result ≡ verdict_count (table_view rows.now) }
+{
+    let mut count = 0usize;
+    let mut rest = rows;
+    'rows: while let Some((row, later)) = rest.split_first() {
+        count += row.verdicts.len();
+        rest = later;
+    }
+    count
 }
 
 /// What is known of the row of the role with this version.

@@ -1,5 +1,6 @@
 //! What a state holds beside the bytes of its blobs.
 ghost use Rattle.std.specs.Prelude.{◌≡◌, ◌≤◌, ◌<◌, IfOk};
+ghost use Rattle.delegations.specs.Verdicts.{verdict_count};
 ghost use Rattle.machine.specs.Held.{IsHeld, held_with, nothing_held};
 ghost use Rattle.machine.specs.Knowing.{IsKnown};
 ghost use Rattle.machine.specs.Views.{effects_view, held_view, length_views, made_view, trusted_view};
@@ -72,6 +73,14 @@ impl Held {
             verdicts,
         } = self;
         Held::of(trusted, blobs, verdicts)
+    }
+
+    /// Of how many pairs of a signature and a key it is known whether the one verifies under the other, at most 2,048. Behind an
+    /// opening these are the signatures that it checked.
+    pub fn known_signatures(&self) -> usize
+        ensures { result ≡ verdict_count self.now.verdicts }
+    {
+        self.verdicts.count()
     }
 
     /// Makes room for these changes. If memory is refused, all is as before.
