@@ -1,5 +1,5 @@
 -- Laws of what an input asks.
-use Rattle.std.proofs.Common.{◌≡◌, ◌<◌, inl, inr, ℕ, List, ◌++◌, drop, take, Option, Some, None, Err, refl, sym, ap, ◌∙◌, arith, subst}
+use Rattle.std.proofs.Common.{◌≡◌, ◌<◌, inl, inr, Bool, ℕ, List, ◌++◌, drop, take, Option, Some, None, Err, refl, sym, ap, ◌∙◌, arith, subst}
 use Rattle.std.specs.Io.KnownBytes.{Consumes}
 use Rattle.hex.specs.Hex.{encode_lower}
 use Rattle.httparse.specs.Grammar.{RequestHead}
@@ -15,7 +15,7 @@ use Rattle.http_messages.specs.Sound.{OnNoMemory}
 use Rattle.http_messages.specs.declared.request.Received.{Received}
 use Rattle.http_messages.specs.declared.line.ReceiveFault.{ReceiveFault}
 use Rattle.http_messages.specs.declared.line.ReceiveFault.TheVariants.{Read, OutOfMemory}
-use Rattle.http_messages.specs.Request.{Request, batch, put_blob, Wanted, IsWanted, HasWanted, IsKept, HasKept, WantsMemory, refused, wanted, of_head, OfBatch, framed, ill_framed, OfBlob, named, no_digest, OfBody, OfRest, Asks, by_head, by_none}
+use Rattle.http_messages.specs.Request.{Request, batch, put_blob, Wanted, IsWanted, HasWantedOf, IsKept, HasKept, WantsMemoryOf, refused, wanted, of_head_to, OfBatch, framed, ill_framed, OfBlob, named, no_digest, OfBody, OfRest, AsksOf, by_head, by_none}
 use Rattle.http_messages.proofs.Frames.{one-batch}
 
 -- ---- one request for an input
@@ -47,21 +47,21 @@ module _ (one_digest : (d e : List ℕ) → IsDigest d → IsDigest e → encode
   one-of-rest (wanted route name len) rest a b (inr x) (inl y) = absurd (omega (arith, x.0, y.0))
   one-of-rest (wanted route name len) rest a b (inr x) (inr y) = one-of-body route name (take len rest) a b x.1 y.1
 
-  pub one-request : (input : List ℕ) (a b : Request) → Asks input a → Asks input b → a ≡ b
-  one-request input a b (by_head h r c x p) (by_head k q d y s) =
+  pub one-request : (reads_only : Bool) (input : List ℕ) (a b : Request) → AsksOf reads_only input a → AsksOf reads_only input b → a ≡ b
+  one-request only input a b (by_head h r c x p) (by_head k q d y s) =
       let (heads, rests) = request_unique input h k r q x.reads y.reads in
-      one-of-rest (of_head k) q a b (subst (λ z. OfRest (of_head k) z a) rests (subst (λ z. OfRest (of_head z) r a) heads p)) s
-  one-request input a b (by_head h r c x p) (by_none n) = absurd (n h r x)
-  one-request input a b (by_none n) (by_head h r c x p) = absurd (n h r x)
-  one-request input a b (by_none n) (by_none m) = refl
+      one-of-rest (of_head_to only k) q a b (subst (λ z. OfRest (of_head_to only k) z a) rests (subst (λ z. OfRest (of_head_to only z) r a) heads p)) s
+  one-request only input a b (by_head h r c x p) (by_none n) = absurd (n h r x)
+  one-request only input a b (by_none n) (by_head h r c x p) = absurd (n h r x)
+  one-request only input a b (by_none n) (by_none m) = refl
 
 -- ---- what was read
 
 -- what a head that was found says of the rest of the input is what the input asks
-pub asks-wanted : (got known gave more : List ℕ) (headers : List HeaderSpan) (spans : RequestSpans) (said : Wanted) (request : Request)
-    → FoundHead got known headers (Some spans) → ((h : RequestHead) → IsRequestAt got headers spans h → said ≡ of_head h)
-    → OfRest said (drop spans.len got ++ gave ++ more) request → Asks (got ++ gave ++ more) request
-asks-wanted got known gave more headers spans said request (within, h, at, small) says rest =
+pub asks-wanted : (only : Bool) (got known gave more : List ℕ) (headers : List HeaderSpan) (spans : RequestSpans) (said : Wanted) (request : Request)
+    → FoundHead got known headers (Some spans) → ((h : RequestHead) → IsRequestAt got headers spans h → said ≡ of_head_to only h)
+    → OfRest said (drop spans.len got ++ gave ++ more) request → AsksOf only (got ++ gave ++ more) request
+asks-wanted only got known gave more headers spans said request (within, h, at, small) says rest =
     by_head h (drop spans.len got ++ gave ++ more) request
     (record { reads = ReadsRequest-append (got ++ gave) h (drop spans.len got ++ gave) more (ReadsRequest-append got h (drop spans.len got) gave at.reads); small = small })
     (subst (λ w. OfRest w (drop spans.len got ++ gave ++ more) request) (says h at) rest)
@@ -93,24 +93,24 @@ kept-body Prune len h = h
 kept-body Target len h = tt
 
 -- a head that was found asks for what has to be kept
-pub wants-memory : (got known : List ℕ) (headers : List HeaderSpan) (spans : RequestSpans) (said : Wanted)
-    → FoundHead got known headers (Some spans) → ((h : RequestHead) → IsRequestAt got headers spans h → said ≡ of_head h) → HasKept said → WantsMemory (got ++ known)
-wants-memory got known headers spans said (within, h, at, small) says keeps =
-    let kept : HasKept (of_head h) = subst HasKept (says h at) keeps in
+pub wants-memory : (only : Bool) (got known : List ℕ) (headers : List HeaderSpan) (spans : RequestSpans) (said : Wanted)
+    → FoundHead got known headers (Some spans) → ((h : RequestHead) → IsRequestAt got headers spans h → said ≡ of_head_to only h) → HasKept said → WantsMemoryOf only (got ++ known)
+wants-memory only got known headers spans said (within, h, at, small) says keeps =
+    let kept : HasKept (of_head_to only h) = subst HasKept (says h at) keeps in
     record {
       wants = record {
         head = h;
         rest = drop spans.len got ++ known;
         heads = record { reads = ReadsRequest-append got h (drop spans.len got) known at.reads; small = small };
-        wants = kept-wanted (of_head h) kept;
+        wants = kept-wanted (of_head_to only h) kept;
       };
       keeps = kept;
     }
 
 -- a head that was found refuses nothing, where more was read behind it
-pub wanted-more : (got known gave more : List ℕ) (headers : List HeaderSpan) (spans : RequestSpans) (said : Wanted)
-    → FoundHead got known headers (Some spans) → ((h : RequestHead) → IsRequestAt got headers spans h → said ≡ of_head h) → IsWanted said → HasWanted (got ++ gave ++ more)
-wanted-more got known gave more headers spans said (within, h, at, small) says wants =
+pub wanted-more : (only : Bool) (got known gave more : List ℕ) (headers : List HeaderSpan) (spans : RequestSpans) (said : Wanted)
+    → FoundHead got known headers (Some spans) → ((h : RequestHead) → IsRequestAt got headers spans h → said ≡ of_head_to only h) → IsWanted said → HasWantedOf only (got ++ gave ++ more)
+wanted-more only got known gave more headers spans said (within, h, at, small) says wants =
     record {
       head = h;
       rest = drop spans.len got ++ gave ++ more;

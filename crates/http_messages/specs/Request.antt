@@ -1,5 +1,5 @@
 -- What an input asks for: the parts of one command, or the first fault in the order in which they are judged.
-use Rattle.std.specs.Prelude.{◌≡◌, ◌⊎◌, ℕ, ◌<◌, ◌≤◌, List, length, take, map, Option, Some, None, Bool, cond, ◌&&◌, bytes_eq, nat_le, ⊤}
+use Rattle.std.specs.Prelude.{◌≡◌, ◌⊎◌, ℕ, ◌<◌, ◌≤◌, List, length, take, map, Option, Some, None, Bool, true, false, cond, ◌&&◌, bytes_eq, nat_le, ⊤}
 use Rattle.std.specs.List.{list_all}
 use Rattle.httparse.specs.Grammar.{RequestHead}
 use Rattle.httparse.specs.Spans.{name_and_value}
@@ -52,6 +52,20 @@ method_of Metadata = Get
 method_of Prune = Post
 method_of Target = Get
 
+-- its command may change something
+abbrev pub writes : Route → Bool
+writes Batch = true
+writes Blob = true
+writes Metadata = false
+writes Prune = true
+writes Target = false
+
+-- the routes that a server has: all of them, or, where it only reads, those by which nothing is changed
+abbrev pub served_route : Bool → Option Routed → Option Routed
+served_route false found = found
+served_route true None = None
+served_route true (Some routed) = cond (writes routed.0) None (Some routed)
+
 -- the most bytes of a body
 abbrev pub limit_of : Route → ℕ
 limit_of Batch = 4194304
@@ -78,10 +92,14 @@ of_route method fields (Some routed) =
     cond (bytes_eq method (method_text (method_of routed.0))) (of_length routed.0 routed.1 (length_for (method_of routed.0) fields))
     (refused (BadMethod (method_of routed.0)))
 
--- what a head says, its faults judged in order: the target's bytes, the route, the method, the length, the size
-unfoldable pub of_head : RequestHead → Wanted
-of_head h =
-    cond (list_all is_visible h.target) (of_route h.method (declared (map name_and_value h.fields)) (route_of h.target)) (refused Head)
+-- what a head says to a server of all routes, or to one that only reads, its faults judged in order: the target's bytes, the route, the
+-- method, the length, the size
+unfoldable pub of_head_to : Bool → RequestHead → Wanted
+of_head_to reads_only h =
+    cond (list_all is_visible h.target) (of_route h.method (declared (map name_and_value h.fields)) (served_route reads_only (route_of h.target))) (refused Head)
+
+abbrev pub of_head : RequestHead → Wanted
+of_head = of_head_to false
 
 -- the head alone refuses nothing
 abbrev pub IsWanted : Wanted → Type 0
@@ -89,11 +107,14 @@ IsWanted (refused why) = ⊥
 IsWanted (wanted route name len) = ⊤
 
 -- the input has a head that refuses nothing
-pub record HasWanted (input : List ℕ) : Type 0 where
+pub record HasWantedOf (reads_only : Bool) (input : List ℕ) : Type 0 where
   pub head : RequestHead
   pub rest : List ℕ
   pub heads : Heads input head rest
-  pub wants : IsWanted (of_head head)
+  pub wants : IsWanted (of_head_to reads_only head)
+
+abbrev pub HasWanted : List ℕ → Type 0
+HasWanted = HasWantedOf false
 
 -- it has to be kept until the answer: a body that is not empty, or a name, which is never empty
 abbrev pub IsKept : Route → ℕ → Type 0
@@ -109,9 +130,12 @@ HasKept (refused why) = ⊥
 HasKept (wanted route name len) = IsKept route len
 
 -- the input has a head that refuses nothing, and something has to be kept
-pub record WantsMemory (input : List ℕ) : Type 0 where
-  pub wants : HasWanted input
-  pub keeps : HasKept (of_head wants.head)
+pub record WantsMemoryOf (reads_only : Bool) (input : List ℕ) : Type 0 where
+  pub wants : HasWantedOf reads_only input
+  pub keeps : HasKept (of_head_to reads_only wants.head)
+
+abbrev pub WantsMemory : List ℕ → Type 0
+WantsMemory = WantsMemoryOf false
 
 -- what the body of a batch asks
 pub data OfBatch (body : List ℕ) : Request → Type 0 where
@@ -137,8 +161,11 @@ OfRest (refused why) rest request = request ≡ fault why
 OfRest (wanted route name len) rest request =
     ((length rest < len) × (request ≡ fault Body)) ⊎ ((len ≤ length rest) × OfBody route name (take len rest) request)
 
--- The input asks this: what its head and the bytes after it say, or it has no head within the limits. What follows the body is
--- not looked at.
-pub data Asks (input : List ℕ) : Request → Type 0 where
-  by_head : (h : RequestHead) (rest : List ℕ) (request : Request) → Heads input h rest → OfRest (of_head h) rest request → Asks input request
-  by_none : HasNoHead input → Asks input (fault Head)
+-- The input asks this, of a server of all routes or of one that only reads: what its head and the bytes after it say, or it has no head
+-- within the limits. What follows the body is not looked at.
+pub data AsksOf (reads_only : Bool) (input : List ℕ) : Request → Type 0 where
+  by_head : (h : RequestHead) (rest : List ℕ) (request : Request) → Heads input h rest → OfRest (of_head_to reads_only h) rest request → AsksOf reads_only input request
+  by_none : HasNoHead input → AsksOf reads_only input (fault Head)
+
+abbrev pub Asks : List ℕ → Request → Type 0
+Asks = AsksOf false

@@ -1,6 +1,6 @@
 // One request, read whole.
 
-ghost use Rattle.std.specs.Prelude.{◌≡◌, ◌≤◌, ◌++◌, ℕ, List, length, drop, map, All, IfOk, OnErr, bytes_eq};
+ghost use Rattle.std.specs.Prelude.{◌≡◌, ◌≤◌, ◌++◌, Bool, true, false, ℕ, List, length, drop, map, All, IfOk, OnErr, bytes_eq};
 ghost use Rattle.std.specs.List.{list_all};
 ghost use Rattle.std.specs.Io.KnownBytes.{Consumes};
 ghost use Rattle.httparse.specs.Grammar.{RequestHead, ReadsRequest};
@@ -13,7 +13,7 @@ ghost use Rattle.http_messages.specs.Text.{method_text};
 ghost use Rattle.http_messages.specs.Received.{Means, IsOfBatch, HasDocument, request_of};
 ghost use Rattle.http_messages.specs.Framing.{BeginsWithDocument};
 ghost use Rattle.http_messages.specs.steps.Said.{wanted_by};
-ghost use Rattle.http_messages.specs.Request.{Request, Asks, IsWanted, HasWanted, IsKept, HasKept, WantsMemory, OfRest, OfBody, OfBlob, OfBatch, wanted, of_head, of_route as of_route_lem, of_length as of_length_lem, length_for as length_for_lem, method_of, limit_of, is_visible};
+ghost use Rattle.http_messages.specs.Request.{Request, Asks, AsksOf, IsWanted, HasWanted, HasWantedOf, IsKept, HasKept, WantsMemory, WantsMemoryOf, OfRest, OfBody, OfBlob, OfBatch, wanted, of_head_to, of_route as of_route_lem, of_length as of_length_lem, length_for as length_for_lem, method_of, limit_of, is_visible, served_route};
 
 use crate::body::read_body;
 use crate::faults::Fault;
@@ -22,7 +22,7 @@ use crate::framing::read_batch;
 use crate::head::{FIELD_LIMIT, HEAD_LIMIT, read_head};
 use crate::line::{Receive, ReceiveFault};
 use crate::reply::Method;
-use crate::routes::{Route, Routes};
+use crate::routes::{Route, Routes, find_served};
 use httparse::spans::{EMPTY_HEADER_SPAN, HeaderSpan, RequestSpans};
 use limits::BLOB_LIMIT;
 use path_patterns::{Digest, RoleName, one_digest};
@@ -144,10 +144,16 @@ fn is_method(method: &[u8], wanted: Method) -> bool
 }
 
 // What a head with this method, these fields and this target says.
-fn of_route<'a>(routes: &Routes, method: &[u8], fields: Declared, target: &'a str) -> Said<'a>
-    ensures { wanted_by result ≡ of_route_lem method.now fields (route_of target.now) }
+fn of_route<'a>(
+    routes: &Routes,
+    reads_only: bool,
+    method: &[u8],
+    fields: Declared,
+    target: &'a str,
+) -> Said<'a>
+    ensures { wanted_by result ≡ of_route_lem method.now fields (served_route reads_only (route_of target.now)) }
 {
-    match routes.find(target) {
+    match find_served(routes, reads_only, target) {
         None => Said::Refused(Fault::Route),
         Some((route, name)) => {
             if is_method(method, route.method()) {
@@ -162,12 +168,13 @@ fn of_route<'a>(routes: &Routes, method: &[u8], fields: Declared, target: &'a st
 // What a head says.
 fn of_spans<'a>(
     routes: &Routes,
+    reads_only: bool,
     got: &'a [u8],
     headers: &[HeaderSpan],
     spans: RequestSpans,
 ) -> Said<'a>
     requires { IsRequestWithin got.now headers.now spans }
-    ensures { (h : RequestHead) → IsRequestAt got.now headers.now spans h → wanted_by result ≡ of_head h }
+    ensures { (h : RequestHead) → IsRequestAt got.now headers.now spans h → wanted_by result ≡ of_head_to reads_only h }
 {
     let target = spans.path.of(got);
     if !are_visible(target) {
@@ -175,7 +182,7 @@ fn of_spans<'a>(
     }
     let fields = declared_length(got, &headers[..spans.headers]);
     match str::from_utf8(target) {
-        Ok(text) => of_route(routes, spans.method.of(got), fields, text),
+        Ok(text) => of_route(routes, reads_only, spans.method.of(got), fields, text),
         Err(_) => Said::Refused(Fault::Head),
     }
 }
@@ -266,6 +273,38 @@ pub fn read_request<R: Receive>(
     ensures sound { ReadsSoundly (R.sound reader.old) result (R.sound reader.new) }
     ensures memory { OnNoMemory result ((input : List ℕ) × IsInput (R.remaining reader.old) input × WantsMemory input) }
 {
+    read_request_of(alloc, routes, false, reader)
+}
+
+/// The same of a server that only reads: a route by which something may be changed is none, so such a request is `Fault::Route`, of
+/// whatever method, and no byte of its body is read.
+pub fn read_reading_request<R: Receive>(
+    alloc: Global,
+    routes: &Routes,
+    reader: &mut R,
+) -> Result<Received, ReceiveFault>
+    ensures asked { IfOk result (λ r. (gave : List ℕ) × Consumes (R.remaining reader.old) (R.remaining reader.new) gave
+        × ((request : Request) → Means r request → AsksOf true (gave ++ left (R.remaining reader.new)) request)
+        × (IsOfBatch r → HasWantedOf true (gave ++ left (R.remaining reader.new)))) }
+    ensures sound { ReadsSoundly (R.sound reader.old) result (R.sound reader.new) }
+    ensures memory { OnNoMemory result ((input : List ℕ) × IsInput (R.remaining reader.old) input × WantsMemoryOf true input) }
+{
+    read_request_of(alloc, routes, true, reader)
+}
+
+// The same of a server of all routes, or of one that only reads.
+fn read_request_of<R: Receive>(
+    alloc: Global,
+    routes: &Routes,
+    reads_only: bool,
+    reader: &mut R,
+) -> Result<Received, ReceiveFault>
+    ensures asked { IfOk result (λ r. (gave : List ℕ) × Consumes (R.remaining reader.old) (R.remaining reader.new) gave
+        × ((request : Request) → Means r request → AsksOf reads_only (gave ++ left (R.remaining reader.new)) request)
+        × (IsOfBatch r → HasWantedOf reads_only (gave ++ left (R.remaining reader.new)))) }
+    ensures sound { ReadsSoundly (R.sound reader.old) result (R.sound reader.new) }
+    ensures memory { OnNoMemory result ((input : List ℕ) × IsInput (R.remaining reader.old) input × WantsMemoryOf reads_only input) }
+{
     let mut buf = [0; HEAD_LIMIT];
     let mut headers = [EMPTY_HEADER_SPAN; FIELD_LIMIT];
     let (filled, found) = read_head(reader, &mut buf, &mut headers)?;
@@ -273,7 +312,7 @@ pub fn read_request<R: Receive>(
         return Ok(Received::Fault(Fault::Head));
     };
     let got = &buf[..filled];
-    let said = of_spans(routes, got, &headers, spans);
+    let said = of_spans(routes, reads_only, got, &headers, spans);
     let received = read_said(alloc, reader, said, &got[spans.len..])?;
     Ok(received)
 }
@@ -308,9 +347,9 @@ fn asked_batch(alloc: Global, body: &[u8]) -> Result<Asked<'_>, AllocError>
     }
 }
 
-/// A law, which does nothing: an input asks for one thing.
+/// A law, which does nothing: an input asks for one thing, of a server of all routes and of one that only reads.
 pub fn one_request()
-    ensures { (input : List ℕ) (a b : Request) → Asks input a → Asks input b → a ≡ b }
+    ensures { (reads_only : Bool) (input : List ℕ) (a b : Request) → AsksOf reads_only input a → AsksOf reads_only input b → a ≡ b }
 {
     one_digest();
 }

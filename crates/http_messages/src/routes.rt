@@ -2,6 +2,7 @@
 
 ghost use Rattle.std.specs.Prelude.{◌≡◌, option_map, IfErr};
 ghost use Rattle.matchit.specs.declared.error.InsertError.TheVariants.{OutOfMemory};
+ghost use Rattle.http_messages.specs.Request.{served_route, writes as writes_of};
 ghost use Rattle.http_messages.specs.RouteOf.{Routed, route_of, after};
 ghost use Rattle.http_messages.specs.steps.Known.{all_routes};
 ghost use Rattle.http_messages.specs.steps.Prefixes.{prefix_of, with_rest};
@@ -47,6 +48,18 @@ impl Route {
     }
 }
 
+impl Route {
+    /// Whether its command may change something.
+    pub fn writes(self) -> bool
+        ensures { result ≡ writes_of self }
+    {
+        match self {
+            Route::Batch | Route::Blob | Route::Prune => true,
+            Route::Metadata | Route::Target => false,
+        }
+    }
+}
+
 impl Routes {
     /// All routes. The error is want of memory.
     pub fn new(alloc: Global) -> Result<Routes, AllocError> {
@@ -79,6 +92,21 @@ impl Routes {
             Err(_) => None,
         }
     }
+}
+
+/// The same of a server of all routes, or of one that only reads, which has no route by which something may be changed.
+pub(crate) fn find_served<'t>(
+    routes: &Routes,
+    reads_only: bool,
+    target: &'t str,
+) -> Option<(Route, &'t str)>
+    ensures { option_map {U = Routed} (λ r. (r.0, r.1.now)) result ≡ served_route reads_only (route_of target.now) }
+{
+    let (route, rest) = routes.find(target)?;
+    if reads_only && route.writes() {
+        return None;
+    }
+    Some((route, rest))
 }
 
 // What follows a prefix, if the text begins with it.

@@ -6,9 +6,9 @@ use Rattle.http_messages.specs.declared.request.Received.{Received}
 use Rattle.http_messages.specs.steps.Said.{wanted_by}
 use Rattle.std.proofs.lemmas.List.{take_rest}
 use Rattle.std.proofs.lemmas.Result.{err_from_is_err_and}
-use Rattle.http_messages.specs.Request.{Asks, by_none, OfRest, HasKept, WantsMemory}
+use Rattle.http_messages.specs.Request.{AsksOf, by_none, OfRest, HasKept, WantsMemoryOf}
 use Rattle.http_messages.proofs.Asking.{asks-wanted, wants-memory, wanted-more, input-is, on-no-memory}
-use Rattle.http_messages.proofs.request.read_request.Goals as goal
+use Rattle.http_messages.proofs.request.read_request_of.Goals as goal
 
 pub returns-in_default-clause-asked : goal.returns-in_default-clause-asked
 returns-in_default-clause-asked g c =
@@ -17,7 +17,7 @@ returns-in_default-clause-asked g c =
       got,
       c.in_ok-filled.ensures.bytes,
       λ request e.
-          subst (Asks (got ++ more)) (sym e) (by_none (subst (FoundHead got more c.read_head.new.headers) c.in_default.is c.in_ok-filled.ensures.head)),
+          subst (AsksOf c.args.reads_only (got ++ more)) (sym e) (by_none (subst (FoundHead got more c.read_head.new.headers) c.in_default.is c.in_ok-filled.ensures.head)),
       λ is. absurd is,
     )
 
@@ -30,10 +30,10 @@ returns-clause-asked g c =
       got ++ gave,
       Consumes-trans _ _ _ got gave c.in_ok-filled.ensures.bytes consumes,
       λ request means.
-          asks-wanted got known gave more c.read_head.new.headers c.in-Some.spans (wanted_by c.of_spans-said.result) request
+          asks-wanted c.args.reads_only got known gave more c.read_head.new.headers c.in-Some.spans (wanted_by c.of_spans-said.result) request
           (subst (FoundHead got known c.read_head.new.headers) c.in-Some.is c.in_ok-filled.ensures.head) c.of_spans-said.ensures (subst (λ l. OfRest (wanted_by c.of_spans-said.result) (l ++ gave ++ more) request) (take_rest got c.in-Some.spans.len) (says request means)),
       λ is.
-          wanted-more got known gave more c.read_head.new.headers c.in-Some.spans (wanted_by c.of_spans-said.result)
+          wanted-more c.args.reads_only got known gave more c.read_head.new.headers c.in-Some.spans (wanted_by c.of_spans-said.result)
           (subst (FoundHead got known c.read_head.new.headers) c.in-Some.is c.in_ok-filled.ensures.head) c.of_spans-said.ensures (c.in_ok-received.ensures.batch is),
     )
 
@@ -42,12 +42,12 @@ returns-in_err-received-clause-memory g c =
     let got = take c.in_ok-filled.filled c.read_head.new.buf in
     let known = left (g.R.Read.remaining c.read_head.new.reader) in
     let p = err_from_is_err_and c.from_residual-in_err-received.result c.from_residual-in_err-received.ensures.1 in
-    let kept : OnNoMemory {T = Received} (Err c.in_err-received.field-0.0) ((input : List ℕ) × IsInput (g.R.Read.remaining c.args.reader.now) input × WantsMemory input) =
+    let kept : OnNoMemory {T = Received} (Err c.in_err-received.field-0.0) ((input : List ℕ) × IsInput (g.R.Read.remaining c.args.reader.now) input × WantsMemoryOf c.args.reads_only input) =
     on-no-memory c.in_err-received.field-0.0 (HasKept (wanted_by c.of_spans-said.result)) _
     (λ keeps. (
       got ++ known,
       input-is _ _ got c.in_ok-filled.ensures.bytes,
-      wants-memory got known c.read_head.new.headers c.in-Some.spans (wanted_by c.of_spans-said.result)
+      wants-memory c.args.reads_only got known c.read_head.new.headers c.in-Some.spans (wanted_by c.of_spans-said.result)
           (subst (FoundHead got known c.read_head.new.headers) c.in-Some.is c.in_ok-filled.ensures.head) c.of_spans-said.ensures keeps,
     ))
     c.in_err-received.ensures.memory in
