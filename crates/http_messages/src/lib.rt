@@ -22,5 +22,5 @@ pub use limits::{BLOB_LIMIT, MOST_DOCUMENTS};
 pub use line::{Cut, Receive, ReceiveFault, Sink, Transmit, send_all, send_both};
 pub use path_patterns::{Digest, RoleName};
 pub use reply::{Kind, Method, ShortText, Status, head_of, write_response};
-pub use request::{Asked, BATCH_LIMIT, Received, one_request, read_reading_request, read_request};
+pub use request::{Asked, BATCH_LIMIT, Received, one_request, read_request, read_request_of};
 pub use routes::{Route, Routes};

@@ -276,24 +276,9 @@ pub fn read_request<R: Receive>(
     read_request_of(alloc, routes, false, reader)
 }
 
-/// The same of a server that only reads: a route by which something may be changed is none, so such a request is `Fault::Route`, of
-/// whatever method, and no byte of its body is read.
-pub fn read_reading_request<R: Receive>(
-    alloc: Global,
-    routes: &Routes,
-    reader: &mut R,
-) -> Result<Received, ReceiveFault>
-    ensures asked { IfOk result (λ r. (gave : List ℕ) × Consumes (R.remaining reader.old) (R.remaining reader.new) gave
-        × ((request : Request) → Means r request → AsksOf true (gave ++ left (R.remaining reader.new)) request)
-        × (IsOfBatch r → HasWantedOf true (gave ++ left (R.remaining reader.new)))) }
-    ensures sound { ReadsSoundly (R.sound reader.old) result (R.sound reader.new) }
-    ensures memory { OnNoMemory result ((input : List ℕ) × IsInput (R.remaining reader.old) input × WantsMemoryOf true input) }
-{
-    read_request_of(alloc, routes, true, reader)
-}
-
-// The same of a server of all routes, or of one that only reads.
-fn read_request_of<R: Receive>(
+/// The same of a server of all routes, or of one that only reads: for that one a route by which something may be changed is none, so
+/// such a request is `Fault::Route`, of whatever method, and no byte of its body is read.
+pub fn read_request_of<R: Receive>(
     alloc: Global,
     routes: &Routes,
     reads_only: bool,

@@ -4,3 +4,4 @@ pub mod Standings
 pub mod OneResponse
 pub mod Responding
 pub mod Telling
+pub mod Reading

@@ -1,21 +1,21 @@
 -- Serving one more connection.
-use Rattle.std.proofs.Common.{◌≡◌, ℕ, ◌+◌, ◌<◌, List, [], ◌∷◌, ◌++◌, length, take, drop, map, get_or, Option, Result, Ok, Err, true, false, refl, sym, ap, ◌∙◌, arith, subst}
+use Rattle.std.proofs.Common.{◌≡◌, ℕ, ◌+◌, ◌<◌, List, [], ◌∷◌, ◌++◌, length, take, drop, map, get_or, Option, Result, Ok, Err, Bool, true, false, refl, sym, ap, ◌∙◌, arith, subst}
 use Rattle.std.specs.Result.{is_ok}
 use Rattle.std.proofs.Math.ListN.{set}
 use Rattle.std.proofs.lemmas.List.{take_more, take_more_set, drop-set-lt, get_or-drop, map-append, drop-drop}
 use Rattle.http_serve.specs.declared.serve.ServeFault.{ServeFault}
 use Rattle.store.specs.Standing.{Standing}
-use Rattle.http_serve.specs.Serving.{Line, Ended, Serves, one_if_ok}
+use Rattle.http_serve.specs.Serving.{Line, EndedBy, ServesBy, one_if_ok}
 
 -- one more connection, at the end
-serves-more : (lines : List Line) (helds : List (Option (List ℕ))) (s m t : Standing) (n : ℕ) (line : Line) (held : Option (List ℕ)) (r : Result (Unit {0}) ServeFault)
-    → Serves lines helds s m n → Ended line held m r t → Serves (lines ++ line ∷ []) (helds ++ held ∷ []) s t (n + one_if_ok r)
-serves-more [] [] s m t n line held r h e =
-    (r, t, 0, subst (λ x. Ended line held x r t) h.0 e, (refl, refl), ap (λ k. k + one_if_ok r) h.1 ∙ omega arith)
-serves-more [] (x ∷ helds) s m t n line held r h e = absurd h
-serves-more (x ∷ lines) [] s m t n line held r h e = absurd h
-serves-more (x ∷ lines) (y ∷ helds) s m t n line held r (result, mid, others, first, rest, count) e =
-    (result, mid, others + one_if_ok r, first, serves-more lines helds mid m t others line held r rest e, ap (λ k. k + one_if_ok r) count ∙ omega arith)
+serves-more : (only : Bool) (lines : List Line) (helds : List (Option (List ℕ))) (s m t : Standing) (n : ℕ) (line : Line) (held : Option (List ℕ)) (r : Result (Unit {0}) ServeFault)
+    → ServesBy only lines helds s m n → EndedBy only line held m r t → ServesBy only (lines ++ line ∷ []) (helds ++ held ∷ []) s t (n + one_if_ok r)
+serves-more only [] [] s m t n line held r h e =
+    (r, t, 0, subst (λ x. EndedBy only line held x r t) h.0 e, (refl, refl), ap (λ k. k + one_if_ok r) h.1 ∙ omega arith)
+serves-more only [] (x ∷ helds) s m t n line held r h e = absurd h
+serves-more only (x ∷ lines) [] s m t n line held r h e = absurd h
+serves-more only (x ∷ lines) (y ∷ helds) s m t n line held r (result, mid, others, first, rest, count) e =
+    (result, mid, others + one_if_ok r, first, serves-more only lines helds mid m t others line held r rest e, ap (λ k. k + one_if_ok r) count ∙ omega arith)
 
 -- the item at a place, where the rests from there on agree
 same-item : {C : Type 0} (old now : List C) (i : ℕ) (d : C) → drop i now ≡ drop i old → get_or now i d ≡ get_or old i d
@@ -24,18 +24,18 @@ same-item old now i d e =
     ap (λ k. get_or now k d) (sym at) ∙ sym (get_or-drop i now 0 d) ∙ ap (λ l. get_or l 0 d) e ∙ get_or-drop i old 0 d ∙ ap (λ k. get_or old k d) at
 
 module _ {C : Type 0} (line_of : C → Line) (held_of : C → Option (List ℕ)) where
-  pub served-next : (old now : List C) (i : ℕ) (d x : C) (s m t : Standing) (n : ℕ) (r : Result (Unit {0}) ServeFault)
+  pub served-next : (only : Bool) (old now : List C) (i : ℕ) (d x : C) (s m t : Standing) (n : ℕ) (r : Result (Unit {0}) ServeFault)
       → i < length now → length now ≡ length old → drop i now ≡ drop i old
-      → Serves (map line_of (take i old)) (map held_of (take i now)) s m n
-      → Ended (line_of (get_or now i d)) (held_of x) m r t
-      → Serves (map line_of (take (i + 1) old)) (map held_of (take (i + 1) (set now i x))) s t (n + one_if_ok r)
-  served-next old now i d x s m t n r lt same rest h e =
+      → ServesBy only (map line_of (take i old)) (map held_of (take i now)) s m n
+      → EndedBy only (line_of (get_or now i d)) (held_of x) m r t
+      → ServesBy only (map line_of (take (i + 1) old)) (map held_of (take (i + 1) (set now i x))) s t (n + one_if_ok r)
+  served-next only old now i d x s m t n r lt same rest h e =
       let in_old : i < length old = omega arith in
       let lines : map line_of (take (i + 1) old) ≡ map line_of (take i old) ++ line_of (get_or now i d) ∷ [] =
       ap (map line_of) (take_more old i d in_old ∙ ap (λ y. take i old ++ y ∷ []) (sym (same-item old now i d rest))) ∙ map-append line_of (take i old) (get_or now i d ∷ []) in
       let helds : map held_of (take (i + 1) (set now i x)) ≡ map held_of (take i now) ++ held_of x ∷ [] =
       ap (map held_of) (take_more_set now i x lt) ∙ map-append held_of (take i now) (x ∷ []) in
-      rw (lines, helds) (serves-more _ _ s m t n _ _ r h e)
+      rw (lines, helds) (serves-more only _ _ s m t n _ _ r h e)
 
 pub rest-next : {C : Type 0} (old now : List C) (i : ℕ) (x : C) → drop i now ≡ drop i old → drop (i + 1) (set now i x) ≡ drop (i + 1) old
 rest-next old now i x e = drop-set-lt (i + 1) now i x (omega arith) ∙ drop_more now i ∙ ap (drop 1) e ∙ sym (drop_more old i)

@@ -97,10 +97,10 @@ module _ (one_path : OnePath) (one_step : OneStep) where
 
 -- ---- answers are responses
 
-moved : {A B : Standing} {P Q : State → State → Type 0} → ((S T : State) → P S T → Q S T) → Moves A B P → Moves A B Q
+pub moved : {A B : Standing} {P Q : State → State → Type 0} → ((S T : State) → P S T → Q S T) → Moves A B P → Moves A B Q
 moved each moves S at = let (T, there, p) = moves S at in (T, there, each S T p)
 
-unmoved : (A : Standing) (P : State → State → Type 0) → ((S : State) → P S S) → Moves A A P
+pub unmoved : (A : Standing) (P : State → State → Type 0) → ((S : State) → P S S) → Moves A A P
 unmoved A P each S at = (S, at, each S)
 
 abbrev IsAnswer : Standing → List ℕ → ℕ → List ℕ → Standing → Type 0

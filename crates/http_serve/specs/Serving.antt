@@ -1,9 +1,9 @@
 -- What serving does: one connection, and a list of them in order.
-use Rattle.std.specs.Prelude.{◌≡◌, ℕ, ◌+◌, List, [], ◌∷◌, Option, Result, Ok, Err, Bool, true}
+use Rattle.std.specs.Prelude.{◌≡◌, ℕ, ◌+◌, List, [], ◌∷◌, Option, Result, Ok, Err, Bool, true, false}
 use Rattle.std.specs.Io.KnownBytes.{Appends, Keeps as KeepsBytes}
 use Rattle.machine.specs.Runs.{Command, Reply}
 use Rattle.http_messages.specs.Head.{IsInput}
-use Rattle.http_messages.specs.Request.{Request, Asks, HasWanted, fault}
+use Rattle.http_messages.specs.Request.{Request, AsksOf, HasWantedOf, fault}
 use Rattle.http_messages.specs.Faults.{fault_response}
 use Rattle.http_messages.specs.Taken.{TookSome}
 use Rattle.http_messages.specs.declared.faults.Fault.{Fault}
@@ -23,13 +23,16 @@ pub data Made (A : Standing) (command : Command) (now : ℕ) : List ℕ → Stan
   no_memory : (B : Standing) → Keeps A B → Made A command now (fault_response Memory) B
   no_database : (B : Standing) → Keeps A B → Made A command now (fault_response Database) B
 
--- What an input is answered, and where the store stands then: a fault, what its command is answered, or the refusal where there was no
--- memory to find out which command it is. A fault of a head wants no memory.
-pub data Answered (A : Standing) (input : List ℕ) (now : ℕ) : List ℕ → Standing → Type 0 where
-  at_fault : (why : Fault) → Asks input (fault why) → Answered A input now (fault_response why) A
-  by_command : (request : Request) (command : Command) (text : List ℕ) (B : Standing) → Asks input request → IsCommand request command
-      → Made A command now text B → Answered A input now text B
-  unread : (B : Standing) → HasWanted input → Keeps A B → Answered A input now (fault_response Memory) B
+-- What an input is answered by a server of all routes, or by one that only reads, and where the store stands then: a fault, what its
+-- command is answered, or the refusal where there was no memory to find out which command it is. A fault of a head wants no memory.
+pub data AnsweredBy (reads_only : Bool) (A : Standing) (input : List ℕ) (now : ℕ) : List ℕ → Standing → Type 0 where
+  at_fault : (why : Fault) → AsksOf reads_only input (fault why) → AnsweredBy reads_only A input now (fault_response why) A
+  by_command : (request : Request) (command : Command) (text : List ℕ) (B : Standing) → AsksOf reads_only input request → IsCommand request command
+      → Made A command now text B → AnsweredBy reads_only A input now text B
+  unread : (B : Standing) → HasWantedOf reads_only input → Keeps A B → AnsweredBy reads_only A input now (fault_response Memory) B
+
+abbrev pub Answered : Standing → List ℕ → ℕ → List ℕ → Standing → Type 0
+Answered = AnsweredBy false
 
 -- a connection as it was found: what its reader is known to have left, what its writer is known to hold, its moment, and whether no
 -- call of its reader and of its writer fails
@@ -42,13 +45,16 @@ pub record Line : Type 0 where
 
 -- What became of a connection, whose writer holds `held` now: it took the whole answer; or the reader is one that can fail, and nothing
 -- was done; or the writer is one that can fail, it took a beginning of the answer, and what was done stands.
-abbrev pub Ended : Line → Option (List ℕ) → Standing → Result (Unit {0}) ServeFault → Standing → Type 0
-Ended line held A (Ok u) B =
-    (input : List ℕ) × IsInput line.given input × (text : List ℕ) × Answered A input line.now text B × Appends line.held held text
-Ended line held A (Err Read) B = (line.reads ≡ true → ⊥) × (B ≡ A) × KeepsBytes line.held held
-Ended line held A (Err Write) B =
+abbrev pub EndedBy : Bool → Line → Option (List ℕ) → Standing → Result (Unit {0}) ServeFault → Standing → Type 0
+EndedBy reads_only line held A (Ok u) B =
+    (input : List ℕ) × IsInput line.given input × (text : List ℕ) × AnsweredBy reads_only A input line.now text B × Appends line.held held text
+EndedBy reads_only line held A (Err Read) B = (line.reads ≡ true → ⊥) × (B ≡ A) × KeepsBytes line.held held
+EndedBy reads_only line held A (Err Write) B =
     (line.writes ≡ true → ⊥)
-    × ((input : List ℕ) × IsInput line.given input × (text : List ℕ) × Answered A input line.now text B × TookSome line.held held text)
+    × ((input : List ℕ) × IsInput line.given input × (text : List ℕ) × AnsweredBy reads_only A input line.now text B × TookSome line.held held text)
+
+abbrev pub Ended : Line → Option (List ℕ) → Standing → Result (Unit {0}) ServeFault → Standing → Type 0
+Ended = EndedBy false
 
 -- a text was written whole, or a beginning of it
 abbrev pub Wrote : Option (List ℕ) → Option (List ℕ) → List ℕ → Result (Unit {0}) Cut → Type 0
@@ -61,10 +67,13 @@ one_if_ok (Ok u) = 1
 one_if_ok (Err e) = 0
 
 -- connections were served in order: there is a standing between each two, and so many ended well
-abbrev pub Serves : List Line → List (Option (List ℕ)) → Standing → Standing → ℕ → Type 0
-Serves [] [] A B count = (B ≡ A) × (count ≡ 0)
-Serves (line ∷ lines) (held ∷ helds) A B count =
+abbrev pub ServesBy : Bool → List Line → List (Option (List ℕ)) → Standing → Standing → ℕ → Type 0
+ServesBy reads_only [] [] A B count = (B ≡ A) × (count ≡ 0)
+ServesBy reads_only (line ∷ lines) (held ∷ helds) A B count =
     (result : Result (Unit {0}) ServeFault) × (mid : Standing) × (others : ℕ)
-    × Ended line held A result mid × Serves lines helds mid B others × (count ≡ one_if_ok result + others)
-Serves [] (held ∷ helds) A B count = ⊥
-Serves (line ∷ lines) [] A B count = ⊥
+    × EndedBy reads_only line held A result mid × ServesBy reads_only lines helds mid B others × (count ≡ one_if_ok result + others)
+ServesBy reads_only [] (held ∷ helds) A B count = ⊥
+ServesBy reads_only (line ∷ lines) [] A B count = ⊥
+
+abbrev pub Serves : List Line → List (Option (List ℕ)) → Standing → Standing → ℕ → Type 0
+Serves = ServesBy false

@@ -1,11 +1,11 @@
 // What follows from the definitions alone.
-ghost use Rattle.std.specs.Prelude.{◌≡◌, ◌⊎◌, ◌++◌, ℕ, List, Option};
+ghost use Rattle.std.specs.Prelude.{◌≡◌, ◌⊎◌, ◌++◌, true, ℕ, List, Option};
 ghost use Rattle.machine.specs.State.{State};
 ghost use Rattle.machine.specs.Runs.{Command, Reply, Runs};
 ghost use Rattle.http_messages.specs.Faults.{fault_response};
 ghost use Rattle.http_messages.specs.declared.faults.Fault.TheVariants.{Memory, Database};
 ghost use Rattle.http_serve.specs.Response.{Responds};
-ghost use Rattle.http_serve.specs.Serving.{Answered, Line, Serves};
+ghost use Rattle.http_serve.specs.Serving.{Answered, AnsweredBy, Line, Serves};
 ghost use Rattle.store.specs.Standing.{IsClean, Moves, Standing};
 
 use http_messages::one_request;
@@ -35,4 +35,9 @@ pub fn runs_on()
     ensures { (lines : List Line) (helds : List (Option (List ℕ))) (A B : Standing) (count : ℕ) → Serves lines helds A B count
         → Moves A B (λ S T. IsClean B → (first : State) (before : List (Command × ℕ)) (replies : List Reply) → Runs first before S replies
         → (made : List (Command × ℕ)) × (later : List Reply) × Runs first (before ++ made) T (replies ++ later)) }
+{}
+
+/// A law, which does nothing: whatever a server that only reads is sent, the state stays as it was.
+pub fn reading_changes_nothing()
+    ensures { (A B : Standing) (input : List ℕ) (now : ℕ) (text : List ℕ) → AnsweredBy true A input now text B → Moves A B (λ S T. T ≡ S) }
 {}

@@ -8,6 +8,6 @@ mod respond;
 mod serve;
 
 pub use http_messages::{Cut, Fault, Receive, Routes, Transmit};
-pub use laws::{one_response, only_responses, runs_on};
-pub use serve::{ServeFault, serve_list, serve_one};
+pub use laws::{one_response, only_responses, reading_changes_nothing, runs_on};
+pub use serve::{ServeFault, serve_list, serve_list_reading, serve_one, serve_one_reading};
 pub use store::{Moment, Store};

@@ -1,14 +1,14 @@
 // Connections, served one after another.
 
-ghost use Rattle.std.specs.Prelude.{◌≡◌, map};
+ghost use Rattle.std.specs.Prelude.{◌≡◌, map, true};
 ghost use Rattle.sqlite.specs.Held.{state};
-ghost use Rattle.http_serve.specs.Serving.{Ended, Serves};
+ghost use Rattle.http_serve.specs.Serving.{Ended, EndedBy, Serves, ServesBy};
 ghost use Rattle.store.specs.Standing.{seen};
 ghost use Rattle.http_serve.specs.steps.Views.{HasEnded};
 
 use crate::respond::respond;
 use http_messages::{
-    Cut, Fault, Receive, ReceiveFault, Routes, Transmit, read_request, write_fault,
+    Cut, Fault, Receive, ReceiveFault, Routes, Transmit, read_request_of, write_fault,
 };
 use metadata::Moment;
 use sqlite::Alter;
@@ -45,7 +45,41 @@ pub fn serve_one<R: Receive, W: Transmit, S: Alter>(
         (W.contents writer.new) (seen store.old.kept (state S.Store store.old.conn)) result
         (seen store.new.kept (state S.Store store.new.conn)) }
 {
-    let received = match read_request(alloc, routes, reader) {
+    serve_one_by(alloc, routes, false, reader, writer, store, now)
+}
+
+/// Serves one connection as `serve_one` does, but that routes by which something may be changed are not there: such a request is the
+/// fault `route` (404), as one of an unknown path is, of whatever method; no byte of its body is read, and no command is made.
+pub fn serve_one_reading<R: Receive, W: Transmit, S: Alter>(
+    alloc: Global,
+    routes: &Routes,
+    reader: &mut R,
+    writer: &mut W,
+    store: &mut Store<S>,
+    now: Moment,
+) -> Result<(), ServeFault>
+    ensures { EndedBy true (record { given = R.remaining reader.old; held = W.contents writer.old; now = now; reads = R.sound reader.old; writes = W.sound writer.old })
+        (W.contents writer.new) (seen store.old.kept (state S.Store store.old.conn)) result
+        (seen store.new.kept (state S.Store store.new.conn)) }
+{
+    serve_one_by(alloc, routes, true, reader, writer, store, now)
+}
+
+// The same with all routes, or with those that only read.
+fn serve_one_by<R: Receive, W: Transmit, S: Alter>(
+    alloc: Global,
+    routes: &Routes,
+    reads_only: bool,
+    reader: &mut R,
+    writer: &mut W,
+    store: &mut Store<S>,
+    now: Moment,
+) -> Result<(), ServeFault>
+    ensures { EndedBy reads_only (record { given = R.remaining reader.old; held = W.contents writer.old; now = now; reads = R.sound reader.old; writes = W.sound writer.old })
+        (W.contents writer.new) (seen store.old.kept (state S.Store store.old.conn)) result
+        (seen store.new.kept (state S.Store store.new.conn)) }
+{
+    let received = match read_request_of(alloc, routes, reads_only, reader) {
         Ok(received) => received,
         Err(ReceiveFault::Read) => return Err(ServeFault::Read),
         Err(ReceiveFault::OutOfMemory) => return ended(write_fault(writer, Fault::Memory)),
@@ -79,9 +113,38 @@ pub fn serve_list<R: Receive, W: Transmit, S: Alter>(
         (map (λ c. W.contents c.1) connections.new) (seen store.old.kept (state S.Store store.old.conn))
         (seen store.new.kept (state S.Store store.new.conn)) result }
 {
+    serve_list_by(alloc, routes, false, connections, store)
+}
+
+/// Serves connections as `serve_list` does, each by `serve_one_reading`.
+pub fn serve_list_reading<R: Receive, W: Transmit, S: Alter>(
+    alloc: Global,
+    routes: &Routes,
+    connections: &mut [(R, W, Moment)],
+    store: &mut Store<S>,
+) -> usize
+    ensures { ServesBy true (map (λ c. record { given = R.remaining c.0; held = W.contents c.1; now = c.2; reads = R.sound c.0; writes = W.sound c.1 }) connections.old)
+        (map (λ c. W.contents c.1) connections.new) (seen store.old.kept (state S.Store store.old.conn))
+        (seen store.new.kept (state S.Store store.new.conn)) result }
+{
+    serve_list_by(alloc, routes, true, connections, store)
+}
+
+// The same with all routes, or with those that only read.
+fn serve_list_by<R: Receive, W: Transmit, S: Alter>(
+    alloc: Global,
+    routes: &Routes,
+    reads_only: bool,
+    connections: &mut [(R, W, Moment)],
+    store: &mut Store<S>,
+) -> usize
+    ensures { ServesBy reads_only (map (λ c. record { given = R.remaining c.0; held = W.contents c.1; now = c.2; reads = R.sound c.0; writes = W.sound c.1 }) connections.old)
+        (map (λ c. W.contents c.1) connections.new) (seen store.old.kept (state S.Store store.old.conn))
+        (seen store.new.kept (state S.Store store.new.conn)) result }
+{
     let mut count = 0;
     for (reader, writer, now) in connections.iter_mut() {
-        let ended = serve_one(alloc, routes, reader, writer, store, *now);
+        let ended = serve_one_by(alloc, routes, reads_only, reader, writer, store, *now);
         if ended.is_ok() {
             count += 1;
         }

@@ -1,10 +1,10 @@
 -- What the code's values stand for, and what its parts are asked.
-use Rattle.std.specs.Prelude.{◌≡◌, ◌⊎◌, ℕ, List, Option, Result, Ok, Err, map, ⊤}
+use Rattle.std.specs.Prelude.{◌≡◌, ◌⊎◌, ℕ, List, Option, Result, Ok, Err, Bool, map, ⊤}
 use Rattle.std.specs.Borrow.{Bor}
 use Rattle.machine.specs.Runs.{Command, Init, OfferOne, Batch, PutBlob, Prune, Metadata, Target, Reply, Begun, Offered, BatchDone, Stored, Pruned, FileBytes, Absent, Refused}
 use Rattle.machine.specs.Commands.{Offer, offer_of}
 use Rattle.http_messages.specs.Faults.{fault_response}
-use Rattle.http_messages.specs.Request.{Request, Asks}
+use Rattle.http_messages.specs.Request.{Request, AsksOf}
 use Rattle.tables.specs.declared.faults.StoreFault.{StoreFault}
 use Rattle.tables.specs.declared.faults.StoreFault.TheVariants as store
 use Rattle.http_messages.specs.declared.faults.Fault.{Fault}
@@ -12,7 +12,7 @@ use Rattle.http_messages.specs.declared.faults.Fault.TheVariants.{Memory, Databa
 use Rattle.http_messages.specs.declared.reply.Kind.{Kind}
 use Rattle.http_messages.specs.declared.line.Cut.{Cut}
 use Rattle.http_serve.specs.Response.{Says}
-use Rattle.http_serve.specs.Serving.{Answered, Made, Wrote}
+use Rattle.http_serve.specs.Serving.{AnsweredBy, Made, Wrote}
 use Rattle.store.specs.Standing.{Standing}
 use Rattle.http_serve.specs.declared.serve.ServeFault.{ServeFault}
 use Rattle.http_serve.specs.declared.serve.ServeFault.TheVariants.{Write}
@@ -67,9 +67,9 @@ Told kind reply old new r = (text : List ℕ) × (Says kind reply text ⊎ (IsDe
 abbrev pub Performed : Standing → Command → ℕ → Standing → Option (List ℕ) → Option (List ℕ) → Result (Unit {0}) Cut → Type 0
 Performed A command now B old new r = (text : List ℕ) × Made A command now text B × Wrote old new text r
 
--- a request was answered: each input that asks it is
+-- a request was answered: each input that asks it is, of a server of all routes as of one that only reads
 abbrev pub Responded : Standing → Request → ℕ → Standing → Option (List ℕ) → Option (List ℕ) → Result (Unit {0}) Cut → Type 0
-Responded A request now B old new r = (text : List ℕ) × ((input : List ℕ) → Asks input request → Answered A input now text B) × Wrote old new text r
+Responded A request now B old new r = (text : List ℕ) × ((reads_only : Bool) (input : List ℕ) → AsksOf reads_only input request → AnsweredBy reads_only A input now text B) × Wrote old new text r
 
 -- how a connection ends by how its answer was written
 abbrev pub HasEnded : Result (Unit {0}) Cut → Result (Unit {0}) ServeFault → Type 0

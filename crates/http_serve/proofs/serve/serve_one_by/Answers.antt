@@ -10,7 +10,7 @@ use Rattle.http_serve.specs.Serving.{Line, unread}
 use Rattle.store.specs.Standing.{seen}
 use Rattle.http_serve.proofs.Responding.{ends, of-no-memory, of-read}
 use Rattle.http_serve.proofs.Standings.{rests, wrote}
-use Rattle.http_serve.proofs.serve.serve_one.Goals as goal
+use Rattle.http_serve.proofs.serve.serve_one_by.Goals as goal
 
 pub returns-in-Err-Read : goal.returns-in-Err-Read
 returns-in-Err-Read g c = (of-read c.in-Err-Read.field-0 _ _ c.in-Err-Read.field-0-is c.in-Err-Read.ensures.sound, refl, Keeps-refl _)
@@ -26,7 +26,7 @@ returns-in-Err-OutOfMemory g c =
     } in
     let here = seen c.args.store.now.kept (state g.S.Store c.args.store.now.conn) in
     let (input, is, wants) = of-no-memory c.in-Err-OutOfMemory.field-0 _ c.in-Err-OutOfMemory.field-0-is c.in-Err-OutOfMemory.ensures.memory in
-    ends line _ here here input (fault_response Memory) _ c.write_fault.result c.ended.result is
+    ends c.args.reads_only line _ here here input (fault_response Memory) _ c.write_fault.result c.ended.result is
     (unread here wants.wants (rests here))
     (wrote _ _ _ _ c.write_fault.ensures.ok c.write_fault.ensures.err) c.write_fault.ensures.sound c.ended.ensures
 
@@ -41,7 +41,7 @@ returns-in-Err g c =
     } in
     let here = seen c.args.store.now.kept (state g.S.Store c.args.store.now.conn) in
     let (gave, consumes, says, wants) = c.in-Ok.ensures.asked in
-    ends line _ here here (gave ++ left (g.R.Read.remaining c.read_request.new.reader)) (fault_response Memory) _ c.write_fault-in-Err.result c.ended-in-Err.result
+    ends c.args.reads_only line _ here here (gave ++ left (g.R.Read.remaining c.read_request_of.new.reader)) (fault_response Memory) _ c.write_fault-in-Err.result c.ended-in-Err.result
     (input-is _ _ gave consumes)
     (unread here (wants c.in-Err.ensures.memory) (rests here))
     (wrote _ _ _ _ c.write_fault-in-Err.ensures.ok c.write_fault-in-Err.ensures.err) c.write_fault-in-Err.ensures.sound c.ended-in-Err.ensures
@@ -57,6 +57,6 @@ returns g c =
     } in
     let (gave, consumes, says, wants) = c.in-Ok.ensures.asked in
     let (text, answers, writes) = c.respond.ensures.responded in
-    let input = gave ++ left (g.R.Read.remaining c.read_request.new.reader) in
-    ends line _ _ _ input text _ c.respond.result c.ended-2.result (input-is _ _ gave consumes)
-    (answers input (says (request_of c.in-Ok-asked.asked) c.in-Ok-asked.ensures.asked)) writes c.respond.ensures.sound c.ended-2.ensures
+    let input = gave ++ left (g.R.Read.remaining c.read_request_of.new.reader) in
+    ends c.args.reads_only line _ _ _ input text _ c.respond.result c.ended-2.result (input-is _ _ gave consumes)
+    (answers c.args.reads_only input (says (request_of c.in-Ok-asked.asked) c.in-Ok-asked.ensures.asked)) writes c.respond.ensures.sound c.ended-2.ensures
