@@ -72,6 +72,10 @@ most_connections = 4294967295
 abbrev pub port_rule : Rule
 port_rule = record (option_rule (codes "port")) { required = true; parser = Some (Unsigned 1 last_port) }
 
+-- `--port P` in place of `--db FILE`
+abbrev pub port_option_rule : Rule
+port_option_rule = record (option_rule (codes "port")) { parser = Some (Unsigned 1 last_port) }
+
 -- `--count N`
 abbrev pub count_rule : Rule
 count_rule = record (option_rule (codes "count")) { parser = Some (Unsigned 1 most_connections) }
@@ -90,6 +94,10 @@ begun_line name = with_rule (with_rule (new_app name) moment_rule) verbose_rule
 
 abbrev pub stored_line : Text → App
 stored_line name = with_rule (begun_line name) db_rule
+
+-- a subcommand over a database or a port, each of which may be left out as far as `clap` is told
+abbrev pub placed_line : Text → App
+placed_line name = with_rule (with_rule (begun_line name) (option_rule (codes "db"))) port_option_rule
 
 abbrev pub canon_line : App
 canon_line = with_rule (begun_line (codes "canon")) (operand_rule (codes "file"))
@@ -111,13 +119,13 @@ abbrev pub key_line : App
 key_line = with_key_pair (begun_line (codes "key"))
 
 abbrev pub prune_line : App
-prune_line = stored_line (codes "prune")
+prune_line = placed_line (codes "prune")
 
 abbrev pub publish_line : App
-publish_line = with_rule (stored_line (codes "publish")) documents_rule
+publish_line = with_rule (placed_line (codes "publish")) documents_rule
 
 abbrev pub put_line : App
-put_line = with_rule (stored_line (codes "put")) (operand_rule (codes "file"))
+put_line = with_rule (placed_line (codes "put")) (operand_rule (codes "file"))
 
 abbrev pub serve_line : App
 serve_line = with_rule (with_rule (stored_line (codes "serve")) port_rule) count_rule

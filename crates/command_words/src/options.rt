@@ -2,7 +2,7 @@
 ghost use Rattle.std.specs.Prelude.{◌≡◌, Some, codes, false, true};
 ghost use Rattle.clap.specs.Words.{rule_of};
 ghost use Rattle.clap.specs.declared.builder.value_parser.ValueParser.TheVariants.{Unsigned};
-ghost use Rattle.command_words.specs.Subcommands.{book_rule, count_rule, db_rule, documents_rule, folder_rule, height_rule, known_rule, moment_rule, operand_rule, option_rule, ots_rule, out_rule, port_rule, required_rule, seed_rule, verbose_rule};
+ghost use Rattle.command_words.specs.Subcommands.{book_rule, count_rule, db_rule, documents_rule, folder_rule, height_rule, known_rule, moment_rule, operand_rule, option_rule, ots_rule, out_rule, port_option_rule, port_rule, required_rule, seed_rule, verbose_rule};
 
 use clap::builder::ValueParser;
 use clap::{Arg, ArgAction};
@@ -67,6 +67,15 @@ pub(crate) fn db<'a>(alloc: Global) -> Arg<'a>
     required(alloc, "db", "FILE", help)
 }
 
+/// `--db FILE`, where a port may stand in its place.
+pub(crate) fn db_or_port<'a>(alloc: Global) -> Arg<'a>
+    ensures rule { rule_of result ≡ option_rule (codes "db") }
+    ensures local { result.global ≡ false }
+{
+    let help = "The database file of the repository, made where there is none; or --port";
+    option(alloc, "db", "FILE", help)
+}
+
 /// `--book B`
 pub(crate) fn book<'a>(alloc: Global) -> Arg<'a>
     ensures rule { rule_of result ≡ book_rule }
@@ -122,6 +131,16 @@ pub(crate) fn port<'a>(alloc: Global, help: &'a str) -> Arg<'a>
     ensures local { result.global ≡ false }
 {
     within(required(alloc, "port", "P", help), 1, 65535)
+}
+
+/// `--port P` in place of `--db FILE`
+pub(crate) fn port_or_db<'a>(alloc: Global) -> Arg<'a>
+    ensures rule { rule_of result ≡ port_option_rule }
+    ensures local { result.global ≡ false }
+{
+    let help =
+        "The port of 127.0.0.1 that the repository is served at, in place of --db. The moment is then the server's, so --at may not be given";
+    within(option(alloc, "port", "P", help), 1, 65535)
 }
 
 /// `--out OUT`

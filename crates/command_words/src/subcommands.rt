@@ -2,10 +2,11 @@
 ghost use Rattle.std.specs.Prelude.{◌≡◌, IfOk, false};
 ghost use Rattle.clap.specs.Words.{app_of, rule_of, with_rule};
 ghost use Rattle.clap.specs.declared.builder.command.Command.TheViews.{out-Command};
-ghost use Rattle.command_words.specs.Subcommands.{begun_line, canon_line, export_line, get_line, init_line, key_line, prune_line, publish_line, put_line, serve_line, sign_line, stored_line, update_line, with_key_pair};
+ghost use Rattle.command_words.specs.Subcommands.{begun_line, canon_line, export_line, get_line, init_line, key_line, placed_line, prune_line, publish_line, put_line, serve_line, sign_line, stored_line, update_line, with_key_pair};
 
 use crate::options::{
-    at, book, count, db, documents, folder, height, known, operand, ots, out, port, seed, verbose,
+    at, book, count, db, db_or_port, documents, folder, height, known, operand, ots, out, port,
+    port_or_db, seed, verbose,
 };
 use crate::texts;
 use clap::{Arg, Command};
@@ -72,32 +73,32 @@ pub fn key<'a>(alloc: Global) -> Result<Command<'a>, AllocError>
     with_key(alloc, command)
 }
 
-/// `prune [--at SECONDS] [--verbose] --db FILE`
+/// `prune [--at SECONDS] [--verbose] --db FILE` or `prune [--verbose] --port P`
 pub fn prune<'a>(alloc: Global) -> Result<Command<'a>, AllocError>
     ensures line { IfOk result (λ c. app_of c ≡ prune_line) }
     ensures local { IfOk result (λ c. (out-Command c).has_globals ≡ false) }
 {
     let about = "Remove the documents and target files that the snapshot does not list";
-    stored(alloc, "prune", about, texts::PRUNE)
+    placed(alloc, "prune", about, texts::PRUNE)
 }
 
-/// `publish [--at SECONDS] [--verbose] --db FILE ROLE:FILE ..`
+/// `publish [--at SECONDS] [--verbose] --db FILE ROLE:FILE ..` or `publish [--verbose] --port P ROLE:FILE ..`
 pub fn publish<'a>(alloc: Global) -> Result<Command<'a>, AllocError>
     ensures line { IfOk result (λ c. app_of c ≡ publish_line) }
     ensures local { IfOk result (λ c. (out-Command c).has_globals ≡ false) }
 {
     let about = "Take documents in the order given, all or none";
-    let command = stored(alloc, "publish", about, texts::PUBLISH)?;
+    let command = placed(alloc, "publish", about, texts::PUBLISH)?;
     with(command, documents(alloc))
 }
 
-/// `put [--at SECONDS] [--verbose] --db FILE FILE`
+/// `put [--at SECONDS] [--verbose] --db FILE FILE` or `put [--verbose] --port P FILE`
 pub fn put<'a>(alloc: Global) -> Result<Command<'a>, AllocError>
     ensures line { IfOk result (λ c. app_of c ≡ put_line) }
     ensures local { IfOk result (λ c. (out-Command c).has_globals ≡ false) }
 {
     let about = "Store a target file under its SHA-256";
-    let command = stored(alloc, "put", about, texts::PUT)?;
+    let command = placed(alloc, "put", about, texts::PUT)?;
     with(command, operand(alloc, "file", "FILE", "The file to store"))
 }
 
@@ -150,6 +151,21 @@ fn stored<'a>(
 {
     let command = begun(alloc, name, about, behind)?;
     with(command, db(alloc))
+}
+
+// A subcommand over a database, or over a port in its place.
+fn placed<'a>(
+    alloc: Global,
+    name: &'a str,
+    about: &'a str,
+    behind: &'a str,
+) -> Result<Command<'a>, AllocError>
+    ensures line { IfOk result (λ c. app_of c ≡ placed_line name.entry.now) }
+    ensures local { IfOk result (λ c. (out-Command c).has_globals ≡ false) }
+{
+    let command = begun(alloc, name, about, behind)?;
+    let command = with(command, db_or_port(alloc))?;
+    with(command, port_or_db(alloc))
 }
 
 // A subcommand, which takes a moment, and may tell more. Behind its help stands a text.
