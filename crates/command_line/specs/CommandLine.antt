@@ -8,6 +8,8 @@ use Rattle.lms.specs.Parameters.{height, signing_type, width}
 use Rattle.clap.specs.Words.{IsAmong, Row, Text, all_of, count_of, fault_of, first_of, subcommand_of}
 use Rattle.clap.specs.declared.error.kind.ErrorKind.TheVariants.{DisplayHelp, DisplayVersion}
 use Rattle.command_words.specs.Subcommands.{last_moment, last_port, most_connections, release_line}
+use Rattle.command_line.specs.declared.tasks.Place.{Place}
+use Rattle.command_line.specs.declared.tasks.Place.TheVariants.{Database, Port}
 use Rattle.command_line.specs.declared.tasks.Task.{Task}
 use Rattle.command_line.specs.declared.tasks.Unread.{Unread}
 use Rattle.command_line.specs.declared.tasks.Unread.TheVariants as unread
@@ -40,6 +42,11 @@ MayHaveNumber rows id least most (Some n) = HasNumber rows id least most n
 abbrev pub HasTexts : List Row → Text → ℕ → List (String Global) → Type 0
 HasTexts rows id most ss = (all_of id rows ≡ Some (map string_bytes ss)) × (1 ≤ length ss) × (length ss ≤ most)
 
+-- where a repository is: in a database file, or at a port, beside which no moment is given
+abbrev pub HasPlace : List Row → Place → Type 0
+HasPlace rows (Database db) = HasText rows (codes "db") db × (first_of (codes "port") rows ≡ None)
+HasPlace rows (Port port) = HasNumber rows (codes "port") 1 last_port port × (first_of (codes "db") rows ≡ None) × (first_of (codes "at") rows ≡ None)
+
 -- the width of the one-time signatures and the height of the tree
 abbrev pub HasParams : List Row → Params → Type 0
 HasParams rows p = HasNumber rows (codes "ots") 1 8 (width p.ots) × HasNumber rows (codes "height") 5 10 (height (signing_type p.height))
@@ -52,9 +59,9 @@ name_of (Export db to) = codes "export"
 name_of (Get db port out path) = codes "get"
 name_of (Init db root) = codes "init"
 name_of (Key seed params) = codes "key"
-name_of (Prune db) = codes "prune"
-name_of (Publish db documents) = codes "publish"
-name_of (Put db file) = codes "put"
+name_of (Prune place) = codes "prune"
+name_of (Publish place documents) = codes "publish"
+name_of (Put place file) = codes "put"
 name_of (Serve db port count) = codes "serve"
 name_of (Sign book seed params known file) = codes "sign"
 name_of (Update db port) = codes "update"
@@ -67,9 +74,9 @@ HasArguments rows (Get db port out path) = HasText rows (codes "db") db × HasNu
     × HasText rows (codes "out") out × HasText rows (codes "path") path
 HasArguments rows (Init db root) = HasText rows (codes "db") db × HasText rows (codes "root") root
 HasArguments rows (Key seed params) = HasText rows (codes "seed") seed × HasParams rows params
-HasArguments rows (Prune db) = HasText rows (codes "db") db
-HasArguments rows (Publish db documents) = HasText rows (codes "db") db × HasTexts rows (codes "document") most_documents documents.items
-HasArguments rows (Put db file) = HasText rows (codes "db") db × HasText rows (codes "file") file
+HasArguments rows (Prune place) = HasPlace rows place
+HasArguments rows (Publish place documents) = HasPlace rows place × HasTexts rows (codes "document") most_documents documents.items
+HasArguments rows (Put place file) = HasPlace rows place × HasText rows (codes "file") file
 HasArguments rows (Serve db port count) = HasText rows (codes "db") db × HasNumber rows (codes "port") 1 last_port port
     × MayHaveNumber rows (codes "count") 1 most_connections count
 HasArguments rows (Sign book seed params known file) = HasText rows (codes "book") book × HasText rows (codes "seed") seed × HasParams rows params

@@ -1,17 +1,35 @@
 //! What the words give for the arguments of a subcommand.
-ghost use Rattle.std.specs.Prelude.{◌≡◌, ◌≤◌, IfOk, Some, codes, map, string_bytes};
+ghost use Rattle.std.specs.Prelude.{◌≡◌, ◌≤◌, IfOk, IsTrue, Some, codes, map, string_bytes};
 ghost use Rattle.std.specs.Str.Parse.{digits_value, without_leading_plus};
-ghost use Rattle.clap.specs.Words.{found_of, rows_of};
+ghost use Rattle.clap.specs.Words.{first_of, found_of, rows_of};
 ghost use Rattle.lms.specs.Parameters.{height, signing_type, width};
-ghost use Rattle.command_line.specs.CommandLine.{HasNumber, HasText, HasTexts, HasParams, MayHaveNumber, is_used};
+ghost use Rattle.command_line.specs.CommandLine.{HasNumber, HasPlace, HasText, HasTexts, HasParams, MayHaveNumber, is_used};
 ghost use Rattle.command_words.specs.Subcommands.{last_moment, last_port, most_connections};
 ghost use Rattle.limits.specs.Limits.{most_documents};
 
-use crate::tasks::{LAST_MOMENT, LAST_PORT, MOST_CONNECTIONS, Unread};
+use crate::tasks::{LAST_MOMENT, LAST_PORT, MOST_CONNECTIONS, Place, Unread};
 use clap::ArgMatches;
 use limits::MOST_DOCUMENTS;
 use lms::{OtsType, Params, SigningHeight};
 use std::alloc::{AllocError, Global};
+
+// Neither of the two options that say where a repository is, both of them, and a moment beside the one that has none: each as
+// `clap` says it of options of which it is told that they exclude one another.
+const NO_PLACE: &str = concat!(
+    "error: the following required arguments were not provided:\n",
+    "  <--db <FILE>|--port <P>>\n\n",
+    "For more information, try '--help'.\n",
+);
+
+const TWO_PLACES: &str = concat!(
+    "error: the argument '--db <FILE>' cannot be used with '--port <P>'\n\n",
+    "For more information, try '--help'.\n",
+);
+
+const MOMENT_AT_PORT: &str = concat!(
+    "error: the argument '--at <SECONDS>' cannot be used with '--port <P>'\n\n",
+    "For more information, try '--help'.\n",
+);
 
 /// The text that is given for an argument.
 pub fn text_of(alloc: Global, given: &ArgMatches<'_>, id: &str) -> Result<String, Unread>
@@ -81,6 +99,35 @@ pub fn port_of(alloc: Global, given: &ArgMatches<'_>) -> Result<u16, Unread>
         return Err(fault(alloc, "error: no port\n"));
     };
     Ok(port as u16)
+}
+
+/// Where the repository is: exactly one of the two is given, and beside a port no moment.
+pub fn place_of(alloc: Global, given: &ArgMatches<'_>) -> Result<Place, Unread>
+    ensures { IfOk result (HasPlace (rows_of (found_of given.now))) }
+{
+    if is_absent(given, "port") {
+        if is_absent(given, "db") {
+            return Err(fault(alloc, NO_PLACE));
+        }
+        return Ok(Place::Database(text_of(alloc, given, "db")?));
+    }
+    if !is_absent(given, "db") {
+        return Err(fault(alloc, TWO_PLACES));
+    }
+    if !is_absent(given, "at") {
+        return Err(fault(alloc, MOMENT_AT_PORT));
+    }
+    Ok(Place::Port(port_of(alloc, given)?))
+}
+
+// Whether an option that takes a value is not given.
+fn is_absent(given: &ArgMatches<'_>, id: &str) -> bool
+    ensures { IsTrue result → first_of id.now (rows_of (found_of given.now)) ≡ None }
+{
+    match given.get_str(id) {
+        None => true,
+        Some(_) => false,
+    }
 }
 
 /// The parameters of a key pair that are given.

@@ -12,10 +12,12 @@ mod tasks;
 use clap::ArgMatches;
 use clap::error::ErrorKind;
 use command_words::release;
-use given::{count_of, fault, is_given, moment_of, params_of, port_of, text_of, texts_of};
+use given::{
+    count_of, fault, is_given, moment_of, params_of, place_of, port_of, text_of, texts_of,
+};
 use std::alloc::Global;
 use tasks::Unread;
-pub use tasks::{Subcommand, Task, Usage};
+pub use tasks::{Place, Subcommand, Task, Usage};
 
 /// The task that the words ask for, the program's own name first: the subcommand, its options and operands, each one
 /// that has to be there, and numbers within their range. Other words are answered with the fault text of `clap`, and help only
@@ -126,24 +128,24 @@ fn key_asked(alloc: Global, given: &ArgMatches<'_>) -> Result<Subcommand, Unread
 fn prune_asked(alloc: Global, given: &ArgMatches<'_>) -> Result<Subcommand, Unread>
     ensures { IfOk result (IsAsked (codes "prune") (rows_of (found_of given.now))) }
 {
-    let db = text_of(alloc, given, "db")?;
-    Ok(Subcommand::Prune { db })
+    let place = place_of(alloc, given)?;
+    Ok(Subcommand::Prune { place })
 }
 
 fn publish_asked(alloc: Global, given: &ArgMatches<'_>) -> Result<Subcommand, Unread>
     ensures { IfOk result (IsAsked (codes "publish") (rows_of (found_of given.now))) }
 {
-    let db = text_of(alloc, given, "db")?;
+    let place = place_of(alloc, given)?;
     let documents = texts_of(alloc, given, "document")?;
-    Ok(Subcommand::Publish { db, documents })
+    Ok(Subcommand::Publish { place, documents })
 }
 
 fn put_asked(alloc: Global, given: &ArgMatches<'_>) -> Result<Subcommand, Unread>
     ensures { IfOk result (IsAsked (codes "put") (rows_of (found_of given.now))) }
 {
-    let db = text_of(alloc, given, "db")?;
+    let place = place_of(alloc, given)?;
     let file = text_of(alloc, given, "file")?;
-    Ok(Subcommand::Put { db, file })
+    Ok(Subcommand::Put { place, file })
 }
 
 fn serve_asked(alloc: Global, given: &ArgMatches<'_>) -> Result<Subcommand, Unread>

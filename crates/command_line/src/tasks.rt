@@ -22,6 +22,15 @@ pub struct Task {
     pub subcommand: Subcommand,
 }
 
+/// Where a repository is.
+#[derive(Debug, Drop)]
+pub enum Place {
+    /// In a database file.
+    Database(String),
+    /// Behind a server, at a port of 127.0.0.1.
+    Port(u16),
+}
+
 /// A subcommand with its options and operands.
 #[derive(Debug, Drop)]
 pub enum Subcommand {
@@ -52,18 +61,18 @@ pub enum Subcommand {
         seed: String,
         params: Params,
     },
-    /// `prune --db FILE`: removes the documents and target files that the snapshot does not list.
+    /// `prune --db FILE` or `prune --port P`: removes the documents and target files that the snapshot does not list.
     Prune {
-        db: String,
+        place: Place,
     },
-    /// `publish --db FILE ROLE:FILE ..`: offers 1 to 160 documents in order, together.
+    /// `publish --db FILE ROLE:FILE ..` or `publish --port P ROLE:FILE ..`: offers 1 to 160 documents in order, together.
     Publish {
-        db: String,
+        place: Place,
         documents: Vec<String>,
     },
-    /// `put --db FILE FILE`: stores a target file under its digest.
+    /// `put --db FILE FILE` or `put --port P FILE`: stores a target file under its digest.
     Put {
-        db: String,
+        place: Place,
         file: String,
     },
     /// `serve --db FILE --port P [--count N]`: answers HTTP requests on 127.0.0.1, over so many connections or without end.

@@ -45,15 +45,15 @@ heads_more front more body h heads = record {
 
 -- ---- what a reader had
 
-left_none : (o : Option (List ℕ)) → IsAtEnd o → left o ≡ []
+pub left_none : (o : Option (List ℕ)) → IsAtEnd o → left o ≡ []
 left_none None ended = refl
 left_none (Some xs) ended = ended
 
-is_left : (o : Option (List ℕ)) → IsInput o (left o)
+pub is_left : (o : Option (List ℕ)) → IsInput o (left o)
 is_left None = tt
 is_left (Some xs) = refl
 
-input_then : (old new : Option (List ℕ)) (got more : List ℕ) → Consumes old new got → IsInput new more → IsInput old (got ++ more)
+pub input_then : (old new : Option (List ℕ)) (got more : List ℕ) → Consumes old new got → IsInput new more → IsInput old (got ++ more)
 input_then None new got more h is = tt
 input_then (Some x) None got more h is = absurd h
 input_then (Some x) (Some y) got more h is = ap (λ l. got ++ l) is ∙ sym h

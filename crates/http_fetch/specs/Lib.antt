@@ -1,3 +1,5 @@
+pub mod Message
 pub mod Reply
 pub mod Request
+pub mod Sent
 pub mod steps

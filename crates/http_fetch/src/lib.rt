@@ -1,12 +1,18 @@
-//! One file of a release repository, asked for by one HTTP request over one connection (RFC 9112).
+//! One HTTP request over one connection, and its reply (RFC 9112): for a file of a release repository, or with a body.
 #![tactic(auto)]
 
 mod body;
 mod fetching;
 mod head;
+mod message;
 mod request;
+mod sending;
+mod telling;
 
 pub use fetching::{fetch_over, read_reply};
-pub use http_messages::{Receive, Transmit};
+pub use http_messages::{Method, Receive, Transmit};
+pub use message::Message;
 pub use request::request_of;
+pub use sending::{Reply, SendFault, send_over};
 pub use sources::FetchFault;
+pub use telling::{Denied, read_accepted, read_denial, read_pruned};
