@@ -97,6 +97,28 @@ connections_are_told() {
     same "what a server tells" "$folder/told.wanted" "$folder/told"
 }
 
+# A server that only reads has no route by which something may be changed, whatever the method and the body, and serves all else. What a
+# blob that it was sent says is not read: the whole of it is refused by its head.
+a_server_that_only_reads() {
+    local digest before path
+    printf 'not to be stored' >"$folder/unwanted"
+    digest=$(sha256sum "$folder/unwanted" | cut -c1-64)
+    dump "$folder/db" "$folder/before"
+    serve --read-only --count 8
+    printf '{"fault":"route"}' >"$folder/fault"
+    for path in "/blobs/$digest -T $folder/unwanted" "/batch --data-binary @$folder/unwanted" "/prune -X POST" "/batch" "/blobs/$digest" "/prune -T $folder/unwanted"; do
+        set -- $path
+        [ "$(curl -s -S -o "$folder/body" -w '%{http_code}' -H Expect: "${@:2}" "http://127.0.0.1:$port$1")" = 404 ] || fail "a server that only reads: $path"
+        same "body: a server that only reads, $path" "$folder/fault" "$folder/body"
+    done
+    curl -s -S -o "$folder/body" "http://127.0.0.1:$port/targets/hello.txt"
+    same "body: a target of a server that only reads" "$example/hello.txt" "$folder/body"
+    [ "$(curl -s -S -o "$folder/body" -w '%{http_code}' -X POST "http://127.0.0.1:$port/targets/hello.txt")" = 405 ] || fail "a server that only reads: POST of a target"
+    served_one
+    dump "$folder/db" "$folder/after"
+    same "rows behind a server that only reads" "$folder/before" "$folder/after"
+}
+
 # A server without a count serves until it is stopped, here by force. What it said that it stored is there when the file is
 # opened again.
 a_server_without_end() {

@@ -62,7 +62,7 @@ name_of (Key seed params) = codes "key"
 name_of (Prune place) = codes "prune"
 name_of (Publish place documents) = codes "publish"
 name_of (Put place file) = codes "put"
-name_of (Serve db port count) = codes "serve"
+name_of (Serve db port count read_only) = codes "serve"
 name_of (Sign book seed params known file) = codes "sign"
 name_of (Update db port) = codes "update"
 
@@ -77,8 +77,8 @@ HasArguments rows (Key seed params) = HasText rows (codes "seed") seed × HasPar
 HasArguments rows (Prune place) = HasPlace rows place
 HasArguments rows (Publish place documents) = HasPlace rows place × HasTexts rows (codes "document") most_documents documents.items
 HasArguments rows (Put place file) = HasPlace rows place × HasText rows (codes "file") file
-HasArguments rows (Serve db port count) = HasText rows (codes "db") db × HasNumber rows (codes "port") 1 last_port port
-    × MayHaveNumber rows (codes "count") 1 most_connections count
+HasArguments rows (Serve db port count read_only) = HasText rows (codes "db") db × HasNumber rows (codes "port") 1 last_port port
+    × MayHaveNumber rows (codes "count") 1 most_connections count × (read_only ≡ is_used rows (codes "read-only"))
 HasArguments rows (Sign book seed params known file) = HasText rows (codes "book") book × HasText rows (codes "seed") seed × HasParams rows params
     × (known ≡ is_used rows (codes "known")) × HasText rows (codes "file") file
 HasArguments rows (Update db port) = HasText rows (codes "db") db × HasNumber rows (codes "port") 1 last_port port

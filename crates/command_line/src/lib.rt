@@ -154,7 +154,13 @@ fn serve_asked(alloc: Global, given: &ArgMatches<'_>) -> Result<Subcommand, Unre
     let db = text_of(alloc, given, "db")?;
     let port = port_of(alloc, given)?;
     let count = count_of(alloc, given)?;
-    Ok(Subcommand::Serve { db, port, count })
+    let read_only = is_given(given, "read-only");
+    Ok(Subcommand::Serve {
+        db,
+        port,
+        count,
+        read_only,
+    })
 }
 
 fn sign_asked(alloc: Global, given: &ArgMatches<'_>) -> Result<Subcommand, Unread>

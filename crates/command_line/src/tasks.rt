@@ -75,11 +75,13 @@ pub enum Subcommand {
         place: Place,
         file: String,
     },
-    /// `serve --db FILE --port P [--count N]`: answers HTTP requests on 127.0.0.1, over so many connections or without end.
+    /// `serve --db FILE --port P [--count N] [--read-only]`: answers HTTP requests on 127.0.0.1, over so many connections or without end,
+    /// and where it is said so, only those that change nothing.
     Serve {
         db: String,
         port: u16,
         count: Option<u64>,
+        read_only: bool,
     },
     /// `sign --book B --seed S --ots W --height H [--known] DOC`: signs a file with a leaf that the book keeps for it, and where it is said
     /// so, only by a book and a key that are known.

@@ -39,6 +39,10 @@ book_rule = record (option_rule (codes "book")) { required = true }
 abbrev pub known_rule : Rule
 known_rule = record (new_rule (codes "known")) { long = Some (codes "known"); action = Some Count }
 
+-- `--read-only`, likewise
+abbrev pub read_only_rule : Rule
+read_only_rule = record (new_rule (codes "read-only")) { long = Some (codes "read-only"); action = Some Count }
+
 -- `--seed S`, which has to be there
 abbrev pub seed_rule : Rule
 seed_rule = record (option_rule (codes "seed")) { required = true }
@@ -128,7 +132,7 @@ abbrev pub put_line : App
 put_line = with_rule (placed_line (codes "put")) (operand_rule (codes "file"))
 
 abbrev pub serve_line : App
-serve_line = with_rule (with_rule (stored_line (codes "serve")) port_rule) count_rule
+serve_line = with_rule (with_rule (with_rule (stored_line (codes "serve")) port_rule) count_rule) read_only_rule
 
 abbrev pub sign_line : App
 sign_line = with_rule (with_rule (with_key_pair (with_rule (begun_line (codes "sign")) book_rule)) known_rule) (operand_rule (codes "file"))

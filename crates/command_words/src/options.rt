@@ -2,7 +2,7 @@
 ghost use Rattle.std.specs.Prelude.{◌≡◌, Some, codes, false, true};
 ghost use Rattle.clap.specs.Words.{rule_of};
 ghost use Rattle.clap.specs.declared.builder.value_parser.ValueParser.TheVariants.{Unsigned};
-ghost use Rattle.command_words.specs.Subcommands.{book_rule, count_rule, db_rule, documents_rule, folder_rule, height_rule, known_rule, moment_rule, operand_rule, option_rule, ots_rule, out_rule, port_option_rule, port_rule, required_rule, seed_rule, verbose_rule};
+ghost use Rattle.command_words.specs.Subcommands.{book_rule, count_rule, db_rule, documents_rule, folder_rule, height_rule, known_rule, moment_rule, operand_rule, option_rule, ots_rule, out_rule, port_option_rule, port_rule, read_only_rule, required_rule, seed_rule, verbose_rule};
 
 use clap::builder::ValueParser;
 use clap::{Arg, ArgAction};
@@ -94,6 +94,19 @@ pub(crate) fn known<'a>(alloc: Global) -> Arg<'a>
         .long("known")
         .help(
             "Refuse a book that is not there, and a key that it does not have, before a leaf is spent",
+        )
+        .action(ArgAction::Count)
+}
+
+/// `--read-only`
+pub(crate) fn read_only<'a>(alloc: Global) -> Arg<'a>
+    ensures rule { rule_of result ≡ read_only_rule }
+    ensures local { result.global ≡ false }
+{
+    Arg::new(alloc, "read-only")
+        .long("read-only")
+        .help(
+            "Serve documents and target files alone: POST /batch, PUT /blobs and POST /prune are not there",
         )
         .action(ArgAction::Count)
 }

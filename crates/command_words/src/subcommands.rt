@@ -6,7 +6,7 @@ ghost use Rattle.command_words.specs.Subcommands.{begun_line, canon_line, export
 
 use crate::options::{
     at, book, count, db, db_or_port, documents, folder, height, known, operand, ots, out, port,
-    port_or_db, seed, verbose,
+    port_or_db, read_only, seed, verbose,
 };
 use crate::texts;
 use clap::{Arg, Command};
@@ -102,7 +102,7 @@ pub fn put<'a>(alloc: Global) -> Result<Command<'a>, AllocError>
     with(command, operand(alloc, "file", "FILE", "The file to store"))
 }
 
-/// `serve [--at SECONDS] [--verbose] --db FILE --port P [--count N]`
+/// `serve [--at SECONDS] [--verbose] --db FILE --port P [--count N] [--read-only]`
 pub fn serve<'a>(alloc: Global) -> Result<Command<'a>, AllocError>
     ensures line { IfOk result (λ c. app_of c ≡ serve_line) }
     ensures local { IfOk result (λ c. (out-Command c).has_globals ≡ false) }
@@ -110,7 +110,8 @@ pub fn serve<'a>(alloc: Global) -> Result<Command<'a>, AllocError>
     let about = "Answer HTTP requests on 127.0.0.1";
     let command = stored(alloc, "serve", about, texts::SERVE)?;
     let command = with(command, port(alloc, "The port to listen on"))?;
-    with(command, count(alloc))
+    let command = with(command, count(alloc))?;
+    with(command, read_only(alloc))
 }
 
 /// `sign [--at SECONDS] [--verbose] --book B --seed S --ots W --height H [--known] DOC`

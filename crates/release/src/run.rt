@@ -80,9 +80,12 @@ fn perform_task<O: Write, E: Write>(
             sign(rt, signing, at, out, notes)
         }
         Subcommand::Update { db, port } => update(rt, db, *port, at, out, notes),
-        Subcommand::Serve { db, port, count } => {
-            Server::new(rt, db, *port, *count, at).run(out, notes)
-        }
+        Subcommand::Serve {
+            db,
+            port,
+            count,
+            read_only,
+        } => Server::new(rt, db, *port, *count, *read_only, at).run(out, notes),
     }
 }
 

@@ -5,7 +5,7 @@ use connections::{
     Beginning, Incoming, Outgoing, Timer, answer_unavailable, end, listen, next_stream,
     tell_connection,
 };
-use http_serve::{Routes, serve_list};
+use http_serve::{Routes, serve_list, serve_list_reading};
 use metadata::Moment;
 use sqlite::Alter;
 use std::io::Write;
@@ -13,14 +13,15 @@ use std::net::{TcpListener, TcpStream};
 use std::slice;
 use store::Store;
 
-/// A server: the database file of its repository, its port on 127.0.0.1, after how many connections it ends, and the moment
-/// that was handed in.
+/// A server: the database file of its repository, its port on 127.0.0.1, after how many connections it ends, whether it only reads, and
+/// the moment that was handed in.
 #[derive(Clone, Copy)]
 pub struct Server<'a> {
     rt: &'a HostRuntime,
     db: &'a str,
     port: u16,
     count: Option<u64>,
+    reads_only: bool,
     at: Option<u64>,
 }
 
@@ -30,6 +31,7 @@ impl<'a> Server<'a> {
         db: &'a str,
         port: u16,
         count: Option<u64>,
+        reads_only: bool,
         at: Option<u64>,
     ) -> Server<'a> {
         Server {
@@ -37,6 +39,7 @@ impl<'a> Server<'a> {
             db,
             port,
             count,
+            reads_only,
             at,
         }
     }
@@ -206,12 +209,12 @@ impl<O: Write> Serving<'_, '_, O> {
             return true;
         };
         let mut sides = sides_of(accepted, timer, self.kept);
-        serve_list(
-            rt.alloc(),
-            self.routes,
-            slice::from_mut(&mut sides),
-            repository,
-        );
+        let connections = slice::from_mut(&mut sides);
+        if self.server.reads_only {
+            serve_list_reading(rt.alloc(), self.routes, connections, repository);
+        } else {
+            serve_list(rt.alloc(), self.routes, connections, repository);
+        }
         end_one(rt, accepted, &sides, &timer, notes);
         sides.1.is_available()
     }
@@ -232,7 +235,8 @@ impl<O: Write> Serving<'_, '_, O> {
         };
         let mut sides = sides_of(accepted, timer, self.kept);
         let (incoming, outgoing, _) = &mut sides;
-        answer_unavailable(rt.alloc(), self.routes, incoming, outgoing);
+        let reads_only = self.server.reads_only;
+        answer_unavailable(rt.alloc(), self.routes, reads_only, incoming, outgoing);
         end_one(rt, accepted, &sides, &timer, notes);
     }
 }
