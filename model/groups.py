@@ -62,6 +62,7 @@ def of_requests(chosen):
         yield f"shapes: {kind}", document_shapes.compare_shapes, kind
     yield "http by hand", http_cases.compare_by_hand
     yield "http before the first root", http_cases.compare_before_first_root
+    yield "http of a server that only reads", http_cases.compare_reading
     yield "http in pieces", http_cases.compare_in_pieces
     yield "http changed at random", http_cases.compare_changed, chosen.requests
     yield "prunes", prune_rows.compare_prunes

@@ -234,9 +234,9 @@ def world_state():
     return state
 
 
-def in_groups(session, state, requests, size=500, piece=262144):
+def in_groups(session, state, requests, size=500, piece=262144, read_only=False):
     for first in range(0, len(requests), size):
-        World(session, state).serve(NOW, requests[first:first + size], piece)
+        World(session, state).serve(NOW, requests[first:first + size], piece, read_only)
 
 
 def compare_by_hand(session, _random):
@@ -252,6 +252,14 @@ def compare_before_first_root(session, _random):
     for part in (request_lines, bodies, frames, large_bodies, names):
         part(requests)
     in_groups(session, State(), requests.all)
+
+
+def compare_reading(session, _random):
+    """A server that only reads."""
+    requests = Requests()
+    for part in (request_lines, bodies, frames, large_bodies, names, fault_pairs):
+        part(requests)
+    in_groups(session, world_state(), requests.all, read_only=True)
 
 
 def compare_in_pieces(session, _random):

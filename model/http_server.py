@@ -24,6 +24,7 @@ REASONS = {
     503: "Service Unavailable",
 }
 MISSING = ("RoleMissing", "NotFound", "BlobMissing")
+WRITING = ("batch", "blobs", "prune")
 
 
 class Fault(Exception):
@@ -132,11 +133,14 @@ def answer_command(state, command, argument, body, now):
     return reply(200, repository.target(state, argument, now), "application/octet-stream"), state
 
 
-def response(state, request, now):
-    """The first fault in the order head, route, method, length, size, body, and then the command's own answer."""
+def response(state, request, now, read_only=False):
+    """The first fault in the order head, route, method, length, size, body, and then the command's own answer. A server that only reads
+    has no route by which something may be changed."""
     try:
         method, target, fields, body_first = read_head(request)
         command, method_wanted, limit, argument = find_route(target)
+        if read_only and command in WRITING:
+            raise Fault(404, "route")
         if method != method_wanted:
             raise Fault(405, "method", method_wanted)
         length = read_length(method, fields)

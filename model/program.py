@@ -131,12 +131,12 @@ class Session:
             return "killed", b"", b""
         return ended.returncode, ended.stdout, ended.stderr
 
-    def start_server(self, database, now, count):
+    def start_server(self, database, now, count, read_only=False):
         """The process and its port, or None and what it printed in place of its first line."""
         for _ in range(3):
             port = self.free_port()
             words = [self.program, "serve", "--db", str(database), "--port", str(port)]
-            words += ["--at", str(now), "--count", str(count)]
+            words += ["--at", str(now), "--count", str(count)] + ["--read-only"] * read_only
             server = subprocess.Popen(words, stdout=subprocess.PIPE, stderr=subprocess.PIPE)
             line = server.stdout.readline()
             if line == b"listening on %s:%d\n" % (LOOPBACK.encode(), port):
@@ -273,19 +273,19 @@ class World:
                 return self.session.check(f"rows of {table}: {label}", *both, state=before)
         return self.session.check(f"soundness: {label}", [("ok",)], sound)
 
-    def serve(self, now, requests, piece=262144):
-        """All requests, each a label and bytes, from one server; then the rows. False where one differs."""
+    def serve(self, now, requests, piece=262144, read_only=False):
+        """All requests, each a label and bytes, from one server, which may only read; then the rows. False where one differs."""
         if not requests:
             return True
         before_all = self.state
-        server, port = self.session.start_server(self.database, now, len(requests))
+        server, port = self.session.start_server(self.database, now, len(requests), read_only)
         if server is None:
             return self.session.check("start of the server", b"listening", port, now=now, state=self.state)
         as_wanted = True
         try:
             for label, request in requests:
                 before = self.state
-                wanted, self.state = http_server.response(before, request, now)
+                wanted, self.state = http_server.response(before, request, now, read_only)
                 found = ask(port, request, piece)
                 if self.session.check(f"reply: {label}", wanted, found, request, now, before):
                     continue
