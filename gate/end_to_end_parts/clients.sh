@@ -12,9 +12,14 @@ a_client_fetches() {
     wants 0 'written\n' '' get --at=$at --db "$db" --port "$port" --out "$out" hello.txt
     served_one
     same "what get writes" "$example/hello.txt" "$out"
+    has_mode 644 "$out"
     dump "$db" "$folder/before"
     wants 0 'written\n' '' get --at=$at --db "$db" --port "$port" --out "$out.again" hello.txt
     same "what get writes again, without a server" "$example/hello.txt" "$out.again"
+    has_mode 600 "$out.again"
+    chmod 755 "$out.again"
+    wants 0 'written\n' '' get --at=$at --db "$db" --port "$port" --out "$out.again" hello.txt
+    has_mode 755 "$out.again"
     wants 3 '' 'fault network\n' get --at=$at --db "$db" --port "$port" --out "$out" empty.txt
     wants 3 '' 'fault network\n' update --at=$at --db "$db" --port "$port"
     wants 1 '' 'denied 35 NotFound\n' get --at=$at --db "$db" --port "$port" --out "$out" other.txt

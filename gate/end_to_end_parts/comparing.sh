@@ -61,6 +61,12 @@ helps() {
     checks=$((checks + 1))
 }
 
+# has_mode MODE FILE: so may the file be read, written and run.
+has_mode() {
+    [ "$(stat -c %a "$2")" = "$1" ] || fail "mode $(stat -c %a "$2") in place of $1: $2"
+    checks=$((checks + 1))
+}
+
 # dump DB FILE: the tables as SQLite's own program reads them, from a copy.
 dump() {
     local part

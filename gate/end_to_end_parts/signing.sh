@@ -27,6 +27,10 @@ keys_are_printed() {
     "$release" key --seed "$folder/seed" --ots 4 --height 5 >"$folder/key" 2>"$folder/err"
     echo "warning: $folder/seed: others than its owner may read this seed" >"$folder/err.wanted"
     same "the warning of a seed that others read" "$folder/err.wanted" "$folder/err"
+    chmod 620 "$folder/seed"
+    "$release" key --seed "$folder/seed" --ots 4 --height 5 >"$folder/key" 2>"$folder/err"
+    echo "warning: $folder/seed: others than its owner may write this seed" >"$folder/err.wanted"
+    same "the warning of a seed that others write" "$folder/err.wanted" "$folder/err"
     chmod 600 "$folder/seed"
     digits=$(head -c 96 "$folder/seed")
     for text in "$digits" "$digits\n\n" "$digits \n" "${digits^^}a\n" "${digits%1}A\n" "${digits%1}g\n" "${digits%01}\n" "${digits}01\n" ''; do

@@ -2,7 +2,7 @@
 use crate::fault::fault_of_client;
 use crate::mirror::Mirror;
 use client::fetch_target;
-use command_support::{Denial, Fault, Notes, file_fault, moment, print, put_in_place};
+use command_support::{Denial, Fault, Notes, OWNER_ALONE, file_fault, moment, print, put_in_place};
 use commands::{Work, worked};
 use metadata::Moment;
 use path_patterns::TargetPath;
@@ -60,7 +60,7 @@ fn put<E: Write>(
     bytes: &[u8],
     notes: &mut Notes<'_, E>,
 ) -> Result<(), Fault> {
-    match put_in_place(rt, out, bytes) {
+    match put_in_place(rt, out, bytes, OWNER_ALONE) {
         Ok(()) => Ok(()),
         Err(error) => {
             notes.tell(&out, &error);

@@ -1,15 +1,21 @@
 //! Database files.
 use crate::fault::Fault;
 use crate::notes::Notes;
+use crate::placing::OWNER_ALONE;
 use sqlite::{Connection, Error, ErrorCode, FileFrom, FileStore, Wary};
 use std::alloc::AllocError;
 use std::fs::{self, File};
 use std::io::Write;
+use std::os::unix::fs::{OpenOptionsExt, PermissionsExt};
 
 // The bytes of a log without a change: its head.
 const LOG_HEAD: u64 = 41;
 
-/// A connection to a database file, which is made where there is none. Of what a torn write leaves, nothing is supposed. Where the file is
+// Who may read and write a file.
+const READ_AND_WRITE: u32 = 0o666;
+
+/// A connection to a database file, which is made where there is none, for its owner alone, as its log is. Of what a torn write leaves,
+/// nothing is supposed. Where the file is
 /// empty or absent and beside it stands a log with changes, it is `Damaged`, and both are let be.
 pub fn connected<E: Write>(
     rt: &HostRuntime,
@@ -20,10 +26,33 @@ pub fn connected<E: Write>(
         notes.tell(&db, &"empty or absent, beside a log with changes");
         return Err(Fault::Damaged);
     }
+    make_both(rt, db)?;
     match Connection::open_from(rt, db, false, Wary) {
         Ok(conn) => Ok(conn),
         Err((error, _)) => Err(unopened(rt, db, &error, notes)),
     }
+}
+
+// Makes the database file where there is none, for its owner alone, and its log with the mode of the file. Where one cannot be made, the
+// opening says so.
+fn make_both(rt: &HostRuntime, db: &str) -> Result<(), AllocError> {
+    make(rt, db, OWNER_ALONE);
+    let mode = match fs::metadata(rt, db) {
+        Ok(found) => found.permissions().mode() & READ_AND_WRITE,
+        Err(_) => return Ok(()),
+    };
+    let log = format!(in rt.alloc(); "{db}-wal")?;
+    make(rt, log.as_str(), mode);
+    Ok(())
+}
+
+// Makes an empty file where nothing stands.
+fn make(rt: &HostRuntime, path: &str, mode: u32) {
+    let _ = File::options()
+        .write(true)
+        .create_new(true)
+        .mode(mode)
+        .open(rt, path);
 }
 
 // Whether the database file is empty or absent, and its log has changes, which an opening would throw away. No crash leaves that: a

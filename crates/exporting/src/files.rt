@@ -12,6 +12,9 @@ use std::fs::{self, File, Metadata};
 use std::io::{self, ErrorKind, Read, Write};
 use store::{Command, Reply, Store};
 
+// The mode of what is exported: everybody may read it, as far as the process's mask lets them.
+const FOR_ALL: u32 = 0o666;
+
 /// A repository that is written into a folder. What is told of it has the name of its database file.
 #[derive(Drop)]
 pub struct Exporting<'a, S: Alter> {
@@ -389,5 +392,5 @@ fn put_in_folder(rt: &HostRuntime, place: &str, bytes: &[u8]) -> io::Result<()> 
     if let Some((folder, _)) = place.rsplit_once('/') {
         fs::create_dir_all(rt, folder)?;
     }
-    put_in_place(rt, place, bytes)
+    put_in_place(rt, place, bytes, FOR_ALL)
 }

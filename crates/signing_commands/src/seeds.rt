@@ -11,7 +11,11 @@ const MOST: u64 = 98;
 // The bits of a file's mode by which its group and all others may read it.
 const READ_BY_OTHERS: u32 = 0o044;
 
-/// The seed that the file holds. A file of another form is a fault of a file. One that others than its owner may read is warned of.
+// And by which they may write it.
+const WRITTEN_BY_OTHERS: u32 = 0o022;
+
+/// The seed that the file holds. A file of another form is a fault of a file. One that others than its owner may
+/// read or write is warned of.
 pub fn seed_at<E: Write>(
     rt: &HostRuntime,
     path: &str,
@@ -30,6 +34,9 @@ pub fn seed_at<E: Write>(
     };
     if mode & READ_BY_OTHERS != 0 {
         notes.warn(&path, &"others than its owner may read this seed");
+    }
+    if mode & WRITTEN_BY_OTHERS != 0 {
+        notes.warn(&path, &"others than its owner may write this seed");
     }
     Ok(seed)
 }
