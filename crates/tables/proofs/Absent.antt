@@ -7,9 +7,8 @@ use Rattle.sqlite.specs.Order.{Row}
 use Rattle.sqlite.specs.Schema.{Schema}
 use Rattle.sqlite_trees.specs.Tree.{Trees}
 use Rattle.sql_tables.specs.Loading.{AreGathered, AreLoaded, ComeOnce, rises}
-use Rattle.sql_tables.specs.Schema.{counted}
 use Rattle.tables.specs.Rows.{root2_cells}
-use Rattle.tables.specs.Schema.{HasSix}
+use Rattle.tables.specs.Schema.{HasSix, held}
 use Rattle.tables.specs.steps.Loading.{FitsRoot, IsGathered, IsRootRow, root_shows}
 use Rattle.tables.specs.steps.Migrating.{HasSome}
 use Rattle.tables.proofs.Beginnings.{root2_absent}
@@ -44,7 +43,7 @@ none_loaded = record {
     no_pair [] a b rest e = let f = e in cc
     no_pair (x ∷ before) a b rest e = let f = e in cc
 
-pub absent_loaded : (count : ℕ) (schema : Schema) (trees : Trees) → count ≡ 5 → HasSome count schema → AreLoaded root2_cells (rises ∷ []) (counted schema trees 8) []
+pub absent_loaded : (count : ℕ) (schema : Schema) (trees : Trees) → count ≡ 5 → HasSome count schema → AreLoaded root2_cells (rises ∷ []) (held schema trees 8) []
 absent_loaded count schema trees is (inl first) = subst (λ r. AreLoaded root2_cells (rises ∷ []) r []) (sym (root2_absent schema trees first.1)) none_loaded
 absent_loaded count schema trees is (inr all) = absurd (omega (arith, is, all.0))
 

@@ -14,11 +14,11 @@ use Rattle.sql_tables.proofs.Editing.{same_inside}
 use Rattle.sql_tables.specs.Inside.{shown_of, cells_at}
 use Rattle.sql_tables.specs.Rows.{AreRows}
 use Rattle.sql_tables.specs.Described.{at_place, tree_from}
-use Rattle.tables.specs.Schema.{HasSix, six}
+use Rattle.tables.specs.Schema.{HasSix, five, held}
 use Rattle.tables.specs.steps.Writing.{listed, Cells, IsInside, cells_of}
 use Rattle.tables.specs.Tables.{HoldsTables, HoldsWhole, IsStore, root_row, slot_row, slot_rows, current_rows, shelf_row, blob_row, with_root, with_row, with_blob, with_timestamp, with_snapshot, after, after_all}
 use Rattle.tables.proofs.Beginnings.{six_after}
-use Rattle.tables.proofs.CellLemmas.{cells_second, rows_of_cells}
+use Rattle.tables.proofs.CellLemmas.{cells_of_five, cells_second, five_of_cells}
 use Rattle.sql_tables.specs.Writing.{without_text}
 use Rattle.sql_tables.proofs.Statements.{text_test, turned, turned_back}
 
@@ -52,7 +52,7 @@ without_snapshot None (Some y) = rw (text_test snapshot_slot snapshot_slot) refl
 without_snapshot (Some x) (Some y) = rw (text_test timestamp_slot snapshot_slot, text_test snapshot_slot snapshot_slot) refl
 
 with_current : (s : State) (c : Cells) (rows : List Row) → IsInside s c → ((x : Row) → Has c.current x → Has rows x) → ((x : Row) → Has rows x → Has c.current x) → IsInside s (record c { current = rows })
-with_current s c rows is there back = record { tables = same_inside six 1 (omega arith) s (listed c) rows is.tables (omega arith) there back; sound = is.sound }
+with_current s c rows is there back = record { tables = same_inside five 1 (omega arith) s (listed c) rows is.tables (omega arith) there back; six = is.six; root2 = is.root2; sound = is.sound }
 
 pub new_timestamp : (s : State) (t : Contents) (r : ℕ × List ℕ)
     → IsInside s (record (cells_of t) { current = without_text timestamp_slot (current_rows t.timestamp t.snapshot) ++ slot_row timestamp_slot r ∷ [] }) → IsInside s (cells_of (with_timestamp r t))
@@ -71,29 +71,29 @@ pub after_all_more : (cs : List Change) (c : Change) (t : Contents) → after_al
 after_all_more [] c t = refl
 after_all_more (x ∷ cs) c t = after_all_more cs c (after x t)
 
-pub to_tables : {s : State} {t : Contents} → IsInside s (cells_of t) → HoldsTables s.now.trees t
-to_tables is = record {
-  root = is.tables.holds 0 (omega arith);
-  current = is.tables.holds 1 (omega arith);
-  shelf = is.tables.holds 2 (omega arith);
-  blob = is.tables.holds 3 (omega arith);
-  version = is.tables.holds 4 (omega arith);
-  root2 = is.tables.holds 5 (omega arith);
-}
+pub to_tables : {s : State} {t : Contents} → IsInside s (cells_of t) → HoldsTables (held s.now.schema s.now.trees) t
+to_tables {s} {t} is =
+    let holds = cells_of_five s (cells_of t) is in
+    record { root = holds.root; current = holds.current; shelf = holds.shelf; blob = holds.blob; version = holds.version; root2 = holds.root2 }
 
 -- what a commit of it writes
 pub to_whole : {s : State} {t : Contents} → IsInside s (cells_of t) → (trees : Trees) → trees ≡ s.now.trees → HoldsWhole trees t
-to_whole {s} {t} is trees same = (s.now, sym same, is.sound, is.tables.schema, subst (λ (d : Trees). HoldsTables d t) (sym same) (to_tables is))
+to_whole {s} {t} is trees same = (s.now, sym same, is.sound, is.six, to_tables is)
 
-pub inside : (s : State) (t : Contents) → IsTrue s.is_open → IsTrue s.in_transaction → IsDatabase s.now → HasSix s.now.schema → HoldsTables s.now.trees t → IsInside s (cells_of t)
-inside s t is_open within sound schema holds = record { tables = record { is_open = is_open; inside = within; schema = schema; holds = rows_of_cells s.now.trees (cells_of t) (cells_second s.now.trees t holds) }; sound = sound }
+pub inside : (s : State) (t : Contents) → IsTrue s.is_open → IsTrue s.in_transaction → IsDatabase s.now → HasSix s.now.schema → HoldsTables (held s.now.schema s.now.trees) t → IsInside s (cells_of t)
+inside s t is_open within sound schema holds = record {
+  tables = record { is_open = is_open; inside = within; schema = schema.0; holds = five_of_cells s.now.schema s.now.trees (cells_of t) schema.0 (cells_second _ t holds) };
+  six = schema;
+  root2 = holds.root2;
+  sound = sound;
+}
 
 pub committed : (tx end : State) (t : Contents) → IsInside tx (cells_of t) → Shows tx end tx.now tx.now false → IsStore end t
 committed tx end t is shows = record {
   is_open = shows.is_open;
-  schema = six_after shows.now_is is.tables.schema;
+  schema = six_after shows.now_is is.six;
   settled = shows.now_is ∙ sym shows.committed_is;
-  holds = subst (λ (d : Database). HoldsTables d.trees t) (sym shows.now_is) (to_tables is);
+  holds = subst (λ (d : Database). HoldsTables (held d.schema d.trees) t) (sym shows.now_is) (to_tables is);
 }
 
 -- a transaction that is undone leaves the rows that were there before it
@@ -105,7 +105,7 @@ kept_back old tx end t stays kept back is =
       is_open = stays;
       schema = six_after now is.schema;
       settled = both.0 ∙ sym both.1;
-      holds = subst (λ (d : Database). HoldsTables d.trees t) (sym now) is.holds;
+      holds = subst (λ (d : Database). HoldsTables (held d.schema d.trees) t) (sym now) is.holds;
     }
 
 -- a commit that fails, inside a transaction, has undone it

@@ -17,3 +17,6 @@ pub mod SetLemmas
 pub mod One
 pub mod SecondTexts
 pub mod Migrated
+pub mod Resolved
+pub mod Selecting
+pub mod Beside

@@ -12,59 +12,64 @@ use Rattle.sqlite.specs.Effect.{Database, IsDatabase}
 use Rattle.sqlite.specs.Schema.{Schema}
 use Rattle.sqlite.specs.State.{State, ExecutesInside, IsRolledBack, KeepsCommit}
 use Rattle.contents.specs.Contents.{Contents}
-use Rattle.sql_tables.specs.Described.{HasFirst, table_of}
+use Rattle.sql_tables.specs.Described.{table_of}
 use Rattle.sql_tables.specs.Inside as of_list
 use Rattle.sql_tables.specs.Rows.{AreRows}
-use Rattle.sql_tables.specs.Schema.{counted}
 use Rattle.sql_tables.proofs.Editing.{adds, drops}
 use Rattle.sql_tables.proofs.ItemLemmas.{no_member}
 use Rattle.sql_tables.proofs.RowLemmas.{has_map}
-use Rattle.sql_tables.proofs.Shapes.{all_count, counted_by}
-use Rattle.sql_tables.proofs.Beginnings.{same_count}
 use Rattle.sql_tables.proofs.Statements.{cast_int, none_left}
 use Rattle.tables.specs.Rows.{root2_cells}
-use Rattle.tables.specs.Schema.{HasSix, beginning, first_schema, six, root2_table}
+use Rattle.tables.specs.Schema.{HasFirst, HasSix, IsFree, five, held, root2_table}
 use Rattle.tables.specs.Tables.{HoldsFirst, HoldsTables, root_row, version_row}
 use Rattle.tables.specs.Migration.{IsEarlier}
 use Rattle.tables.specs.steps.Writing.{Cells, IsInside, cells_of, listed}
 use Rattle.tables.specs.steps.Migrating.{HasSome, IsEarly, brought, first_cells}
+use Rattle.tables.proofs.Beginnings.{not_most}
+use Rattle.tables.proofs.Beside.{adds_second as in_root2, delete_stays, insert_stays}
 use Rattle.tables.proofs.CellLemmas.{cells_first, cells_second}
 use Rattle.tables.proofs.Statements.{sound_after}
-use Rattle.tables.proofs.SecondTexts.{first_values, second_values, delete_root, delete_root_is, delete_version, delete_version_is, insert_first, insert_first_is, insert_second, insert_second_is, second_news}
+use Rattle.tables.proofs.Resolved.{first_values, insert_first, insert_first_is}
+use Rattle.tables.proofs.SecondTexts.{second_values, delete_root, delete_root_is, delete_version, delete_version_is, insert_second, insert_second_is, second_news}
 
 -- ---- the statements
 
 pub empties_root : (old new : State) (count : ℕ) (c : Cells) → IsInside old c → ExecutesInside 0 delete_root [] old new (Ok count) → IsInside new (record c { root = [] })
 empties_root old new count c is h =
-    let emptied = drops six 0 (omega arith) delete_root [] delete_root_is old new [] (λ _. true) count (listed c) is.tables (omega arith) (λ _. refl) h in
+    let emptied = drops five 0 (omega arith) delete_root [] delete_root_is old new [] (λ _. true) count (listed c) is.tables (omega arith) (λ _. refl) h in
     record {
-      tables = subst (λ rows. of_list.IsInside six new (listed (record c { root = rows }))) (none_left c.root) emptied;
+      tables = subst (λ rows. of_list.IsInside five new (listed (record c { root = rows }))) (none_left c.root) emptied;
+      six = (delete_stays 0 (omega arith) delete_root [] delete_root_is old new _ count c.root2 h (is.six, is.root2)).0;
+      root2 = (delete_stays 0 (omega arith) delete_root [] delete_root_is old new _ count c.root2 h (is.six, is.root2)).1;
       sound = sound_after delete_root _ delete_root_is old new _ count is.tables.schema (λ text w. w.sound) h;
     }
 
 pub empties_version : (old new : State) (count : ℕ) (c : Cells) → IsInside old c → ExecutesInside 0 delete_version [] old new (Ok count) → IsInside new (record c { version = [] })
 empties_version old new count c is h =
-    let emptied = drops six 4 (omega arith) delete_version [] delete_version_is old new [] (λ _. true) count (listed c) is.tables (omega arith) (λ _. refl) h in
+    let emptied = drops five 4 (omega arith) delete_version [] delete_version_is old new [] (λ _. true) count (listed c) is.tables (omega arith) (λ _. refl) h in
     record {
-      tables = subst (λ rows. of_list.IsInside six new (listed (record c { version = rows }))) (none_left c.version) emptied;
+      tables = subst (λ rows. of_list.IsInside five new (listed (record c { version = rows }))) (none_left c.version) emptied;
+      six = (delete_stays 4 (omega arith) delete_version [] delete_version_is old new _ count c.root2 h (is.six, is.root2)).0;
+      root2 = (delete_stays 4 (omega arith) delete_version [] delete_version_is old new _ count c.root2 h (is.six, is.root2)).1;
       sound = sound_after delete_version _ delete_version_is old new _ count is.tables.schema (λ text w. w.sound) h;
     }
 
-first_news : (db : Trees) (version : ℕ) (bytes : List ℕ)
-    → (edit_of db (table_of root2_table 8) [] Chosen 0 ((Int (pos version) ∷ Null ∷ Int (pos 1) ∷ Blob bytes ∷ []) ∷ [])).news ≡ (Int (pos version) ∷ Null ∷ Int (pos 1) ∷ Blob bytes ∷ []) ∷ []
+first_news : (db : Trees) (tree version : ℕ) (bytes : List ℕ)
+    → (edit_of db (table_of root2_table tree) [] Chosen 0 ((Int (pos version) ∷ Null ∷ Int (pos 1) ∷ Blob bytes ∷ []) ∷ [])).news ≡ (Int (pos version) ∷ Null ∷ Int (pos 1) ∷ Blob bytes ∷ []) ∷ []
 unfolding value_cmp unary lib.Ieee.is_nan lib.Ieee.lt
-first_news db version bytes = rw (cast_int (pos version)) refl
+first_news db tree version bytes = rw (cast_int (pos version)) refl
 
 pub adds_first : (old new : State) (version : ℕ) (bytes : List ℕ) (count : ℕ) (c : Cells) → IsInside old c
     → ExecutesInside 0 insert_first (Int (pos version) ∷ Blob bytes ∷ []) old new (Ok count) → IsInside new (record c { root2 = c.root2 ++ root_row (version, (1, bytes)) ∷ [] })
-adds_first old new version bytes count c is h = record {
-  tables = adds six 5 (omega arith) insert_first first_values 4 insert_first_is old new (Int (pos version) ∷ Blob bytes ∷ []) (Int (pos version) ∷ Null ∷ Int (pos 1) ∷ Blob bytes ∷ []) (pos version) count (listed c) is.tables (omega arith) (first_news old.now.trees version bytes) refl h;
-  sound = sound_after insert_first _ insert_first_is old new _ count is.tables.schema (λ text w. w.sound) h;
-}
+adds_first old new version bytes count c is h =
+    in_root2 insert_first first_values 4 insert_first_is old new (Int (pos version) ∷ Blob bytes ∷ []) (Int (pos version) ∷ Null ∷ Int (pos 1) ∷ Blob bytes ∷ []) (pos version) count c is
+    (λ tree. first_news old.now.trees tree version bytes) refl h
 
 pub adds_second : (old new : State) (count : ℕ) (c : Cells) → IsInside old c → ExecutesInside 0 insert_second [] old new (Ok count) → IsInside new (record c { version = c.version ++ version_row 2 ∷ [] })
 adds_second old new count c is h = record {
-  tables = adds six 4 (omega arith) insert_second second_values 2 insert_second_is old new [] (Int (pos 2) ∷ Null ∷ []) (pos 2) count (listed c) is.tables (omega arith) (second_news old.now.trees) refl h;
+  tables = adds five 4 (omega arith) insert_second second_values 2 insert_second_is old new [] (Int (pos 2) ∷ Null ∷ []) (pos 2) count (listed c) is.tables (omega arith) (second_news old.now.trees) refl h;
+  six = (insert_stays 4 (omega arith) insert_second second_values 2 insert_second_is old new _ count c.root2 h (is.six, is.root2)).0;
+  root2 = (insert_stays 4 (omega arith) insert_second second_values 2 insert_second_is old new _ count c.root2 h (is.six, is.root2)).1;
   sound = sound_after insert_second _ insert_second_is old new _ count is.tables.schema (λ text w. w.sound) h;
 }
 
@@ -89,10 +94,10 @@ more_taken xs f at d below = ap (map f) (take_more xs at d below) ∙ map-append
 -- ---- the beginning
 
 -- so many of the six are there
-pub some_of : (count : ℕ) (schema : Schema) → HasFirst six count schema → (schema ≡ first_schema) ⊎ HasSix schema → HasSome count schema
-some_of count schema (inr all) is = inr (all.0, all.1)
-some_of count schema (inl some) (inl first) = inl (same_count six count 5 (omega (arith, some.0)) (omega arith) (sym some.1 ∙ first), first)
-some_of count schema (inl some) (inr has) = absurd (omega (arith, some.0, all_count six schema has, counted_by six count schema (omega (arith, some.0)) some.1))
+pub some_of : (count : ℕ) (schema : Schema) → HasFirst count schema → IsFree schema ⊎ HasSix schema → HasSome count schema
+some_of count schema (inr some) either = some
+some_of count schema (inl few) (inl free) = absurd (not_most count 5 schema few.0 few.1 (inl (refl, free)))
+some_of count schema (inl few) (inr has) = absurd (not_most count 6 schema few.0 few.1 (inr (refl, has)))
 
 no_roots : (stored : List Row) (roots : List (ℕ × (ℕ × List ℕ))) → AreRows root2_cells stored (map root_row roots) → stored ≡ [] → roots ≡ []
 no_roots stored roots are none = no_member roots (λ r h. let it = are.complete (root_row r) (has_map root_row roots r h) in subst (λ xs. Has xs it.0) none it.1)
@@ -101,8 +106,8 @@ no_roots stored roots are none = no_member roots (λ r h. let it = are.complete 
 abbrev pub Ready : ℕ → State → Contents → List (ℕ × (ℕ × List ℕ)) → Type 0
 Ready count s t roots = (c : Cells) × IsEarly count s c × (brought c roots ≡ cells_of t)
 
-pub ready : (count : ℕ) (s : State) (t : Contents) (roots : List (ℕ × (ℕ × List ℕ))) → HasFirst six count s.now.schema → IsTrue s.is_open → (s.now.schema ≡ first_schema) ⊎ HasSix s.now.schema
-    → HoldsFirst (counted s.now.schema s.now.trees) t ⊎ HoldsTables (counted s.now.schema s.now.trees) t → counted s.now.schema s.now.trees 8 ≡ [] → IsTrue s.in_transaction → IsDatabase s.now
+pub ready : (count : ℕ) (s : State) (t : Contents) (roots : List (ℕ × (ℕ × List ℕ))) → HasFirst count s.now.schema → IsTrue s.is_open → IsFree s.now.schema ⊎ HasSix s.now.schema
+    → HoldsFirst (held s.now.schema s.now.trees) t ⊎ HoldsTables (held s.now.schema s.now.trees) t → held s.now.schema s.now.trees 8 ≡ [] → IsTrue s.in_transaction → IsDatabase s.now
     → t.roots ≡ roots → Ready count s t roots
 ready count s t roots first there schema (inl holds) none within sound same = (
   first_cells t,
@@ -123,8 +128,8 @@ first_back old tx end t stays kept back is =
     let now : end.now ≡ old.now = both.0 ∙ kept.committed (back.was_open stays) ∙ sym is.settled in
     record {
       is_open = stays;
-      schema = subst (λ (d : Database). (d.schema ≡ first_schema) ⊎ HasSix d.schema) (sym now) is.schema;
+      schema = subst (λ (d : Database). IsFree d.schema ⊎ HasSix d.schema) (sym now) is.schema;
       settled = both.0 ∙ sym both.1;
-      holds = subst (λ (d : Database). HoldsFirst (counted d.schema d.trees) t ⊎ HoldsTables (counted d.schema d.trees) t) (sym now) is.holds;
-      lacks = subst (λ (d : Database). counted d.schema d.trees 8 ≡ []) (sym now) is.lacks;
+      holds = subst (λ (d : Database). HoldsFirst (held d.schema d.trees) t ⊎ HoldsTables (held d.schema d.trees) t) (sym now) is.holds;
+      lacks = subst (λ (d : Database). held d.schema d.trees 8 ≡ []) (sym now) is.lacks;
     }

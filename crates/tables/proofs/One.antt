@@ -1,5 +1,5 @@
 -- What the query of one target file answers.
-use Rattle.std.proofs.Common.{◌≡◌, ◌⊎◌, inl, inr, ℕ, List, [], ◌∷◌, None, true, sym, subst, ap, ◌∙◌}
+use Rattle.std.proofs.Common.{◌≡◌, ◌⊎◌, inl, inr, ℕ, List, [], ◌∷◌, None, true, map, sym, subst, ap, ◌∙◌}
 use Rattle.hex.specs.Hex.{encode_lower}
 use Rattle.sqlite.specs.Clock.{timed}
 use Rattle.sqlite.specs.Listing.{understood}
@@ -24,14 +24,16 @@ use Rattle.sql_tables.specs.Writing.{has_text}
 use Rattle.sql_tables.proofs.AnswerLemmas.{plain_query, answer_from, answer_has}
 use Rattle.sql_tables.proofs.Queries.{commits_nothing}
 use Rattle.sql_tables.specs.Described.{followed}
-use Rattle.tables.specs.Schema.{HasSix, six}
+use Rattle.sql_tables.specs.Rows.{AreRows}
+use Rattle.tables.specs.Schema.{HasFive, five}
 use Rattle.tables.specs.Rows.{blob_cells}
+use Rattle.tables.proofs.Beginnings.{blob_held}
 use Rattle.tables.proofs.Removals.{text_is}
 use Rattle.tables.proofs.Texts.{by_text, select_one, select_one_is, select_one_quiet, select_one_unlisted}
 
-module _ (digits : List ℕ) (old new : State) (rows : List Row) (has : HasSix old.now.schema) (h : Shown select_one (Text digits ∷ []) old new rows) where
+module _ (digits : List ℕ) (old new : State) (rows : List Row) (has : HasFive old.now.schema) (h : Shown select_one (Text digits ∷ []) old new rows) where
   answer : IsAnswer (plain_query 5 by_text (col 1 2 ∷ []) []) (overlay old.now.trees []) (Text digits ∷ []) rows
-  answer = (reads_as select_one (Text digits ∷ []) old new (followed six has.0) has.1 (Select (record { lets = []; body = plain_query 5 by_text (col 1 2 ∷ []) [] }) _) (select_one_is has.0).0 (select_one_is has.0).1 (select_one_unlisted has.0) rows h).answer Null
+  answer = (reads_as select_one (Text digits ∷ []) old new (followed five has.0) has.1 (Select (record { lets = []; body = plain_query 5 by_text (col 1 2 ∷ []) [] }) _) (select_one_is has.0).0 (select_one_is has.0).1 (select_one_unlisted has.0) rows h).answer Null
 
   pub one_from : (x : Row) → Has rows x → (r : Row) × Has (old.now.trees 5) r × (has_text digits (blob_cells r) ≡ true) × (x ≡ column r 2 ∷ [])
   one_from x there = let r = answer_from 5 by_text (col 1 2 ∷ []) [] old.now.trees (Text digits ∷ []) rows answer x there in (r.0, r.1, sym (text_is digits r.0) ∙ r.2, r.3)
@@ -44,14 +46,14 @@ one_quietly digits old new = commits_nothing select_one (Text digits ∷ []) old
 
 -- ---- what asking leaves
 
-pub one_same : (params : Row) (old new : State) (rows : List Row) → HasSix old.now.schema → Shown select_one params old new rows → IsUnchanged old new
+pub one_same : (params : Row) (old new : State) (rows : List Row) → HasFive old.now.schema → Shown select_one params old new rows → IsUnchanged old new
 unfolding Shown
 one_same params old new rows has h =
     let known = sym h.1.is ∙ ap (λ s. understood s select_one) has.1 in
     let none : h.0.returning ≡ None = (subst IsPlain (sym known) (select_one_is has.0).1).0 in
     (subst (ShowsRows old new select_one h.0 (timed params h.0.formats h.1.now) rows) none h.2).3
 
-pub one_failed : (params : Row) (old new : State) (e : Error) → HasSix old.now.schema → FailsToQuery select_one params old new e → IsUnchanged old new ⊎ IsRolledBack old new
+pub one_failed : (params : Row) (old new : State) (e : Error) → HasFive old.now.schema → FailsToQuery select_one params old new e → IsUnchanged old new ⊎ IsRolledBack old new
 unfolding FailsToQuery IsNotRun
 one_failed params old new e has (inl (inl none)) = inl none.1
 one_failed params old new e has (inl (inr fails)) = inr fails.3
@@ -65,12 +67,15 @@ one_failed params old new e has (inr shows) =
 bytes_is : (r : Row) (x : List ℕ × List ℕ) → blob_cells r ≡ blob_row x → (column r 1 ≡ Text (encode_lower x.0)) × (column r 2 ≡ Blob x.1)
 bytes_is r x e = (cc, cc)
 
+blobs_of : (s : State) (t : Contents) → IsStore s t → AreRows blob_cells (s.now.trees 5) (map blob_row t.blobs)
+blobs_of s t is = subst (λ r. AreRows blob_cells r (map blob_row t.blobs)) (blob_held s.now.schema s.now.trees is.schema.0) is.holds.blob
+
 -- bytes that are answered are those of a row of these digits
 pub one_of : (digest : List ℕ) (old new : State) (rows : List Row) (t : Contents) → IsStore old t → Shown select_one (Text (encode_lower digest) ∷ []) old new rows
     → (bytes : List ℕ) → HasBytes rows bytes → (x : List ℕ × List ℕ) × Has t.blobs x × (encode_lower x.0 ≡ encode_lower digest) × (x.1 ≡ bytes)
 one_of digest old new rows t is h bytes (row, there, cell) =
-    let (r, in_tree, digits, same) = one_from (encode_lower digest) old new rows is.schema h row there in
-    let held = is.holds.blob.sound r in_tree in
+    let (r, in_tree, digits, same) = one_from (encode_lower digest) old new rows is.schema.0 h row there in
+    let held = (blobs_of old t is).sound r in_tree in
     let (x, has, e) = map_has blob_row t.blobs (blob_cells r) held in
     let two = bytes_is r x e in
     let text : has_text (encode_lower digest) (blob_row x) ≡ true = subst (λ c. has_text (encode_lower digest) c ≡ true) e digits in
@@ -85,8 +90,8 @@ one_of digest old new rows t is h bytes (row, there, cell) =
 pub one_there : (digest : List ℕ) (old new : State) (rows : List Row) (t : Contents) → IsStore old t → Shown select_one (Text (encode_lower digest) ∷ []) old new rows
     → (x : List ℕ × List ℕ) → Has t.blobs x → encode_lower x.0 ≡ encode_lower digest → HasBytes rows x.1
 one_there digest old new rows t is h x has name =
-    let (r, there, cells) = is.holds.blob.complete (blob_row x) (has_map blob_row t.blobs x has) in
+    let (r, there, cells) = (blobs_of old t is).complete (blob_row x) (has_map blob_row t.blobs x has) in
     let two = bytes_is r x cells in
     let text : has_text (encode_lower digest) (blob_cells r) ≡ true = subst (λ c. has_text (encode_lower digest) c ≡ true) (sym cells)
     (text_test (encode_lower x.0) (encode_lower digest) ∙ (bytes_eq-Decides (encode_lower x.0) (encode_lower digest)).1 name) in
-    (column r 2 ∷ [], one_has (encode_lower digest) old new rows is.schema h r there text, two.1)
+    (column r 2 ∷ [], one_has (encode_lower digest) old new rows is.schema.0 h r there text, two.1)

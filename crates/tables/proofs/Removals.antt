@@ -14,7 +14,7 @@ use Rattle.sqlite.specs.Order.{Row, column, value_cmp}
 use Rattle.sqlite.specs.State.{State, ExecutesInside}
 use Rattle.sqlite_trees.proofs.ListLemmas.{filter-map}
 use Rattle.contents.specs.Contents.{Contents}
-use Rattle.tables.specs.Schema.{six}
+use Rattle.tables.specs.Schema.{five}
 use Rattle.tables.specs.Rows.{blob_cells, shelf_cells}
 use Rattle.tables.specs.Tables.{blob_row, is_blob_of, is_row_of, shelf_row, without_blob, without_row}
 use Rattle.tables.specs.steps.Writing.{Cells, IsInside, cells_of, listed}
@@ -23,6 +23,7 @@ use Rattle.sql_tables.proofs.AnswerLemmas.{passes}
 use Rattle.sql_tables.proofs.Editing.{drops}
 use Rattle.sql_tables.proofs.ItemLemmas.{int_nat}
 use Rattle.sql_tables.proofs.Statements.{and-true, text_test, true_if}
+use Rattle.tables.proofs.Beside.{delete_stays}
 use Rattle.tables.proofs.Statements.{sound_after}
 use Rattle.tables.proofs.Texts.{by_text, by_text_and_number, delete_blob, delete_blob_is, delete_row, delete_row_is}
 
@@ -50,7 +51,9 @@ both_are text n r = ap (λ b. has_text text (shelf_cells r) && b) (and-true _ �
 pub drops_row : (old new : State) (role : List ℕ) (version : ℕ) (count : ℕ) (c : Cells) → IsInside old c → ExecutesInside 0 delete_row (Text role ∷ Int (pos version) ∷ []) old new (Ok count)
     → IsInside new (record c { shelf = filter (λ x. not (has_both role version x)) c.shelf })
 drops_row old new role version count c is h = record {
-  tables = drops six 2 (omega arith) delete_row by_text_and_number delete_row_is old new (Text role ∷ Int (pos version) ∷ []) (has_both role version) count (listed c) is.tables (omega arith) (both_are role version) h;
+  tables = drops five 2 (omega arith) delete_row by_text_and_number delete_row_is old new (Text role ∷ Int (pos version) ∷ []) (has_both role version) count (listed c) is.tables (omega arith) (both_are role version) h;
+  six = (delete_stays 2 (omega arith) delete_row by_text_and_number delete_row_is old new _ count c.root2 h (is.six, is.root2)).0;
+  root2 = (delete_stays 2 (omega arith) delete_row by_text_and_number delete_row_is old new _ count c.root2 h (is.six, is.root2)).1;
   sound = sound_after delete_row _ delete_row_is old new _ count is.tables.schema (λ text w. w.sound) h;
 }
 
@@ -59,7 +62,9 @@ text_is text r = and-true _
 
 pub drops_blob : (old new : State) (digits : List ℕ) (count : ℕ) (c : Cells) → IsInside old c → ExecutesInside 0 delete_blob (Text digits ∷ []) old new (Ok count) → IsInside new (record c { blob = without_text digits c.blob })
 drops_blob old new digits count c is h = record {
-  tables = drops six 3 (omega arith) delete_blob by_text delete_blob_is old new (Text digits ∷ []) (has_text digits) count (listed c) is.tables (omega arith) (text_is digits) h;
+  tables = drops five 3 (omega arith) delete_blob by_text delete_blob_is old new (Text digits ∷ []) (has_text digits) count (listed c) is.tables (omega arith) (text_is digits) h;
+  six = (delete_stays 3 (omega arith) delete_blob by_text delete_blob_is old new _ count c.root2 h (is.six, is.root2)).0;
+  root2 = (delete_stays 3 (omega arith) delete_blob by_text delete_blob_is old new _ count c.root2 h (is.six, is.root2)).1;
   sound = sound_after delete_blob _ delete_blob_is old new _ count is.tables.schema (λ text w. w.sound) h;
 }
 

@@ -1,4 +1,4 @@
--- What the texts of the migration mean, whatever stands behind the six tables.
+-- What the texts of the migration mean, whatever stands behind the five tables.
 use Rattle.std.proofs.Common.{◌≡◌, List, ℕ, pos, [], ◌∷◌, codes, refl}
 use Rattle.sqlite_tied.specs.Compute.{everything}
 use Rattle.sqlite.specs.Listing.{understood}
@@ -14,29 +14,19 @@ use Rattle.sqlite_trees.specs.Tree.{Trees}
 use Rattle.sql_tables.specs.Described.{table_of}
 use Rattle.sql_tables.proofs.AnswerLemmas.{plain_query}
 use Rattle.sql_tables.proofs.Editing.{Means}
-use Rattle.tables.specs.Schema.{six, version_table}
+use Rattle.tables.specs.Schema.{five, version_table}
 
 abbrev pub delete_root : List ℕ
 delete_root = codes "DELETE FROM root"
 
-pub delete_root_is : Means six delete_root (Delete 0 (record { lets = []; body = plain_query 0 [] (col 1 0 ∷ []) [] }))
+pub delete_root_is : Means five delete_root (Delete 0 (record { lets = []; body = plain_query 0 [] (col 1 0 ∷ []) [] }))
 unfolding understood everything
 delete_root_is further = (refl, (refl, refl))
-
-abbrev pub first_values : List Term
-first_values = col 0 0 ∷ lit Null ∷ lit (Int (pos 1)) ∷ col 0 1 ∷ []
-
-abbrev pub insert_first : List ℕ
-insert_first = codes "INSERT INTO root2 (version, profile, bytes) VALUES (?1, 1, ?2)"
-
-pub insert_first_is : Means six insert_first (Insert 5 (Values first_values 4))
-unfolding understood everything
-insert_first_is further = (refl, (refl, refl))
 
 abbrev pub delete_version : List ℕ
 delete_version = codes "DELETE FROM schema"
 
-pub delete_version_is : Means six delete_version (Delete 4 (record { lets = []; body = plain_query 7 [] (col 1 0 ∷ []) [] }))
+pub delete_version_is : Means five delete_version (Delete 4 (record { lets = []; body = plain_query 7 [] (col 1 0 ∷ []) [] }))
 unfolding understood everything
 delete_version_is further = (refl, (refl, refl))
 
@@ -46,7 +36,7 @@ second_values = lit (Int (pos 2)) ∷ lit Null ∷ []
 abbrev pub insert_second : List ℕ
 insert_second = codes "INSERT INTO schema (version) VALUES (2)"
 
-pub insert_second_is : Means six insert_second (Insert 4 (Values second_values 2))
+pub insert_second_is : Means five insert_second (Insert 4 (Values second_values 2))
 unfolding understood everything
 insert_second_is further = (refl, (refl, refl))
 

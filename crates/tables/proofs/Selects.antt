@@ -7,8 +7,8 @@ use Rattle.sql_tables.specs.Loading.{rises, with_rowid}
 use Rattle.sql_tables.proofs.Queries.{Reads}
 use Rattle.sqlite.specs.Schema.{Schema}
 use Rattle.sql_tables.specs.Described.{followed}
-use Rattle.tables.specs.Schema.{five, six}
-use Rattle.tables.specs.Rows.{root_cells, root2_cells, current_cells, shelf_cells, blob_cells, version_cells}
+use Rattle.tables.specs.Schema.{five}
+use Rattle.tables.specs.Rows.{root_cells, current_cells, shelf_cells, blob_cells, version_cells}
 
 abbrev pub select_first : List ℕ
 select_first = codes "SELECT version, bytes FROM root ORDER BY version"
@@ -87,23 +87,6 @@ reads_version further = record {
   terms = col 1 0 ∷ [];
   order = [];
   names = codes "version" ∷ [];
-  is = refl;
-  plain = (refl, refl);
-  unlisted = refl;
-  quiet = λ _ _. refl;
-  cells = λ r. refl;
-  keyed = λ r s. refl;
-}
-
-abbrev pub select_root2 : List ℕ
-select_root2 = codes "SELECT version, profile, bytes FROM root2 ORDER BY version"
-
-pub reads_root2 : (further : Schema) → Reads (followed six further) select_root2 8 root2_cells (rises ∷ [])
-unfolding understood everything
-reads_root2 further = record {
-  terms = col 1 0 ∷ col 1 2 ∷ col 1 3 ∷ [];
-  order = (col 1 0, rises) ∷ [];
-  names = codes "version" ∷ codes "profile" ∷ codes "bytes" ∷ [];
   is = refl;
   plain = (refl, refl);
   unlisted = refl;

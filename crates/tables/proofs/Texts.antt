@@ -1,10 +1,10 @@
--- What the texts mean, whatever stands behind the six tables.
+-- What the texts mean, whatever stands behind the five tables.
 use Rattle.std.proofs.Common.{◌≡◌, List, ℕ, [], ◌∷◌, codes, refl, false}
 use Rattle.sqlite_tied.specs.Compute.{everything}
 use Rattle.sqlite.specs.Schema.{Schema}
 use Rattle.sql_tables.specs.Described.{followed}
 use Rattle.sql_tables.proofs.Editing.{Means}
-use Rattle.tables.specs.Schema.{six}
+use Rattle.tables.specs.Schema.{five}
 use Rattle.sqlite.specs.Term.{Term, lit, col, op1, op2}
 use Rattle.sqlite_sql.specs.declared.ops.UnaryOp.TheVariants.{ToNumeric}
 use Rattle.sqlite_sql.specs.declared.ops.BinaryOp.TheVariants.{Compare}
@@ -20,40 +20,30 @@ use Rattle.sql_tables.proofs.AnswerLemmas.{plain_query}
 
 -- ---- INSERT
 
-abbrev pub root_values : List Term
-root_values = col 0 0 ∷ lit Null ∷ col 0 1 ∷ col 0 2 ∷ []
-
 abbrev pub two_values : List Term
 two_values = lit Null ∷ col 0 0 ∷ col 0 1 ∷ []
 
 abbrev pub three_values : List Term
 three_values = lit Null ∷ col 0 0 ∷ col 0 1 ∷ col 0 2 ∷ []
 
-abbrev pub insert_root : List ℕ
-insert_root = codes "INSERT INTO root2 (version, profile, bytes) VALUES (?1, ?2, ?3)"
-
-pub insert_root_is : Means six insert_root (Insert 5 (Values root_values 4))
-unfolding understood everything
-insert_root_is further = (refl, (refl, refl))
-
 abbrev pub insert_slot : List ℕ
 insert_slot = codes "INSERT INTO current (slot, version, bytes) VALUES (?1, ?2, ?3)"
 
-pub insert_slot_is : Means six insert_slot (Insert 1 (Values three_values 4))
+pub insert_slot_is : Means five insert_slot (Insert 1 (Values three_values 4))
 unfolding understood everything
 insert_slot_is further = (refl, (refl, refl))
 
 abbrev pub insert_row : List ℕ
 insert_row = codes "INSERT INTO shelf (role, version, bytes) VALUES (?1, ?2, ?3)"
 
-pub insert_row_is : Means six insert_row (Insert 2 (Values three_values 4))
+pub insert_row_is : Means five insert_row (Insert 2 (Values three_values 4))
 unfolding understood everything
 insert_row_is further = (refl, (refl, refl))
 
 abbrev pub insert_blob : List ℕ
 insert_blob = codes "INSERT INTO blob (digest, bytes) VALUES (?1, ?2)"
 
-pub insert_blob_is : Means six insert_blob (Insert 3 (Values two_values 3))
+pub insert_blob_is : Means five insert_blob (Insert 3 (Values two_values 3))
 unfolding understood everything
 insert_blob_is further = (refl, (refl, refl))
 
@@ -66,7 +56,7 @@ by_text = op2 (Compare Eq Binary) (col 1 1) (col 0 0) ∷ []
 abbrev pub delete_slot : List ℕ
 delete_slot = codes "DELETE FROM current WHERE slot = ?1"
 
-pub delete_slot_is : Means six delete_slot (Delete 1 (record { lets = []; body = plain_query 1 by_text (col 1 0 ∷ []) [] }))
+pub delete_slot_is : Means five delete_slot (Delete 1 (record { lets = []; body = plain_query 1 by_text (col 1 0 ∷ []) [] }))
 unfolding understood everything
 delete_slot_is further = (refl, (refl, refl))
 
@@ -77,28 +67,28 @@ by_text_and_number = op2 (Compare Eq Binary) (col 1 1) (col 0 0) ∷ op2 (Compar
 abbrev pub delete_row : List ℕ
 delete_row = codes "DELETE FROM shelf WHERE role = ?1 AND version = ?2"
 
-pub delete_row_is : Means six delete_row (Delete 2 (record { lets = []; body = plain_query 3 by_text_and_number (col 1 0 ∷ []) [] }))
+pub delete_row_is : Means five delete_row (Delete 2 (record { lets = []; body = plain_query 3 by_text_and_number (col 1 0 ∷ []) [] }))
 unfolding understood everything
 delete_row_is further = (refl, (refl, refl))
 
 abbrev pub delete_blob : List ℕ
 delete_blob = codes "DELETE FROM blob WHERE digest = ?1"
 
-pub delete_blob_is : Means six delete_blob (Delete 3 (record { lets = []; body = plain_query 5 by_text (col 1 0 ∷ []) [] }))
+pub delete_blob_is : Means five delete_blob (Delete 3 (record { lets = []; body = plain_query 5 by_text (col 1 0 ∷ []) [] }))
 unfolding understood everything
 delete_blob_is further = (refl, (refl, refl))
 
 abbrev pub delete_current : List ℕ
 delete_current = codes "DELETE FROM current"
 
-pub delete_current_is : Means six delete_current (Delete 1 (record { lets = []; body = plain_query 1 [] (col 1 0 ∷ []) [] }))
+pub delete_current_is : Means five delete_current (Delete 1 (record { lets = []; body = plain_query 1 [] (col 1 0 ∷ []) [] }))
 unfolding understood everything
 delete_current_is further = (refl, (refl, refl))
 
 abbrev pub delete_shelf : List ℕ
 delete_shelf = codes "DELETE FROM shelf"
 
-pub delete_shelf_is : Means six delete_shelf (Delete 2 (record { lets = []; body = plain_query 3 [] (col 1 0 ∷ []) [] }))
+pub delete_shelf_is : Means five delete_shelf (Delete 2 (record { lets = []; body = plain_query 3 [] (col 1 0 ∷ []) [] }))
 unfolding understood everything
 delete_shelf_is further = (refl, (refl, refl))
 
@@ -107,11 +97,11 @@ delete_shelf_is further = (refl, (refl, refl))
 abbrev pub select_one : List ℕ
 select_one = codes "SELECT bytes FROM blob WHERE digest = ?1"
 
-pub select_one_is : Means six select_one (Select (record { lets = []; body = plain_query 5 by_text (col 1 2 ∷ []) [] }) (codes "bytes" ∷ []))
+pub select_one_is : Means five select_one (Select (record { lets = []; body = plain_query 5 by_text (col 1 2 ∷ []) [] }) (codes "bytes" ∷ []))
 unfolding understood everything
 select_one_is further = (refl, (refl, refl))
 
-pub select_one_unlisted : (further : Schema) → reads_listing (followed six further) select_one ≡ false
+pub select_one_unlisted : (further : Schema) → reads_listing (followed five further) select_one ≡ false
 unfolding understood everything
 select_one_unlisted further = refl
 

@@ -2,15 +2,14 @@
 use Rattle.std.specs.Prelude.{◌≡◌, ◌⊎◌, [], IsTrue}
 use Rattle.sqlite.specs.State.{State}
 use Rattle.contents.specs.Contents.{Contents}
-use Rattle.sql_tables.specs.Schema.{counted}
-use Rattle.tables.specs.Schema.{first_schema, HasSix}
+use Rattle.tables.specs.Schema.{held, HasSix, IsFree}
 use Rattle.tables.specs.Tables.{HoldsFirst, HoldsTables}
 
--- Between two transactions, the tables hold these rows and are not those of schema 2 yet. There are the five and nothing else, or all six,
--- and what is absent counts as empty. The row of `schema` is 1; or it is 2 and there is no root.
+-- Between two transactions, the tables hold these rows and are not those of schema 2 yet. The five are there, and behind
+-- them `root2` can be made, or all six are; what is absent counts as empty. The row of `schema` is 1; or it is 2 and there is no root.
 pub record IsEarlier (s : State) (t : Contents) : Type 0 where
   pub is_open : IsTrue s.is_open
-  pub schema : (s.now.schema ≡ first_schema) ⊎ HasSix s.now.schema
+  pub schema : IsFree s.now.schema ⊎ HasSix s.now.schema
   pub settled : s.now ≡ s.committed
-  pub holds : HoldsFirst (counted s.now.schema s.now.trees) t ⊎ HoldsTables (counted s.now.schema s.now.trees) t
-  pub lacks : counted s.now.schema s.now.trees 8 ≡ []
+  pub holds : HoldsFirst (held s.now.schema s.now.trees) t ⊎ HoldsTables (held s.now.schema s.now.trees) t
+  pub lacks : held s.now.schema s.now.trees 8 ≡ []

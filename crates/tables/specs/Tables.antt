@@ -18,10 +18,9 @@ use Rattle.tables.specs.declared.change.Change.TheVariants.{PutRoot, Emptied, Pu
 use Rattle.contents.specs.Contents.{Contents, no_rows}
 pub use Rattle.sql_tables.specs.Cells.{IsDigest}
 use Rattle.sql_tables.specs.Described.{AreEmpty}
-use Rattle.tables.specs.Schema.{the_schema, HasSix, IsBeginning}
+use Rattle.tables.specs.Schema.{the_schema, held, HasSix, IsBeginning}
 use Rattle.tables.specs.Rows.{root_cells, root2_cells, current_cells, shelf_cells, blob_cells, version_cells}
 use Rattle.sql_tables.specs.Rows.{AreRows, AreKeyed}
-use Rattle.sql_tables.specs.Schema.{counted}
 
 -- ---- the cells of the rows
 
@@ -55,7 +54,7 @@ version_row n = Int (pos n) ∷ []
 
 -- ---- what is held
 
--- The trees of the six tables hold these rows, as sets, and schema 2: the roots stand in `root2`, and `root` is empty.
+-- The trees of the six tables, which are those of `the_schema`, hold these rows, as sets, and schema 2: the roots stand in `root2`, and `root` is empty.
 pub record HoldsTables (trees : Trees) (t : Contents) : Type 0 where
   pub root : AreRows root_cells (trees 0) []
   pub current : AreRows current_cells (trees 1) (current_rows t.timestamp t.snapshot)
@@ -76,14 +75,14 @@ pub record HoldsFirst (trees : Trees) (t : Contents) : Type 0 where
 
 -- Schema 2, and all six tables are there: so say the trees themselves, which list them. No other opening of these trees finds fewer.
 abbrev pub HoldsWhole : Trees → Contents → Type 0
-HoldsWhole trees t = (db : Database) × (db.trees ≡ trees) × IsDatabase db × HasSix db.schema × HoldsTables trees t
+HoldsWhole trees t = (db : Database) × (db.trees ≡ trees) × IsDatabase db × HasSix db.schema × HoldsTables (held db.schema db.trees) t
 
 -- between two transactions: the connection is open, the six tables are there, and hold these rows and schema 2
 pub record IsStore (s : State) (t : Contents) : Type 0 where
   pub is_open : IsTrue s.is_open
   pub schema : HasSix s.now.schema
   pub settled : s.now ≡ s.committed
-  pub holds : HoldsTables s.now.trees t
+  pub holds : HoldsTables (held s.now.schema s.now.trees) t
 
 -- no row in any of the six tables
 abbrev pub AreBare : Trees → Type 0
@@ -95,7 +94,7 @@ StandsFor trees t = HoldsTables trees t ⊎ (HoldsFirst trees t ⊎ (AreBare tre
 
 -- What a database stands for: it has the first of the six tables, or all, and they hold the rows, and the absent ones count as empty.
 abbrev pub Stands : Database → Contents → Type 0
-Stands db t = IsBeginning db.schema × StandsFor (counted db.schema db.trees) t
+Stands db t = IsBeginning db.schema × StandsFor (held db.schema db.trees) t
 
 -- the same rows, in any order
 pub record AreSame (t u : Contents) : Type 0 where

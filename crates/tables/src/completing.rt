@@ -3,11 +3,10 @@ ghost use Rattle.std.specs.Prelude.{◌≡◌, ◌<◌, ◌≤◌, true, false, 
 ghost use Rattle.sqlite_trees.specs.Tree.{Trees};
 ghost use Rattle.sqlite.specs.State.{HasCleanDisk, IsUnchanged, KeepsCommit, Survives};
 ghost use Rattle.sqlite.specs.Held.{state};
-ghost use Rattle.tables.specs.Schema.{the_schema, beginning, six};
+ghost use Rattle.tables.specs.Schema.{the_schema, beginning, held, six};
 ghost use Rattle.sql_tables.specs.Described.{LacksRest};
 ghost use Rattle.contents.specs.Contents.{no_rows};
 ghost use Rattle.tables.specs.Tables.{AreBare, HoldsWhole, IsStore};
-ghost use Rattle.sql_tables.specs.Schema.{counted};
 ghost use Rattle.tables.specs.steps.Writing.{IsInside, no_cells};
 ghost use Rattle.sql_tables.specs.Making.{IsMade};
 
@@ -53,12 +52,12 @@ pub(crate) fn complete<S: Alter>(conn: &mut Connection<S>, count: usize) -> Resu
     requires few { count < 5 }
     ensures autocommit { conn.new.in_transaction ≡ false }
     ensures found { HasCleanDisk (state S.Store conn.new) → (state S.Store conn.old).now.schema ≡ beginning count
-        → IfOk result (λ bare. (IsTrue bare → AreBare (counted (beginning count) (state S.Store conn.old).now.trees) × IsStore (state S.Store conn.new) no_rows)
-        × (bare ≡ false → AreBare (counted (beginning count) (state S.Store conn.old).now.trees) → ⊥)) }
+        → IfOk result (λ bare. (IsTrue bare → AreBare (held (beginning count) (state S.Store conn.old).now.trees) × IsStore (state S.Store conn.new) no_rows)
+        × (bare ≡ false → AreBare (held (beginning count) (state S.Store conn.old).now.trees) → ⊥)) }
     ensures was_open { HasCleanDisk (state S.Store conn.new) → OnOk result (IsTrue (state S.Store conn.old).is_open) }
     ensures kept { HasCleanDisk (state S.Store conn.new) → (state S.Store conn.old).now.schema ≡ beginning count → IfOk result (λ bare. bare ≡ false → KeepsCommit (state S.Store conn.old) (state S.Store conn.new)) }
     ensures crash { Survives (state S.Store conn.old) (state S.Store conn.new) (λ trees. IsTrue (state S.Store conn.old).is_open × ((state S.Store conn.old).now.schema ≡ beginning count
-        → AreBare (counted (beginning count) (state S.Store conn.old).now.trees) × HoldsWhole trees no_rows)) }
+        → AreBare (held (beginning count) (state S.Store conn.old).now.trees) × HoldsWhole trees no_rows)) }
 {
     let mut tx = conn.transaction();
     if !fill(&mut tx, count)? {

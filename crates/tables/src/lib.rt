@@ -14,6 +14,7 @@ mod making;
 mod migrating;
 mod opening;
 mod reading;
+mod second;
 mod shape;
 mod writing;
 

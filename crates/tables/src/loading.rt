@@ -6,10 +6,9 @@ ghost use Rattle.sqlite.specs.Order.{Row};
 ghost use Rattle.sqlite.specs.State.{HasCleanDisk, IsUnchanged, Survives};
 ghost use Rattle.sqlite.specs.Held.{state};
 ghost use Rattle.contents.specs.Contents.{slot_view};
-ghost use Rattle.tables.specs.Schema.{HasFive, HasSix};
+ghost use Rattle.tables.specs.Schema.{held, root2_rows, HasFive, HasSix};
 ghost use Rattle.tables.specs.Rows.{root_cells, root2_cells, current_cells, shelf_cells, blob_cells, version_cells};
 ghost use Rattle.tables.specs.Tables.{row_cmp};
-ghost use Rattle.sql_tables.specs.Schema.{counted};
 ghost use Rattle.tables.specs.steps.Migrating.{HasSome};
 ghost use Rattle.tables.specs.steps.Loading.{AllComeOnce, Answers, AreAnswers, AreDamaged, AreItems, AreSorted, AreTaken, AreVersions, FitsFirst, FitsLength, FitsRoot, FitsShelf, HaveSlots, IsFirstRow, IsGathered, IsLengthRow, IsRootRow, Tell, IsShelfRow, document_shows, length_shows, root_shows};
 ghost use Rattle.sql_tables.specs.Loading.{AreLoaded, ComeOnce, rises, with_rowid};
@@ -47,7 +46,7 @@ fn second_rows<S: Alter>(
     conn: &mut Connection<S>,
 ) -> Result<(Option<Vec<(u32, u32, Vec<u8>)>>, bool), StoreFault>
     ensures rows { IfOk result (λ p. (rows : List Row) × (IsTrue p.1 → ComeOnce 0 rows) × IsGathered nat_cmp IsRootRow FitsRoot root_shows rows p.0
-        × (HasCleanDisk (state S.Store conn.new) → HasSix (state S.Store conn.old).now.schema → AreLoaded root2_cells (rises ∷ []) ((state S.Store conn.old).now.trees 8) rows)) }
+        × (HasCleanDisk (state S.Store conn.new) → HasSix (state S.Store conn.old).now.schema → AreLoaded root2_cells (rises ∷ []) (root2_rows (state S.Store conn.old).now.schema (state S.Store conn.old).now.trees) rows)) }
     ensures unchanged { HasCleanDisk (state S.Store conn.new) → HasSix (state S.Store conn.old).now.schema → OnOk result (IsUnchanged (state S.Store conn.old) (state S.Store conn.new)) }
     ensures fault { result ≢ Err StoreFault.Damaged }
     ensures mode { conn.old.in_transaction ≡ false → conn.new.in_transaction ≡ false }
@@ -67,7 +66,7 @@ fn root_rows<S: Alter>(
     count: usize,
 ) -> Result<(Option<Vec<(u32, u32, Vec<u8>)>>, bool), StoreFault>
     ensures rows { IfOk result (λ p. (rows : List Row) × (IsTrue p.1 → ComeOnce 0 rows) × IsGathered nat_cmp IsRootRow FitsRoot root_shows rows p.0
-        × (HasCleanDisk (state S.Store conn.new) → HasSome count (state S.Store conn.old).now.schema → AreLoaded root2_cells (rises ∷ []) (counted (state S.Store conn.old).now.schema (state S.Store conn.old).now.trees 8) rows)) }
+        × (HasCleanDisk (state S.Store conn.new) → HasSome count (state S.Store conn.old).now.schema → AreLoaded root2_cells (rises ∷ []) (held (state S.Store conn.old).now.schema (state S.Store conn.old).now.trees 8) rows)) }
     ensures unchanged { HasCleanDisk (state S.Store conn.new) → HasSome count (state S.Store conn.old).now.schema → IsTrue (state S.Store conn.old).is_open → OnOk result (IsUnchanged (state S.Store conn.old) (state S.Store conn.new)) }
     ensures fault { result ≢ Err StoreFault.Damaged }
     ensures mode { conn.old.in_transaction ≡ false → conn.new.in_transaction ≡ false }
@@ -189,7 +188,7 @@ pub(crate) fn ask<S: Alter>(
     count: usize,
 ) -> Result<Taken, StoreFault>
     ensures rows { IfOk result (λ t. (a : Answers) × AllComeOnce a × AreTaken a t
-        × (HasCleanDisk (state S.Store conn.new) → HasSome count (state S.Store conn.old).now.schema → AreAnswers (counted (state S.Store conn.old).now.schema (state S.Store conn.old).now.trees) a)) }
+        × (HasCleanDisk (state S.Store conn.new) → HasSome count (state S.Store conn.old).now.schema → AreAnswers (held (state S.Store conn.old).now.schema (state S.Store conn.old).now.trees) a)) }
     ensures unchanged { HasCleanDisk (state S.Store conn.new) → HasSome count (state S.Store conn.old).now.schema → OnOk result (IsUnchanged (state S.Store conn.old) (state S.Store conn.new)) }
     ensures fault { result ≢ Err StoreFault.Damaged }
     ensures mode { conn.old.in_transaction ≡ false → conn.new.in_transaction ≡ false }

@@ -3,13 +3,12 @@ ghost use Rattle.std.specs.Prelude.{◌≡◌, ◌≢◌, ◌<◌, ◌≤◌, �
 ghost use Rattle.sqlite.specs.State.{HasCleanDisk, KeepsCommit, Survives};
 ghost use Rattle.sqlite.specs.Held.{state};
 ghost use Rattle.sqlite_trees.specs.Tree.{Trees};
-ghost use Rattle.tables.specs.Schema.{the_schema, beginning, six, HasSix};
+ghost use Rattle.tables.specs.Schema.{the_schema, beginning, held, six, HasSix};
 ghost use Rattle.sql_tables.specs.Described.{LacksRest};
 ghost use Rattle.contents.specs.Contents.{no_rows};
 ghost use Rattle.tables.specs.Tables.{IsStore, HoldsWhole, AreBare};
 ghost use Rattle.tables.specs.steps.Writing.{Cells, IsInside, no_cells};
 ghost use Rattle.tables.specs.steps.Migrating.{HasSome, IsEarly, bare_cells};
-ghost use Rattle.sql_tables.specs.Schema.{counted};
 ghost use Rattle.tables.specs.Opening.{IsSettled};
 ghost use Rattle.sql_tables.specs.Making.{IsMade, Makes};
 
@@ -33,7 +32,7 @@ pub(crate) fn make_rest<S: Alter>(tx: &mut Transaction<'_, S>, count: usize) -> 
 pub(crate) fn put_version<S: Alter>(tx: &mut Transaction<'_, S>) -> Result<(), Error>
     ensures same_reference { tx.new.conn.ghost_name ≡ tx.old.conn.ghost_name }
     ensures wrote { HasCleanDisk (state S.Store tx.new.conn.now) → IsTrue (state S.Store tx.old.conn.now).is_open → IsTrue (state S.Store tx.old.conn.now).in_transaction
-        → HasSix (state S.Store tx.old.conn.now).now.schema → AreBare (state S.Store tx.old.conn.now).now.trees → OnOk result (IsInside (state S.Store tx.new.conn.now) no_cells) }
+        → HasSix (state S.Store tx.old.conn.now).now.schema → AreBare (held (state S.Store tx.old.conn.now).now.schema (state S.Store tx.old.conn.now).now.trees) → OnOk result (IsInside (state S.Store tx.new.conn.now) no_cells) }
     ensures was_open { HasCleanDisk (state S.Store tx.new.conn.now) → OnOk result (IsTrue (state S.Store tx.old.conn.now).is_open) }
     ensures kept { HasCleanDisk (state S.Store tx.new.conn.now) → KeepsCommit (state S.Store tx.old.conn.now) (state S.Store tx.new.conn.now) }
     ensures survives { Survives (state S.Store tx.old.conn.now) (state S.Store tx.new.conn.now) (λ _. ⊥) }
@@ -42,7 +41,7 @@ pub(crate) fn put_version<S: Alter>(tx: &mut Transaction<'_, S>) -> Result<(), E
     Ok(())
 }
 
-// Makes `root2`, where it is absent: so many of the six tables are there.
+// Makes `root2` behind all that is there, where it is absent: so many of the six tables are there.
 pub(crate) fn make_root2<S: Alter>(tx: &mut Transaction<'_, S>, count: usize) -> Result<(), Error>
     ensures same_reference { tx.new.conn.ghost_name ≡ tx.old.conn.ghost_name }
     ensures wrote { HasCleanDisk (state S.Store tx.new.conn.now) → (c : Cells) → IsEarly count (state S.Store tx.old.conn.now) c → OnOk result (IsInside (state S.Store tx.new.conn.now) c) }
@@ -50,7 +49,10 @@ pub(crate) fn make_root2<S: Alter>(tx: &mut Transaction<'_, S>, count: usize) ->
     ensures survives { Survives (state S.Store tx.old.conn.now) (state S.Store tx.new.conn.now) (λ _. ⊥) }
 {
     if count == 5 {
-        return sql_tables::make_rest(tx, &six_tables(), count);
+        tx.execute(
+            "CREATE TABLE root2 (version INTEGER NOT NULL PRIMARY KEY, profile INTEGER NOT NULL, bytes BLOB NOT NULL)",
+            &[],
+        )?;
     }
     Ok(())
 }
@@ -72,9 +74,9 @@ fn begin_inside<S: Alter>(tx: &mut Transaction<'_, S>, count: usize) -> Result<(
 pub(crate) fn begin<S: Alter>(conn: &mut Connection<S>, count: usize) -> Result<(), Error>
     requires { conn.old.in_transaction ≡ false }
     ensures autocommit { conn.new.in_transaction ≡ false }
-    ensures wrote { HasCleanDisk (state S.Store conn.new) → HasSome count (state S.Store conn.old).now.schema → AreBare (counted (state S.Store conn.old).now.schema (state S.Store conn.old).now.trees) → OnOk result (IsStore (state S.Store conn.new) no_rows) }
+    ensures wrote { HasCleanDisk (state S.Store conn.new) → HasSome count (state S.Store conn.old).now.schema → AreBare (held (state S.Store conn.old).now.schema (state S.Store conn.old).now.trees) → OnOk result (IsStore (state S.Store conn.new) no_rows) }
     ensures was_open { HasCleanDisk (state S.Store conn.new) → IsTrue (state S.Store conn.new).is_open → IsTrue (state S.Store conn.old).is_open }
-    ensures crash { Survives (state S.Store conn.old) (state S.Store conn.new) (λ trees. IsTrue (state S.Store conn.old).is_open × (HasSome count (state S.Store conn.old).now.schema → AreBare (counted (state S.Store conn.old).now.schema (state S.Store conn.old).now.trees) → HoldsWhole trees no_rows)) }
+    ensures crash { Survives (state S.Store conn.old) (state S.Store conn.new) (λ trees. IsTrue (state S.Store conn.old).is_open × (HasSome count (state S.Store conn.old).now.schema → AreBare (held (state S.Store conn.old).now.schema (state S.Store conn.old).now.trees) → HoldsWhole trees no_rows)) }
 {
     let _ = conn.schema();
     let mut tx = conn.transaction();

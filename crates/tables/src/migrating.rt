@@ -3,8 +3,7 @@ ghost use Rattle.std.specs.Prelude.{◌≡◌, ◌≢◌, ◌≤◌, ◌++◌, �
 ghost use Rattle.sqlite.specs.State.{HasCleanDisk, KeepsCommit, Survives};
 ghost use Rattle.sqlite.specs.Held.{state};
 ghost use Rattle.contents.specs.Contents.{Contents};
-ghost use Rattle.sql_tables.specs.Described.{HasFirst};
-ghost use Rattle.tables.specs.Schema.{six};
+ghost use Rattle.tables.specs.Schema.{HasFirst};
 ghost use Rattle.tables.specs.Tables.{HoldsWhole, IsStore, root_row, version_row};
 ghost use Rattle.tables.specs.Migration.{IsEarlier};
 ghost use Rattle.tables.specs.steps.Writing.{Cells, IsInside};
@@ -102,7 +101,7 @@ fn bring_over<S: Alter>(
     roots: &[(u32, &[u8])],
 ) -> Result<(), Error>
     requires autocommit { conn.old.in_transaction ≡ false }
-    requires some { HasFirst six count conn.old.schema }
+    requires some { HasFirst count conn.old.schema }
     ensures autocommit { conn.new.in_transaction ≡ false }
     ensures wrote { HasCleanDisk (state S.Store conn.new) → (t : Contents) → IsEarlier (state S.Store conn.old) t → t.roots ≡ map (λ r. (r.0, (1, r.1.now))) roots.now → OnOk result (IsStore (state S.Store conn.new) t) }
     ensures kept { HasCleanDisk (state S.Store conn.new) → IsTrue (state S.Store conn.new).is_open → (t : Contents) → IsEarlier (state S.Store conn.old) t → t.roots ≡ map (λ r. (r.0, (1, r.1.now))) roots.now
@@ -121,7 +120,7 @@ fn bring_over<S: Alter>(
 /// the roots move there with profile 1, and the row of `schema` is 2. A crash leaves what was there whole or schema 2 whole.
 ///
 /// - `Database`: a call of the database answered a fault, and the tables are as they were, if the connection is still open; or there are
-///   others than the five tables of schema 1 and nothing else, or all six, behind which others may stand: then nothing is made.
+///   others than the five tables of schema 1, or all six, or `root2` cannot be made behind what is there: then nothing is made.
 /// - `OutOfMemory`: memory was refused.
 pub fn migrate<S: Alter>(conn: &mut Connection<S>, roots: &[(u32, &[u8])]) -> Result<(), StoreFault>
     requires { conn.old.in_transaction ≡ false }

@@ -2,11 +2,10 @@
 ghost use Rattle.std.specs.Prelude.{◌≡◌, ◌≢◌, ◌<◌, ◌⊎◌, ℕ, [], true, false, Err, IfOk, OnOk, IsTrue};
 ghost use Rattle.sqlite.specs.State.{HasCleanDisk, IsLive, IsUnchanged, KeepsCommit, Survives};
 ghost use Rattle.sqlite.specs.Held.{state};
-ghost use Rattle.tables.specs.Schema.{beginning, IsBeginning};
+ghost use Rattle.tables.specs.Schema.{beginning, held, IsBeginning};
 ghost use Rattle.contents.specs.Contents as plain;
 ghost use Rattle.contents.specs.Contents.{contents_with, no_rows};
 ghost use Rattle.tables.specs.Tables.{HoldsWhole, HaveDigests, IsStore, IsFit, AreBare, Stands, StandsFor};
-ghost use Rattle.sql_tables.specs.Schema.{counted};
 ghost use Rattle.tables.specs.Opening.{IsReadAs, IsSettled, StandsEmpty};
 ghost use Rattle.tables.specs.Migration.{IsEarlier};
 ghost use Rattle.tables.specs.steps.Loading.{HoldsAs, IsUnbegun};
@@ -29,9 +28,9 @@ fn gather<S: Alter>(
 ) -> Result<(Rows, bool, bool), StoreFault>
     ensures read { IfOk result (λ p. (t : plain.Contents) × IsReadAs p.0.0 p.0.1.items t
         × (HasCleanDisk (state S.Store conn.new) → HasSome count (state S.Store conn.old).now.schema → IsLive (state S.Store conn.old)
-        → (p.1 ≡ true → HoldsAs p.2 (counted (state S.Store conn.old).now.schema (state S.Store conn.old).now.trees) t) × (p.1 ≡ false → IsUnbegun (counted (state S.Store conn.old).now.schema (state S.Store conn.old).now.trees) t))) }
+        → (p.1 ≡ true → HoldsAs p.2 (held (state S.Store conn.old).now.schema (state S.Store conn.old).now.trees) t) × (p.1 ≡ false → IsUnbegun (held (state S.Store conn.old).now.schema (state S.Store conn.old).now.trees) t))) }
     ensures damaged { HasCleanDisk (state S.Store conn.new) → HasSome count (state S.Store conn.old).now.schema → result ≡ Err StoreFault.Damaged
-        → (t : plain.Contents) → IsFit t → HaveDigests t → StandsFor (counted (state S.Store conn.old).now.schema (state S.Store conn.old).now.trees) t → ⊥ }
+        → (t : plain.Contents) → IsFit t → HaveDigests t → StandsFor (held (state S.Store conn.old).now.schema (state S.Store conn.old).now.trees) t → ⊥ }
     ensures kept { HasCleanDisk (state S.Store conn.new) → HasSome count (state S.Store conn.old).now.schema → result ≡ Err StoreFault.Damaged → KeepsCommit (state S.Store conn.old) (state S.Store conn.new) }
     ensures was_open { HasCleanDisk (state S.Store conn.new) → HasSome count (state S.Store conn.old).now.schema → result ≡ Err StoreFault.Damaged → IsTrue (state S.Store conn.old).is_open }
     ensures unchanged { HasCleanDisk (state S.Store conn.new) → HasSome count (state S.Store conn.old).now.schema → OnOk result (IsUnchanged (state S.Store conn.old) (state S.Store conn.new)) }
@@ -59,11 +58,11 @@ fn begin_bare<S: Alter>(
     requires { conn.old.in_transaction ≡ false }
     ensures autocommit { conn.new.in_transaction ≡ false }
     ensures bare { OnOk result (is_bare ≡ true) }
-    ensures begun { HasCleanDisk (state S.Store conn.new) → HasSome count (state S.Store conn.old).now.schema → AreBare (counted (state S.Store conn.old).now.schema (state S.Store conn.old).now.trees) → OnOk result (IsStore (state S.Store conn.new) no_rows) }
+    ensures begun { HasCleanDisk (state S.Store conn.new) → HasSome count (state S.Store conn.old).now.schema → AreBare (held (state S.Store conn.old).now.schema (state S.Store conn.old).now.trees) → OnOk result (IsStore (state S.Store conn.new) no_rows) }
     ensures damaged { result ≡ Err StoreFault.Damaged → is_bare ≡ false }
     ensures told { is_bare ≡ false → (result ≡ Err StoreFault.Damaged) × (conn.new ≡ conn.old) }
     ensures crash { Survives (state S.Store conn.old) (state S.Store conn.new) (λ trees. (is_bare ≡ true) × IsTrue (state S.Store conn.old).is_open
-        × (HasSome count (state S.Store conn.old).now.schema → AreBare (counted (state S.Store conn.old).now.schema (state S.Store conn.old).now.trees) → HoldsWhole trees no_rows)) }
+        × (HasSome count (state S.Store conn.old).now.schema → AreBare (held (state S.Store conn.old).now.schema (state S.Store conn.old).now.trees) → HoldsWhole trees no_rows)) }
 {
     if !is_bare {
         return Err(StoreFault::Damaged);
@@ -91,14 +90,14 @@ fn load<S: Alter>(
     ensures autocommit { conn.new.in_transaction ≡ false }
     ensures loaded { IfOk result (λ r. (t : plain.Contents) × IsReadAs r.0 r.1.items t
         × (HasCleanDisk (state S.Store conn.new) → IsSettled (state S.Store conn.old) → HasSome count (state S.Store conn.old).now.schema → IsLive (state S.Store conn.old)
-        → StandsFor (counted (state S.Store conn.old).now.schema (state S.Store conn.old).now.trees) t × (r.2 ≡ false → IsStore (state S.Store conn.new) t) × (r.2 ≡ true → IsEarlier (state S.Store conn.new) t))) }
+        → StandsFor (held (state S.Store conn.old).now.schema (state S.Store conn.old).now.trees) t × (r.2 ≡ false → IsStore (state S.Store conn.new) t) × (r.2 ≡ true → IsEarlier (state S.Store conn.new) t))) }
     ensures was_open { HasCleanDisk (state S.Store conn.new) → HasSome count (state S.Store conn.old).now.schema → OnOk result (IsTrue (state S.Store conn.old).is_open) }
     ensures found_open { HasCleanDisk (state S.Store conn.new) → HasSome count (state S.Store conn.old).now.schema → result ≡ Err StoreFault.Damaged → IsTrue (state S.Store conn.old).is_open }
     ensures damaged { HasCleanDisk (state S.Store conn.new) → HasSome count (state S.Store conn.old).now.schema → IsLive (state S.Store conn.old) → result ≡ Err StoreFault.Damaged
-        → (t : plain.Contents) → IsFit t → HaveDigests t → StandsFor (counted (state S.Store conn.old).now.schema (state S.Store conn.old).now.trees) t → ⊥ }
+        → (t : plain.Contents) → IsFit t → HaveDigests t → StandsFor (held (state S.Store conn.old).now.schema (state S.Store conn.old).now.trees) t → ⊥ }
     ensures kept { HasCleanDisk (state S.Store conn.new) → HasSome count (state S.Store conn.old).now.schema → result ≡ Err StoreFault.Damaged → KeepsCommit (state S.Store conn.old) (state S.Store conn.new) }
     ensures crash { IsLive (state S.Store conn.old) → Survives (state S.Store conn.old) (state S.Store conn.new) (λ trees. HasSome count (state S.Store conn.old).now.schema
-        → IsTrue (state S.Store conn.old).is_open × AreBare (counted (state S.Store conn.old).now.schema (state S.Store conn.old).now.trees) × HoldsWhole trees no_rows) }
+        → IsTrue (state S.Store conn.old).is_open × AreBare (held (state S.Store conn.old).now.schema (state S.Store conn.old).now.trees) × HoldsWhole trees no_rows) }
 {
     let (rows, is_begun, is_first) = gather(alloc, conn, count)?;
     if is_begun {
@@ -118,15 +117,15 @@ fn complete_bare<S: Alter>(
     requires few { count < 5 }
     ensures autocommit { conn.new.in_transaction ≡ false }
     ensures made { HasCleanDisk (state S.Store conn.new) → (state S.Store conn.old).now.schema ≡ beginning count
-        → OnOk result (AreBare (counted (beginning count) (state S.Store conn.old).now.trees) × IsStore (state S.Store conn.new) no_rows) }
+        → OnOk result (AreBare (held (beginning count) (state S.Store conn.old).now.trees) × IsStore (state S.Store conn.new) no_rows) }
     ensures empty { IfOk result (λ r. IsReadAs r.0 r.1.items no_rows × (r.2 ≡ false)) }
     ensures was_open { HasCleanDisk (state S.Store conn.new) → OnOk result (IsTrue (state S.Store conn.old).is_open) }
     ensures found_open { HasCleanDisk (state S.Store conn.new) → result ≡ Err StoreFault.Damaged → IsTrue (state S.Store conn.old).is_open }
     ensures damaged { HasCleanDisk (state S.Store conn.new) → (state S.Store conn.old).now.schema ≡ beginning count → result ≡ Err StoreFault.Damaged
-        → (t : plain.Contents) → StandsFor (counted (beginning count) (state S.Store conn.old).now.trees) t → ⊥ }
+        → (t : plain.Contents) → StandsFor (held (beginning count) (state S.Store conn.old).now.trees) t → ⊥ }
     ensures kept { HasCleanDisk (state S.Store conn.new) → (state S.Store conn.old).now.schema ≡ beginning count → result ≡ Err StoreFault.Damaged → KeepsCommit (state S.Store conn.old) (state S.Store conn.new) }
     ensures crash { Survives (state S.Store conn.old) (state S.Store conn.new) (λ trees. IsTrue (state S.Store conn.old).is_open × ((state S.Store conn.old).now.schema ≡ beginning count
-        → AreBare (counted (beginning count) (state S.Store conn.old).now.trees) × HoldsWhole trees no_rows)) }
+        → AreBare (held (beginning count) (state S.Store conn.old).now.trees) × HoldsWhole trees no_rows)) }
 {
     if complete(conn, count)? {
         Ok((MetadataRows::empty(alloc), Vec::new(alloc), false))
@@ -148,9 +147,9 @@ fn complete_bare<S: Alter>(
 ///   value of another type than its column's, a version or profile outside 32 bits, a role that is not UTF-8, a digest that is not 64 hex
 ///   digits of lower case or not that of its bytes, and a third slot in `current` do not fit. Nothing is made.
 /// - `Database`: a call of the database answered a fault, or the database has other tables than the first of these six in
-///   their order and nothing else, or all six (no other is tried; behind all six may stand further tables, indexes and views,
-///   if no foreign key is onto one of the six), or the rowids that it answered are not integers that come once, which by its
-///   own laws they are.
+///   their order and nothing else, or the first five, or all six (no other is tried; behind the first five, before `root2` and behind
+///   it, may stand further tables, indexes and views, if none has the name `root2` and no foreign key is onto one of the six), or the
+///   rowids that it answered are not integers that come once, which by its own laws they are.
 /// - `OutOfMemory`: memory was refused.
 pub fn prepare<S: Alter>(
     alloc: Global,

@@ -1,21 +1,42 @@
 // Which of the six tables a schema has.
 ghost use Rattle.std.specs.Prelude.{◌≡◌, IsTrue, MatchOption};
-ghost use Rattle.sql_tables.specs.Described.{HasFirst};
-ghost use Rattle.tables.specs.Schema.{first_schema, six, IsBeginning};
+ghost use Rattle.sql_tables.specs.Described as listed;
+ghost use Rattle.tables.specs.Schema.{five, HasFirst, IsBeginning, IsFree};
 
 use crate::described::six_tables;
+use crate::second::{has_second, is_free};
 use sqlite_schema::schema::Schema;
 
-// How many of the six tables there are, where they are the first in their order, and nothing else, or all.
-pub(crate) fn beginning_of(schema: &Schema) -> Option<usize>
-    ensures { MatchOption result (IsBeginning schema.now → ⊥) (λ count. HasFirst six count schema.now) }
+// How many of the five tables of schema 1 there are, where they are the first in their order, and nothing else, or all.
+fn first_of(schema: &Schema) -> Option<usize>
+    ensures { MatchOption result (listed.IsBeginning five schema.now → ⊥) (λ count. listed.HasFirst five count schema.now) }
 {
-    sql_tables::beginning_of(&six_tables(), schema)
+    let six = six_tables();
+    sql_tables::beginning_of(&six[..5], schema)
 }
 
-/// Whether the tables are just the five of schema 1, which an opening brings to schema 2 where they have rows.
+// How many of the six tables there are: the first in their order, and nothing else; or the five, and `root2` can be made; or all.
+pub(crate) fn beginning_of(schema: &Schema) -> Option<usize>
+    ensures { MatchOption result (IsBeginning schema.now → ⊥) (λ count. HasFirst count schema.now) }
+{
+    let count = first_of(schema)?;
+    if count < 5 {
+        return Some(count);
+    }
+    let Some(place) = schema.table_named(b"root2") else {
+        return if is_free(schema) { Some(5) } else { None };
+    };
+    if has_second(schema, place) {
+        Some(6)
+    } else {
+        None
+    }
+}
+
+/// Whether the tables are the five of schema 1, which an opening brings to schema 2 where they have rows: `root2` can be made behind them
+/// and behind what else is there.
 pub fn has_first_schema(schema: &Schema) -> bool
-    ensures { IsTrue result → schema.now ≡ first_schema }
+    ensures { IsTrue result → IsFree schema.now }
 {
     match beginning_of(schema) {
         Some(count) => count == 5,
@@ -23,16 +44,14 @@ pub fn has_first_schema(schema: &Schema) -> bool
     }
 }
 
-/// Whether the five tables of schema 1 are there and behind them other tables, indexes or views, so that no opening brings them to
-/// schema 2.
+/// Whether the five tables of schema 1 are there, and so stand the others beside them that no opening brings them to schema 2.
 pub fn has_others_behind(schema: &Schema) -> bool
     ensures { IsTrue result → IsBeginning schema.now → ⊥ }
 {
     if beginning_of(schema).is_some() {
         return false;
     }
-    let six = six_tables();
-    match sql_tables::beginning_of(&six[..5], schema) {
+    match first_of(schema) {
         Some(count) => count == 5,
         None => false,
     }

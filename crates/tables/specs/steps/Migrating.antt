@@ -5,16 +5,15 @@ use Rattle.sqlite.specs.State.{State}
 use Rattle.sqlite.specs.Schema.{Schema}
 use Rattle.sqlite_trees.specs.Tree.{Trees}
 use Rattle.sql_tables.specs.Rows.{AreRows}
-use Rattle.sql_tables.specs.Schema.{counted}
 use Rattle.contents.specs.Contents.{Contents}
 use Rattle.tables.specs.Rows.{root_cells, root2_cells, current_cells, shelf_cells, blob_cells, version_cells}
-use Rattle.tables.specs.Schema.{first_schema, HasSix}
+use Rattle.tables.specs.Schema.{held, HasSix, IsFree}
 use Rattle.tables.specs.Tables.{first_row, root_row, version_row}
 use Rattle.tables.specs.steps.Writing.{Cells, cells_of}
 
--- so many of the six tables are there: five and nothing else, or all
+-- so many of the six tables are there: five, and `root2` can be made, or all
 abbrev pub HasSome : ℕ → Schema → Type 0
-HasSome count schema = ((count ≡ 5) × (schema ≡ first_schema)) ⊎ ((count ≡ 6) × HasSix schema)
+HasSome count schema = ((count ≡ 5) × IsFree schema) ⊎ ((count ≡ 6) × HasSix schema)
 
 -- the trees of the six tables hold these cells, as sets
 pub record HoldsCells (trees : Trees) (c : Cells) : Type 0 where
@@ -31,7 +30,7 @@ pub record IsEarly (count : ℕ) (s : State) (c : Cells) : Type 0 where
   pub inside : IsTrue s.in_transaction
   pub sound : IsDatabase s.now
   pub some : HasSome count s.now.schema
-  pub holds : HoldsCells (counted s.now.schema s.now.trees) c
+  pub holds : HoldsCells (held s.now.schema s.now.trees) c
 
 -- no row at all, not even in `schema`
 abbrev pub bare_cells : Cells

@@ -3,7 +3,9 @@ use Rattle.std.specs.Prelude.{List, [], ◌∷◌, map}
 use Rattle.sqlite.specs.Order.{Row}
 use Rattle.sqlite.specs.Effect.{IsDatabase}
 use Rattle.sqlite.specs.State.{State}
-use Rattle.tables.specs.Schema.{six}
+use Rattle.sql_tables.specs.Rows.{AreRows}
+use Rattle.tables.specs.Rows.{root2_cells}
+use Rattle.tables.specs.Schema.{five, root2_rows, HasSix}
 use Rattle.sql_tables.specs.Inside as of_list
 use Rattle.contents.specs.Contents.{Contents}
 use Rattle.tables.specs.Tables.{root_row, current_rows, shelf_row, blob_row, version_row}
@@ -31,11 +33,13 @@ cells_of t = record {
   root2 = map root_row t.roots;
 }
 
--- by the places of the tables
+-- those of the five, by the places of the tables
 abbrev pub listed : Cells → List (List Row)
-listed c = c.root ∷ c.current ∷ c.shelf ∷ c.blob ∷ c.version ∷ c.root2 ∷ []
+listed c = c.root ∷ c.current ∷ c.shelf ∷ c.blob ∷ c.version ∷ []
 
 -- inside the transaction that changes them
 pub record IsInside (s : State) (c : Cells) : Type 0 where
-  pub tables : of_list.IsInside six s (listed c)
+  pub tables : of_list.IsInside five s (listed c)
+  pub six : HasSix s.now.schema
+  pub root2 : AreRows root2_cells (root2_rows s.now.schema s.now.trees) c.root2
   pub sound : IsDatabase s.now

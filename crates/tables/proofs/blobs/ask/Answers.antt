@@ -16,7 +16,7 @@ returns-clause-was_open g c clean stays = (shown_open _ _ (state g.S.Store c.arg
 pub returns-clause-kept : goal.returns-clause-kept
 returns-clause-kept g c clean stays t is =
     looked (state g.S.Store c.args.conn.now) (state g.S.Store c.query_all.new.self) t stays
-    (inl (one_same (Text c.args.digits.now ∷ []) (state g.S.Store c.args.conn.now) (state g.S.Store c.query_all.new.self) _ is.schema (c.in_ok-rows.ensures.ok clean))) is
+    (inl (one_same (Text c.args.digits.now ∷ []) (state g.S.Store c.args.conn.now) (state g.S.Store c.query_all.new.self) _ is.schema.0 (c.in_ok-rows.ensures.ok clean))) is
 
 pub returns-clause-survives : goal.returns-clause-survives
 returns-clause-survives g c = one_quietly c.args.digits.now (state g.S.Store c.args.conn.now) (state g.S.Store c.query_all.new.self) c.query_all.ensures.survives
@@ -27,7 +27,7 @@ returns-in_err-rows-clause-was_open g c clean stays = failed_open _ _ (state g.S
 pub returns-in_err-rows-clause-kept : goal.returns-in_err-rows-clause-kept
 returns-in_err-rows-clause-kept g c clean stays t is =
     looked (state g.S.Store c.args.conn.now) (state g.S.Store c.query_all.new.self) t stays
-    (one_failed (Text c.args.digits.now ∷ []) (state g.S.Store c.args.conn.now) (state g.S.Store c.query_all.new.self) _ is.schema (c.in_err-rows.ensures.err clean)) is
+    (one_failed (Text c.args.digits.now ∷ []) (state g.S.Store c.args.conn.now) (state g.S.Store c.query_all.new.self) _ is.schema.0 (c.in_err-rows.ensures.err clean)) is
 
 pub returns-in_err-rows-clause-survives : goal.returns-in_err-rows-clause-survives
 returns-in_err-rows-clause-survives g c = one_quietly c.args.digits.now (state g.S.Store c.args.conn.now) (state g.S.Store c.query_all.new.self) c.query_all.ensures.survives

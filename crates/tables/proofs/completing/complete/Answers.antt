@@ -4,12 +4,13 @@ use Rattle.sqlite.specs.Held.{state}
 use Rattle.sqlite.specs.State.{HasCleanDisk, KeepsCommit, Survives}
 use Rattle.sqlite.proofs.StateLemmas.{survives_then}
 use Rattle.sqlite.proofs.Callers.{survives_begin}
-use Rattle.tables.specs.Schema.{beginning, six}
+use Rattle.tables.specs.Schema.{beginning, held, six}
 use Rattle.contents.specs.Contents.{no_rows}
 use Rattle.tables.specs.Tables.{AreBare, HoldsWhole, IsStore}
 use Rattle.sql_tables.specs.Schema.{counted}
 use Rattle.sql_tables.specs.Making.{IsMade}
 use Rattle.sql_tables.proofs.Beginnings.{as_counted, lacks}
+use Rattle.tables.proofs.Beginnings.{held_few}
 use Rattle.tables.proofs.Changes.{committed, to_whole}
 use Rattle.sql_tables.proofs.Calls.{keeps_then}
 use Rattle.tables.proofs.completing.complete.Goals as goal
@@ -28,7 +29,7 @@ returns-then-not-branch-clause-found g c clean schema =
     subst (λ h. IsMade rows (beginning c.args.count) (state g.S.Store h)) (sym c.transaction-tx.ensures.begun)
     (record { is_open = is_open; inside = refl; schema_is = schema; holds = as_counted (beginning c.args.count) old.now.trees }) in
     let made = c.in_ok-fill.ensures.made early rows (lacks six c.args.count old.now.trees) begun in
-    (λ e. absurd (true≢false (sym e)), λ _. made.1 c.if-not-branch.true)
+    (λ e. absurd (true≢false (sym e)), λ _ bare. made.1 c.if-not-branch.true (subst AreBare (held_few c.args.count old.now.trees c.requires.few) bare))
 
 pub returns-then-not-branch-clause-kept : goal.returns-then-not-branch-clause-kept
 returns-then-not-branch-clause-kept g c clean schema =
@@ -65,7 +66,7 @@ returns-clause-found g c clean schema =
     subst (λ h. IsMade rows (beginning c.args.count) (state g.S.Store h)) (sym c.transaction-tx.ensures.begun)
     (record { is_open = is_open; inside = refl; schema_is = schema; holds = as_counted (beginning c.args.count) old.now.trees }) in
     let made = (c.in_ok-fill.ensures.made early rows (lacks six c.args.count old.now.trees) begun).0 c.if-not-branch.false in (
-      λ _. (made.0, subst (λ h. IsStore (state g.S.Store h) no_rows) same (committed tx (state g.S.Store end) no_rows made.1 (c.in_ok-commit.ensures.ok late).1)),
+      λ _. (subst AreBare (sym (held_few c.args.count old.now.trees c.requires.few)) made.0, subst (λ h. IsStore (state g.S.Store h) no_rows) same (committed tx (state g.S.Store end) no_rows made.1 (c.in_ok-commit.ensures.ok late).1)),
       λ e. absurd (true≢false e),
     )
 
@@ -75,7 +76,7 @@ returns-clause-crash g c =
     let tx = state g.S.Store c.fill.new.tx.conn.now in
     let end = c.commit.new.self.0 in
     let rows = counted (beginning c.args.count) old.now.trees in
-    let P = λ (trees : Trees). IsTrue old.is_open × (old.now.schema ≡ beginning c.args.count → AreBare rows × HoldsWhole trees no_rows) in
+    let P = λ (trees : Trees). IsTrue old.is_open × (old.now.schema ≡ beginning c.args.count → AreBare (held (beginning c.args.count) old.now.trees) × HoldsWhole trees no_rows) in
     let first : Survives old tx (λ _. ⊥) = survives_begin g.S.Store c.args.conn.now tx (λ _. ⊥) (subst (λ h. Survives (state g.S.Store h) tx (λ _. ⊥)) c.transaction-tx.ensures.begun c.fill.ensures.survives) in
     let begun : IsTrue old.is_open → old.now.schema ≡ beginning c.args.count → IsMade rows (beginning c.args.count) (state g.S.Store c.transaction-tx.result.conn.now) =
     λ is_open schema. subst (λ h. IsMade rows (beginning c.args.count) (state g.S.Store h)) (sym c.transaction-tx.ensures.begun)
@@ -87,7 +88,7 @@ returns-clause-crash g c =
       is_open,
       λ schema.
           let made = (c.in_ok-fill.ensures.made early rows (lacks six c.args.count old.now.trees) (begun is_open schema)).0 c.if-not-branch.false in
-          (made.0, to_whole made.1 db is),
+          (subst AreBare (sym (held_few c.args.count old.now.trees c.requires.few)) made.0, to_whole made.1 db is),
     ))
     first c.commit.ensures.survives in
     let same : end ≡ c.conn-2-1.given.0 = search rules in
@@ -99,7 +100,7 @@ returns-in_err-commit-clause-crash g c =
     let tx = state g.S.Store c.fill.new.tx.conn.now in
     let end = c.commit.new.self.0 in
     let rows = counted (beginning c.args.count) old.now.trees in
-    let P = λ (trees : Trees). IsTrue old.is_open × (old.now.schema ≡ beginning c.args.count → AreBare rows × HoldsWhole trees no_rows) in
+    let P = λ (trees : Trees). IsTrue old.is_open × (old.now.schema ≡ beginning c.args.count → AreBare (held (beginning c.args.count) old.now.trees) × HoldsWhole trees no_rows) in
     let first : Survives old tx (λ _. ⊥) = survives_begin g.S.Store c.args.conn.now tx (λ _. ⊥) (subst (λ h. Survives (state g.S.Store h) tx (λ _. ⊥)) c.transaction-tx.ensures.begun c.fill.ensures.survives) in
     let begun : IsTrue old.is_open → old.now.schema ≡ beginning c.args.count → IsMade rows (beginning c.args.count) (state g.S.Store c.transaction-tx.result.conn.now) =
     λ is_open schema. subst (λ h. IsMade rows (beginning c.args.count) (state g.S.Store h)) (sym c.transaction-tx.ensures.begun)
@@ -111,7 +112,7 @@ returns-in_err-commit-clause-crash g c =
       is_open,
       λ schema.
           let made = (c.in_ok-fill.ensures.made early rows (lacks six c.args.count old.now.trees) (begun is_open schema)).0 c.if-not-branch.false in
-          (made.0, to_whole made.1 db is),
+          (subst AreBare (sym (held_few c.args.count old.now.trees c.requires.few)) made.0, to_whole made.1 db is),
     ))
     first c.commit.ensures.survives in
     let same : end ≡ c.conn-2-1.given.0 = search rules in

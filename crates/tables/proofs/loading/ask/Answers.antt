@@ -3,9 +3,9 @@ use Rattle.sqlite.specs.Effect.{Database}
 use Rattle.sqlite.specs.Held.{state}
 use Rattle.sqlite.specs.State.{HasCleanDisk, IsUnchanged}
 use Rattle.sql_tables.specs.Loading.{AreLoaded, rises, with_rowid}
-use Rattle.sql_tables.specs.Schema.{counted}
+use Rattle.tables.specs.Schema.{held}
 use Rattle.tables.specs.Rows.{root_cells, root2_cells, current_cells, shelf_cells, blob_cells, version_cells}
-use Rattle.tables.proofs.Beginnings.{five_after, some_after, some_five, root_counted, current_counted, shelf_counted, blob_counted, version_counted}
+use Rattle.tables.proofs.Beginnings.{five_after, some_after, some_five, root_held, current_held, shelf_held, blob_held, version_held}
 use Rattle.tables.proofs.Openings.{quiet_then, unchanged_then}
 use Rattle.tables.proofs.loading.ask.Goals as goal
 
@@ -45,12 +45,12 @@ returns-clause-rows g c =
           let n5 : s5.now ≡ s0.now = (c.in_ok-versions.ensures.unchanged c5 h4).0.now_is ∙ n4 in
           let db = s0.now in
           record {
-            root = subst (λ r. AreLoaded root_cells (rises ∷ []) r root.0) (sym (root_counted db.schema db.trees has)) (root.3 c1 has);
-            current = subst (λ r. AreLoaded (with_rowid current_cells) [] r current.0) (ap (λ (d : Database). d.trees 1) n1 ∙ sym (current_counted db.schema db.trees has)) (current.3 c2 h1);
-            shelf = subst (λ r. AreLoaded (with_rowid shelf_cells) (rises ∷ rises ∷ []) r shelf.0) (ap (λ (d : Database). d.trees 3) n2 ∙ sym (shelf_counted db.schema db.trees has)) (shelf.3 c3 h2);
-            blob = subst (λ r. AreLoaded (with_rowid blob_cells) (rises ∷ []) r blob.0) (ap (λ (d : Database). d.trees 5) n3 ∙ sym (blob_counted db.schema db.trees has)) (blob.3 c4 h3);
-            version = subst (λ r. AreLoaded version_cells [] r version.0) (ap (λ (d : Database). d.trees 7) n4 ∙ sym (version_counted db.schema db.trees has)) (version.3 c5 h4);
-            root2 = subst (λ (d : Database). AreLoaded root2_cells (rises ∷ []) (counted d.schema d.trees 8) root2.0) n5 (root2.3 clean (some_after c.args.count n5 some));
+            root = subst (λ r. AreLoaded root_cells (rises ∷ []) r root.0) (sym (root_held db.schema db.trees has)) (root.3 c1 has);
+            current = subst (λ r. AreLoaded (with_rowid current_cells) [] r current.0) (ap (λ (d : Database). d.trees 1) n1 ∙ sym (current_held db.schema db.trees has)) (current.3 c2 h1);
+            shelf = subst (λ r. AreLoaded (with_rowid shelf_cells) (rises ∷ rises ∷ []) r shelf.0) (ap (λ (d : Database). d.trees 3) n2 ∙ sym (shelf_held db.schema db.trees has)) (shelf.3 c3 h2);
+            blob = subst (λ r. AreLoaded (with_rowid blob_cells) (rises ∷ []) r blob.0) (ap (λ (d : Database). d.trees 5) n3 ∙ sym (blob_held db.schema db.trees has)) (blob.3 c4 h3);
+            version = subst (λ r. AreLoaded version_cells [] r version.0) (ap (λ (d : Database). d.trees 7) n4 ∙ sym (version_held db.schema db.trees has)) (version.3 c5 h4);
+            root2 = subst (λ (d : Database). AreLoaded root2_cells (rises ∷ []) (held d.schema d.trees 8) root2.0) n5 (root2.3 clean (some_after c.args.count n5 some));
           },
     )
 

@@ -5,7 +5,6 @@ use Rattle.sql_tables.specs.Loading.{AreLoaded, rises}
 use Rattle.sql_tables.proofs.Calls.{IfOk_then}
 use Rattle.tables.specs.Rows.{root2_cells}
 use Rattle.tables.proofs.Absent.{absent_gathered, absent_loaded, all_six, none_come}
-use Rattle.tables.proofs.Beginnings.{root2_counted}
 use Rattle.tables.proofs.loading.root_rows.Goals as goal
 
 pub returns-then-count-eq5-clause-rows : goal.returns-then-count-eq5-clause-rows
@@ -25,7 +24,7 @@ returns-clause-rows g c =
       it.2,
       λ clean some.
           let has = all_six c.args.count s.now.schema c.if-count-eq5.false some in
-          subst (λ r. AreLoaded root2_cells (rises ∷ []) r it.0) (sym (root2_counted s.now.schema s.now.trees has)) (it.3 clean has),
+          it.3 clean has,
     ))
 
 pub returns-clause-unchanged : goal.returns-clause-unchanged

@@ -5,7 +5,7 @@ use Rattle.sqlite.specs.State.{HasCleanDisk, Survives}
 use Rattle.sqlite.proofs.StateLemmas.{survives_then}
 use Rattle.sqlite.proofs.Callers.{survives_begin}
 use Rattle.contents.specs.Contents.{no_rows}
-use Rattle.sql_tables.specs.Schema.{counted}
+use Rattle.tables.specs.Schema.{held}
 use Rattle.tables.specs.Tables.{AreBare, HoldsWhole, IsStore}
 use Rattle.tables.specs.steps.Migrating.{HasSome, IsEarly, bare_cells}
 use Rattle.tables.proofs.CellLemmas.{cells_bare}
@@ -34,7 +34,7 @@ returns-clause-crash g c =
     let old = state g.S.Store c.args.conn.now in
     let tx = state g.S.Store c.begin_inside.new.tx.conn.now in
     let end = c.commit.new.self.0 in
-    let P = λ (trees : Trees). IsTrue old.is_open × (HasSome c.args.count old.now.schema → AreBare (counted old.now.schema old.now.trees) → HoldsWhole trees no_rows) in
+    let P = λ (trees : Trees). IsTrue old.is_open × (HasSome c.args.count old.now.schema → AreBare (held old.now.schema old.now.trees) → HoldsWhole trees no_rows) in
     let first : Survives old tx (λ _. ⊥) = survives_begin g.S.Store c.args.conn.now tx (λ _. ⊥) (subst (λ h. Survives (state g.S.Store h) tx (λ _. ⊥)) c.transaction-tx.ensures.begun c.begin_inside.ensures.survives) in
     let all = survives_then old tx (state g.S.Store end) (λ _. ⊥) (λ db. db ≡ tx.now.trees) P (λ _ db none. absurd none)
     (λ clean db is.

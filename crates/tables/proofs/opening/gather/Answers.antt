@@ -4,9 +4,9 @@ use Rattle.sql_tables.proofs.Gathering.{handed_on}
 use Rattle.sql_tables.proofs.NumberLemmas.{numbered_by}
 use Rattle.sql_tables.specs.Loading.{AreLoaded, rises, with_rowid}
 use Rattle.std.proofs.Common.{◌∷◌, []}
-use Rattle.sql_tables.specs.Schema.{counted}
+use Rattle.tables.specs.Schema.{held}
 use Rattle.tables.specs.Rows.{blob_cells}
-use Rattle.tables.proofs.Beginnings.{blob_counted, some_five}
+use Rattle.tables.proofs.Beginnings.{blob_held, some_five}
 use Rattle.tables.proofs.ItemLemmas.{holds_as, late_contents, unbegun, items_are, items_read, rows_read, damaged_items, all_sorted}
 use Rattle.tables.proofs.Singles.{read_single}
 use Rattle.tables.proofs.opening.gather.Goals as goal
@@ -23,11 +23,11 @@ returns-clause-read g c =
       rows_read is_first it.0 m lengths items,
       items_read is_first it.0 m lengths items,
       λ clean some live.
-          let trees = counted old.now.schema old.now.trees in
+          let trees = held old.now.schema old.now.trees in
           let rows = it.3 clean some in
           let has = some_five c.args.count old.now.schema some in
           let sound = (live (c.in_ok-taken.ensures.unchanged clean some).0.was_open).0 in
-          let blob = subst (λ r. AreLoaded (with_rowid blob_cells) (rises ∷ []) r it.0.blob) (blob_counted old.now.schema old.now.trees has) rows.blob in
+          let blob = subst (λ r. AreLoaded (with_rowid blob_cells) (rises ∷ []) r it.0.blob) (blob_held old.now.schema old.now.trees has) rows.blob in
           let ids = numbered_by (with_rowid blob_cells) 2 (λ r. refl) _ _ blob.once it.1.blob in
           let are = items_are is_first it.0 m lengths items (read_single old.now _ it.0.blob sound has ids blob) in (
             λ flag. holds_as is_first trees it.0 (rows_read is_first it.0 m lengths items) it.1 rows are (told.told it.0 it.2) (told.some it.0 it.2 flag),
@@ -40,7 +40,7 @@ returns-clause-read g c =
 pub returns-in_err-rows_of-clause-damaged : goal.returns-in_err-rows_of-clause-damaged
 returns-in_err-rows_of-clause-damaged g c clean some is t fit right stands =
     let db = (state g.S.Store c.args.conn.now).now in
-    let trees = counted db.schema db.trees in
+    let trees = held db.schema db.trees in
     let it = c.in_ok-taken.ensures.rows in
     let rows = it.3 clean some in
     damaged_items trees it.0 rows (c.in_err-rows_of.ensures.damaged it.0 it.2 (ap Err (handed_on c.from_residual-in_err-rows_of.result c.from_residual-in_err-rows_of.ensures.1 is)) (all_sorted trees it.0 rows)) t fit right stands

@@ -7,7 +7,7 @@ use Rattle.tables.specs.Tables.{AreBare, IsStore}
 use Rattle.sql_tables.proofs.Calls.{unchanged_keeps}
 use Rattle.sql_tables.proofs.Gathering.{handed_on}
 use Rattle.tables.proofs.Beginnings.{some_after}
-use Rattle.sql_tables.specs.Schema.{counted}
+use Rattle.tables.specs.Schema.{held}
 use Rattle.tables.proofs.Openings.{began, early_store, late_store, stands_as}
 use Rattle.tables.proofs.opening.load.Goals as goal
 
@@ -73,6 +73,6 @@ returns-clause-loaded g c =
           let none : it.0 ≡ no_rows = c.are_none.ensures.yes c.in_ok-begin_bare.ensures.bare it.0 it.1 in
           let bare = ((it.2 early some live).1 c.if-is_begun.false).bare none in
           let same = c.in_ok-rows.ensures.unchanged early some in
-          let done = c.in_ok-begin_bare.ensures.begun clean (some_after c.args.count same.0.now_is some) (subst (λ (d : Database). AreBare (counted d.schema d.trees)) (sym same.0.now_is) bare) in
+          let done = c.in_ok-begin_bare.ensures.begun clean (some_after c.args.count same.0.now_is some) (subst (λ (d : Database). AreBare (held d.schema d.trees)) (sym same.0.now_is) bare) in
           (inr (inr (bare, none)), (λ _. subst (IsStore new) (sym none) done), λ e. absurd (true≢false (sym e))),
     )

@@ -2,11 +2,10 @@ use Rattle.std.proofs.Common.{◌≡◌, ◌<◌, ◌∙◌, inl, inr, false, re
 use Rattle.sqlite.specs.Held.{state}
 use Rattle.sqlite.specs.State.{HasCleanDisk}
 use Rattle.contents.specs.Contents.{no_rows}
-use Rattle.tables.specs.Schema.{beginning}
+use Rattle.tables.specs.Schema.{beginning, held}
 use Rattle.tables.specs.Opening.{IsReadAs}
 use Rattle.tables.specs.Tables.{AreBare, IsStore, StandsFor}
 use Rattle.tables.specs.steps.Migrating.{HasSome}
-use Rattle.sql_tables.specs.Schema.{counted}
 use Rattle.tables.proofs.Beginnings.{are_most, are_some, begins_few, begins_some, not_most}
 use Rattle.sql_tables.proofs.Calls.{IfOk_then}
 use Rattle.tables.proofs.Openings.{both_ok}
@@ -27,7 +26,7 @@ returns-clause-damaged g c clean is =
     let trees = (state g.S.Store c.args.conn.now).now.trees in
     let few : c.in-Some.count < 5 = omega (arith, c.if-count-ge5.false) in
     let schema : c.args.conn.now.schema ≡ beginning c.in-Some.count = sym c.schema.ensures.value ∙ are_some c.in-Some.count _ c.in-Some.ensures few in
-    (begins_few c.in-Some.count _ few schema, λ t fit right stands. c.complete_bare.ensures.damaged clean schema is t (subst (λ s. StandsFor (counted s trees) t) schema stands.1))
+    (begins_few c.in-Some.count _ few schema, λ t fit right stands. c.complete_bare.ensures.damaged clean schema is t (subst (λ s. StandsFor (held s trees) t) schema stands.1))
 
 pub returns-then-count-ge5-clause-kept : goal.returns-then-count-ge5-clause-kept
 returns-then-count-ge5-clause-kept g c clean is =
@@ -56,12 +55,12 @@ returns-clause-loaded g c =
     let few : c.in-Some.count < 5 = omega (arith, c.if-count-ge5.false) in
     let schema : c.args.conn.now.schema ≡ beginning c.in-Some.count = sym c.schema.ensures.value ∙ are_some c.in-Some.count _ c.in-Some.ensures few in
     let H = HasCleanDisk (state g.S.Store c.complete_bare.new.conn) in
-    let Q = AreBare (counted (beginning c.in-Some.count) trees) × IsStore (state g.S.Store c.complete_bare.new.conn) no_rows in
+    let Q = AreBare (held (beginning c.in-Some.count) trees) × IsStore (state g.S.Store c.complete_bare.new.conn) no_rows in
     let all = both_ok (λ r. IsReadAs r.0 r.1.items no_rows × (r.2 ≡ false)) H Q c.complete_bare.result c.complete_bare.ensures.empty (λ clean. c.complete_bare.ensures.made clean schema) in
     IfOk_then c.complete_bare.result all (λ r it. (
       no_rows,
       it.0.0,
       λ clean settled.
           let both = it.1 clean in
-          ((begins_few c.in-Some.count _ few schema, subst (λ s. StandsFor (counted s trees) no_rows) (sym schema) (inr (inr (both.0, refl)))), (λ _. both.1), λ early. absurd (true≢false (sym early ∙ it.0.1))),
+          ((begins_few c.in-Some.count _ few schema, subst (λ s. StandsFor (held s trees) no_rows) (sym schema) (inr (inr (both.0, refl)))), (λ _. both.1), λ early. absurd (true≢false (sym early ∙ it.0.1))),
     ))
