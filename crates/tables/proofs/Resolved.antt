@@ -128,5 +128,5 @@ create_is s no_table no_view no_index =
       it.parsed,
       it.defined,
       understood_is s make_root2 it.parsed MakeTable (compiled_is s make_root2 it.parsed MakeTable it.first_is (rw it.statement_is refl) (rw it.statement_is refl)
-      (rw (it.statement_is, it.no_formats) (create_table_is s it.def (table_of root2_table 0) it.new it.free (rw it.name_is no_table) (rw it.name_is no_view) (rw it.name_is no_index) it.made it.fits))),
+          (rw (it.statement_is, it.no_formats) (create_table_is s it.def (table_of root2_table 0) it.new it.free (rw it.name_is no_table) (rw it.name_is no_view) (rw it.name_is no_index) it.made it.fits))),
     )

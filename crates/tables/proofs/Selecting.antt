@@ -180,10 +180,14 @@ module _ (s : Schema) (name : List ℕ) (place : ℕ) (table : Table) (there : s
 
     body_is : body.body lower (select.outermost s) core (lowering.fresh 1 lowering.max_budget) ≡ Ok (whole, state_at 2 99997 (scope.declared table k2 c2))
     unfolding body.body body.result body.outputs body.matching body.tests
-    body_is = rw (core_is, bounds_is src from named 100000 lowering.nothing, one_shown x0 k0 c0 shows0 [] 2 100000 lowering.nothing refl,
+    body_is = rw (
+      core_is,
+      bounds_is src from named 100000 lowering.nothing,
+      one_shown x0 k0 c0 shows0 [] 2 100000 lowering.nothing refl,
       one_shown x1 k1 c1 shows1 (output_at k0 c0 ∷ []) 2 99999 (scope.declared table k0 c0) refl,
       one_shown x2 k2 c2 shows2 (output_at k0 c0 ∷ output_at k1 c1 ∷ []) 2 99998 (scope.declared table k1 c1) refl,
-      joins_is src from outs 99997 (scope.declared table k2 c2)) refl
+      joins_is src from outs 99997 (scope.declared table k2 c2),
+    ) refl
 
     module _ (column : List ℕ) (k : ℕ) (c : Column) (at : column_named table column ≡ Some k) (is : slice_get table.columns k ≡ Some c) (none : scope.alias_of column outs ≡ None) (srt : Sort) (e : Expr)
         (sort : (out-Sort srt).key ≡ e) (up : (out-Sort srt).descending ≡ false) (plain : (out-Sort srt).nulls_first ≡ None) (by : out-Expr e ≡ Expr-F.Column None column) where
@@ -268,12 +272,36 @@ record Selects (sql name : List ℕ) (table : Table) (k0 k1 k2 k : ℕ) (c0 c1 c
 selects_root2 : (tree : ℕ) → Selects select_root2 (codes "root2") (table_of root2_table tree) 0 1 2 0 (required (codes "version") Integer) (required (codes "profile") Integer) (required (codes "bytes") Any) (required (codes "version") Integer)
 unfolding everything
 selects_root2 tree = record {
-  parsed = _; sel = _; core = _; src = _; x0 = _; x1 = _; x2 = _; srt = _; e = _; column = codes "version";
-  first_is = refl; statement_is = refl; no_formats = refl; no_with = refl; core_of = refl; alone = refl; sorted = refl; no_limit = refl; no_offset = refl; core_is = refl; from = refl;
+  parsed = _;
+  sel = _;
+  core = _;
+  src = _;
+  x0 = _;
+  x1 = _;
+  x2 = _;
+  srt = _;
+  e = _;
+  column = codes "version";
+  first_is = refl;
+  statement_is = refl;
+  no_formats = refl;
+  no_with = refl;
+  core_of = refl;
+  alone = refl;
+  sorted = refl;
+  no_limit = refl;
+  no_offset = refl;
+  core_is = refl;
+  from = refl;
   shows0 = record { column = codes "version"; at = refl; is = refl; e = _; text = _; out = refl; named = refl };
   shows1 = record { column = codes "profile"; at = refl; is = refl; e = _; text = _; out = refl; named = refl };
   shows2 = record { column = codes "bytes"; at = refl; is = refl; e = _; text = _; out = refl; named = refl };
-  sort = refl; up = refl; plain = refl; by = refl; at = refl; is = refl;
+  sort = refl;
+  up = refl;
+  plain = refl;
+  by = refl;
+  at = refl;
+  is = refl;
 }
 
 abbrev version_column : Column

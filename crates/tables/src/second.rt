@@ -69,7 +69,10 @@ fn has_keys(of: &Table) -> bool
     ensures same { IsTrue result → (of.now.key ≡ Some 0) × (of.now.primary ≡ 0 ∷ []) × (of.now.uniques ≡ []) × (of.now.orders ≡ []) }
     ensures other { (of.now.key ≡ Some 0) × (of.now.primary ≡ 0 ∷ []) × (of.now.uniques ≡ []) × (of.now.orders ≡ []) → IsTrue result }
 {
-    of.key == Some(0) && of.primary.as_slice() == [0].as_slice() && of.uniques.is_empty() && of.orders.is_empty()
+    of.key == Some(0)
+        && of.primary.as_slice() == [0].as_slice()
+        && of.uniques.is_empty()
+        && of.orders.is_empty()
 }
 
 // Whether the table is `root2`, at whatever tree.
@@ -87,9 +90,7 @@ fn is_root2(of: &Table) -> bool
 fn is_apart(references: &[Reference]) -> bool
     ensures { result ≡ spec.is_apart references.now }
 {
-    references
-        .iter()
-        .all(|reference| !same_name(b"root2", reference.parent.as_slice()))
+    references.iter().all(|reference| !same_name(b"root2", reference.parent.as_slice()))
 }
 
 // The same of all tables.
@@ -110,9 +111,7 @@ fn first_at(tables: &[Table], tree: u64) -> Option<usize>
 fn are_alone(tables: &[Table], tree: u64) -> bool
     ensures { result ≡ spec.are_alone tables.now tree }
 {
-    tables
-        .iter()
-        .all(|of| u64::from(of.tree) != tree || of.name.as_slice() == b"root2".as_slice())
+    tables.iter().all(|of| u64::from(of.tree) != tree || of.name.as_slice() == b"root2".as_slice())
 }
 
 // Whether a table has AUTOINCREMENT.
