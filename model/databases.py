@@ -256,6 +256,55 @@ HARMLESS_BEFORE = [
 ]
 
 
+# What stands in the way of `root2` where it is to be made behind the first five tables.
+REFUSED_BEFORE_SECOND = [
+    "CREATE TABLE root2(a)", "CREATE INDEX root2 ON blob(digest)", "CREATE VIEW root2 AS SELECT 1",
+    "CREATE TABLE further(a REFERENCES root2(version))", "CREATE TABLE further(a, FOREIGN KEY (a) REFERENCES ROOT2(version))",
+]
+
+
+def compare_first_schema(session):
+    """Rows of schema 1 with others behind its tables, which stay where they are."""
+    rows = tables.first_rows_of(held_state())
+    listed = [table for table in tables.TABLES if table != "root2"]
+    for statement in [*REFUSED_FURTHER, *REFUSED_BEFORE_SECOND]:
+        database = build(session, listed, rows, after=[statement])
+        session.check(f"schema 1, further {statement}", REFUSED, put_blob(session, database))
+        session.check(f"schema 1, further {statement}, rows", str({**rows, "root2": []}), str(rows_in(database)))
+    for statement in [*FURTHER, "CREATE TABLE further(a INTEGER PRIMARY KEY AUTOINCREMENT, b)"]:
+        database = build(session, listed, rows, after=[statement, *(["INSERT INTO further DEFAULT VALUES"] if " TABLE " in statement else [])])
+        others = others_in(database)
+        session.check(f"schema 1, further {statement}", STORED, put_blob(session, database))
+        session.check(f"schema 1, further {statement}, again", STORED, put_blob(session, database))
+        session.check(f"schema 1, further {statement}, others", others, others_in(database))
+        wanted = tables.migrated({**rows, "root2": []})
+        wanted["blob"] = sorted({*wanted["blob"], (make.digest(BLOB), BLOB)})
+        session.check(f"schema 1, further {statement}, rows", str(wanted), str(rows_in(database)))
+
+
+def rows_in(database):
+    """The rows of the six tables, of one that is absent or another none."""
+    connection = sqlite3.connect(database)
+    rows = {}
+    for table, order in tables.TABLES.items():
+        try:
+            rows[table] = connection.execute(f"SELECT * FROM {table} ORDER BY {order}").fetchall()
+        except sqlite3.OperationalError:
+            rows[table] = []
+    connection.close()
+    return rows
+
+
+def others_in(database):
+    """What others there are, and the rows of the table `further`."""
+    connection = sqlite3.connect(database)
+    found = connection.execute("SELECT type, name, sql FROM sqlite_master WHERE name = 'further' OR name = 'sqlite_sequence'").fetchall()
+    if any(kind == "table" and name == "further" for kind, name, _ in found):
+        found += connection.execute("SELECT * FROM further").fetchall()
+    connection.close()
+    return found
+
+
 def compare_forms(session, _random):
     """The same rows in other files: further tables, another order, other pages, other spelling of the tables."""
     rows = tables.rows_of(held_state())
@@ -279,6 +328,7 @@ def compare_forms(session, _random):
         statements = {**session.empty_database()[1], table: statement}
         database = build(session, listed, rows, statements=statements)
         session.check(f"{table} spelled otherwise", STORED, put_blob(session, database))
+    compare_first_schema(session)
     database = session.folder / "no bytes.db"
     database.write_bytes(b"")
     session.check("a file of no bytes", NO_ROOT, put_blob(session, database))

@@ -108,5 +108,7 @@ def stand_for_a_state(rows):
 
 
 def are_opened(tables):
-    """A beginning of the six tables, or all with others behind them (docs/DECISIONS.md, "Which databases are opened")."""
-    return list(tables)[:len(TABLES)] == list(TABLES)[:len(tables)]
+    """Some of the first five tables in their order and nothing else, or all five and others behind them, `root2` among these or not
+    (docs/DECISIONS.md, "Which databases are opened")."""
+    five = list(TABLES)[:5]
+    return list(tables)[:5] == five[:len(tables)]

@@ -177,6 +177,21 @@ schema_1_becomes_schema_2() {
     done
     for statement in 'CREATE TABLE other (a)' 'CREATE INDEX by_bytes ON blob (bytes)' 'CREATE VIEW other AS SELECT version FROM root'; do
         first_schema "$statement"
+        wants 0 "$(sha256sum "$example/hello.txt" | cut -c1-64)\n" "$db: schema 1 was brought to schema 2\n" put -v --at=$at --db "$db" "$example/hello.txt"
+        wants 0 "$(sha256sum "$example/hello.txt" | cut -c1-64)\n" '' put -v --at=$at --db "$db" "$example/hello.txt"
+        dump "$db" "$folder/dump"
+        grep -qF "$statement" "$folder/dump" || fail "schema 1: $statement is gone"
+        grep -E '^INSERT INTO ' "$folder/dump" | tr -d '"' | sort >"$folder/found"
+        same "the rows of schema 1 with $statement, under schema 2" "$folder/wanted" "$folder/found"
+    done
+    first_schema 'CREATE TABLE other (a INTEGER PRIMARY KEY AUTOINCREMENT, b)' 'INSERT INTO other (b) VALUES (7)'
+    served=$db
+    replies '200 OK' octet-stream "$example/hello.txt" /targets/hello.txt
+    served=$folder/db
+    rows "$db" 'SELECT * FROM other' '1|7\n'
+    rows "$db" 'SELECT version, profile FROM root2' '1|1\n'
+    for statement in 'CREATE TABLE root2 (a)' 'CREATE VIEW root2 AS SELECT 1' 'CREATE TABLE other (a REFERENCES root2 (version))' 'CREATE TABLE other (a REFERENCES blob (digest))'; do
+        first_schema "$statement"
         stays database "schema 1, $statement" "$db"
         wants 3 '' "$db: database\n$db: other tables, indexes or views stand behind those of schema 1\nfault database\n" put -v --at=$at --db "$db" "$example/hello.txt"
     done
