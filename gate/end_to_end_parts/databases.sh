@@ -190,7 +190,9 @@ schema_1_becomes_schema_2() {
     served=$folder/db
     rows "$db" 'SELECT * FROM other' '1|7\n'
     rows "$db" 'SELECT version, profile FROM root2' '1|1\n'
-    for statement in 'CREATE TABLE root2 (a)' 'CREATE VIEW root2 AS SELECT 1' 'CREATE TABLE other (a REFERENCES root2 (version))' 'CREATE TABLE other (a REFERENCES blob (digest))'; do
+    first_schema 'CREATE TABLE other (a REFERENCES blob (digest))'
+    stays database "schema 1, a foreign key onto a table of it" "$db"
+    for statement in 'CREATE TABLE root2 (a)' 'CREATE VIEW root2 AS SELECT 1' 'CREATE TABLE other (a REFERENCES root2 (version))'; do
         first_schema "$statement"
         stays database "schema 1, $statement" "$db"
         wants 3 '' "$db: database\n$db: other tables, indexes or views stand behind those of schema 1\nfault database\n" put -v --at=$at --db "$db" "$example/hello.txt"
