@@ -12,6 +12,7 @@ import hashlib
 import http.server
 import os
 import pty
+import re
 import shutil
 import sqlite3
 import subprocess
@@ -227,11 +228,29 @@ def on_a_terminal(clients):
     want((found.returncode, found.stdout, told) == (0, b"updated\n", wanted), f"on a terminal: {told!r}")
 
 
+def a_large_database(clients):
+    """On a terminal it is told that a large database is opened, how large it is and in about how long."""
+    db = clients.begun(())
+    with sqlite3.connect(db) as connection:
+        for _ in range(70):
+            blob = os.urandom(1 << 20)
+            connection.execute("INSERT INTO blob VALUES (?, ?)", (hashlib.sha256(blob).hexdigest(), blob))
+    connection.close()
+    terminal, end = pty.openpty()
+    words = ("put", *AT, "--db", db, f"{EXAMPLE}/empty.txt")
+    found = subprocess.run([clients.release, *words], stdout=subprocess.PIPE, stderr=end, timeout=400)
+    told = os.read(terminal, 4096).decode()
+    os.close(end)
+    os.close(terminal)
+    wanted = rf"opening {re.escape(db)}: 7[0-2] MiB, some 1 seconds\r\n"
+    want(found.returncode == 0 and re.fullmatch(wanted, told), f"a large database on a terminal: {told!r}")
+
+
 def main(words):
     clients = Clients(os.path.realpath(words[0]) if words else RELEASE)
     cases = [functools.partial(updates, clients, *case) for case in UPDATES]
     cases += [functools.partial(gets, clients, *case) for case in GETS]
-    cases += [functools.partial(case, clients) for case in (an_old_timestamp, a_server_of_files, on_a_terminal)]
+    cases += [functools.partial(case, clients) for case in (an_old_timestamp, a_server_of_files, on_a_terminal, a_large_database)]
     failed = 0
     with concurrent.futures.ThreadPoolExecutor(8) as pool:
         for done in concurrent.futures.as_completed(pool.submit(case) for case in cases):

@@ -5,11 +5,16 @@ use crate::placing::OWNER_ALONE;
 use sqlite::{Connection, Error, ErrorCode, FileFrom, FileStore, Wary};
 use std::alloc::AllocError;
 use std::fs::{self, File};
-use std::io::Write;
+use std::io::{IsTerminal, Write};
 use std::os::unix::fs::{OpenOptionsExt, PermissionsExt};
 
 // The bytes of a log without a change: its head.
 const LOG_HEAD: u64 = 41;
+
+// So many MiB take a while to open, and each so many milliseconds (docs/OPERATING.md).
+const LARGE: u64 = 64;
+
+const MILLISECONDS: u64 = 9;
 
 // Who may read and write a file.
 const READ_AND_WRITE: u32 = 0o666;
@@ -27,10 +32,27 @@ pub fn connected<E: Write>(
         return Err(Fault::Damaged);
     }
     make_both(rt, db)?;
+    tell_size(rt, db, notes)?;
     match Connection::open_from(rt, db, false, Wary) {
         Ok(conn) => Ok(conn),
         Err((error, _)) => Err(unopened(rt, db, &error, notes)),
     }
+}
+
+// On a terminal tells that a large database is opened, how large it is, and in about how long.
+fn tell_size<E: Write>(
+    rt: &HostRuntime,
+    db: &str,
+    notes: &mut Notes<'_, E>,
+) -> Result<(), AllocError> {
+    let size = length_of(rt, db) >> 20;
+    if size < LARGE || !rt.stderr().is_terminal() {
+        return Ok(());
+    }
+    let seconds = size * MILLISECONDS / 1000 + 1;
+    let told = format!(in rt.alloc(); "opening {db}: {size} MiB, some {seconds} seconds")?;
+    notes.progress(&told);
+    Ok(())
 }
 
 // Makes the database file where there is none, for its owner alone, and its log with the mode of the file. Where one cannot be made, the
