@@ -5,6 +5,7 @@ use Rattle.sqlite.specs.State.{State}
 use Rattle.sqlite_trees.specs.Tree.{Trees}
 use Rattle.tables.specs.Rows.{root2_cells, current_cells, shelf_cells, blob_cells}
 use Rattle.sql_tables.specs.Rows.{AreRows}
+use Rattle.tables.specs.Schema.{held}
 use Rattle.tables.specs.Tables.{AreSame, HoldsTables, HoldsWhole, IsStore, root_row, current_rows, shelf_row, blob_row}
 use Rattle.contents.specs.Contents.{Contents}
 use Rattle.store.proofs.SameRows.{SameItems, same_map}
@@ -28,7 +29,7 @@ holds_as trees t u same holds = record {
 }
 
 pub whole_as : (trees : Trees) (t u : Contents) → AreSame t u → HoldsWhole trees t → HoldsWhole trees u
-whole_as trees t u same (db, is, sound, six, holds) = (db, is, sound, six, holds_as trees t u same holds)
+whole_as trees t u same (db, is, sound, six, holds) = (db, is, sound, six, holds_as (held db.schema db.trees) t u same holds)
 
 pub store_as : (s : State) (t u : Contents) → AreSame t u → IsStore s t → IsStore s u
-store_as s t u same is = record { is_open = is.is_open; schema = is.schema; settled = is.settled; holds = holds_as s.now.trees t u same is.holds }
+store_as s t u same is = record { is_open = is.is_open; schema = is.schema; settled = is.settled; holds = holds_as (held s.now.schema s.now.trees) t u same is.holds }

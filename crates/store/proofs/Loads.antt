@@ -12,6 +12,7 @@ use Rattle.metadata.specs.File.{Bytes}
 use Rattle.contents.specs.Contents.{Contents}
 use Rattle.machine.specs.State.{State, IsBlob, IsState}
 use Rattle.tables.specs.Tables.{IsStore, blob_row}
+use Rattle.tables.proofs.One.{blobs_of}
 use Rattle.sql_tables.proofs.RowLemmas.{has_map, map_has}
 use Rattle.sql_tables.specs.Rows.{AreKeyed}
 use Rattle.store.specs.StateRows.{rows_of}
@@ -25,7 +26,7 @@ row_bytes x y e = (cc, cc)
 pub row_of : (s : database.State) (t : Contents) → IsStore s t → (digest bytes : Bytes) → HasFile s digest bytes
     → (x : Bytes × Bytes) × Has t.blobs x × (encode_lower x.0 ≡ encode_lower digest) × (x.1 ≡ bytes)
 row_of s t is digest bytes file =
-    let held : Has (map blob_row t.blobs) (blob_row (digest, bytes)) = subst (λ r. Has (map blob_row t.blobs) r) file.cells (is.holds.blob.sound file.row file.there) in
+    let held : Has (map blob_row t.blobs) (blob_row (digest, bytes)) = subst (λ r. Has (map blob_row t.blobs) r) file.cells ((blobs_of s t is).sound file.row file.there) in
     let it = map_has blob_row t.blobs (blob_row (digest, bytes)) held in
     let same = row_bytes it.0 (digest, bytes) (sym it.2) in
     (it.0, it.1, same.0, same.1)
@@ -34,7 +35,7 @@ row_of s t is digest bytes file =
 pub file_of : (s : database.State) (t : Contents) → IsStore s t → (digest bytes : Bytes) (x : Bytes × Bytes) → Has t.blobs x → encode_lower x.0 ≡ encode_lower digest → x.1 ≡ bytes
     → sha256 bytes ≡ digest → HasFile s digest bytes
 file_of s t is digest bytes x has digits same right =
-    let it = is.holds.blob.complete (blob_row x) (has_map blob_row t.blobs x has) in
+    let it = (blobs_of s t is).complete (blob_row x) (has_map blob_row t.blobs x has) in
     let cells : blob_row x ≡ blob_row (digest, bytes) = alike x (digest, bytes) digits same in
     record { row = it.0; there = it.1; cells = it.2 ∙ cells; digest_is = right }
   where

@@ -1,5 +1,5 @@
 -- What the next opening answers over trees that were left.
-use Rattle.std.proofs.Common.{◌≡◌, ◌⊎◌, ◌∙◌, inl, inr, ℕ, true, false, Ok, Err, Result, refl, sym, ap, subst, if◌then◌else◌, []}
+use Rattle.std.proofs.Common.{◌≡◌, ◌⊎◌, ◌∙◌, inl, inr, ℕ, true, false, Ok, Err, Result, refl, sym, ap, subst, if◌then◌else◌, ◌==◌, [], codes, option_and_then, slice_get}
 use Rattle.std.specs.Prelude.{IsTrue}
 use Rattle.std.proofs.Math.Logic.{∥∥₁_elim, ∥∥₁_map}
 use Rattle.sqlite.specs.Effect.{Database, IsDatabase}
@@ -13,9 +13,12 @@ use Rattle.machine.specs.Runs.{Command, Reply, Steps}
 use Rattle.machine.specs.State.{State, IsState}
 use Rattle.sql_tables.proofs.Listed.{same_tables}
 use Rattle.sql_tables.specs.Opening.{IsSettled}
-use Rattle.sql_tables.specs.Schema.{counted, is_there}
-use Rattle.tables.proofs.Beginnings.{to_counted}
-use Rattle.tables.specs.Tables.{HoldsWhole, IsStore, StandsFor, HoldsTables}
+use Rattle.sql_tables.specs.Schema.{is_there}
+use Rattle.sqlite.specs.Table.{Table}
+use Rattle.sqlite_schema.specs.Names.{same_name}
+use Rattle.std.specs.List.{position_from}
+use Rattle.tables.specs.Schema.{held, rows_at}
+use Rattle.tables.specs.Tables.{HoldsWhole, IsStore, StandsFor}
 use Rattle.tables.specs.declared.faults.StoreFault.{StoreFault}
 use Rattle.tables.specs.declared.faults.StoreFault.TheVariants as faults
 use Rattle.store.proofs.Fitting.{one_stands, state_fits, state_rises}
@@ -25,30 +28,31 @@ use Rattle.store.specs.StateRows.{Begins, HoldsNoState, Reopens, RestsAt, TreesS
 -- ---- all six tables
 
 pub whole_stands : (trees : Trees) (t : Contents) → HoldsWhole trees t → TreesStand trees t
-whole_stands trees t (db, same, sound, six, holds) =
-    (db, same, sound, ((6, inr (refl, six)), to_counted db.schema db.trees t six (inl (subst (λ (d : Trees). HoldsTables d t) (sym same) holds))))
+whole_stands trees t (db, same, sound, six, holds) = (db, same, sound, ((6, inr (inr (refl, six))), inl holds))
 
 pub store_whole : (s : database.State) (t : Contents) → IsTrue s.is_open → IsLive s → IsStore s t → (trees : Trees) → trees ≡ s.committed.trees → HoldsWhole trees t
 store_whole s t there live is trees left =
     let same : trees ≡ s.now.trees = left ∙ sym (ap (λ (d : Database). d.trees) is.settled) in
-    (s.now, sym same, (live there).0, is.schema, subst (λ (d : Trees). HoldsTables d t) (sym same) is.holds)
+    (s.now, sym same, (live there).0, is.schema, is.holds)
 
 -- ---- trees tell their state
 
--- what is counted hangs on the tables and the trees alone
-counted_alike : (d e : Database) → d.schema.tables ≡ e.schema.tables → d.trees ≡ e.trees → counted d.schema d.trees ≡ counted e.schema e.trees
-counted_alike d e tables trees = λ i tree. if is_there (tables i) tree then trees i tree else []
+-- what is held hangs on the tables and the trees alone
+held_alike : (d e : Database) → d.schema.tables ≡ e.schema.tables → d.trees ≡ e.trees → held d.schema d.trees ≡ held e.schema e.trees
+held_alike d e tables trees = λ i tree.
+    if tree == 8 then rows_at (trees i) (option_and_then (slice_get (tables i)) (position_from (λ (t : Table). same_name t.name (codes "root2")) 0 (tables i)))
+    else (if is_there (tables i) tree then trees i tree else [])
 
 -- two readings of the same trees
-alike : (d e : Database) → IsDatabase d → IsDatabase e → d.trees ≡ e.trees → counted d.schema d.trees ≡ counted e.schema e.trees
-alike d e one two same = counted_alike d e (same_tables d e one two same) same
+alike : (d e : Database) → IsDatabase d → IsDatabase e → d.trees ≡ e.trees → held d.schema d.trees ≡ held e.schema e.trees
+alike d e one two same = held_alike d e (same_tables d e one two same) same
 
 module _ (law : Shapes) where
   pub stands_once : (trees : Trees) (U V : State) → IsState U → IsState V → TreesStand trees (rows_of U) → TreesStand trees (rows_of V) → V ≡ U
   stands_once trees U V valid valid' (d, d_is, d_sound, d_stands) (e, e_is, e_sound, e_stands) =
       let there = subst (λ (x : Trees). StandsFor x (rows_of U)) (alike d e d_sound e_sound (d_is ∙ sym e_is)) d_stands.1 in
       one_state law V U valid' valid
-      (one_stands (counted e.schema e.trees) (rows_of V) (rows_of U) (state_fits law V valid') (state_fits law U valid) (state_rises law V valid') (state_rises law U valid) e_stands.1 there)
+      (one_stands (held e.schema e.trees) (rows_of V) (rows_of U) (state_fits law V valid') (state_fits law U valid) (state_rises law V valid') (state_rises law U valid) e_stands.1 there)
 
   pub never_damaged : (trees : Trees) (U : State) → IsState U → TreesStand trees (rows_of U) → HoldsNoState trees → ⊥
   never_damaged trees U valid (d, d_is, d_sound, d_stands) (e, e_is, e_sound, begins, none) =

@@ -5,7 +5,7 @@ use Rattle.sqlite.specs.State as connection
 use Rattle.sqlite_trees.specs.View.{doubt}
 use Rattle.machine.specs.State.{State, IsState}
 use Rattle.machine.specs.Held.{held_of}
-use Rattle.tables.specs.Schema.{HasSix}
+use Rattle.tables.specs.Schema.{held, HasSix}
 use Rattle.tables.specs.Tables.{HoldsTables}
 use Rattle.store.specs.StateRows.{Kept, OpensTo, rows_of}
 
@@ -34,7 +34,7 @@ pub record IsStateOf (kept : Kept) (S : State) : Type 0 where
 pub record HoldsRows (A : Standing) (S : State) : Type 0 where
   pub schema : HasSix A.database.schema
   pub settled : A.database ≡ A.committed
-  pub holds : HoldsTables A.database.trees (rows_of S)
+  pub holds : HoldsTables (held A.database.schema A.database.trees) (rows_of S)
 
 -- a store stands at a state: what it keeps is that of the state, and while the connection is open the tables hold its rows
 pub record StandsAt (A : Standing) (S : State) : Type 0 where

@@ -1,5 +1,5 @@
 -- What a statement does to `root2`, and what the others leave of it.
-use Rattle.std.proofs.Common.{◌≡◌, ◌≢◌, ◌<◌, ◌/◌, ◌==◌, ◌||◌, inl, inr, ℕ, zero, suc, ℤ, Bool, true, false, not, bytes_eq, codes, if◌then◌else◌, List, [], ◌∷◌, ◌++◌, length, flat_map, find, slice_get, Option, Some, None, option_and_then, option_map, Ok, refl, sym, ap, subst, ◌∙◌, arith, true≢false}
+use Rattle.std.proofs.Common.{◌≡◌, ◌≢◌, ◌<◌, ◌/◌, ◌==◌, ◌||◌, inl, inr, ℕ, ℤ, true, false, not, bytes_eq, codes, List, [], ◌∷◌, ◌++◌, length, flat_map, find, Option, Some, None, option_and_then, option_map, Ok, refl, sym, ap, subst, ◌∙◌, arith, true≢false}
 use Rattle.std.specs.List.{AllByRecursion, filter_map, list_all}
 use Rattle.std.proofs.lemmas.Bool.{cases_Bool}
 use Rattle.std.proofs.lemmas.Bool.Decides.{eqb_tells}
@@ -11,10 +11,10 @@ use Rattle.sqlite.specs.Term.{Term, col}
 use Rattle.sqlite.specs.Source.TheVariants.{Values}
 use Rattle.sqlite.specs.declared.types.Value.TheVariants.{Int}
 use Rattle.sqlite.specs.Command.TheVariants.{Delete, Insert}
-use Rattle.sqlite.specs.Effect.{IsDatabase, value_rows}
-use Rattle.sqlite.specs.State.{State, ExecutesInside, Runs}
+use Rattle.sqlite.specs.Effect.{value_rows}
+use Rattle.sqlite.specs.State.{State, ExecutesInside}
 use Rattle.sqlite.proofs.Callers.{runs_as}
-use Rattle.sqlite_rules.specs.Action.{Work, deed_for, pairs, work_by, work_for, works}
+use Rattle.sqlite_rules.specs.Action.{deed_for, pairs, work_by, work_for, works}
 use Rattle.sqlite_rules.specs.Edit.{edit_of}
 use Rattle.sqlite_rules.proofs.ListLemmas.{all_has, has_found, has_got, test_has}
 use Rattle.sqlite_rules.specs.declared.action.Deed.{Deed}
@@ -23,7 +23,7 @@ use Rattle.sqlite_schema.specs.Names.{same_name}
 use Rattle.sqlite_schema.specs.Rules.{ParentKey, key_in, key_places, parent_key}
 use Rattle.sqlite_schema.specs.declared.schema.Keys.TheVariants.{Enforced}
 use Rattle.sqlite_schema.specs.declared.schema.Reference.{Reference}
-use Rattle.sqlite_trees.specs.Tree.{Trees, rowid}
+use Rattle.sqlite_trees.specs.Tree.{rowid}
 use Rattle.sqlite_value.specs.declared.keys.Order.{Order}
 use Rattle.sql_tables.specs.Described.{at_place, columns_of, followed, places_of, primary_of, rowid_of, table_of, tables_from, tree_from}
 use Rattle.sql_tables.specs.Inside.{cells_at, shown_of}
@@ -35,7 +35,7 @@ use Rattle.sql_tables.proofs.References.{all_front, tree_below, unreferenced}
 use Rattle.sql_tables.proofs.Shapes.{at_each}
 use Rattle.sql_tables.proofs.Statements.{added}
 use Rattle.tables.specs.Rows.{root2_cells}
-use Rattle.tables.specs.Schema.{HasFive, HasSecond, HasSix, are_alone, five, is_apart, root2_rows, root2_table}
+use Rattle.tables.specs.Schema.{HasFive, HasSecond, HasSix, five, is_apart, root2_rows, root2_table}
 use Rattle.tables.specs.steps.Writing.{Cells, IsInside, listed}
 use Rattle.tables.proofs.Beginnings.{rows_second}
 use Rattle.tables.proofs.Resolved.{IsMeant}

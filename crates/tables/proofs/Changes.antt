@@ -1,5 +1,5 @@
 -- What a change makes of the cells of the tables.
-use Rattle.std.proofs.Common.{◌≡◌, ℕ, List, [], ◌∷◌, ◌++◌, false, Some, None, Option, map, refl, sym, subst, ◌∙◌, codes, ◌<◌, zero, suc, inl, inr, Result, Ok, Err, IfErr, OnErr, IsTrue, length, arith, true≢false}
+use Rattle.std.proofs.Common.{◌≡◌, ℕ, List, [], ◌∷◌, ◌++◌, false, Some, None, Option, map, refl, sym, subst, ◌∙◌, codes, inl, inr, Result, Ok, Err, IfErr, OnErr, IsTrue, arith, true≢false}
 use Rattle.std.proofs.lemmas.List.{map-append}
 use Rattle.sqlite_rules.specs.Lists.{Has}
 use Rattle.sqlite_trees.specs.Tree.{Trees}
@@ -11,9 +11,6 @@ use Rattle.sqlite.specs.State.{IsRolledBack, KeepsCommit, State, Shows}
 use Rattle.tables.specs.declared.change.Change.{Change}
 use Rattle.contents.specs.Contents.{Contents}
 use Rattle.sql_tables.proofs.Editing.{same_inside}
-use Rattle.sql_tables.specs.Inside.{shown_of, cells_at}
-use Rattle.sql_tables.specs.Rows.{AreRows}
-use Rattle.sql_tables.specs.Described.{at_place, tree_from}
 use Rattle.tables.specs.Schema.{HasSix, five, held}
 use Rattle.tables.specs.steps.Writing.{listed, Cells, IsInside, cells_of}
 use Rattle.tables.specs.Tables.{HoldsTables, HoldsWhole, IsStore, root_row, slot_row, slot_rows, current_rows, shelf_row, blob_row, with_root, with_row, with_blob, with_timestamp, with_snapshot, after, after_all}

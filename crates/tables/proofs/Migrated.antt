@@ -1,5 +1,5 @@
 -- What the migration makes of the cells of the tables.
-use Rattle.std.proofs.Common.{◌≡◌, ◌⊎◌, ◌<◌, ◌+◌, length, take, slice_index_or, inl, inr, ℕ, pos, List, [], ◌∷◌, ◌++◌, true, false, Ok, IsTrue, map, refl, sym, ap, subst, ◌∙◌, arith}
+use Rattle.std.proofs.Common.{◌≡◌, ◌⊎◌, ◌<◌, ◌+◌, length, take, slice_index_or, inl, inr, ℕ, pos, List, [], ◌∷◌, ◌++◌, true, Ok, IsTrue, map, refl, sym, ap, subst, ◌∙◌, arith}
 use Rattle.std.proofs.lemmas.List.{append_assoc, append-nil, map-append, take_more}
 use Rattle.sqlite_sql.specs.Ops.{unary}
 use Rattle.sqlite.specs.declared.types.Value.TheVariants.{Null, Int, Blob}

@@ -67,7 +67,7 @@ one_failed params old new e has (inr shows) =
 bytes_is : (r : Row) (x : List ℕ × List ℕ) → blob_cells r ≡ blob_row x → (column r 1 ≡ Text (encode_lower x.0)) × (column r 2 ≡ Blob x.1)
 bytes_is r x e = (cc, cc)
 
-blobs_of : (s : State) (t : Contents) → IsStore s t → AreRows blob_cells (s.now.trees 5) (map blob_row t.blobs)
+pub blobs_of : (s : State) (t : Contents) → IsStore s t → AreRows blob_cells (s.now.trees 5) (map blob_row t.blobs)
 blobs_of s t is = subst (λ r. AreRows blob_cells r (map blob_row t.blobs)) (blob_held s.now.schema s.now.trees is.schema.0) is.holds.blob
 
 -- bytes that are answered are those of a row of these digits

@@ -1,5 +1,5 @@
 -- What a query of one table means, wherever in the schema the table is.
-use Rattle.std.proofs.Common.{◌≡◌, List, ℕ, [], ◌∷◌, ◌+◌, ◌-◌, ◌++◌, Bool, codes, refl, false, true, Option, Some, None, Ok, Err, slice_get, ap, ◌∙◌, sym, find, ◌==◌, ◌<◌, ◌≤◌, subst, zero, suc, arith, inl, inr}
+use Rattle.std.proofs.Common.{◌≡◌, List, ℕ, [], ◌∷◌, ◌+◌, ◌-◌, ◌++◌, Bool, codes, refl, false, true, Some, None, Ok, slice_get, ap, sym, find, ◌==◌, ◌<◌, ◌≤◌, subst, zero, suc, arith, inl, inr}
 use Rattle.sqlite_tied.specs.Compute.{everything}
 use Rattle.sqlite.specs.Schema.{Schema}
 use Rattle.sqlite.specs.Table.{Table}
@@ -37,7 +37,6 @@ use Rattle.sqlite_draft.specs.Query.{query_of}
 use Rattle.sqlite_typing.specs.Types.{accepts_after, row_classes}
 use Rattle.sqlite_resolve.specs.Program as program
 use Rattle.sqlite_resolve.specs.Compile as compile
-use Rattle.sqlite_resolve.specs.declared.select.Clauses.{Clauses}
 use Rattle.sqlite_ast.specs.declared.Core.{Core, out-Core}
 use Rattle.sqlite_ast.specs.declared.Select.{Select, out-Select}
 use Rattle.sqlite_draft.specs.declared.query.Draft.{Draft}
@@ -49,7 +48,6 @@ use Rattle.sqlite_resolve.specs.Expr as expr
 use Rattle.sqlite_resolve.specs.Expr.{lower}
 use Rattle.sqlite_resolve.specs.Body as body
 use Rattle.sqlite_resolve.specs.Order as order
-use Rattle.sqlite_resolve.specs.declared.body.Joined.{Joined}
 use Rattle.sqlite_resolve.specs.declared.body.Body.{Body}
 use Rattle.sqlite_draft.specs.declared.join.Step.TheVariants.{Inner}
 use Rattle.sqlite_ast.specs.declared.Expr.{Expr, out-Expr}
@@ -59,7 +57,6 @@ use Rattle.sqlite_ast.specs.declared.Origin.TheVariants as origin
 use Rattle.sqlite_ast.specs.declared.Source.{Source, out-Source}
 use Rattle.sqlite_ast.specs.declared.Sort.{Sort, out-Sort}
 use Rattle.sqlite_value.specs.declared.keys.Key.{Key}
-use Rattle.sqlite_value.specs.declared.keys.Collation.TheVariants.{Binary}
 
 -- the table in slot 1, under its name
 abbrev bound_at : List ℕ → ℕ → Bound

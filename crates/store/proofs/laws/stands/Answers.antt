@@ -3,6 +3,7 @@ use Rattle.metadata.specs.File.{Bytes}
 use Rattle.sqlite.specs.Held.{state}
 use Rattle.machine.proofs.ShapedOnce.{Shapes}
 use Rattle.machine.specs.State.{State, Trusted}
+use Rattle.tables.specs.Schema.{held}
 use Rattle.store.specs.StateRows.{rows_of}
 use Rattle.store.proofs.Fitting.{same_tables, state_fits, state_rises}
 use Rattle.store.proofs.laws.stands.Goals as goal
@@ -18,7 +19,8 @@ returns-clause-once g c clean there U V at to =
     let law : Shapes = record { document = c.one_document.ensures; none = c.one_shape.ensures.none; one = c.one_shape.ensures.one } in
     let fit = state_fits law U at.state.valid in
     let fit' = state_fits law V to.state.valid in
-    let trees = (state g.S.Store c.args.store.now.conn).now.trees in
+    let now = (state g.S.Store c.args.store.now.conn).now in
+    let trees = held now.schema now.trees in
     let rows = same_tables (rows_of U) (rows_of V) (state_rises law U at.state.valid) (state_rises law V to.state.valid)
     (c.one_contents.ensures trees (rows_of U) (rows_of V) fit fit' (at.rows clean there).holds (to.rows clean there).holds) in
     fields (ap (λ h. h.trusted) (at.state.held ∙ sym to.state.held)) (ap (λ t. t.blobs) rows)

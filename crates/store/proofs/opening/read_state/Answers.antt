@@ -9,7 +9,7 @@ use Rattle.tables.specs.declared.faults.StoreFault.TheVariants.{Damaged}
 use Rattle.tables.specs.Migration.{IsEarlier}
 use Rattle.tables.specs.Tables.{IsStore, Stands}
 use Rattle.store.specs.Standing.{IsStateOf}
-use Rattle.sql_tables.specs.Schema.{counted}
+use Rattle.tables.specs.Schema.{held}
 use Rattle.store.specs.StateRows.{rows_of}
 use Rattle.store.proofs.Fitting.{one_stands, state_digests, state_fits, state_rises}
 use Rattle.store.proofs.Renewing.{prepares, renews}
@@ -93,7 +93,7 @@ returns-in-Ok-None-clause-damaged g c clean settled same =
     let law : Shapes = record { document = c.one_document.ensures; none = c.one_shape.ensures.none; one = c.one_shape.ensures.one } in
     let none = rw (c.in-Ok-None.field-0-is) at c.in-Ok-None.ensures.none in
     let db = (state g.S.Store c.args.conn.now).now in
-    let trees = counted db.schema db.trees in
+    let trees = held db.schema db.trees in
     let (t, read, stood) = c.in_ok-read.ensures.loaded in (
       c.in_ok-read.ensures.was_open clean,
       c.in_ok-read.ensures.schema,

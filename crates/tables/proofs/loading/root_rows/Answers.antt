@@ -1,9 +1,7 @@
-use Rattle.std.proofs.Common.{◌≡◌, ◌∷◌, [], subst, sym}
+use Rattle.std.proofs.Common.{[]}
 use Rattle.sqlite.specs.Held.{state}
 use Rattle.sqlite.proofs.StateLemmas.{unchanged}
-use Rattle.sql_tables.specs.Loading.{AreLoaded, rises}
 use Rattle.sql_tables.proofs.Calls.{IfOk_then}
-use Rattle.tables.specs.Rows.{root2_cells}
 use Rattle.tables.proofs.Absent.{absent_gathered, absent_loaded, all_six, none_come}
 use Rattle.tables.proofs.loading.root_rows.Goals as goal
 

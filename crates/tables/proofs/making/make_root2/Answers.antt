@@ -4,10 +4,10 @@ use Rattle.tables.specs.steps.Migrating.{IsEarly}
 use Rattle.tables.proofs.MakingLemmas.{second_made, there_already}
 use Rattle.tables.proofs.making.make_root2.Goals as goal
 
-pub returns-then-count-eq5-clause-wrote : goal.returns-then-count-eq5-clause-wrote
-returns-then-count-eq5-clause-wrote g c clean cells early =
+pub returns-in_ok-execute-clause-wrote : goal.returns-in_ok-execute-clause-wrote
+returns-in_ok-execute-clause-wrote g c clean cells early =
     let old = state g.S.Store c.args.tx.now.conn.now in
     second_made old (state g.S.Store c.execute.new.self.conn.now) cells c.in_ok-execute.field-0 (subst (λ (n : ℕ). IsEarly n old cells) c.if-count-eq5.true early) (c.in_ok-execute.ensures.runs clean early.inside)
 
-pub returns-clause-wrote : goal.returns-clause-wrote
-returns-clause-wrote g c clean cells early = there_already c.args.count (state g.S.Store c.args.tx.now.conn.now) cells c.if-count-eq5.false early
+pub returns-else-count-eq5-clause-wrote : goal.returns-else-count-eq5-clause-wrote
+returns-else-count-eq5-clause-wrote g c clean cells early = there_already c.args.count (state g.S.Store c.args.tx.now.conn.now) cells c.if-count-eq5.false early

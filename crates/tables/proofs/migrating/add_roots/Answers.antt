@@ -1,11 +1,11 @@
-use Rattle.std.proofs.Common.{◌≡◌, ◌∙◌, map, take, slice_index_or, ap, [], arith, subst, sym}
+use Rattle.std.proofs.Common.{◌≡◌, ◌∙◌, map, take, ap, [], arith, subst, sym}
 use Rattle.std.proofs.lemmas.List.{take_all}
 use Rattle.sqlite.specs.State.{HasCleanDisk}
 use Rattle.sqlite.specs.Held.{state}
 use Rattle.sqlite.proofs.StateLemmas.{survives_then}
 use Rattle.sql_tables.proofs.Calls.{keeps_then}
 use Rattle.tables.specs.steps.Writing.{IsInside}
-use Rattle.tables.proofs.Migrated.{more_taken, no_more, one_more, with_roots}
+use Rattle.tables.proofs.Migrated.{more_taken, one_more, with_roots}
 use Rattle.tables.proofs.migrating.add_roots.Goals as goal
 
 pub roots-preserved : goal.roots-preserved
