@@ -7,7 +7,7 @@ use Rattle.lms.specs.declared.Params.{Params}
 use Rattle.lms.specs.Parameters.{height, signing_type, width}
 use Rattle.clap.specs.Words.{IsAmong, Row, Text, all_of, count_of, fault_of, first_of, subcommand_of}
 use Rattle.clap.specs.declared.error.kind.ErrorKind.TheVariants.{DisplayHelp, DisplayVersion}
-use Rattle.command_words.specs.Subcommands.{last_moment, last_port, most_connections, release_line}
+use Rattle.command_words.specs.Subcommands.{last_moment, last_port, most_connections, most_seconds, release_line}
 use Rattle.command_line.specs.declared.tasks.Place.{Place}
 use Rattle.command_line.specs.declared.tasks.Place.TheVariants.{Database, Port}
 use Rattle.command_line.specs.declared.tasks.Task.{Task}
@@ -56,7 +56,7 @@ HasParams rows p = HasNumber rows (codes "ots") 1 8 (width p.ots) × HasNumber r
 abbrev pub name_of : Subcommand → Text
 name_of (Canon file) = codes "canon"
 name_of (Export db to) = codes "export"
-name_of (Get db port out path) = codes "get"
+name_of (Get db port within out path) = codes "get"
 name_of (Init db root) = codes "init"
 name_of (Key seed params) = codes "key"
 name_of (Prune place) = codes "prune"
@@ -64,13 +64,14 @@ name_of (Publish place documents) = codes "publish"
 name_of (Put place file) = codes "put"
 name_of (Serve db port count read_only) = codes "serve"
 name_of (Sign book seed params known file) = codes "sign"
-name_of (Update db port) = codes "update"
+name_of (Update db port within) = codes "update"
 
 -- the subcommand has the options and operands that were found
 abbrev pub HasArguments : List Row → Subcommand → Type 0
 HasArguments rows (Canon file) = HasText rows (codes "file") file
 HasArguments rows (Export db to) = HasText rows (codes "db") db × HasText rows (codes "to") to
-HasArguments rows (Get db port out path) = HasText rows (codes "db") db × HasNumber rows (codes "port") 1 last_port port
+HasArguments rows (Get db port within out path) = HasText rows (codes "db") db × HasNumber rows (codes "port") 1 last_port port
+    × MayHaveNumber rows (codes "within") 1 most_seconds within
     × HasText rows (codes "out") out × HasText rows (codes "path") path
 HasArguments rows (Init db root) = HasText rows (codes "db") db × HasText rows (codes "root") root
 HasArguments rows (Key seed params) = HasText rows (codes "seed") seed × HasParams rows params
@@ -81,7 +82,8 @@ HasArguments rows (Serve db port count read_only) = HasText rows (codes "db") db
     × MayHaveNumber rows (codes "count") 1 most_connections count × (read_only ≡ is_used rows (codes "read-only"))
 HasArguments rows (Sign book seed params known file) = HasText rows (codes "book") book × HasText rows (codes "seed") seed × HasParams rows params
     × (known ≡ is_used rows (codes "known")) × HasText rows (codes "file") file
-HasArguments rows (Update db port) = HasText rows (codes "db") db × HasNumber rows (codes "port") 1 last_port port
+HasArguments rows (Update db port within) = HasText rows (codes "db") db × HasNumber rows (codes "port") 1 last_port port
+    × MayHaveNumber rows (codes "within") 1 most_seconds within
 
 -- a subcommand of this name with what was found for it
 abbrev pub IsAsked : Text → List Row → Subcommand → Type 0

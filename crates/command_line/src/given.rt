@@ -4,10 +4,10 @@ ghost use Rattle.std.specs.Str.Parse.{digits_value, without_leading_plus};
 ghost use Rattle.clap.specs.Words.{first_of, found_of, rows_of};
 ghost use Rattle.lms.specs.Parameters.{height, signing_type, width};
 ghost use Rattle.command_line.specs.CommandLine.{HasNumber, HasPlace, HasText, HasTexts, HasParams, MayHaveNumber, is_used};
-ghost use Rattle.command_words.specs.Subcommands.{last_moment, last_port, most_connections};
+ghost use Rattle.command_words.specs.Subcommands.{last_moment, last_port, most_connections, most_seconds};
 ghost use Rattle.limits.specs.Limits.{most_documents};
 
-use crate::tasks::{LAST_MOMENT, LAST_PORT, MOST_CONNECTIONS, Place, Unread};
+use crate::tasks::{LAST_MOMENT, LAST_PORT, MOST_CONNECTIONS, MOST_SECONDS, Place, Unread};
 use clap::ArgMatches;
 use limits::MOST_DOCUMENTS;
 use lms::{OtsType, Params, SigningHeight};
@@ -89,6 +89,13 @@ pub fn count_of(alloc: Global, given: &ArgMatches<'_>) -> Result<Option<u64>, Un
     ensures { IfOk result (MayHaveNumber (rows_of (found_of given.now)) (codes "count") 1 most_connections) }
 {
     number_of(alloc, given, "count", 1, MOST_CONNECTIONS)
+}
+
+/// After how many seconds in all the call gives up, if that is given.
+pub fn within_of(alloc: Global, given: &ArgMatches<'_>) -> Result<Option<u64>, Unread>
+    ensures { IfOk result (MayHaveNumber (rows_of (found_of given.now)) (codes "within") 1 most_seconds) }
+{
+    number_of(alloc, given, "within", 1, MOST_SECONDS)
 }
 
 /// The port that is given.

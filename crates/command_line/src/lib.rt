@@ -14,6 +14,7 @@ use clap::error::ErrorKind;
 use command_words::release;
 use given::{
     count_of, fault, is_given, moment_of, params_of, place_of, port_of, text_of, texts_of,
+    within_of,
 };
 use std::alloc::Global;
 use tasks::Unread;
@@ -99,11 +100,13 @@ fn get_asked(alloc: Global, given: &ArgMatches<'_>) -> Result<Subcommand, Unread
 {
     let db = text_of(alloc, given, "db")?;
     let port = port_of(alloc, given)?;
+    let within = within_of(alloc, given)?;
     let out = text_of(alloc, given, "out")?;
     let path = text_of(alloc, given, "path")?;
     Ok(Subcommand::Get {
         db,
         port,
+        within,
         out,
         path,
     })
@@ -185,7 +188,8 @@ fn update_asked(alloc: Global, given: &ArgMatches<'_>) -> Result<Subcommand, Unr
 {
     let db = text_of(alloc, given, "db")?;
     let port = port_of(alloc, given)?;
-    Ok(Subcommand::Update { db, port })
+    let within = within_of(alloc, given)?;
+    Ok(Subcommand::Update { db, port, within })
 }
 
 // The text of a fault of the command line.

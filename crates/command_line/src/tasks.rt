@@ -12,6 +12,9 @@ pub const LAST_PORT: u64 = 65535;
 /// So many connections may be counted.
 pub const MOST_CONNECTIONS: u64 = 4294967295;
 
+/// The most seconds that a client gives itself, a day.
+pub const MOST_SECONDS: u64 = 86400;
+
 /// What the words of a command line ask for.
 #[derive(Debug, Drop)]
 pub struct Task {
@@ -43,11 +46,12 @@ pub enum Subcommand {
         db: String,
         to: String,
     },
-    /// `get --db FILE --port P --out OUT PATH`: fetches a target from 127.0.0.1, and writes the file where the client's own state grants
-    /// it.
+    /// `get --db FILE --port P [--within SECONDS] --out OUT PATH`: fetches a target from 127.0.0.1, and writes the file where the client's own
+    /// state grants it.
     Get {
         db: String,
         port: u16,
+        within: Option<u64>,
         out: String,
         path: String,
     },
@@ -92,10 +96,11 @@ pub enum Subcommand {
         known: bool,
         file: String,
     },
-    /// `update --db FILE --port P`: brings a client's own state up to date from 127.0.0.1.
+    /// `update --db FILE --port P [--within SECONDS]`: brings a client's own state up to date from 127.0.0.1.
     Update {
         db: String,
         port: u16,
+        within: Option<u64>,
     },
 }
 

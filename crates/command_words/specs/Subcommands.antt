@@ -84,6 +84,13 @@ port_option_rule = record (option_rule (codes "port")) { parser = Some (Unsigned
 abbrev pub count_rule : Rule
 count_rule = record (option_rule (codes "count")) { parser = Some (Unsigned 1 most_connections) }
 
+-- `--within SECONDS`, a day at most
+abbrev pub most_seconds : ℕ
+most_seconds = 86400
+
+abbrev pub within_rule : Rule
+within_rule = record (option_rule (codes "within")) { parser = Some (Unsigned 1 most_seconds) }
+
 -- `--out OUT` and `--to FOLDER`, which have to be there
 abbrev pub out_rule : Rule
 out_rule = record (option_rule (codes "out")) { required = true }
@@ -110,7 +117,7 @@ abbrev pub export_line : App
 export_line = with_rule (stored_line (codes "export")) folder_rule
 
 abbrev pub get_line : App
-get_line = with_rule (with_rule (with_rule (stored_line (codes "get")) port_rule) out_rule) (operand_rule (codes "path"))
+get_line = with_rule (with_rule (with_rule (with_rule (stored_line (codes "get")) port_rule) within_rule) out_rule) (operand_rule (codes "path"))
 
 abbrev pub init_line : App
 init_line = with_rule (stored_line (codes "init")) (operand_rule (codes "root"))
@@ -138,7 +145,7 @@ abbrev pub sign_line : App
 sign_line = with_rule (with_rule (with_key_pair (with_rule (begun_line (codes "sign")) book_rule)) known_rule) (operand_rule (codes "file"))
 
 abbrev pub update_line : App
-update_line = with_rule (stored_line (codes "update")) port_rule
+update_line = with_rule (with_rule (stored_line (codes "update")) port_rule) within_rule
 
 abbrev pub needs_subcommand : App → App
 needs_subcommand a = record a { top = record a.top { subcommand_required = true } }

@@ -2,7 +2,7 @@
 ghost use Rattle.std.specs.Prelude.{◌≡◌, Some, codes, false, true};
 ghost use Rattle.clap.specs.Words.{rule_of};
 ghost use Rattle.clap.specs.declared.builder.value_parser.ValueParser.TheVariants.{Unsigned};
-ghost use Rattle.command_words.specs.Subcommands.{book_rule, count_rule, db_rule, documents_rule, folder_rule, height_rule, known_rule, moment_rule, operand_rule, option_rule, ots_rule, out_rule, port_option_rule, port_rule, read_only_rule, required_rule, seed_rule, verbose_rule};
+ghost use Rattle.command_words.specs.Subcommands.{book_rule, count_rule, db_rule, documents_rule, folder_rule, height_rule, known_rule, moment_rule, operand_rule, option_rule, ots_rule, out_rule, port_option_rule, port_rule, read_only_rule, required_rule, seed_rule, verbose_rule, within_rule};
 
 use clap::builder::ValueParser;
 use clap::{Arg, ArgAction};
@@ -181,6 +181,15 @@ pub(crate) fn count<'a>(alloc: Global) -> Arg<'a>
 {
     let help = "End after so many connections";
     within(option(alloc, "count", "N", help), 1, 4294967295)
+}
+
+/// `--within SECONDS`
+pub(crate) fn deadline<'a>(alloc: Global) -> Arg<'a>
+    ensures rule { rule_of result ≡ within_rule }
+    ensures local { result.global ≡ false }
+{
+    let help = "Give up after so many seconds in all, 600 where it is not given";
+    within(option(alloc, "within", "SECONDS", help), 1, 86400)
 }
 
 /// An operand, which has to be there.

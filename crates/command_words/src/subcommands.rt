@@ -5,8 +5,8 @@ ghost use Rattle.clap.specs.declared.builder.command.Command.TheViews.{out-Comma
 ghost use Rattle.command_words.specs.Subcommands.{begun_line, canon_line, export_line, get_line, init_line, key_line, placed_line, prune_line, publish_line, put_line, serve_line, sign_line, stored_line, update_line, with_key_pair};
 
 use crate::options::{
-    at, book, count, db, db_or_port, documents, folder, height, known, operand, ots, out, port,
-    port_or_db, read_only, seed, verbose,
+    at, book, count, db, db_or_port, deadline, documents, folder, height, known, operand, ots, out,
+    port, port_or_db, read_only, seed, verbose,
 };
 use crate::texts;
 use clap::{Arg, Command};
@@ -35,7 +35,7 @@ pub fn export<'a>(alloc: Global) -> Result<Command<'a>, AllocError>
     with(command, folder(alloc))
 }
 
-/// `get [--at SECONDS] [--verbose] --db FILE --port P --out OUT PATH`
+/// `get [--at SECONDS] [--verbose] --db FILE --port P [--within SECONDS] --out OUT PATH`
 pub fn get<'a>(alloc: Global) -> Result<Command<'a>, AllocError>
     ensures line { IfOk result (λ c. app_of c ≡ get_line) }
     ensures local { IfOk result (λ c. (out-Command c).has_globals ≡ false) }
@@ -43,6 +43,7 @@ pub fn get<'a>(alloc: Global) -> Result<Command<'a>, AllocError>
     let about = "Fetch a target from 127.0.0.1, as a client";
     let command = stored(alloc, "get", about, texts::GET)?;
     let command = with(command, port(alloc, SERVER))?;
+    let command = with(command, deadline(alloc))?;
     let command = with(command, out(alloc))?;
     with(
         command,
@@ -130,14 +131,15 @@ pub fn sign<'a>(alloc: Global) -> Result<Command<'a>, AllocError>
     )
 }
 
-/// `update [--at SECONDS] [--verbose] --db FILE --port P`
+/// `update [--at SECONDS] [--verbose] --db FILE --port P [--within SECONDS]`
 pub fn update<'a>(alloc: Global) -> Result<Command<'a>, AllocError>
     ensures line { IfOk result (λ c. app_of c ≡ update_line) }
     ensures local { IfOk result (λ c. (out-Command c).has_globals ≡ false) }
 {
     let about = "Bring the trusted metadata up to date from 127.0.0.1, as a client";
     let command = stored(alloc, "update", about, texts::UPDATE)?;
-    with(command, port(alloc, SERVER))
+    let command = with(command, port(alloc, SERVER))?;
+    with(command, deadline(alloc))
 }
 
 // A subcommand over a database.

@@ -6,5 +6,6 @@ use Rattle.command_words.proofs.subcommands.get.Goals as goal
 pub returns-clause-line : goal.returns-clause-line
 returns-clause-line c =
     let one = c.in_ok-command-2.ensures.line ∙ ap₂ with_rule c.in_ok-command.ensures.line c.port.ensures.rule in
-    let two = c.in_ok-command-3.ensures.line ∙ ap₂ with_rule one c.out.ensures.rule in
-    IfOk-weaker c.with-3.result _ _ (λ r added. added ∙ ap₂ with_rule two c.operand.ensures.rule) c.with-3.ensures.line
+    let two = c.in_ok-command-3.ensures.line ∙ ap₂ with_rule one c.deadline.ensures.rule in
+    let three = c.in_ok-command-4.ensures.line ∙ ap₂ with_rule two c.out.ensures.rule in
+    IfOk-weaker c.with-4.result _ _ (λ r added. added ∙ ap₂ with_rule three c.operand.ensures.rule) c.with-4.ensures.line
