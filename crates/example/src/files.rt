@@ -4,8 +4,8 @@ use crate::failure::Failure;
 use canonical_json::write;
 use metadata::digest_of;
 use signed_files::{
-    Entry, Keys, Leaf, Listing, OtsType, Root, Rule, Targets, Value, meta_signed, root_signed,
-    signed_file, targets_signed,
+    Entry, Keys, Leaf, Listing, OtsType, Root, Rule, SeedKey, Targets, Value, meta_signed,
+    root_signed, signed_file, targets_signed,
 };
 use std::alloc::{AllocError, Global};
 
@@ -39,7 +39,7 @@ pub fn files(alloc: Global) -> Result<Vec<File>, Failure> {
     for seed in [
         ROOT, TIMESTAMP, SNAPSHOT, TARGETS, NEXT, OWNER, WRITER, PACKER, STRANGER,
     ] {
-        keys.make(seed)?;
+        keys.make(key(seed))?;
     }
     let mut files = Vec::new(alloc);
     put_repository(alloc, &keys, &mut files)?;
@@ -65,18 +65,22 @@ pub fn signed_by(
     Ok(signed_file(alloc, keys, &text, leaves)?)
 }
 
+fn key(seed: u8) -> SeedKey {
+    SeedKey { seed, levels: None }
+}
+
 pub fn leaf(seed: u8, number: u32) -> Leaf {
-    Leaf { seed, number }
+    Leaf {
+        key: key(seed),
+        number,
+    }
 }
 
 /// The rule of one key.
 pub fn rule(alloc: Global, seed: u8) -> Result<Rule, AllocError> {
-    let mut seeds = Vec::new(alloc);
-    seeds.push(seed)?;
-    Ok(Rule {
-        seeds,
-        threshold: 1,
-    })
+    let mut keys = Vec::new(alloc);
+    keys.push(key(seed))?;
+    Ok(Rule { keys, threshold: 1 })
 }
 
 // Root metadata, with the key of this seed for the root.

@@ -1,6 +1,6 @@
 //! The signed parts of metadata (TUF 1.0, sections 4.3 to 4.6).
 use crate::fault::Fault;
-use crate::keys::Keys;
+use crate::keys::{Keys, SeedKey};
 use crate::members::{Members, text_value, texts};
 use canonical_json::Value;
 use path_patterns::Digest;
@@ -8,10 +8,10 @@ use std::alloc::{AllocError, Global};
 
 const SPEC_VERSION: &str = "1.0.31";
 
-/// The keys of a role by their seeds, and its threshold.
+/// The keys of a role, and its threshold.
 #[derive(Drop)]
 pub struct Rule {
-    pub seeds: Vec<u8>,
+    pub keys: Vec<SeedKey>,
     pub threshold: u32,
 }
 
@@ -91,28 +91,28 @@ pub fn root_signed(alloc: Global, keys: &Keys, said: &Root<'_>) -> Result<Value,
 
 // The keys of all rules.
 fn key_table(alloc: Global, keys: &Keys, said: &Root<'_>) -> Result<Value, Fault> {
-    let mut seeds = Vec::new(alloc);
+    let mut all = Vec::new(alloc);
     for rule in [said.root, said.timestamp, said.snapshot, said.targets] {
-        add_seeds(&mut seeds, rule)?;
+        add_keys(&mut all, rule)?;
     }
-    keys_of(alloc, keys, &seeds)
+    keys_of(alloc, keys, &all)
 }
 
-/// Puts the seeds of a rule behind the others, each that is not there yet.
-pub fn add_seeds(seeds: &mut Vec<u8>, rule: &Rule) -> Result<(), Fault> {
-    for seed in &rule.seeds {
-        if !seeds.contains(seed) {
-            seeds.push(*seed)?;
+/// Puts the keys of a rule behind the others, each that is not there yet.
+pub fn add_keys(all: &mut Vec<SeedKey>, rule: &Rule) -> Result<(), Fault> {
+    for key in &rule.keys {
+        if !all.contains(key) {
+            all.push(*key)?;
         }
     }
     Ok(())
 }
 
-/// The keys of the seeds by their ids.
-pub fn keys_of(alloc: Global, keys: &Keys, seeds: &[u8]) -> Result<Value, Fault> {
+/// The keys of a table by their ids.
+pub fn keys_of(alloc: Global, keys: &Keys, said: &[SeedKey]) -> Result<Value, Fault> {
     let mut table = Members::new(alloc);
-    for seed in seeds {
-        table.put(keys.id(*seed)?, keys.key_value(*seed)?)?;
+    for key in said {
+        table.put(keys.id(*key)?, keys.key_value(*key)?)?;
     }
     Ok(table.object())
 }
@@ -141,8 +141,8 @@ pub fn put_rule(
     members: &mut Members,
 ) -> Result<(), Fault> {
     let mut ids = Vec::new(alloc);
-    for seed in &rule.seeds {
-        let id = text_value(alloc, keys.id(*seed)?)?;
+    for key in &rule.keys {
+        let id = text_value(alloc, keys.id(*key)?)?;
         ids.push(id)?;
     }
     members.put(name, Value::List(ids))?;
@@ -207,15 +207,15 @@ pub fn targets_signed(alloc: Global, keys: &Keys, said: &Targets<'_>) -> Result<
 }
 
 fn delegations(alloc: Global, keys: &Keys, said: &[Delegation]) -> Result<Value, Fault> {
-    let mut seeds = Vec::new(alloc);
+    let mut all = Vec::new(alloc);
     let mut roles = Vec::new(alloc);
     for delegation in said {
-        add_seeds(&mut seeds, &delegation.rule)?;
+        add_keys(&mut all, &delegation.rule)?;
         let role = delegation_value(alloc, keys, delegation)?;
         roles.push(role)?;
     }
     let mut members = Members::new(alloc);
-    members.put("keys", keys_of(alloc, keys, &seeds)?)?;
+    members.put("keys", keys_of(alloc, keys, &all)?)?;
     members.put("roles", Value::List(roles))?;
     Ok(members.object())
 }
@@ -265,7 +265,7 @@ fn listing_value(
 fn reference_value(alloc: Global, keys: &Keys, said: &LayoutReference) -> Result<Value, Fault> {
     let mut members = Members::new(alloc);
     put_rule(alloc, keys, "keyids", &said.owners, &mut members)?;
-    members.put("keys", keys_of(alloc, keys, &said.owners.seeds)?)?;
+    members.put("keys", keys_of(alloc, keys, &said.owners.keys)?)?;
     members.put("links", texts(alloc, &said.links)?)?;
     members.put_text("path", said.path.as_str())?;
     members.put_text("product", said.product.as_str())?;

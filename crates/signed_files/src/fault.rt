@@ -14,7 +14,7 @@ pub enum Fault {
     /// A leaf is past the end of its tree.
     #[error("no such leaf")]
     LeafRange,
-    /// The seed has no key in the list of keys.
+    /// The key is none of the list of keys.
     #[error("no such key")]
     UnknownKey,
 }

@@ -1,17 +1,25 @@
-//! Key pairs of test seeds.
+//! Keys of test seeds.
 use crate::fault::Fault;
 use crate::members::Members;
+use crate::signing::Leaf;
 use canonical_json::Value;
 use keys_roles::{Key, key_id};
-use lms::{OtsType, Params, Seed, SigningHeight, public_of, sign};
+use lms::{KeyPair, OtsType, Params, Seed, SigningHeight};
 use std::alloc::{AllocError, Global};
 
-/// A key pair of a test seed, with the hex digits of the public key and of its id.
+/// A key by its test seed: the LMS key of the seed, or the HSS key of so many levels that has it as its top key (RFC 8554, section 6).
+#[derive(Debug, Clone, Copy, PartialEq, Eq)]
+pub struct SeedKey {
+    pub seed: u8,
+    /// The levels of an HSS key, L; none of an LMS key.
+    pub levels: Option<u32>,
+}
+
+/// The key pair of a seed, and a key whose top key is that of the pair: with its id and its public key in hex digits.
 #[derive(Drop)]
 struct Pair {
-    byte: u8,
-    seed: Seed,
-    params: Params,
+    key: SeedKey,
+    top: KeyPair,
     id: String,
     public: String,
 }
@@ -35,52 +43,72 @@ impl Keys {
         }
     }
 
-    /// Makes the key pair of a seed, unless it is there: its whole tree is hashed.
-    pub fn make(&mut self, byte: u8) -> Result<(), AllocError> {
-        if self.pair(byte).is_ok() {
+    /// Makes the key, unless it is there: its whole top tree is hashed, once for all its signatures.
+    pub fn make(&mut self, key: SeedKey) -> Result<(), AllocError> {
+        if self.pair(key).is_ok() {
             return Ok(());
         }
-        let pair = pair_of(self.alloc, byte, self.ots)?;
+        let pair = pair_of(self.alloc, key, self.ots)?;
         self.pairs.push(pair)?;
         Ok(())
     }
 
-    fn pair(&self, byte: u8) -> Result<&Pair, Fault> {
+    fn pair(&self, key: SeedKey) -> Result<&Pair, Fault> {
         for pair in &self.pairs {
-            if pair.byte == byte {
+            if pair.key == key {
                 return Ok(pair);
             }
         }
         Err(Fault::UnknownKey)
     }
 
-    /// The id of the seed's key, as 64 hex digits.
-    pub fn id(&self, byte: u8) -> Result<&str, Fault> {
-        Ok(self.pair(byte)?.id.as_str())
+    /// The id of the key, as 64 hex digits.
+    pub fn id(&self, key: SeedKey) -> Result<&str, Fault> {
+        Ok(self.pair(key)?.id.as_str())
     }
 
-    /// The seed's public key, as 112 hex digits.
-    pub fn public(&self, byte: u8) -> Result<&str, Fault> {
-        Ok(self.pair(byte)?.public.as_str())
+    /// The public key, as 112 hex digits, or 120 of an HSS key.
+    pub fn public(&self, key: SeedKey) -> Result<&str, Fault> {
+        Ok(self.pair(key)?.public.as_str())
     }
 
-    /// The seed's key as it stands in a key table.
-    pub fn key_value(&self, byte: u8) -> Result<Value, Fault> {
-        let pair = self.pair(byte)?;
+    /// The key as it stands in a key table.
+    pub fn key_value(&self, key: SeedKey) -> Result<Value, Fault> {
+        let public = self.public(key)?;
+        let scheme = match key.levels {
+            None => "lms-sha256",
+            Some(_) => "hss-sha256",
+        };
         let mut keyval = Members::new(self.alloc);
-        keyval.put_text("public", pair.public.as_str())?;
+        keyval.put_text("public", public)?;
         let mut key = Members::new(self.alloc);
         key.put_text("keytype", "lms")?;
         key.put("keyval", keyval.object())?;
-        key.put_text("scheme", "lms-sha256")?;
+        key.put_text("scheme", scheme)?;
         Ok(key.object())
     }
 
-    /// The entry of a signature of the message by a leaf of the seed, as it stands in a file.
-    pub fn signature_value(&self, byte: u8, leaf: u32, message: &[u8]) -> Result<Value, Fault> {
-        let pair = self.pair(byte)?;
+    /// The entry of a signature of the message by the leaf, and where its key has several levels by those below it, as it stands in a
+    /// file: each leaf signs the public key of the next one, and the last the message (RFC 8554, section 6.2).
+    pub fn signature_value(
+        &self,
+        leaf: Leaf,
+        below: &[Leaf],
+        message: &[u8],
+    ) -> Result<Value, Fault> {
+        let pair = self.pair(leaf.key)?;
         let mut signature = Vec::new(self.alloc);
-        sign(&pair.seed, pair.params, leaf, message, &mut signature)?;
+        if let Some(levels) = leaf.key.levels {
+            signature.extend_from_slice(&levels.wrapping_sub(1).to_be_bytes())?;
+        }
+        let (mut signer, mut number) = (&pair.top, leaf.number);
+        for next in below {
+            let lower = &self.pair(next.key)?.top;
+            signer.sign(number, &lower.public(), &mut signature)?;
+            signature.extend_from_slice(&lower.public())?;
+            (signer, number) = (lower, next.number);
+        }
+        signer.sign(number, message, &mut signature)?;
         let digits = hex::encode(self.alloc, &signature)?;
         let mut entry = Members::new(self.alloc);
         entry.put_text("keyid", pair.id.as_str())?;
@@ -89,21 +117,29 @@ impl Keys {
     }
 }
 
-fn pair_of(alloc: Global, byte: u8, ots: OtsType) -> Result<Pair, AllocError> {
+fn pair_of(alloc: Global, key: SeedKey, ots: OtsType) -> Result<Pair, AllocError> {
     let seed = Seed {
-        identifier: [byte; 16],
-        secret: [byte; 32],
+        identifier: [key.seed; 16],
+        secret: [key.seed; 32],
     };
     let params = Params {
         ots,
         height: SigningHeight::H5,
     };
-    let public = public_of(&seed, params);
-    let id = key_id(alloc, &Key::Lms(public))?;
+    let pair = KeyPair::new(alloc, &seed, params)?;
+    let top = pair.public();
+    let mut public = Vec::new(alloc);
+    if let Some(levels) = key.levels {
+        public.extend_from_slice(&levels.to_be_bytes())?;
+    }
+    public.extend_from_slice(&top)?;
+    let id = match public.as_array::<60>() {
+        Some(public) => key_id(alloc, &Key::Hss(*public))?,
+        None => key_id(alloc, &Key::Lms(top))?,
+    };
     Ok(Pair {
-        byte,
-        seed,
-        params,
+        key,
+        top: pair,
         id: hex::encode(alloc, &id.0)?,
         public: hex::encode(alloc, &public)?,
     })

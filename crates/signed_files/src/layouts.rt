@@ -1,5 +1,5 @@
 //! The signed parts of layouts and links (in-toto 1.0, sections 4.3 and 4.4).
-use crate::documents::{Rule, add_seeds, hashes, keys_of, put_rule};
+use crate::documents::{Rule, add_keys, hashes, keys_of, put_rule};
 use crate::fault::Fault;
 use crate::keys::Keys;
 use crate::members::{Members, text_value};
@@ -31,10 +31,10 @@ pub fn layout_signed(
     expires: &str,
     steps: &[Step],
 ) -> Result<Value, Fault> {
-    let mut seeds = Vec::new(alloc);
+    let mut all = Vec::new(alloc);
     let mut list = Vec::new(alloc);
     for step in steps {
-        add_seeds(&mut seeds, &step.rule)?;
+        add_keys(&mut all, &step.rule)?;
         let value = step_value(alloc, keys, step)?;
         list.push(value)?;
     }
@@ -42,7 +42,7 @@ pub fn layout_signed(
     members.put_text("_type", "layout")?;
     members.put_text("expires", expires)?;
     members.put("inspect", Value::List(Vec::new(alloc)))?;
-    members.put("keys", keys_of(alloc, keys, &seeds)?)?;
+    members.put("keys", keys_of(alloc, keys, &all)?)?;
     members.put("steps", Value::List(list))?;
     Ok(members.object())
 }

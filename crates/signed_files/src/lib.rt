@@ -17,7 +17,7 @@ pub use documents::{
     root_signed, targets_signed,
 };
 pub use fault::Fault;
-pub use keys::Keys;
+pub use keys::{Keys, SeedKey};
 pub use layouts::{Link, Step, layout_signed, link_signed};
 pub use lms::OtsType;
 pub use members::{Members, text_value, texts, with_member};

@@ -1,13 +1,15 @@
 //! Files of signed parts.
 use crate::fault::Fault;
-use crate::keys::Keys;
+use crate::keys::{Keys, SeedKey};
 use canonical_json::{Value, write};
 use std::alloc::Global;
 
-/// A leaf of a seed's key. RFC 8554 has each sign one message alone; test files of test seeds need not keep to it.
+/// A leaf of a seed's tree, with the key that has it as its top tree. That of a key of several levels signs the key of the leaf behind it, which is
+/// of one level less, and any other signs the message: so a list has the leaves of one HSS signature behind one another, the top one first.
+/// RFC 8554 has each leaf sign once alone; test files of test seeds need not keep to it.
 #[derive(Debug, Clone, Copy, PartialEq, Eq)]
 pub struct Leaf {
-    pub seed: u8,
+    pub key: SeedKey,
     pub number: u32,
 }
 
@@ -20,9 +22,16 @@ pub fn signed_file(
     leaves: &[Leaf],
 ) -> Result<Vec<u8>, Fault> {
     let mut signatures = Vec::new(alloc);
-    for leaf in leaves {
-        let entry = keys.signature_value(leaf.seed, leaf.number, signed)?;
+    let mut rest = leaves;
+    for _ in leaves {
+        let Some((leaf, behind)) = rest.split_first() else {
+            break;
+        };
+        let signed_keys = leaf.key.levels.unwrap_or(1).saturating_sub(1) as usize;
+        let (below, later) = behind.split_at(signed_keys.min(behind.len()));
+        let entry = keys.signature_value(*leaf, below, signed)?;
         signatures.push(entry)?;
+        rest = later;
     }
     let mut file = Vec::from_slice(alloc, b"{\"signatures\":")?;
     write(&Value::List(signatures), &mut file)?;
