@@ -6,7 +6,7 @@ use crate::failure::LineFault;
 use crate::files::find;
 use crate::replies::{fault_text, reply_text, row_text, told};
 use crate::session::Session;
-use crate::words::{byte_of, digest_word};
+use crate::words::{digest_word, key_of};
 use machine::{Offer, Steps, TargetPath};
 use metadata::Kind;
 use path_patterns::RoleName;
@@ -207,12 +207,12 @@ impl Session {
         Ok(told(self.alloc, if is_same { "equal" } else { "different" })?)
     }
 
-    /// `key SEED`: the id of the seed's key, and the key.
+    /// `key KEY`: the id of the key, and the key.
     pub fn key(&mut self, text: &str) -> Result<String, LineFault> {
-        let seed = byte_of(text)?;
-        self.keys.make(seed)?;
-        let id = self.keys.id(seed)?;
-        let public = self.keys.public(seed)?;
+        let key = key_of(text)?;
+        self.keys.make(key)?;
+        let id = self.keys.id(key)?;
+        let public = self.keys.public(key)?;
         Ok(format!(in self.alloc; "{id} {public}")?)
     }
 

@@ -5,7 +5,7 @@
 use crate::failure::LineFault;
 use crate::files::{File, find};
 use crate::layout_words::{SaidLink, reference_of, step_of};
-use crate::words::{delegation_of, entry_of, leaf_of, listing_of, number_of, rule_of};
+use crate::words::{add_leaves, delegation_of, entry_of, listing_of, number_of, rule_of};
 use canonical_json::write;
 use metadata::Kind;
 use signed_files::{
@@ -333,15 +333,15 @@ fn patterns_of(alloc: Global, value: &str) -> Result<Vec<String>, LineFault> {
 }
 
 fn make_rule(keys: &mut Keys, rule: &Rule) -> Result<(), LineFault> {
-    for seed in &rule.seeds {
-        keys.make(*seed)?;
+    for key in &rule.keys {
+        keys.make(*key)?;
     }
     Ok(())
 }
 
 fn make_signers(keys: &mut Keys, leaves: &[Leaf]) -> Result<(), LineFault> {
     for leaf in leaves {
-        keys.make(leaf.seed)?;
+        keys.make(leaf.key)?;
     }
     Ok(())
 }
@@ -350,7 +350,7 @@ fn make_signers(keys: &mut Keys, leaves: &[Leaf]) -> Result<(), LineFault> {
 pub fn leaves_of(alloc: Global, words: &str) -> Result<Vec<Leaf>, LineFault> {
     let mut leaves = Vec::new(alloc);
     for word in words.split_whitespace() {
-        leaves.push(leaf_of(word)?)?;
+        add_leaves(word, &mut leaves)?;
     }
     Ok(leaves)
 }
@@ -400,7 +400,7 @@ fn description_of(
     Ok(description)
 }
 
-/// A document that words describe: `[like NAME] [KIND] [VERSION] [WORD=VALUE ..] [by SEED/LEAF ..]`, with the words that a later
+/// A document that words describe: `[like NAME] [KIND] [VERSION] [WORD=VALUE ..] [by LEAF ..]`, with the words that a later
 /// description can be like.
 pub fn described(
     alloc: Global,

@@ -2,7 +2,7 @@
 use crate::failure::LineFault;
 use crate::files::{File, find};
 use metadata::digest_of;
-use signed_files::{Delegation, Digest, Entry, Leaf, Listing, Rule, Scope};
+use signed_files::{Delegation, Digest, Entry, Leaf, Listing, Rule, Scope, SeedKey};
 use std::alloc::Global;
 
 /// A number in decimal.
@@ -13,8 +13,8 @@ pub fn number_of(word: &str) -> Result<u32, LineFault> {
     }
 }
 
-/// A number of one byte in decimal.
-pub fn byte_of(word: &str) -> Result<u8, LineFault> {
+// A number of one byte in decimal.
+fn byte_of(word: &str) -> Result<u8, LineFault> {
     match word.parse::<u8>() {
         Ok(number) => Ok(number),
         Err(_) => Err(LineFault::NotUnderstood),
@@ -87,17 +87,37 @@ pub fn listing_of(files: &[File], word: &str) -> Result<Listing, LineFault> {
     })
 }
 
-/// The seeds of a rule's keys, and its threshold, where it is not 1: `1,2:2`.
+/// A key by its seed, `5`, or an HSS key by the seeds of its levels, each behind a `^`, the top one first: `^1`, `^1^7`.
+pub fn key_of(word: &str) -> Result<SeedKey, LineFault> {
+    let Some(seeds) = word.strip_prefix("^") else {
+        return Ok(SeedKey {
+            seed: byte_of(word)?,
+            levels: None,
+        });
+    };
+    let (top, _) = seeds.split_once('^').unwrap_or((seeds, ""));
+    Ok(SeedKey {
+        seed: byte_of(top)?,
+        levels: Some(levels_of(seeds)),
+    })
+}
+
+// How many levels the words have that stand behind one another with `^` between them.
+fn levels_of(words: &str) -> u32 {
+    u32::try_from(words.split('^').count()).unwrap_or(0)
+}
+
+/// The keys of a rule, and its threshold, where it is not 1: `1,^2^7:2`.
 pub fn rule_of(alloc: Global, word: &str) -> Result<Rule, LineFault> {
     let (list, threshold) = match word.split_once(':') {
         Some((list, threshold)) => (list, number_of(threshold)?),
         None => (word, 1),
     };
-    let mut seeds = Vec::new(alloc);
-    for seed in list.split(',') {
-        seeds.push(byte_of(seed)?)?;
+    let mut keys = Vec::new(alloc);
+    for key in list.split(',') {
+        keys.push(key_of(key)?)?;
     }
-    Ok(Rule { seeds, threshold })
+    Ok(Rule { keys, threshold })
 }
 
 /// A delegation to the role: its rule, a semicolon, and the patterns, or behind a `#` the prefixes, that it covers: `6,7:2;a/*,b`,
@@ -133,11 +153,28 @@ pub fn texts_of(alloc: Global, word: &str) -> Result<Vec<String>, LineFault> {
     Ok(texts)
 }
 
-/// A leaf of a seed: `3/1`.
-pub fn leaf_of(word: &str) -> Result<Leaf, LineFault> {
+/// Puts the leaf of a seed, `3/1`, or the leaves of the levels of an HSS key, `^1/0^7/3`, behind the others.
+pub fn add_leaves(word: &str, leaves: &mut Vec<Leaf>) -> Result<(), LineFault> {
+    let Some(list) = word.strip_prefix("^") else {
+        leaves.push(leaf_of(word, None)?)?;
+        return Ok(());
+    };
+    let mut levels = levels_of(list);
+    for part in list.split('^') {
+        leaves.push(leaf_of(part, Some(levels))?)?;
+        levels = levels.saturating_sub(1);
+    }
+    Ok(())
+}
+
+// A leaf of a seed, `3/1`, whose key has so many levels.
+fn leaf_of(word: &str, levels: Option<u32>) -> Result<Leaf, LineFault> {
     match word.split_once('/') {
         Some((seed, number)) => Ok(Leaf {
-            seed: byte_of(seed)?,
+            key: SeedKey {
+                seed: byte_of(seed)?,
+                levels,
+            },
             number: number_of(number)?,
         }),
         None => Err(LineFault::NotUnderstood),
