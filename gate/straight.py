@@ -112,7 +112,8 @@ def hierarchical(public, signature, message):
 def key_id(public):
     """TUF 1.0, section 4.2: the SHA-256 of the canonical form of the key object."""
     head = '{"keytype":"lms","keyval":{"public":"'
-    return digest(f'{head}{public.hex()}"}},"scheme":"lms-sha256"}}'.encode()).hex()
+    scheme = "lms-sha256" if len(public) == 56 else "hss-sha256"
+    return digest(f'{head}{public.hex()}"}},"scheme":"{scheme}"}}'.encode()).hex()
 
 
 def signed(w, height, identifier, secret, q, message):

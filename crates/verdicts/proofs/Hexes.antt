@@ -5,6 +5,11 @@ use Rattle.std.specs.Str.{bytes_eq}
 use Rattle.hex.specs.Hex.{IsBytes, decode_of, encode_lower, lower_digits}
 use Rattle.hex.specs.declared.error.FromHexError.{FromHexError}
 use Rattle.hex.proofs.HexLemmas.{decode_of-encode_lower, decode_of-same, length-encode_with}
+use Rattle.keys_roles.specs.Keys.{public_bytes, public_len}
+use Rattle.keys_roles.specs.Views.{key_view}
+use Rattle.keys_roles.specs.declared.Key.{Key}
+use Rattle.keys_roles.specs.declared.Key.TheVariants.{Lms, Hss}
+use Rattle.verdicts.specs.Case.{IsBytesOf}
 use Rattle.verdicts.specs.Words.{hex_word}
 
 -- the word stands for no bytes
@@ -57,3 +62,9 @@ pub of_another_length : (word bytes : List ℕ) (n : ℕ) → word ≡ hex_word 
     → (other : List ℕ) → IsBytes other → length other ≡ n → word ≡ hex_word other → ⊥
 of_another_length word bytes n is fits unlike other fits' long is' =
     unlike (ap length (hex_word_one bytes other fits fits' (sym is ∙ is')) ∙ long)
+
+-- nor is one of neither 56 nor 60 bytes one of a key
+pub of_no_key : (word bytes : List ℕ) → word ≡ hex_word bytes → IsBytes bytes → (length bytes ≡ 56 → ⊥) → (length bytes ≡ 60 → ⊥)
+    → (key : Key) → IsBytesOf (public_len (key_view key)) (public_bytes (key_view key)) → word ≡ hex_word (public_bytes (key_view key)) → ⊥
+of_no_key word bytes is fits not_lms not_hss (Lms public) of is' = of_another_length word bytes 56 is fits not_lms public of.0 of.1 is'
+of_no_key word bytes is fits not_lms not_hss (Hss public) of is' = of_another_length word bytes 60 is fits not_hss public of.0 of.1 is'

@@ -19,7 +19,7 @@ pub no_rules : (word : List ℕ) → IsNoRules word → (c : Case) → IsCase (c
 no_rules word bad (Json part) is = let e = ap start is.0 in omega (arith, e)
 no_rules word bad (Lms public signature message) is = let e = ap start is.0 in omega (arith, e)
 no_rules word bad (Hss public signature message) is = let e = ap start is.0 in omega (arith, e)
-no_rules word bad (Key public) is = let e = ap start is.0 in omega (arith, e)
+no_rules word bad (Key key) is = let e = ap start is.0 in omega (arith, e)
 no_rules word bad (Sign seed params leaf message) is = let e = ap start is.0 in omega (arith, e)
 no_rules word bad (Calendar text) is = let e = ap start is.0 in omega (arith, e)
 no_rules word bad (Document kind bytes) is = let e = ap start is.0 in omega (arith, e)

@@ -32,7 +32,7 @@ pub no_message : (a b i s q m : List ℕ) → IsNoHex m → (c : Case) → IsCas
 no_message a b i s q m bad (Json part) is = let e = ap length is.0 in omega (arith, e)
 no_message a b i s q m bad (Lms public signature message) is = let e = ap length is.0 in omega (arith, e)
 no_message a b i s q m bad (Hss public signature message) is = let e = ap length is.0 in omega (arith, e)
-no_message a b i s q m bad (Key public) is = let e = ap length is.0 in omega (arith, e)
+no_message a b i s q m bad (Key key) is = let e = ap length is.0 in omega (arith, e)
 no_message a b i s q m bad (Calendar text) is = let e = ap length is.0 in omega (arith, e)
 no_message a b i s q m bad (Document kind bytes) is = let e = ap length is.0 in omega (arith, e)
 no_message a b i s q m bad (Asked text) is = let e = ap length is.0 in omega (arith, e)

@@ -3,6 +3,8 @@ use Rattle.std.specs.Prelude.{◌≡◌, ◌==◌, ◌<◌, ◌^◌, ℕ, List, 
 use Rattle.std.specs.List.{slice_split}
 use Rattle.std.specs.Str.{IsUtf8}
 use Rattle.hex.specs.Hex.{IsBytes}
+use Rattle.keys_roles.specs.Keys.{public_bytes, public_len}
+use Rattle.keys_roles.specs.Views.{key_view}
 use Rattle.metadata.specs.Shape.{kind_name}
 use Rattle.verdicts.specs.declared.case.Case.{Case}
 use Rattle.verdicts.specs.declared.case.Case.TheVariants.{Json, Lms, Hss, Key, Sign, Calendar, Document, Asked, Match, Rules}
@@ -32,7 +34,9 @@ IsCase words (Lms public signature message) =
 IsCase words (Hss public signature message) =
     (words ≡ codes "hss" ∷ hex_word public.items ∷ hex_word signature.items ∷ hex_word message.items ∷ [])
     × IsBytes public.items × IsBytes signature.items × IsBytes message.items
-IsCase words (Key public) = (words ≡ codes "key" ∷ hex_word public ∷ []) × IsBytesOf 56 public
+IsCase words (Key key) =
+    (words ≡ codes "key" ∷ hex_word (public_bytes (key_view key)) ∷ [])
+    × IsBytesOf (public_len (key_view key)) (public_bytes (key_view key))
 IsCase words (Sign seed params leaf message) =
     (words ≡ codes "sign" ∷ ots_word params.ots ∷ height_word params.height ∷ hex_word seed.identifier
     ∷ hex_word seed.secret ∷ decimal leaf ∷ hex_word message.items ∷ [])

@@ -15,7 +15,8 @@ use Rattle.lms.specs.Parts.{IsKeyOf, IsSignatureOf}
 use Rattle.lms.specs.Verifies.{Verifies, hash_count}
 use Rattle.lms.specs.Hss.{VerifiesHss}
 use Rattle.keys_roles.specs.Keys.{id_of}
-use Rattle.keys_roles.specs.Plain as plain
+use Rattle.keys_roles.specs.Views.{key_view}
+use Rattle.keys_roles.specs.declared.Key.{Key}
 use Rattle.metadata.specs.Dates.{IsDateTime}
 use Rattle.metadata.specs.Documents as documents
 use Rattle.metadata.specs.File.{fault_number}
@@ -63,10 +64,10 @@ IsVerifyingHss public signature message Verified = VerifiesHss public message si
 IsVerifyingHss public signature message Refused = VerifiesHss public message signature → ⊥
 IsVerifyingHss public signature message verdict = ⊥
 
--- the id of the LMS public key
-abbrev pub IsIdentifying : List ℕ → Verdict → Type 0
-IsIdentifying public (KeyId digits) = string_bytes digits ≡ id_of (plain.lms public)
-IsIdentifying public verdict = ⊥
+-- the id of the public key
+abbrev pub IsIdentifying : Key → Verdict → Type 0
+IsIdentifying key (KeyId digits) = string_bytes digits ≡ id_of (key_view key)
+IsIdentifying key verdict = ⊥
 
 -- the public key of the seed and its signature of the message with this leaf, or that there is no such leaf
 abbrev pub IsSigning : Seed → Params → ℕ → List ℕ → Verdict → Type 0
@@ -126,7 +127,7 @@ abbrev pub IsVerdict : Case → Verdict → Type 0
 IsVerdict (cases.Json part) verdict = IsReading part.items verdict
 IsVerdict (cases.Lms public signature message) verdict = IsVerifying public.items signature.items message.items verdict
 IsVerdict (cases.Hss public signature message) verdict = IsVerifyingHss public.items signature.items message.items verdict
-IsVerdict (cases.Key public) verdict = IsIdentifying public verdict
+IsVerdict (cases.Key key) verdict = IsIdentifying key verdict
 IsVerdict (cases.Sign seed params leaf message) verdict = IsSigning seed params leaf message.items verdict
 IsVerdict (cases.Calendar text) verdict = IsDating (string_bytes text) verdict
 IsVerdict (cases.Document kind bytes) verdict = IsShaping kind bytes.items verdict

@@ -3,8 +3,11 @@ ghost use Rattle.verdicts.specs.Case.{words_of, IsCase, IsCaseFault};
 
 use crate::rule_case::RuleCase;
 use crate::rule_text::rule_case_of;
-use crate::words::{array_of, bytes_of, covering_of, height_of, kind_of, leaf_of, ots_of, text_of};
+use crate::words::{
+    array_of, bytes_of, covering_of, height_of, key_of, kind_of, leaf_of, ots_of, text_of,
+};
 use hex::FromHexError;
+use keys_roles::Key;
 use lms::{Params, Seed};
 use metadata::{Kind, ShapeFault};
 use std::alloc::{AllocError, AllocFailed, Global};
@@ -27,7 +30,7 @@ pub enum Case {
         message: Vec<u8>,
     },
     /// `key PUBLIC`: which id has this key?
-    Key([u8; 56]),
+    Key(Key),
     /// `sign W HEIGHT I SEED Q MESSAGE`: which key has this seed, and which signature of the message makes its leaf Q?
     Sign {
         seed: Seed,
@@ -214,7 +217,7 @@ fn key_case(alloc: Global, parts: &[&[u8]]) -> Result<Case, CaseFault>
     let [public] = parts else {
         return Err(CaseFault::NotUnderstood);
     };
-    Ok(Case::Key(array_of(alloc, public)?))
+    Ok(Case::Key(key_of(alloc, public)?))
 }
 
 // The same for `sign`.

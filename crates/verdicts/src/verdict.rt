@@ -133,7 +133,7 @@ pub fn judge(alloc: Global, case: &Case) -> Result<Verdict, AllocError>
             signature,
             message,
         } => Ok(verifying_hss(public, signature, message)),
-        Case::Key(public) => identifying(alloc, public),
+        Case::Key(key) => identifying(alloc, key),
         Case::Sign {
             seed,
             params,
@@ -195,11 +195,11 @@ fn verifying_hss(public: &[u8], signature: &[u8], message: &[u8]) -> Verdict
     }
 }
 
-// The id of the LMS public key.
-fn identifying(alloc: Global, public: &[u8; 56]) -> Result<Verdict, AllocError>
-    ensures { IfOk result (IsIdentifying public.now) }
+// The id of the public key.
+fn identifying(alloc: Global, key: &Key) -> Result<Verdict, AllocError>
+    ensures { IfOk result (IsIdentifying key.now) }
 {
-    let id = key_id(alloc, &Key::Lms(*public))?;
+    let id = key_id(alloc, key)?;
     Ok(Verdict::KeyId(hex::encode(alloc, &id.0)?))
 }
 

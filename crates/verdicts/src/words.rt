@@ -2,15 +2,19 @@
 
 ghost use Rattle.std.specs.Prelude.{◌≡◌, ◌⊎◌, ◌↔◌, ◌<◌, ◌^◌, ℕ, List, IsTrue, IfOk, IfErr, decimal, length, string_bytes};
 ghost use Rattle.hex.specs.Hex.{IsBytes, encode_lower};
+ghost use Rattle.keys_roles.specs.Keys.{public_bytes, public_len};
+ghost use Rattle.keys_roles.specs.Views.{key_view};
+ghost use Rattle.keys_roles.specs.declared.Key as keys;
 ghost use Rattle.lms.specs.declared.OtsType.{OtsType};
 ghost use Rattle.lms.specs.declared.SigningHeight.{SigningHeight};
 ghost use Rattle.metadata.specs.Shape.{kind_name};
 ghost use Rattle.metadata.specs.declared.documents.Kind.{Kind};
-ghost use Rattle.verdicts.specs.Case.{IsText};
+ghost use Rattle.verdicts.specs.Case.{IsBytesOf, IsText};
 ghost use Rattle.verdicts.specs.Words.{hex_word, ots_word, height_word, covering_word};
 ghost use Rattle.verdicts.specs.declared.case.Covering.{Covering};
 
 use crate::case::{CaseFault, Covering};
+use keys_roles::Key;
 use lms::{OtsType, SigningHeight};
 use metadata::Kind;
 use std::alloc::{AllocError, Global};
@@ -63,6 +67,24 @@ pub fn text_of(alloc: Global, word: &[u8]) -> Result<String, CaseFault>
     match String::from_utf8(bytes) {
         Ok(text) => Ok(text),
         Err(_) => Err(CaseFault::NotUnderstood),
+    }
+}
+
+/// The public key whose bytes a word writes down: 56 of an LMS key, 60 of an HSS key.
+pub fn key_of(alloc: Global, word: &[u8]) -> Result<Key, CaseFault>
+    ensures key { IfOk result (λ key. (word.now ≡ hex_word (public_bytes (key_view key)))
+        × IsBytesOf (public_len (key_view key)) (public_bytes (key_view key))) }
+    ensures fault { IfErr result (λ e. (e ≡ CaseFault.OutOfMemory)
+        ⊎ ((key : keys.Key) → IsBytesOf (public_len (key_view key)) (public_bytes (key_view key))
+        → word.now ≡ hex_word (public_bytes (key_view key)) → ⊥)) }
+{
+    let bytes = bytes_of(alloc, word)?;
+    if let Some(public) = bytes.as_array::<56>() {
+        return Ok(Key::Lms(*public));
+    }
+    match bytes.as_array::<60>() {
+        Some(public) => Ok(Key::Hss(*public)),
+        None => Err(CaseFault::NotUnderstood),
     }
 }
 
