@@ -18,6 +18,8 @@ from test_keys import KEYS
 A_KEY = make.key_object(KEYS[0].public.hex())
 GOOD = make.delegation("a", KEYS[0:1], 1, paths=["*"])
 WITHOUT_PATHS = make.delegation("a", KEYS[0:1], 1)
+WRAPPED = [KEYS[12], KEYS[26]]
+OVER_ONE_KEY = make.delegations(WRAPPED, [make.delegation("a", WRAPPED, 1, paths=["*"])])
 
 
 def names(count):
@@ -87,6 +89,9 @@ LISTS_READ = [
     ("another name in a rule", {"keys": {"x": A_KEY}, "roles": [{**GOOD, "keyids": ["x"]}]}, "BadKeyId"),
     ("another name, and no such role", {"keys": {"x": A_KEY}, "roles": [GOOD]}, "WrongShape"),
     ("two names of a key", {"keys": {KEYS[0].id: A_KEY, ZEROS: A_KEY}, "roles": [GOOD]}, "BadKeyId"),
+    ("a key and its wrapping in a rule", OVER_ONE_KEY, "WrongShape"),
+    ("the same, and a key that is misnamed", {**OVER_ONE_KEY, "keys": {**OVER_ONE_KEY["keys"], ZEROS: A_KEY}}, "WrongShape"),
+    ("a key and its wrapping in two rules", {**OVER_ONE_KEY, "roles": [make.delegation(f"a{key.id[:4]}", [key], 1, paths=["*"]) for key in WRAPPED]}, None),
     ("a key with a further member", {"keys": {KEYS[0].id: {**A_KEY, "x": 1}}, "roles": [GOOD]}, "WrongShape"),
 ]
 
@@ -142,6 +147,7 @@ class Cases(document_shapes.Cases):
         self.values()
         self.lists()
         self.keys(("delegations", "keys"))
+        self.wrappings(("delegations", "keys"), ("delegations", "roles", 1))
         for label, value, _ in LISTS_READ:
             self.delegate(label, value)
         for said, _ in ROLES_READ:

@@ -11,6 +11,8 @@ MAXIMUM_SIGNATURES = 16
 MAXIMUM_SIGNATURE_LENGTH = 4 + 8 * 9324 + 7 * 56
 MAXIMUM_KEYS = 256
 MAXIMUM_RULE_KEYS = 16
+# The digits of a public key, which tell its scheme.
+DIGITS_OF_SCHEME = {"lms-sha256": 112, "hss-sha256": 120}
 
 
 class Rule:
@@ -51,15 +53,20 @@ def shape(condition):
     deny_unless(condition, "WrongShape")
 
 
+def key_object(public):
+    """A key as a file has it."""
+    scheme = "hss-sha256" if len(public) == DIGITS_OF_SCHEME["hss-sha256"] else "lms-sha256"
+    return {"keytype": "lms", "keyval": {"public": public}, "scheme": scheme}
+
+
 def key_id(public):
     """TUF 1.0, section 4.2: the SHA-256 of the key object's canonical form."""
-    key = {"keytype": "lms", "keyval": {"public": public}, "scheme": "lms-sha256"}
-    return hashlib.sha256(canonical_json.write(key)).hexdigest()
+    return hashlib.sha256(canonical_json.write(key_object(public))).hexdigest()
 
 
 def top_key(public):
-    """The LMS public key by which a key is counted."""
-    return public
+    """The LMS public key by which a key is counted: that of the top level, which stands behind the number of levels."""
+    return public[-DIGITS_OF_SCHEME["lms-sha256"]:]
 
 
 def read_signatures(value):
@@ -92,10 +99,10 @@ def read_entry(value):
 
 def read_key(value):
     shape(type(value) is dict and set(value) == {"keytype", "keyval", "scheme"})
-    shape(value["keytype"] == "lms" and value["scheme"] == "lms-sha256")
+    shape(value["keytype"] == "lms" and type(value["scheme"]) is str and value["scheme"] in DIGITS_OF_SCHEME)
     shape(type(value["keyval"]) is dict and set(value["keyval"]) == {"public"})
     public = value["keyval"]["public"]
-    shape(is_hex(public, 112))
+    shape(is_hex(public, DIGITS_OF_SCHEME[value["scheme"]]))
     return public
 
 

@@ -203,6 +203,8 @@ class Cases:
         rule = {"keyids": [KEYS[8].id, ZEROS], "threshold": 2}
         self.sign("two ids of one key", with_value(two, ("roles", "targets"), rule))
         self.sign("no keys", {**self.signed, "keys": {}})
+        for role in RULES:
+            self.wrappings(("keys",), ("roles", role))
         for role in ("mirrors", "x", ""):
             rule = self.signed["roles"]["root"]
             self.sign(f"a further role {role!r}", with_member(self.signed, ("roles",), role, rule))
@@ -222,20 +224,34 @@ class Cases:
                 keys[key_id(f"{number:0112x}")] = make.key_object(f"{number:0112x}")
             self.sign(f"{count} keys", {**self.signed, "keys": keys})
 
+    def wrappings(self, table, rule, ids="keyids"):
+        """A rule with a key and the HSS keys over it, with two of these or with one alone; two others of the table are misnamed or not."""
+        for numbers in ((12, 26), (12, 27), (26, 27), (13, 12, 14, 26), (1, 28), (12, 13), (26, 13)):
+            keys = [KEYS[number] for number in numbers]
+            held = {**at(self.signed, table), **make.key_table([*keys, KEYS[15], KEYS[17]])}
+            exchanged = {**held, KEYS[15].id: held[KEYS[17].id], KEYS[17].id: held[KEYS[15].id]}
+            for named, label in ((held, ""), (exchanged, ", two misnamed")):
+                signed = with_value(self.signed, table, named)
+                for threshold in (1, len(keys)):
+                    said = {**at(signed, rule), ids: [key.id for key in keys], "threshold": threshold}
+                    self.sign(f"{rule}: {threshold} of keys {numbers}{label}", with_value(signed, rule, said))
+
     def keys(self, table=("keys",)):
-        """Odd key objects, under their own ids and under others."""
-        public = KEYS[16].public.hex()
+        """Odd key objects of both schemes, under their own ids and under others."""
+        for key, other, scheme in ((KEYS[16], KEYS[17], "hss-sha256"), (KEYS[17], KEYS[16], "lms-sha256")):
+            for value in self.odd_objects(key.public.hex(), scheme):
+                own = hashlib.sha256(canonical_json.write(value)).hexdigest()
+                for name in (own, ZEROS, "x", "X" * 64, key.id, key.id.upper(), other.id):
+                    self.sign(f"key {value!r} as {name}", with_member(self.signed, table, name, value))
+
+    def odd_objects(self, public, other_scheme):
         key = make.key_object(public)
-        odd = [key, {**key, "x": 1}, {**key, "keyval": {"public": public, "x": 1}}, {**key, "keyval": {}}]
-        odd += [{**key, "keyval": None}, {**key, "keytype": "LMS"}, {**key, "keytype": "ed25519"}]
-        odd += [{**key, "scheme": "hss-sha256"}, {**key, "scheme": "lms"}, {"keytype": "lms", "keyval": key["keyval"]}]
-        odd += [{}, None, [], "x"]
-        digits = (public.upper(), public[2:], public + "00", "0" * 112, "f" * 112, "")
-        odd += [make.key_object(text) for text in digits]
-        for value in odd:
-            own = hashlib.sha256(canonical_json.write(value)).hexdigest()
-            for name in (own, ZEROS, "x", "X" * 64, KEYS[16].id, KEYS[16].id.upper()):
-                self.sign(f"key {value!r} as {name}", with_member(self.signed, table, name, value))
+        yield from (key, {**key, "x": 1}, {**key, "keyval": {"public": public, "x": 1}}, {**key, "keyval": {}})
+        yield from ({**key, "keyval": None}, {**key, "keytype": "LMS"}, {**key, "keytype": "ed25519"}, {**key, "keytype": "hss"})
+        yield from ({**key, "scheme": scheme} for scheme in (other_scheme, "lms", "hss", key["scheme"].upper(), None, [key["scheme"]]))
+        yield from ({"keytype": "lms", "keyval": key["keyval"]}, {}, None, [], "x")
+        digits = (public.upper(), public[2:], public + "00", public[8:], "0" * 8 + public, "0" * len(public), "f" * len(public), "")
+        yield from ({**key, "keyval": {"public": text}} for text in digits)
 
     def envelopes(self):
         first = ("signatures", 0)

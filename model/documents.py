@@ -8,7 +8,7 @@ import canonical_json
 import lms
 from artifact_rules import read_rule as read_artifact_rule
 from denials import Denied, deny_unless
-from document_parts import judge_ids, read_digest, read_entry, read_keys, read_rule, read_signatures, shape
+from document_parts import judge_ids, read_digest, read_entry, read_keys, read_rule, read_signatures, shape, top_key
 from names import LARGEST_NUMBER, is_role_name, is_target_path, is_whole, moment_of
 from patterns import is_pattern, is_prefix, matches_segmented, prefix_covers
 
@@ -294,17 +294,20 @@ def is_document(kind, text):
 
 @lru_cache(maxsize=65536)
 def verifies(public, signed_bytes, signature):
-    return lms.verify(bytes.fromhex(public), signed_bytes, signature)
+    """By the key's scheme."""
+    key = bytes.fromhex(public)
+    verify = lms.verify if len(key) == lms.PUBLIC_KEY_LENGTH else lms.verify_hss
+    return verify(key, signed_bytes, signature)
 
 
 def meets(rule, document):
-    """Whether as many distinct public keys of the rule signed as its threshold asks for."""
+    """Whether as many keys of the rule with distinct top keys signed as its threshold asks for."""
     keys = rule.public_keys()
     signers = set()
     for keyid, signature in document.signatures:
         public = keys.get(keyid)
-        if public is not None and public not in signers and verifies(public, document.signed_bytes, signature):
-            signers.add(public)
+        if public is not None and top_key(public) not in signers and verifies(public, document.signed_bytes, signature):
+            signers.add(top_key(public))
     return len(signers) >= rule.threshold
 
 

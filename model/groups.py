@@ -46,6 +46,8 @@ def of_keys_and_readers(chosen):
     """Signatures, patterns, rules and files of layouts."""
     yield "odd signatures", signature_cases.compare_odd_signatures
     yield "odd keys", signature_cases.compare_odd_keys
+    yield "odd levels", signature_cases.compare_odd_levels
+    yield "keys over one key", signature_cases.compare_wrappings
     yield "sixteen keys", signature_cases.compare_sixteen_keys
     yield "patterns", pattern_cases.compare_patterns, chosen.patterns
     yield "artifact rules", rule_cases.compare_rules, chosen.rules

@@ -79,6 +79,7 @@ class Cases(document_shapes.Cases):
         self.put(("steps", 1), {name if name != "pubkeys" else "keyids": value for name, value in step.items()})
         self.rule_lists()
         self.keys()
+        self.wrappings(("keys",), ("steps", 1), "pubkeys")
 
     def refer(self, member, value):
         self.put((*REFERENCE, member), value)
@@ -105,6 +106,7 @@ class Cases(document_shapes.Cases):
                 self.put(REFERENCE, {**reference, "keys": table, "keyids": list(table)[:count], "threshold": threshold})
         for count in (255, 256, 257):
             self.refer("keys", {**many_keys(count - 2), **reference["keys"]})
+        self.wrappings((*REFERENCE, "keys"), REFERENCE)
         misnamed = {**reference, "keys": {**reference["keys"], ZEROS: reference["keys"][BUILDER.id]}}
         delegating = {**self.signed, "delegations": {"keys": {ZEROS: reference["keys"][BUILDER.id]}, "roles": []}}
         for further in (reference, misnamed, {**misnamed, "links": []}, {**misnamed, "x": 1}, {}):

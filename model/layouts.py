@@ -1,6 +1,7 @@
 """Whether a layout and its links allow a target (in-toto 1.0, section 5.2)."""
 import artifact_rules
 from denials import Denied, deny_unless
+from document_parts import top_key
 from documents import is_live, meets, verifies
 
 
@@ -31,7 +32,7 @@ def judge(layout, owners, links, step, product, digest, now):
     deny_unless(is_live(layout, now), "LayoutExpired")
     good = {each.name: good_links(each, links) for each in layout.steps}
     for each in layout.steps:
-        deny_unless(len({public for public, _ in good[each.name]}) >= each.rule.threshold, "StepThreshold")
+        deny_unless(len({top_key(public) for public, _ in good[each.name]}) >= each.rule.threshold, "StepThreshold")
     for each in layout.steps:
         said = [(link.materials, link.products) for _, link in good[each.name]]
         deny_unless(all(one == said[0] for one in said), "LinksDisagree")

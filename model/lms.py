@@ -1,10 +1,13 @@
-"""Verification of LMS signatures with SHA-256 (RFC 8554, sections 4 and 5)."""
+"""Verification of LMS and HSS signatures with SHA-256 (RFC 8554, sections 4 to 6)."""
 import hashlib
+from functools import lru_cache
 
 # The type of a one-time signature: its width w, its elements p and the left shift ls of its checksum (table 1).
 ONE_TIME_TYPES = {1: (1, 265, 7), 2: (2, 133, 6), 3: (4, 67, 4), 4: (8, 34, 0)}
 TREE_HEIGHTS = {5: 5, 6: 10, 7: 15, 8: 20, 9: 25}
 PUBLIC_KEY_LENGTH = 56
+HSS_PUBLIC_KEY_LENGTH = 60
+MOST_LEVELS = 8
 # D_PBLC, D_MESG, D_LEAF and D_INTR (section 7.1).
 END_OF_CHAINS, MESSAGE, LEAF, INNER_NODE = b"\x80\x80", b"\x81\x81", b"\x82\x82", b"\x83\x83"
 
@@ -47,19 +50,21 @@ def chain(identifier, leaf, element, first, last, start):
     return text
 
 
+def signature_length(public):
+    """How many bytes the signatures of a key have; None where there are no such types."""
+    height, one_time_type = TREE_HEIGHTS.get(number_at(public, 0)), ONE_TIME_TYPES.get(number_at(public, 4))
+    return None if height is None or one_time_type is None else 44 + 32 * (one_time_type[1] + height)
+
+
 def verify(public, message, signature):
     """Algorithms 6 and 6a with 4b. No bytes may be left over."""
-    if len(public) != PUBLIC_KEY_LENGTH:
+    if len(public) != PUBLIC_KEY_LENGTH or len(signature) != signature_length(public):
         return False
-    height = TREE_HEIGHTS.get(number_at(public, 0))
+    height = TREE_HEIGHTS[number_at(public, 0)]
     one_time_type = number_at(public, 4)
-    if height is None or one_time_type not in ONE_TIME_TYPES:
-        return False
     width, elements, _ = ONE_TIME_TYPES[one_time_type]
     identifier, root = public[8:24], public[24:]
     path_first = 44 + 32 * elements
-    if len(signature) != path_first + 32 * height:
-        return False
     leaf = number_at(signature, 0)
     same_types = signature[4:8] == public[4:8] and signature[path_first - 4:path_first] == public[:4]
     if not same_types or leaf >= 1 << height:
@@ -78,3 +83,27 @@ def verify(public, message, signature):
         node //= 2
         here = sha256(identifier, u32(node), INNER_NODE, *pair)
     return here == root
+
+
+# The keys below the top one are few, and each is signed once.
+verify_key = lru_cache(maxsize=8192)(verify)
+
+
+def verify_hss(public, message, signature):
+    """Section 6.3: the key is the number of levels and the key of the top one; the signature is the number of the signed keys, each of these
+    behind the signature of the level above, and the signature of the message. No bytes may be left over."""
+    if len(public) != HSS_PUBLIC_KEY_LENGTH or not 1 <= number_at(public, 0) <= MOST_LEVELS:
+        return False
+    signed_keys = number_at(public, 0) - 1
+    if signature[:4] != u32(signed_keys):
+        return False
+    signer, rest = public[4:], signature[4:]
+    for _ in range(signed_keys):
+        length = signature_length(signer)
+        if length is None:
+            return False
+        by_signer, key, rest = rest[:length], rest[length:length + PUBLIC_KEY_LENGTH], rest[length + PUBLIC_KEY_LENGTH:]
+        if len(key) != PUBLIC_KEY_LENGTH or not verify_key(signer, key, by_signer):
+            return False
+        signer = key
+    return verify(signer, message, rest)

@@ -1,4 +1,4 @@
-"""LMS: the test keys beside `gate/straight.py`, and odd signatures and keys before the program."""
+"""LMS and HSS: the test keys beside `gate/straight.py`, and odd signatures and keys before the program."""
 import importlib.util
 from pathlib import Path
 
@@ -13,6 +13,8 @@ from repository import State
 from scenes import LIVE, NOW, SIMPLE_RULES, signed_document
 from test_keys import KEYS
 
+# Of one, two and three levels.
+HSS_KEYS = (KEYS[4], KEYS[1], KEYS[6])
 STRAIGHT = Path(__file__).resolve().parent.parent / "gate/straight.py"
 
 
@@ -37,6 +39,13 @@ def compare_keys(session, random):
         for text in (message, message + b"x"):
             verdict = other.verdict(key.public, signature, text).split(" ")[0]
             session.check(f"{label}: verdict", verdict == "valid", lms.verify(key.public, text, signature))
+    for key in HSS_KEYS:
+        label = f"key of {len(key.levels)} levels"
+        session.check(f"{label}: id", other.key_id(key.public), key.id)
+        message = random.randbytes(20)
+        for case, public, signature in [*odd_levels(random, key, message), *odd_tops(key, message)]:
+            verdict = other.hierarchical(public, signature, message)
+            session.check(f"{label}: {case}", verdict == "valid", lms.verify_hss(public, message, signature))
 
 
 def replaced(text, first, part):
@@ -84,6 +93,72 @@ def odd_signatures(random, key, message):
         yield "another message", key.sign(other)
 
 
+def ends_of_levels(key):
+    """Where the levels of a signature end: behind the signature, and behind the key that it signs."""
+    end = 4
+    for level in key.levels:
+        end += lms.signature_length(level.public)
+        yield end
+        end += lms.PUBLIC_KEY_LENGTH
+
+
+def signed_down(levels, message):
+    """The levels of a signature."""
+    parts = [signer.sign(below.public) + below.public for signer, below in zip(levels, levels[1:])]
+    return b"".join(parts) + levels[-1].sign(message)
+
+
+def odd_levels(random, key, message):
+    """Signatures under an HSS key with each level changed, cut, left out or signed by another key. Some are good."""
+    good, levels, other = key.sign(message), key.levels, KEYS[19]
+    signed_keys = len(levels) - 1
+    yield "good", key.public, good
+    for word in (0, 1, 2, 7, 8, 9, signed_keys + 1, signed_keys + 2**31, 2**32 - 1):
+        yield f"said to have {word} signed keys", key.public, lms.u32(word) + good[4:]
+    ends = list(ends_of_levels(key))
+    for place in (0, 3, 4, 7, 8, len(good) - 1, *ends[:-1], *(end + 55 for end in ends[:-1]), *(end + 56 for end in ends[:-1])):
+        yield f"bit of byte {place}", key.public, replaced(good, place, bytes([good[place] ^ 1 << random.randrange(8)]))
+    for first, end in zip([4, *(end + 56 for end in ends)], ends):
+        for _ in range(3):
+            place = random.randrange(first, end)
+            yield f"bit of byte {place} of a level", key.public, replaced(good, place, bytes([good[place] ^ 1 << random.randrange(8)]))
+    for cut in (0, 3, 4, 5, *ends[:-1], *(end + 56 for end in ends[:-1]), len(good) - 32, len(good) - 1):
+        yield f"the first {cut} bytes", key.public, good[:cut]
+    for more in (b"\0", good[-32:], good[4:], other.public):
+        yield f"{len(more)} bytes more", key.public, good + more
+    yield "without its first word", key.public, good[4:]
+    for place in range(len(levels)):
+        exchanged = [*levels[:place], other, *levels[place + 1:]]
+        yield f"another key at level {place}", key.public, lms.u32(signed_keys) + signed_down(exchanged, message)
+        by_others = signed_down(levels[:place + 1], message) + other.public + other.sign(message)
+        yield f"a further key behind level {place}", key.public, lms.u32(signed_keys) + by_others
+    if signed_keys:
+        left_out = signed_down([levels[0], *levels[2:]], message)
+        yield "a level left out", key.public, lms.u32(signed_keys) + left_out
+        yield "a level left out and not counted", key.public, lms.u32(signed_keys - 1) + left_out
+        yield "the last level alone", key.public, lms.u32(0) + levels[-1].sign(message)
+    yield "a level more", key.public, lms.u32(signed_keys + 1) + signed_down([*levels, other], message)
+    yield "another message", key.public, key.sign(message + b"x")
+
+
+def odd_tops(key, message):
+    """Keys with other numbers of levels, over the same top key, and of types that there are not."""
+    good, top = key.sign(message), key.levels[0]
+    for levels in (0, 1, 2, 3, 8, 9, 2**31, 2**32 - 1):
+        public = lms.u32(levels) + top.public
+        yield f"a key of {levels} levels", public, good
+        yield f"a key of {levels} levels, as many said", public, lms.u32((levels - 1) % 2**32) + good[4:]
+    for count in (8, 9, 10):
+        signature = lms.u32(count - 1) + signed_down([top, *[KEYS[19]] * (count - 1)], message)
+        yield f"{count} levels", lms.u32(count) + top.public, signature
+    for tree_type, one_time_type in ((5, 0), (5, 5), (4, 3), (10, 3), (6, 3), (5, 4)):
+        odd = lms.u32(tree_type) + lms.u32(one_time_type)
+        yield f"top of types {tree_type} and {one_time_type}", key.public[:4] + odd + key.public[12:], good
+        below = odd + KEYS[19].public[8:]
+        signature = lms.u32(1) + top.sign(below) + below + KEYS[19].sign(message)
+        yield f"below of types {tree_type} and {one_time_type}", lms.u32(2) + top.public, signature
+
+
 def one_key_state(key_objects, timestamp_id, signers):
     """A root whose timestamp rule names one key."""
     root = make.root(1, LIVE, SIMPLE_RULES)
@@ -108,6 +183,43 @@ def compare_odd_signatures(session, random):
         World(session, state).serve(NOW, requests)
 
 
+def compare_odd_levels(session, random):
+    """The same of HSS keys, and of keys with another number of levels."""
+    timestamp = make.timestamp(5, LIVE, 1)
+    message = canonical_json.write(timestamp)
+    for key in HSS_KEYS:
+        requests = {}
+        for label, public, signature in [*odd_levels(random, key, message), *odd_tops(key, message)]:
+            text = make.signed_file(timestamp, [(document_parts.key_id(public.hex()), signature.hex())])
+            requests.setdefault(public, []).append((f"{len(key.levels)} levels, {label}", post(("timestamp", text), ("root", b""))))
+        for public, of_key in requests.items():
+            keyid = document_parts.key_id(public.hex())
+            state = one_key_state({keyid: make.key_object(public.hex())}, keyid, KEYS[0:1])
+            World(session, state).serve(NOW, of_key)
+
+
+def compare_wrappings(session, _random):
+    """An LMS key beside the HSS keys over it: one rule with two of them is none, and each alone is one. Two that are shaped count as two."""
+    plain, one, two = KEYS[12], KEYS[26], KEYS[27]
+    for keys in ((plain, one), (plain, two), (one, two), (plain, KEYS[13]), (one, KEYS[13]), (KEYS[1], KEYS[28])):
+        for threshold in (1, 2):
+            rules = {**SIMPLE_RULES, "timestamp": (keys, threshold)}
+            world = World(session, State())
+            label = f"{threshold} of {' and '.join(key.id[:8] for key in keys)}"
+            world.command("init", NOW, make.signed_file(make.root(1, LIVE, rules), KEYS[0:1]))
+            for signers in ((), keys[:1], keys[1:], keys, keys[::-1]):
+                timestamp = make.signed_file(make.timestamp(1, LIVE, 1), signers)
+                world.serve(NOW, [(label, post(("timestamp", timestamp), ("root", b"")))])
+    rules = {**SIMPLE_RULES, "timestamp": ([plain], 1), "snapshot": ([one], 1), "targets": ([two], 1)}
+    world = World(session, State())
+    world.command("init", NOW, make.signed_file(make.root(1, LIVE, rules), KEYS[0:1]))
+    for signers in ([one], [two], [plain]):
+        world.serve(NOW, [("wrappings of one key in three roles", post(("timestamp", make.signed_file(make.timestamp(1, LIVE, 1), signers))))])
+    for signers in ([plain], [two], [one]):
+        snapshot = make.signed_file(make.snapshot(1, LIVE, {"targets": (1,)}), signers)
+        world.serve(NOW, [("wrappings of one key in three roles", post(("snapshot", snapshot)))])
+
+
 def compare_odd_keys(session, _random):
     """Keys of types that there are not, or of other types than the signature's."""
     key = KEYS[0]
@@ -126,7 +238,7 @@ def compare_odd_keys(session, _random):
 
 def compare_sixteen_keys(session, _random):
     """The largest rule, with as many signatures as a file may have."""
-    keys = [key for key in KEYS if key.width < 8][:16]
+    keys = [key for key in KEYS if key is not KEYS[7]][:16]
     for threshold in (15, 16):
         rules = {**SIMPLE_RULES, "timestamp": (keys, threshold)}
         state = State()

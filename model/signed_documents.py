@@ -3,6 +3,7 @@ import datetime
 import hashlib
 
 import canonical_json
+from document_parts import key_object
 
 # The first second of 2030. The moments of all cases count from it.
 BEGIN = 1893456000
@@ -17,10 +18,6 @@ def date(seconds):
 
 def digest(text):
     return hashlib.sha256(text).hexdigest()
-
-
-def key_object(public):
-    return {"keytype": "lms", "keyval": {"public": public}, "scheme": "lms-sha256"}
 
 
 def key_table(keys):

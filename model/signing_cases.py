@@ -5,7 +5,7 @@ import sqlite3
 import canonical_json
 import leaf_book
 from command_line import fault
-from test_keys import KEYS, Key
+from test_keys import LMS_KEYS as KEYS, Key
 
 LARGE = Key(b"a key that signs 1,024 files", 1, 10)
 

@@ -1,4 +1,4 @@
-"""LMS keys from fixed seeds (RFC 8554, section 5 and appendix A).
+"""LMS and HSS keys from fixed seeds (RFC 8554, sections 5 and 6, and appendix A).
 
 They are for tests alone: a leaf signs again when all have signed. `gate/straight.py` makes the whole tree
 for each signature. Here a key keeps its tree, since thousands of files are signed. The first group of `compare`
@@ -81,5 +81,25 @@ def width_of(number):
     return 2 if number % 4 == 3 else 4
 
 
-KEYS = [Key(b"test key %d" % number, width_of(number), 10 if number == 11 else 5) for number in range(26)]
+class HssKey:
+    """A key of several levels, the top one first (section 6): each but the last signs the key of the next one."""
+
+    def __init__(self, *levels):
+        self.levels = levels
+        self.height = levels[0].height
+        self.public = u32(len(levels)) + levels[0].public
+        self.id = document_parts.key_id(self.public.hex())
+
+    def sign(self, message):
+        parts = [u32(len(self.levels) - 1)]
+        for signer, below in zip(self.levels, self.levels[1:]):
+            parts += [signer.sign(below.public), below.public]
+        return b"".join(parts) + self.levels[-1].sign(message)
+
+
+LMS_KEYS = [Key(b"test key %d" % number, width_of(number), 10 if number == 11 else 5) for number in range(26)]
+# The keys of these places are HSS keys, and the last ones are so over keys that are there for themselves too.
+LEVELS = {1: (1, 21), 4: (4,), 6: (6, 2, 22), 9: (9, 11), 13: (13, 23), 17: (17,), 24: (24, 2, 22, 8, 10, 12, 14, 16)}
+KEYS = [HssKey(*(LMS_KEYS[level] for level in LEVELS[number])) if number in LEVELS else LMS_KEYS[number] for number in range(26)]
+KEYS += [HssKey(LMS_KEYS[12]), HssKey(LMS_KEYS[12], LMS_KEYS[19]), HssKey(LMS_KEYS[1])]
 KEY_OF_ID = {key.id: key for key in KEYS}
