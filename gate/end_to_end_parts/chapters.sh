@@ -29,6 +29,19 @@ the_first_chapter() {
     same "what the chapter 'first' prints" "$folder/first/wanted" "$folder/first/said"
 }
 
+# Another timestamp of the version that is held counts as the same, over the repository of the first chapter. It is not taken, and a warning says so.
+a_timestamp_that_is_not_taken() {
+    local db=$folder/first/repository.db other=$folder/first/other
+    sed -E 's/"expires":"[0-9]{4}/"expires":"2190/' "$folder/first/timestamp.unsigned.json" >"$other.unsigned"
+    "$release" sign --book "$folder/first/book.db" --known --seed "$folder/first/timestamp.seed" --ots 8 --height 5 "$other.unsigned" >"$other.json"
+    dump "$db" "$folder/before"
+    wants 0 '{"accepted":0,"same":1}\n' '' publish --db "$db" "timestamp:$folder/first/timestamp.json"
+    wants 0 '{"accepted":0,"same":1}\n' "warning: timestamp:$other.json: not taken, another timestamp of its version is held\n" \
+        publish --db "$db" "timestamp:$other.json"
+    dump "$db" "$folder/after"
+    same "the tables behind a timestamp that is not taken" "$folder/before" "$folder/after"
+}
+
 # A root of several people, a delegation, and other root keys.
 the_team_chapter() {
     mkdir "$folder/team"

@@ -58,6 +58,21 @@ faults_of_a_client() {
     [ "$(ls -A "$folder/taken")" = out ] || fail "get left a file beside another"
 }
 
+# The client's own database and its log are not written, by whatever name they are called.
+outputs_onto_the_database() {
+    local db=$folder/client.db name
+    mkdir -p "$folder/way"
+    ln -sfn "$folder" "$folder/way/back"
+    dump "$db" "$folder/before"
+    for name in "$db" "$folder/./client.db" "$folder/way/back/client.db" "$db-wal" "$folder/way/../client.db-wal"; do
+        wants 3 '' 'fault file\n' get --at=$at --db "$db" --port 1 --out "$name" hello.txt
+        wants 3 '' "$name: a file of the client's own database\nfault file\n" get -v --at=$at --db "$db" --port 1 --out "$name" hello.txt
+    done
+    dump "$db" "$folder/after"
+    same "the tables behind outputs onto them" "$folder/before" "$folder/after"
+    rm -r "$folder/way"
+}
+
 # What is told of a client: the names that it asks for, in their order, and what it got.
 # The first expiry of the example's root, timestamp and snapshot, in seconds.
 first_expiry() {

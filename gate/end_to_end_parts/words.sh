@@ -162,6 +162,27 @@ words_of_a_client_and_export() {
     usage export --db "$db" --to "$folder/files" --at=x
 }
 
+# A repository is in a database or behind a port, and beside a port no moment may stand.
+words_of_a_port() {
+    local db=$folder/db words
+    for words in "put $example/hello.txt" "publish root:a" prune; do
+        says 'required arguments' $words
+        says 'required arguments' $words --at=5
+        says "'--db <FILE>' cannot be used with '--port <P>'" $words --db "$db" --port 80
+        says "'--db <FILE>' cannot be used with '--port <P>'" $words --db "$db" --port 80 --at=5
+        says "'--at <SECONDS>' cannot be used with '--port <P>'" $words --port 80 --at=5
+        usage $words --port 0
+        usage $words --port 65536
+        usage $words --port x
+        usage $words --port 80 --port 80
+        helps 'port <P>' ${words%% *} --help
+    done
+    usage put --port 80
+    usage publish --port 80
+    usage prune --port 80 a
+    usage publish --port 80 $(documents 161 targets:none)
+}
+
 # Faults of usage make no database and no folder.
 other_words() {
     words_of_canon
@@ -171,6 +192,7 @@ other_words() {
     words_of_sign
     words_of_put_and_serve
     words_of_a_client_and_export
+    words_of_a_port
     [ ! -e "$folder/db" ] || fail "a usage fault made a database"
     [ ! -e "$folder/files" ] || fail "a usage fault made a folder"
 }

@@ -2,11 +2,14 @@
 use crate::fault::fault_of_client;
 use crate::mirror::Mirror;
 use client::fetch_target;
-use command_support::{Denial, Fault, Notes, OWNER_ALONE, file_fault, moment, print, put_in_place};
+use command_support::{
+    Denial, Fault, Notes, OWNER_ALONE, are_one_file, file_fault, moment, print, put_in_place,
+};
 use commands::{Work, worked};
 use metadata::Moment;
 use path_patterns::TargetPath;
 use sqlite::Alter;
+use std::alloc::AllocError;
 use std::io::Write;
 use store::Store;
 
@@ -32,7 +35,7 @@ impl<'a> Getting<'a> {
 }
 
 /// Fetches what the client's own state misses for the target, and writes the target's file where that state grants it. Prints
-/// `written`.
+/// `written`. The file that is written may not be the client's own database or its log, by whatever name.
 pub fn get<O: Write, E: Write>(
     rt: &HostRuntime,
     asked: Getting<'_>,
@@ -49,8 +52,18 @@ pub fn get<O: Write, E: Write>(
         now,
     };
     let bytes = worked(rt, asked.db, &mut fetching, notes)?;
+    if is_of_database(rt, asked.db, asked.out)? {
+        notes.tell(&asked.out, &"a file of the client's own database");
+        return Err(Fault::File);
+    }
     put(rt, asked.out, &bytes, notes)?;
     print(out, b"written\n", notes)
+}
+
+// Whether a path leads to the file of a database, or to its log. Both are there once the database was opened.
+fn is_of_database(rt: &HostRuntime, db: &str, path: &str) -> Result<bool, AllocError> {
+    let log = format!(in rt.alloc(); "{db}-wal")?;
+    Ok(are_one_file(rt, path, db) || are_one_file(rt, path, log.as_str()))
 }
 
 // Writes the target's file.

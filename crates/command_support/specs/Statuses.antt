@@ -2,7 +2,7 @@
 use Rattle.std.specs.Prelude.{ℕ, None}
 use Rattle.denials.specs.declared.denial.Denial.TheVariants as denials
 use Rattle.command_support.specs.declared.fault.Fault.{Fault}
-use Rattle.command_support.specs.declared.fault.Fault.TheVariants.{Usage, Help, Denied, LeavesSpent, UnknownKey, Memory, Database, Damaged, Network, File, Clock}
+use Rattle.command_support.specs.declared.fault.Fault.TheVariants.{Usage, Help, Denied, Refused, LeavesSpent, UnknownKey, Memory, Database, Damaged, Network, File, Clock}
 use Rattle.command_line.specs.declared.tasks.Usage.{Usage as Usages}
 use Rattle.command_line.specs.declared.tasks.Usage.TheVariants as usages
 use Rattle.canon.specs.declared.CanonFault.{CanonFault}
@@ -12,6 +12,7 @@ use Rattle.canon.specs.declared.CanonFault.TheVariants as canon_faults
 abbrev pub status_of : Fault → ℕ
 status_of (Help text) = 0
 status_of (Denied denial index) = 1
+status_of (Refused number name index) = 1
 status_of LeavesSpent = 1
 status_of UnknownKey = 1
 status_of (Usage text) = 2

@@ -18,6 +18,8 @@ pub enum Fault {
     /// The first rule that fails, and of a batch the index of its document, or the number of the documents where it is what
     /// they leave as a whole.
     Denied(Denial, Option<usize>),
+    /// The number of the first rule that fails, its name and the index, as a server tells them.
+    Refused(u8, String, Option<usize>),
     /// All leaves of a key are spent.
     LeavesSpent,
     /// The book is to be known and is not there, or the key is to be known and is not in it.
@@ -39,7 +41,10 @@ impl Fault {
     {
         match self {
             Fault::Help(_) => 0,
-            Fault::Denied(_, _) | Fault::LeavesSpent | Fault::UnknownKey => 1,
+            Fault::Denied(_, _)
+            | Fault::Refused(_, _, _)
+            | Fault::LeavesSpent
+            | Fault::UnknownKey => 1,
             Fault::Usage(_) => 2,
             Fault::Memory
             | Fault::Database
@@ -55,7 +60,8 @@ impl fmt::Display for Fault {
     fn fmt<W: fmt::Write>(&self, f: &mut fmt::Formatter<W>) -> fmt::Result {
         match self {
             Fault::Usage(text) | Fault::Help(text) => f.write_str(text.as_str()),
-            Fault::Denied(denial, index) => write_denial(f, denial, *index),
+            Fault::Denied(denial, index) => write_denial(f, denial.number(), denial.name(), *index),
+            Fault::Refused(number, name, index) => write_denial(f, *number, name, *index),
             Fault::LeavesSpent => f.write_str("leaves spent\n"),
             Fault::UnknownKey => f.write_str("unknown key\n"),
             Fault::Memory => f.write_str("fault memory\n"),
@@ -70,11 +76,10 @@ impl fmt::Display for Fault {
 
 fn write_denial<W: fmt::Write>(
     f: &mut fmt::Formatter<W>,
-    denial: &Denial,
+    number: u8,
+    name: &str,
     index: Option<usize>,
 ) -> fmt::Result {
-    let number = denial.number();
-    let name = denial.name();
     match index {
         None => writeln!(f, "denied {number} {name}"),
         Some(index) => writeln!(f, "denied {number} {name} at {index}"),

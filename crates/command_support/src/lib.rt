@@ -17,4 +17,4 @@ pub use fault::{Fault, file_fault};
 pub use files::{DOCUMENT_LIMIT, print, read, read_at_most};
 pub use moments::moment;
 pub use notes::Notes;
-pub use placing::{OWNER_ALONE, put_in_place};
+pub use placing::{OWNER_ALONE, are_one_file, put_in_place};

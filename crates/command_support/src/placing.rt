@@ -1,7 +1,7 @@
 //! Files that come into their places whole.
 use std::fs::{self, File, Permissions};
 use std::io::{self, ErrorKind, Write};
-use std::os::unix::fs::{OpenOptionsExt, PermissionsExt};
+use std::os::unix::fs::{MetadataExt, OpenOptionsExt, PermissionsExt};
 use std::process;
 
 // So many names are tried for a file that is not in its place yet.
@@ -26,6 +26,14 @@ pub fn put_in_place(rt: &HostRuntime, place: &str, bytes: &[u8], mode: u32) -> i
             let _ = fs::remove_file(rt, beside.as_str());
             Err(error)
         }
+    }
+}
+
+/// Whether two paths lead to one file, by whatever names. Where one of them leads to none, they do not.
+pub fn are_one_file(rt: &HostRuntime, one: &str, other: &str) -> bool {
+    match (fs::metadata(rt, one), fs::metadata(rt, other)) {
+        (Ok(one), Ok(other)) => one.dev() == other.dev() && one.ino() == other.ino(),
+        _ => false,
     }
 }
 

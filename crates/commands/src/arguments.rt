@@ -69,7 +69,7 @@ pub fn told<T: Drop, E: Write>(
 ) -> Result<T, Fault>
     ensures { result ≡ done }
 {
-    if let Err(Fault::Denied(_, Some(index))) = &done {
+    if let Err(Fault::Denied(_, Some(index)) | Fault::Refused(_, _, Some(index))) = &done {
         match arguments.get(*index) {
             Some(argument) => notes.tell(&argument.as_str(), &"denied"),
             None => notes.tell(&"the documents together", &"denied"),

@@ -1,4 +1,6 @@
 //! `prune`: takes away what the listed documents do not ask for.
+use client_commands::prune_at;
+use command_line::Place;
 use command_support::{Fault, Notes, moment, print};
 use commands::{applied, refused};
 use http_messages::pruned_body;
@@ -6,8 +8,21 @@ use std::io::Write;
 use store::{Command, Reply};
 
 /// Takes away the targets documents at versions that the snapshot does not list, and the target files that no other one lists, and
-/// prints how many of each.
+/// prints how many of each. At a port the server does it.
 pub fn prune<O: Write, E: Write>(
+    rt: &HostRuntime,
+    place: &Place,
+    at: Option<u64>,
+    out: &mut O,
+    notes: &mut Notes<'_, E>,
+) -> Result<(), Fault> {
+    match place {
+        Place::Database(db) => prune_in(rt, db, at, out, notes),
+        Place::Port(port) => prune_at(rt, *port, out, notes),
+    }
+}
+
+fn prune_in<O: Write, E: Write>(
     rt: &HostRuntime,
     db: &str,
     at: Option<u64>,

@@ -1,4 +1,6 @@
 //! `put`: stores a target file.
+use client_commands::put_at;
+use command_line::Place;
 use command_support::{Fault, Notes, moment, print, read_at_most};
 use commands::{applied, refused};
 use http_messages::BLOB_LIMIT;
@@ -6,9 +8,23 @@ use metadata::digest_of;
 use std::io::Write;
 use store::{Command, Digest, Reply};
 
-/// Stores the file under its SHA-256 in the repository in the database file, and prints its 64 hex digits, also where it was
-/// stored already.
+/// Stores the file under its SHA-256 in the repository in the database file or behind the port, and prints its 64 hex digits, also
+/// where it was stored already.
 pub fn put<O: Write, E: Write>(
+    rt: &HostRuntime,
+    place: &Place,
+    file: &str,
+    at: Option<u64>,
+    out: &mut O,
+    notes: &mut Notes<'_, E>,
+) -> Result<(), Fault> {
+    match place {
+        Place::Database(db) => put_in(rt, db, file, at, out, notes),
+        Place::Port(port) => put_at(rt, *port, file, out, notes),
+    }
+}
+
+fn put_in<O: Write, E: Write>(
     rt: &HostRuntime,
     db: &str,
     file: &str,

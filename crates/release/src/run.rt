@@ -66,9 +66,9 @@ fn perform_task<O: Write, E: Write>(
         } => get(rt, Getting::new(db, *port, to, path), at, out, notes),
         Subcommand::Init { db, root } => init(rt, db, root, at, out, notes),
         Subcommand::Key { seed, params } => print_key(rt, seed, *params, at, out, notes),
-        Subcommand::Prune { db } => prune(rt, db, at, out, notes),
-        Subcommand::Publish { db, documents } => publish(rt, db, documents, at, out, notes),
-        Subcommand::Put { db, file } => put(rt, db, file, at, out, notes),
+        Subcommand::Prune { place } => prune(rt, place, at, out, notes),
+        Subcommand::Publish { place, documents } => publish(rt, place, documents, at, out, notes),
+        Subcommand::Put { place, file } => put(rt, place, file, at, out, notes),
         Subcommand::Sign {
             book,
             seed,

@@ -1,0 +1,132 @@
+//! `publish`, `put` and `prune` over a repository that is served at a port of 127.0.0.1. The moment is the server's.
+use crate::sending::Sending;
+use command_support::{Denial, Fault, Notes, print, read_at_most};
+use commands::{InputFile, documents_of, read_all, told};
+use http_fetch::{Method, read_accepted, read_pruned};
+use http_messages::{BATCH_LIMIT, BLOB_LIMIT, stored_body};
+use metadata::digest_of;
+use std::io::Write;
+
+/// Offers the documents to the server, together, and prints how many were accepted and how many were held already, as `publish` over a
+/// database does. Documents that are together longer than a server takes are a fault of a file, before it is asked.
+pub fn publish_at<O: Write, E: Write>(
+    rt: &HostRuntime,
+    port: u16,
+    arguments: &[String],
+    out: &mut O,
+    notes: &mut Notes<'_, E>,
+) -> Result<(), Fault> {
+    let documents = told(documents_of(rt.alloc(), arguments), arguments, notes)?;
+    let files = read_all(rt, &documents, notes)?;
+    let body = batch_body(rt, arguments, &files, notes)?;
+    let sending = Sending {
+        rt,
+        port,
+        method: Method::Post,
+        name: "batch",
+        body: &body,
+    };
+    let reply = told(sending.send(notes), arguments, notes)?;
+    if read_accepted(&reply).is_none() {
+        return Err(sending.unknown(Fault::Network, notes));
+    }
+    print(out, &reply, notes)?;
+    print(out, b"\n", notes)
+}
+
+// The documents as the body of a batch: each behind a line with its role and its length. Each argument begins with a role and a colon.
+fn batch_body<E: Write>(
+    rt: &HostRuntime,
+    arguments: &[String],
+    files: &[InputFile<'_>],
+    notes: &mut Notes<'_, E>,
+) -> Result<Vec<u8>, Fault> {
+    let alloc = rt.alloc();
+    let mut body = Vec::new(alloc);
+    for (argument, file) in arguments.iter().zip(files.iter()) {
+        if let Some((role, _)) = argument.as_str().split_once(':') {
+            let len = file.bytes.len();
+            let line = format!(in alloc; "{role} {len}\n")?;
+            body.extend_from_slice(line.as_bytes())?;
+            body.extend_from_slice(&file.bytes)?;
+        }
+        if (body.len() as u64) > BATCH_LIMIT {
+            notes.tell(&"the documents together", &"longer than a server takes");
+            return Err(Fault::File);
+        }
+    }
+    Ok(body)
+}
+
+/// Stores the file under its SHA-256 by the server, and prints its 64 hex digits, also where it was stored already. A file that is longer
+/// than any is denied before the server is asked.
+pub fn put_at<O: Write, E: Write>(
+    rt: &HostRuntime,
+    port: u16,
+    file: &str,
+    out: &mut O,
+    notes: &mut Notes<'_, E>,
+) -> Result<(), Fault> {
+    let bytes = read_at_most(rt, file, BLOB_LIMIT, notes)?;
+    if bytes.len() > BLOB_LIMIT {
+        notes.tell(&file, &"denied");
+        return Err(Fault::Denied(Denial::BlobLength, None));
+    }
+    let digits = digest_of(&bytes).digits();
+    let digits = str::from_utf8(&digits).unwrap_or("-");
+    let name = format!(in rt.alloc(); "blobs/{digits}")?;
+    let sending = Sending {
+        rt,
+        port,
+        method: Method::Put,
+        name: name.as_str(),
+        body: &bytes,
+    };
+    let reply = match sending.send(notes) {
+        Ok(reply) => reply,
+        Err(fault) => {
+            tell_denied(&fault, file, notes);
+            return Err(fault);
+        }
+    };
+    if reply.as_slice() != stored_body(true) && reply.as_slice() != stored_body(false) {
+        return Err(sending.unknown(Fault::Network, notes));
+    }
+    print(out, digits.as_bytes(), notes)?;
+    print(out, b"\n", notes)
+}
+
+/// Has the server take away what the listed documents do not ask for, and prints how many target files and documents went.
+pub fn prune_at<O: Write, E: Write>(
+    rt: &HostRuntime,
+    port: u16,
+    out: &mut O,
+    notes: &mut Notes<'_, E>,
+) -> Result<(), Fault> {
+    let sending = Sending {
+        rt,
+        port,
+        method: Method::Post,
+        name: "prune",
+        body: b"",
+    };
+    let reply = match sending.send(notes) {
+        Ok(reply) => reply,
+        Err(fault) => {
+            tell_denied(&fault, sending.name, notes);
+            return Err(fault);
+        }
+    };
+    if read_pruned(&reply).is_none() {
+        return Err(sending.unknown(Fault::Network, notes));
+    }
+    print(out, &reply, notes)?;
+    print(out, b"\n", notes)
+}
+
+// Tells what a denial is about.
+fn tell_denied<E: Write>(fault: &Fault, name: &str, notes: &mut Notes<'_, E>) {
+    if let Fault::Refused(_, _, _) = fault {
+        notes.tell(&name, &"denied");
+    }
+}
