@@ -14,11 +14,13 @@ import os
 import pty
 import re
 import shutil
+import socket
 import sqlite3
 import subprocess
 import sys
 import tempfile
 import threading
+import time
 
 from served import AT, EXAMPLE, RELEASE, TOP, Wrong, read, repository, run, want
 
@@ -228,6 +230,18 @@ def on_a_terminal(clients):
     want((found.returncode, found.stdout, told) == (0, b"updated\n", wanted), f"on a terminal: {told!r}")
 
 
+def a_call_has_its_deadline(clients):
+    """A mirror that takes each connection and answers nothing holds an update for as long as it may take in all, and no longer."""
+    db = clients.begun(())
+    with socket.create_server(("127.0.0.1", 0)) as silent:
+        place = ("--db", db, "--port", str(silent.getsockname()[1]))
+        began = time.monotonic()
+        clients.ends("a silent mirror", 3, "", BROKEN, "update", *AT, *place, "--within", "2")
+        took = time.monotonic() - began
+        clients.ends("a silent mirror", 3, "", BROKEN, "get", *AT, *place, "--within", "1", "--out", f"{db}.out", "hello.txt")
+    want(2 <= took < 20, f"a silent mirror held an update for {took} seconds")
+
+
 def a_large_database(clients):
     """On a terminal it is told that a large database is opened, how large it is and in about how long."""
     db = clients.begun(())
@@ -250,7 +264,7 @@ def main(words):
     clients = Clients(os.path.realpath(words[0]) if words else RELEASE)
     cases = [functools.partial(updates, clients, *case) for case in UPDATES]
     cases += [functools.partial(gets, clients, *case) for case in GETS]
-    cases += [functools.partial(case, clients) for case in (an_old_timestamp, a_server_of_files, on_a_terminal, a_large_database)]
+    cases += [functools.partial(case, clients) for case in (an_old_timestamp, a_server_of_files, on_a_terminal, a_large_database, a_call_has_its_deadline)]
     failed = 0
     with concurrent.futures.ThreadPoolExecutor(8) as pool:
         for done in concurrent.futures.as_completed(pool.submit(case) for case in cases):

@@ -1,6 +1,6 @@
 //! `get`: fetches a target as a client.
 use crate::fault::fault_of_client;
-use crate::mirror::Mirror;
+use crate::mirror::{Call, Mirror};
 use client::fetch_target;
 use command_support::{
     Denial, Fault, Notes, OWNER_ALONE, are_one_file, file_fault, moment, print, put_in_place,
@@ -13,21 +13,29 @@ use std::alloc::AllocError;
 use std::io::Write;
 use store::Store;
 
-/// What is fetched, and where from and to: the file of the client's own state, the port of 127.0.0.1, the file that is written, and
-/// the target's path.
+/// What is fetched, and where from and to: the file of the client's own state, the port of 127.0.0.1, how many seconds all of it
+/// has, 600 where none are given, the file that is written, and the target's path.
 #[derive(Clone, Copy)]
 pub struct Getting<'a> {
     pub db: &'a str,
     pub port: u16,
+    pub within: Option<u64>,
     pub out: &'a str,
     pub path: &'a str,
 }
 
 impl<'a> Getting<'a> {
-    pub fn new(db: &'a str, port: u16, out: &'a str, path: &'a str) -> Getting<'a> {
+    pub fn new(
+        db: &'a str,
+        port: u16,
+        within: Option<u64>,
+        out: &'a str,
+        path: &'a str,
+    ) -> Getting<'a> {
         Getting {
             db,
             port,
+            within,
             out,
             path,
         }
@@ -45,8 +53,10 @@ pub fn get<O: Write, E: Write>(
 ) -> Result<(), Fault> {
     let now = moment(rt, at)?;
     let path = target_path(rt, asked.path, notes)?;
+    let call = Call::begun(rt, asked.within)?;
     let mut fetching = Fetching {
         rt,
+        call,
         port: asked.port,
         path: &path,
         now,
@@ -100,6 +110,7 @@ fn target_path<E: Write>(
 #[derive(Clone, Copy)]
 struct Fetching<'a> {
     rt: &'a HostRuntime,
+    call: Call<'a>,
     port: u16,
     path: &'a TargetPath,
     now: Moment,
@@ -114,7 +125,7 @@ impl Work for Fetching<'_> {
         notes: &mut Notes<'_, E>,
     ) -> Result<Vec<u8>, Fault> {
         let done = {
-            let mut mirror = Mirror::new(self.rt, self.port, notes);
+            let mut mirror = Mirror::new(self.call, self.port, notes);
             fetch_target(self.rt.alloc(), state, &mut mirror, self.path, self.now)
         };
         match done {

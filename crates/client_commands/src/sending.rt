@@ -1,7 +1,7 @@
 //! A command that the server at a port of 127.0.0.1 is asked for, by one request with a body.
 use crate::wire::{Wire, connected, host};
 use command_support::{Fault, Notes};
-use connections::{Port, Timer};
+use connections::{FILE_SECONDS, Port, Timer};
 use http_fetch::{FetchFault, Message, Method, Reply, SendFault, read_denial, send_over};
 use http_messages as messages;
 use std::alloc::{AllocError, Global};
@@ -28,7 +28,7 @@ impl Sending<'_> {
     /// Sends the request over one connection, and answers the body of the reply that says that the command was done. Where the
     /// request was sent and no reply says what became of it, a warning says so.
     pub fn send<E: Write>(&self, notes: &mut Notes<'_, E>) -> Result<Vec<u8>, Fault> {
-        match connected(self.rt, self.port) {
+        match connected(self.rt, self.port, FILE_SECONDS) {
             Ok((stream, timer)) => self.send_by(&stream, timer, notes),
             Err(error) => {
                 notes.tell(&Port(self.port), &error);
@@ -51,8 +51,8 @@ impl Sending<'_> {
             name: self.name,
             body: self.body,
         };
-        let mut writer = Wire::new(stream, timer);
-        let mut reader = Wire::new(stream, timer);
+        let mut writer = Wire::new(stream, timer, FILE_SECONDS);
+        let mut reader = Wire::new(stream, timer, FILE_SECONDS);
         match send_over(alloc, &mut writer, &mut reader, &message, REPLY_LIMIT) {
             Ok(reply) if reply.status == 200 => Ok(reply.body),
             Ok(reply) => Err(self.refused(alloc, &reply, notes)),

@@ -1,6 +1,6 @@
 //! `update`: brings a client's own state up to date.
 use crate::fault::fault_of_client;
-use crate::mirror::Mirror;
+use crate::mirror::{Call, Mirror};
 use command_support::{Fault, Notes, moment, print};
 use commands::{Versions, Work, tell_standing, worked};
 use connections::Port;
@@ -12,17 +12,25 @@ use store::Store;
 
 /// Takes new roots, the timestamp and the snapshot from the repository at the port of 127.0.0.1 into the state in the database
 /// file, each where the state's own rules accept it, and prints `updated`. It warns where the repository has no timestamp, or the one that is
-/// held then has expired: from then on nothing is granted.
+/// held then has expired: from then on nothing is granted. All of it has so many seconds, 600 where none are given.
 pub fn update<O: Write, E: Write>(
     rt: &HostRuntime,
     db: &str,
     port: u16,
+    within: Option<u64>,
     at: Option<u64>,
     out: &mut O,
     notes: &mut Notes<'_, E>,
 ) -> Result<(), Fault> {
     let now = moment(rt, at)?;
-    let mut updating = Updating { rt, db, port, now };
+    let call = Call::begun(rt, within)?;
+    let mut updating = Updating {
+        rt,
+        call,
+        db,
+        port,
+        now,
+    };
     worked(rt, db, &mut updating, notes)?;
     print(out, b"updated\n", notes)
 }
@@ -31,6 +39,7 @@ pub fn update<O: Write, E: Write>(
 #[derive(Clone, Copy)]
 struct Updating<'a> {
     rt: &'a HostRuntime,
+    call: Call<'a>,
     db: &'a str,
     port: u16,
     now: Moment,
@@ -47,7 +56,7 @@ impl Work for Updating<'_> {
         let alloc = self.rt.alloc();
         let before = Versions::of(alloc, state, self.now);
         let (done, lacks_timestamp) = {
-            let mut mirror = Mirror::new(self.rt, self.port, notes);
+            let mut mirror = Mirror::new(self.call, self.port, notes);
             let done = client::update(alloc, state, &mut mirror, self.now);
             (done, mirror.lacks_timestamp())
         };

@@ -1,18 +1,22 @@
 //! Connections to a port of 127.0.0.1, with their deadlines.
 ghost use Rattle.std.specs.Io.{ReadsAtMost, WritesAtMost};
 
-use connections::{FILE_SECONDS, QUIET_SECONDS, Timer};
+use connections::{QUIET_SECONDS, Timer};
 use http_messages::{Receive, Transmit};
 use std::alloc::{AllocError, Global};
 use std::io::{self, ErrorKind, Read, Write};
 use std::net::{Ipv4Addr, SocketAddr, TcpStream};
 use std::time::Duration;
 
-/// A connection to the port, and when it was begun.
-pub fn connected<'a>(rt: &'a HostRuntime, port: u16) -> io::Result<(TcpStream, Timer<'a>)> {
+/// A connection to the port, which has so many seconds to be made, 30 at most, and when it was begun.
+pub fn connected<'a>(
+    rt: &'a HostRuntime,
+    port: u16,
+    seconds: u64,
+) -> io::Result<(TcpStream, Timer<'a>)> {
     let timer = Timer::start(rt)?;
     let there = SocketAddr::from((Ipv4Addr::new(127, 0, 0, 1), port));
-    let quiet = Duration::from_secs(QUIET_SECONDS);
+    let quiet = Duration::from_secs(QUIET_SECONDS.min(seconds));
     let stream = TcpStream::connect_timeout(rt, &there, quiet)?;
     Ok((stream, timer))
 }
@@ -22,21 +26,27 @@ pub fn host(alloc: Global, port: u16) -> Result<String, AllocError> {
     format!(in alloc; "127.0.0.1:{port}")
 }
 
-/// A connection. A call that waits too long answers an error, and one that was interrupted is made again.
+/// A connection, which has so many seconds since it was begun. A call that waits too long answers an error, and one that was interrupted
+/// is made again.
 #[derive(Clone, Copy)]
 pub struct Wire<'a> {
     stream: &'a TcpStream,
     timer: Timer<'a>,
+    seconds: u64,
 }
 
 impl<'a> Wire<'a> {
-    pub fn new(stream: &'a TcpStream, timer: Timer<'a>) -> Wire<'a> {
-        Wire { stream, timer }
+    pub fn new(stream: &'a TcpStream, timer: Timer<'a>, seconds: u64) -> Wire<'a> {
+        Wire {
+            stream,
+            timer,
+            seconds,
+        }
     }
 
     // So long may the next call wait.
     fn left(&self) -> io::Result<Duration> {
-        let left = self.timer.left(FILE_SECONDS)?;
+        let left = self.timer.left(self.seconds)?;
         Ok(left.min(Duration::from_secs(QUIET_SECONDS)))
     }
 

@@ -61,9 +61,13 @@ fn perform_task<O: Write, E: Write>(
         Subcommand::Get {
             db,
             port,
+            within,
             out: to,
             path,
-        } => get(rt, Getting::new(db, *port, to, path), at, out, notes),
+        } => {
+            let getting = Getting::new(db, *port, *within, to, path);
+            get(rt, getting, at, out, notes)
+        }
         Subcommand::Init { db, root } => init(rt, db, root, at, out, notes),
         Subcommand::Key { seed, params } => print_key(rt, seed, *params, at, out, notes),
         Subcommand::Prune { place } => prune(rt, place, at, out, notes),
@@ -79,7 +83,9 @@ fn perform_task<O: Write, E: Write>(
             let signing = Signing::new(book, seed, *params, *known, file);
             sign(rt, signing, at, out, notes)
         }
-        Subcommand::Update { db, port } => update(rt, db, *port, at, out, notes),
+        Subcommand::Update { db, port, within } => {
+            update(rt, db, *port, *within, at, out, notes)
+        }
         Subcommand::Serve {
             db,
             port,
