@@ -83,6 +83,7 @@ def of_databases_and_words(chosen):
     yield "absent tables", databases.compare_absent
     yield "forms of a database", databases.compare_forms
     yield "arguments", words.compare_arguments
+    yield "through a port", words.compare_port
     yield "order of faults", words.compare_fault_order
     yield "faults of the line", words.compare_usage
     yield "full output", words.compare_full_output

@@ -260,6 +260,8 @@ class World:
         self.folder.mkdir()
         self.database = self.folder / "repository.db"
         self.state = repository.State()
+        # The port of the server that is asked in place of the database, if one is.
+        self.port = None
         if state is not None:
             self.state = state
             session.write_database(self.database, state)
@@ -307,10 +309,31 @@ class World:
         self.state = after
         found = self.session.run(*words)
         as_wanted = self.session.check(f"command: {label}", wanted, found, request, now, before)
-        # A fault of an input file, or of the arguments of publish, comes before the database is made.
-        if not self.database.exists():
+        # A fault of an input file, or of the arguments of publish, comes before the database is made. Rows behind a server are compared once it has ended.
+        if self.port is not None or not self.database.exists():
             return as_wanted
         return self.check_rows(label, before) and as_wanted
+
+    def place(self, now):
+        """Where the repository is: a database, at this moment, or behind a port, where the moment is the server's."""
+        if self.port is not None:
+            return ["--port", str(self.port)]
+        return ["--db", str(self.database), "--at", str(now)]
+
+    def through_port(self, now, count, ask):
+        """`ask` makes so many commands of one server; then the rows."""
+        before = self.state
+        server, port = self.session.start_server(self.database, now, count)
+        if server is None:
+            return self.session.check("start of the server", b"listening", port, now=now, state=before)
+        self.port = port
+        try:
+            ask()
+        finally:
+            self.port = None
+            ended = end_server(server)
+        self.session.check("end of the server", (0, b"", b""), ended, now=now)
+        return self.check_rows("commands through a port", before)
 
     def command(self, name, now, text, label=""):
         """`init` or `put`, with a file of these bytes, or with one that is not there."""
@@ -319,11 +342,11 @@ class World:
         if text is not None:
             file.write_bytes(text)
         wanted, after = {"init": command_line.init, "put": command_line.put}[name](self.state, text, now)
-        words = [name, "--db", str(self.database), "--at", str(now), str(file)]
+        words = [name, *self.place(now), str(file)]
         return self.compare_command(f"{name} {label}", now, words, wanted, after, text or b"")
 
     def prune(self, now, label=""):
-        words = ["prune", "--db", str(self.database), "--at", str(now)]
+        words = ["prune", *self.place(now)]
         return self.compare_command(f"prune {label}", now, words, *command_line.prune(self.state), b"")
 
     def publish(self, now, arguments, label=""):
@@ -341,7 +364,7 @@ class World:
                 argument = f"{role}:{file}"
             words.append(argument)
         wanted, after = command_line.publish(self.state, words, files, now)
-        head = ["publish", "--db", str(self.database), "--at", str(now), "--"]
+        head = ["publish", *self.place(now), "--"]
         return self.compare_command(f"publish {label}", now, head + words, wanted, after, str(arguments))
 
 

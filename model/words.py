@@ -48,6 +48,31 @@ def begin_from_nothing(session, good, timestamp):
     world.publish(NOW, [("root", simple_root(78, LIVE))])
 
 
+def compare_port(session, _random):
+    """Commands that a server is asked for, beside those that are refused before it is asked."""
+    world = World(session, granting_state())
+    good, stamp = ("root", world.state.roots[-1].bytes), ("timestamp", world.state.timestamp.bytes)
+    lists = [
+        [good], [stamp], [good, stamp, good], [stamp, ("targets", b"{}")], [("root", b"x" * 262145)], [("zeta", stamp[1])],
+        [("timestamp", b"")], [good] * 160, [good] * 159 + [("root", b"")],
+    ]
+    blobs = (b"", b"abc", b"abc", b"x" * 1048576)
+
+    def ask():
+        for arguments in lists:
+            world.publish(NOW, arguments, f"through a port: {str(arguments)[:60]}")
+        for blob in blobs:
+            world.command("put", NOW, blob, "through a port")
+        world.prune(NOW, "through a port")
+        world.prune(NOW, "through a port")
+        for arguments in (["x"], [good, "Root:f"], [("timestamp", None)], [good, ("timestamp", None)]):
+            world.publish(NOW, arguments, f"before a port is asked: {str(arguments)[:60]}")
+        for blob in (None, b"x" * 1048577):
+            world.command("put", NOW, blob, "before a port is asked")
+
+    world.through_port(NOW, len(lists) + len(blobs) + 2, ask)
+
+
 def damaged_world(session):
     world = World(session, granting_state())
     connection = sqlite3.connect(world.database)
@@ -113,6 +138,8 @@ def compare_usage(session, _random):
     lines += [["get", *base, "--port", "80", "--out", file, "--within", seconds, "a"] for seconds in ("0", "86401")]
     lines += [["prune"], ["prune", "--db"], ["prune", *base, file], ["prune", *base, *base]]
     lines += [["prune", *base, "--port", "80"], *(["prune", *base, "--at", moment] for moment in ("-1", "x", ""))]
+    asked = (["put", file], ["publish", f"root:{file}"], ["prune"])
+    lines += [[*words, *more] for words in asked for more in (["--port", "80", "--at", "1"], [*base, "--port", "80"], ["--port", "0"], ["--at", "1"])]
     lines += [[], ["nope"], ["canon"]]
     for words in lines:
         status, output, text = session.run(*words)
