@@ -42,6 +42,30 @@ a_timestamp_that_is_not_taken() {
     same "the tables behind a timestamp that is not taken" "$folder/before" "$folder/after"
 }
 
+# A root with another key for the timestamp that is published alone: the repository has no timestamp any more, and says so.
+a_root_alone_forgets() {
+    local first=$folder/first id
+    seed 9 "$first/other.seed"
+    "$release" key --seed "$first/other.seed" --ots 4 --height 5 >"$first/other.key"
+    id=$(tr -d '\n' <"$first/other.key" | sha256sum | cut -c 1-64)
+    python3 - "$first" "$id" <<'END'
+import json, sys
+folder, new = sys.argv[1:]
+root = json.load(open(f"{folder}/root.json"))["signed"]
+root["version"] += 1
+old, = root["roles"]["timestamp"]["keyids"]
+root["keys"] = {name: key for name, key in root["keys"].items() if name != old} | {new: json.load(open(f"{folder}/other.key"))}
+root["roles"]["timestamp"]["keyids"] = [new]
+text = {"signatures": [], "signed": root}
+open(f"{folder}/alone.json", "w").write(json.dumps(text, sort_keys=True, separators=(",", ":")))
+END
+    "$release" sign --book "$first/book.db" --known --seed "$first/root.seed" --ots 8 --height 5 "$first/alone.json" >"$first/alone"
+    wants 0 '{"accepted":1,"same":0}\n' \
+        "warning: $first/repository.db: no timestamp any more: every target is denied until timestamp, snapshot and targets metadata are published\n" \
+        publish --db "$first/repository.db" "root:$first/alone"
+    wants 0 '{"accepted":0,"same":1}\n' '' publish --db "$first/repository.db" "root:$first/alone"
+}
+
 # A root of several people, a delegation, and other root keys.
 the_team_chapter() {
     mkdir "$folder/team"

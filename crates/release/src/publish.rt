@@ -54,6 +54,18 @@ fn publish_in<O: Write, E: Write>(
     }
 }
 
+// What is said of a root with other keys for the timestamp or the snapshot that was published without their successors.
+const FORGOTTEN: &str =
+    "no timestamp any more: every target is denied until timestamp, snapshot and targets metadata are published";
+
+// Whether a timestamp is held.
+fn has_timestamp<S: Alter>(repository: &mut Store<S>, now: Moment) -> bool {
+    matches!(
+        repository.apply(Command::Metadata("timestamp.json"), now),
+        Ok(Reply::Bytes(_))
+    )
+}
+
 // What is done over the repository. A fault is told with the name of its database.
 #[derive(Clone, Copy)]
 struct Offering<'a> {
@@ -71,12 +83,16 @@ impl Work for Offering<'_> {
         repository: &mut Store<S>,
         notes: &mut Notes<'_, E>,
     ) -> Result<Reply, Fault> {
+        let had_timestamp = has_timestamp(repository, self.now);
         match repository.apply(Command::Batch(self.batch), self.now) {
             Ok(reply) => {
                 if let Reply::Batch { same, .. } = &reply {
                     if 0 < *same {
                         self.warn_of_timestamp(repository, notes);
                     }
+                }
+                if had_timestamp && !has_timestamp(repository, self.now) {
+                    notes.warn(&self.db, &FORGOTTEN);
                 }
                 Ok(reply)
             }
