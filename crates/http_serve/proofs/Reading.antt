@@ -1,15 +1,19 @@
 -- A server that only reads changes nothing.
-use Rattle.std.proofs.Common.{◌≡◌, inl, inr, Bool, true, false, cond, bytes_eq, nat_le, ℕ, List, Option, Some, None, Ok, Err, ⊤, refl, sym, ap, subst}
+use Rattle.std.proofs.Common.{◌≡◌, inl, inr, map, Bool, true, false, cond, bytes_eq, nat_le, ℕ, List, Option, Some, None, Ok, Err, refl, sym, ap, subst}
+use Rattle.std.specs.Bool.{⊤}
 use Rattle.denials.specs.Orders.{Judged, Same, Denied}
 use Rattle.httparse.specs.Grammar.{RequestHead}
+use Rattle.httparse.specs.Spans.{name_and_value}
+use Rattle.std.specs.List.{list_all}
 use Rattle.machine.specs.State.{State}
 use Rattle.machine.specs.Runs.{Command, Init, Batch, OfferOne, PutBlob, Prune, Metadata, Target, Reply, Begun, Offered, BatchDone, Stored, Pruned, FileBytes, Absent, Refused, Steps, Outcome, settled, leads}
 use Rattle.http_messages.specs.declared.fields.Declared.{Declared}
 use Rattle.http_messages.specs.declared.faults.Fault.TheVariants.{Head}
 use Rattle.http_messages.specs.declared.routes.Route.{Route}
 use Rattle.http_messages.specs.declared.routes.Route.TheVariants as routes
-use Rattle.http_messages.specs.Request.{Request, fault, batch, put_blob, prune, metadata, target, Wanted, refused, wanted, writes, served_route, of_length, of_route, of_head_to, length_for, limit_of, method_of, OfRest, AsksOf, by_head, by_none}
-use Rattle.http_messages.specs.RouteOf.{Routed}
+use Rattle.http_messages.specs.Request.{Request, fault, batch, put_blob, prune, metadata, target, Wanted, refused, wanted, writes, served_route, of_length, of_route, of_head_to, length_for, limit_of, method_of, is_visible, OfRest, AsksOf, by_head, by_none}
+use Rattle.http_messages.specs.Length.{declared}
+use Rattle.http_messages.specs.RouteOf.{Routed, route_of}
 use Rattle.http_messages.specs.Text.{method_text}
 use Rattle.http_serve.specs.Response.{IsCommand, offers, puts, prunes, names, asks}
 use Rattle.http_serve.specs.Serving.{AnsweredBy, at_fault, by_command, unread, Made, by_step, no_memory, no_database}
@@ -61,7 +65,10 @@ route-reads method fields (Some routed) = found-reads method fields routed (writ
 
 head-reads : (h : RequestHead) → OnlyReads (of_head_to true h)
 unfolding of_head_to
-head-reads h = one-of _ _ (refused Head) (route-reads h.method _ _) tt
+head-reads h =
+    let fields = declared (map name_and_value h.fields) in
+    let found = route_of h.target in
+    one-of (list_all is_visible h.target) (of_route h.method fields (served_route true found)) (refused Head) (route-reads h.method fields found) tt
 
 rest-reads : (w : Wanted) (rest : List ℕ) (request : Request) → OnlyReads w → OfRest w rest request → IsRead request
 rest-reads (refused why) rest request h is = subst IsRead (sym is) tt
