@@ -114,12 +114,13 @@ impl<E: Write> Source for Mirror<'_, '_, '_, E> {
                 bytes: self.bytes,
             });
         }
-        let Some(seconds) = self.call.left() else {
+        let call = self.call;
+        let Some(seconds) = call.left() else {
             self.notes
                 .tell(&name, &"not asked for, the time of the call is over");
             return Err(FetchFault::Broken);
         };
-        match connected(self.call.rt, self.port, seconds) {
+        match connected(call.rt, self.port, seconds) {
             Ok((stream, timer)) => {
                 let answer = self.fetch_by(alloc, &stream, timer, seconds, name, limit);
                 self.tell(name, &answer);
