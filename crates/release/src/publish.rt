@@ -58,12 +58,12 @@ fn publish_in<O: Write, E: Write>(
 const FORGOTTEN: &str =
     "no timestamp any more: every target is denied until timestamp, snapshot and targets metadata are published";
 
-// Whether a timestamp is held.
-fn has_timestamp<S: Alter>(repository: &mut Store<S>, now: Moment) -> bool {
-    matches!(
-        repository.apply(Command::Metadata("timestamp.json"), now),
-        Ok(Reply::Bytes(_))
-    )
+// The timestamp that is held.
+fn timestamp_of<S: Alter>(repository: &mut Store<S>, now: Moment) -> Option<Vec<u8>> {
+    match repository.apply(Command::Metadata("timestamp.json"), now) {
+        Ok(Reply::Bytes(held)) => Some(held),
+        _ => None,
+    }
 }
 
 // What is done over the repository. A fault is told with the name of its database.
@@ -83,7 +83,7 @@ impl Work for Offering<'_> {
         repository: &mut Store<S>,
         notes: &mut Notes<'_, E>,
     ) -> Result<Reply, Fault> {
-        let had_timestamp = has_timestamp(repository, self.now);
+        let had_timestamp = timestamp_of(repository, self.now).is_some();
         match repository.apply(Command::Batch(self.batch), self.now) {
             Ok(reply) => {
                 if let Reply::Batch { same, .. } = &reply {
@@ -91,7 +91,7 @@ impl Work for Offering<'_> {
                         self.warn_of_timestamp(repository, notes);
                     }
                 }
-                if had_timestamp && !has_timestamp(repository, self.now) {
+                if had_timestamp && timestamp_of(repository, self.now).is_none() {
                     notes.warn(&self.db, &FORGOTTEN);
                 }
                 Ok(reply)
@@ -121,8 +121,8 @@ impl Offering<'_> {
         let Some((argument, bytes)) = last else {
             return;
         };
-        match repository.apply(Command::Metadata("timestamp.json"), self.now) {
-            Ok(Reply::Bytes(held)) if held.as_slice() != bytes => notes.warn(
+        match timestamp_of(repository, self.now) {
+            Some(held) if held.as_slice() != bytes => notes.warn(
                 &argument.as_str(),
                 &"not taken, another timestamp of its version is held",
             ),
