@@ -18,15 +18,15 @@ made() {
 
 # A database and its log are made for their owner alone, whatever the mask lets; a log is made with the mode of its database.
 databases_are_for_their_owner() {
-    wants 0 'begun\n' '' init --at=$at --db "$folder/own.db" "$example/root.json"
-    has_mode 600 "$folder/own.db"
-    has_mode 600 "$folder/own.db-wal"
-    sqlite3 "$folder/own.db" 'SELECT count(*) FROM root2' >"$folder/count"
-    [ ! -e "$folder/own.db-wal" ] || rm "$folder/own.db-wal"
-    chmod 640 "$folder/own.db"
-    wants 0 "$(sha256sum "$example/hello.txt" | cut -c1-64)\n" '' put --at=$at --db "$folder/own.db" "$example/hello.txt"
-    has_mode 640 "$folder/own.db"
-    has_mode 640 "$folder/own.db-wal"
+    wants 0 'begun\n' '' init --at=$at --db "$folder/modes.db" "$example/root.json"
+    has_mode 600 "$folder/modes.db"
+    has_mode 600 "$folder/modes.db-wal"
+    sqlite3 "$folder/modes.db" 'SELECT count(*) FROM root2' >"$folder/count"
+    [ ! -e "$folder/modes.db-wal" ] || rm "$folder/modes.db-wal"
+    chmod 640 "$folder/modes.db"
+    wants 0 "$(sha256sum "$example/hello.txt" | cut -c1-64)\n" '' put --at=$at --db "$folder/modes.db" "$example/hello.txt"
+    has_mode 640 "$folder/modes.db"
+    has_mode 640 "$folder/modes.db-wal"
 }
 
 # makes WORD STATEMENT..: the held rows with what these statements make of them, each alone, are `fault WORD`, and stay as they are.
