@@ -33,7 +33,7 @@ the_first_chapter() {
 a_timestamp_that_is_not_taken() {
     local db=$folder/first/repository.db other=$folder/first/other
     sed -E 's/"expires":"[0-9]{4}/"expires":"2190/' "$folder/first/timestamp.unsigned.json" >"$other.unsigned"
-    "$release" sign --book "$folder/first/book.db" --known --seed "$folder/first/timestamp.seed" --ots 8 --height 5 "$other.unsigned" >"$other.json"
+    "$release" sign --book "$folder/first/book.db" --known --seed "$folder/first/timestamp.seed" --ots 8 --height 10 "$other.unsigned" >"$other.json"
     dump "$db" "$folder/before"
     wants 0 '{"accepted":0,"same":1}\n' '' publish --db "$db" "timestamp:$folder/first/timestamp.json"
     wants 0 '{"accepted":0,"same":1}\n' "warning: timestamp:$other.json: not taken, another timestamp of its version is held\n" \
@@ -46,6 +46,7 @@ a_timestamp_that_is_not_taken() {
 a_root_alone_forgets() {
     local first=$folder/first id
     seed 9 "$first/other.seed"
+    chmod 600 "$first/other.seed"
     "$release" key --seed "$first/other.seed" --ots 4 --height 5 >"$first/other.key"
     id=$(tr -d '\n' <"$first/other.key" | sha256sum | cut -c 1-64)
     python3 - "$first" "$id" <<'END'
