@@ -238,7 +238,7 @@ def a_call_has_its_deadline(clients):
         began = time.monotonic()
         clients.ends("a silent mirror", 3, "", BROKEN, "update", *AT, *place, "--within", "2")
         took = time.monotonic() - began
-        place = ("--db", clients.begun(FETCHED), "--port", place[-1])
+        place = ("--db", clients.begun(UP), "--port", place[-1])
         clients.ends("a silent mirror", 3, "", BROKEN, "get", *AT, *place, "--within", "1", "--out", f"{db}.out", "hello.txt")
     want(2 <= took < 20, f"a silent mirror held an update for {took} seconds")
 
