@@ -67,6 +67,18 @@ def publish(state, arguments, files, now):
     return (DONE, b'{"accepted":%d,"same":%d}\n' % (accepted, same), b""), after
 
 
+def warnings_of_publish(before, after, arguments, files, database):
+    """What `publish --db` warns of where it is done: the last timestamp of the batch is not the one that is held, since another of its version
+    was; and a root with other keys came without their successors."""
+    said = b""
+    timestamps = [argument for argument in arguments if argument.startswith("timestamp:")]
+    if timestamps and after.timestamp and files[timestamps[-1].partition(":")[2]] != after.timestamp.bytes:
+        said += f"warning: {timestamps[-1]}: not taken, another timestamp of its version is held\n".encode()
+    if before.timestamp and not after.timestamp:
+        said += f"warning: {database}: no timestamp any more: every target is denied until timestamp, snapshot and targets metadata are published\n".encode()
+    return said
+
+
 def canon(text):
     try:
         value = loose_json.read(text)

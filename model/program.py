@@ -364,6 +364,8 @@ class World:
                 argument = f"{role}:{file}"
             words.append(argument)
         wanted, after = command_line.publish(self.state, words, files, now)
+        if wanted[0] == command_line.DONE and not self.port:
+            wanted = (*wanted[:2], command_line.warnings_of_publish(self.state, after, words, files, self.database))
         head = ["publish", *self.place(now), "--"]
         return self.compare_command(f"publish {label}", now, head + words, wanted, after, str(arguments))
 
