@@ -152,9 +152,11 @@ class DelegationHistory(History):
             super().begin()
             return
         state = State()
-        rules = {role: self.new_rule() for role in ("root", "timestamp", "snapshot", "targets")}
-        root = make.root(1, self.now + 100000, rules)
-        state.roots = [read_document("root", make.signed_file(root, rules["root"][0]))]
+        first = b""
+        while not is_document("root", first):  # a rule may have a key and its wrapping
+            rules = {role: self.new_rule() for role in ("root", "timestamp", "snapshot", "targets")}
+            first = make.signed_file(make.root(1, self.now + 100000, rules), rules["root"][0])
+        state.roots = [read_document("root", first)]
         state.blobs = {make.digest(blob): blob for blob in BLOBS if self.chance(0.9)}
         entries = {"targets": (1,)}
         for role, text in self.changed_files(state, 0.9).items():
