@@ -8,6 +8,9 @@ use std::fs::{self, File};
 use std::io::{IsTerminal, Write};
 use std::os::unix::fs::{OpenOptionsExt, PermissionsExt};
 
+// The name that the kit has for a database in memory, which it refuses to open as a file.
+const IN_MEMORY: &str = ":memory:";
+
 // The bytes of a log without a change: its head.
 const LOG_HEAD: u64 = 41;
 
@@ -58,6 +61,9 @@ fn tell_size<E: Write>(
 // Makes the database file where there is none, for its owner alone, and its log with the mode of the file. Where one cannot be made, the
 // opening says so.
 fn make_both(rt: &HostRuntime, db: &str) -> Result<(), AllocError> {
+    if db == IN_MEMORY {
+        return Ok(());
+    }
     make(rt, db, OWNER_ALONE);
     let mode = match fs::metadata(rt, db) {
         Ok(found) => found.permissions().mode() & READ_AND_WRITE,
