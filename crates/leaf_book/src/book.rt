@@ -1,5 +1,5 @@
 //! The book: its keys and the leaf history, whose rows the tables hold.
-ghost use Rattle.std.specs.Prelude.{◌≡◌, ◌⊎◌, IfErr, IsTrue, MatchOption, OnErr, OnOk};
+ghost use Rattle.std.specs.Prelude.{◌≡◌, ◌⊎◌, map, IfErr, IsTrue, MatchOption, OnErr, OnOk};
 ghost use Rattle.lms.specs.declared.Params.{Params};
 ghost use Rattle.sqlite.specs.Held.{state};
 ghost use Rattle.sqlite.specs.State.{HasCleanDisk, Survives};
@@ -13,7 +13,7 @@ ghost use Rattle.leaf_plans.specs.Book.{IsBook, IsLeastUnused, IsRegistered, Lac
 ghost use Rattle.leaf_book.specs.Calls.{Registers, Reserves};
 ghost use Rattle.leaf_book.specs.Faults.{IsOutside};
 ghost use Rattle.leaf_book.specs.Rows.{HoldsWhole, IsRecorded};
-ghost use Rattle.leaf_plans.specs.Views.{book_view};
+ghost use Rattle.leaf_plans.specs.Views.{book_view, kept_view};
 ghost use Rattle.leaf_book.specs.Views.{id_answer};
 ghost use Rattle.leaf_plans.specs.Planning.{IsPlan};
 
@@ -149,6 +149,13 @@ impl<S: Alter> Book<S> {
         ensures { MatchOption result ((params : Params) → IsRegistered self.now.book (id_text key.now) params → ⊥) (λ params. IsRegistered self.now.book (id_text key.now) params) }
     {
         params_of(self.signers.as_slice(), key)
+    }
+
+    /// The leaf history: each leaf that is kept, with its key and its message. It takes no memory.
+    pub fn kept(&self) -> &[Kept]
+        ensures { map kept_view result.now ≡ self.now.book.leaves }
+    {
+        self.leaves.as_slice()
     }
 
     /// The connection of a book that is done.

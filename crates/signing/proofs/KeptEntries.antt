@@ -29,7 +29,7 @@ items_are (e ∷ es) t = ((refl, t.0.keyid, t.0.sig), items_are es t.1)
 abbrev test : List ℕ → Signature → Bool
 test key e = not (bytes_eq e.keyid key)
 
-all_or : (P : Signature → Type 0) (b : Bool) (e : Signature) (xs : List Signature) → P e → AllByRecursion P xs → AllByRecursion P (cond b (e ∷ xs) xs)
+pub all_or : (P : Signature → Type 0) (b : Bool) (e : Signature) (xs : List Signature) → P e → AllByRecursion P xs → AllByRecursion P (cond b (e ∷ xs) xs)
 all_or P true e xs p all = (p, all)
 all_or P false e xs p all = all
 
@@ -39,10 +39,10 @@ all_others P key (e ∷ es) all = all_or P (test key e) e (others key es) all.0 
 
 -- ---- no id twice
 
-abbrev IsApart : List ℕ → List Signature → Type 0
+abbrev pub IsApart : List ℕ → List Signature → Type 0
 IsApart k es = AllByRecursion (λ y. k ≢ y) (ids_of es)
 
-apart_or : (k : List ℕ) (b : Bool) (e : Signature) (xs : List Signature) → k ≢ e.keyid → IsApart k xs → IsApart k (cond b (e ∷ xs) xs)
+pub apart_or : (k : List ℕ) (b : Bool) (e : Signature) (xs : List Signature) → k ≢ e.keyid → IsApart k xs → IsApart k (cond b (e ∷ xs) xs)
 apart_or k true e xs n a = (n, a)
 apart_or k false e xs n a = a
 
@@ -50,7 +50,7 @@ apart_others : (k key : List ℕ) (es : List Signature) → IsApart k es → IsA
 apart_others k key [] a = tt
 apart_others k key (e ∷ es) a = apart_or k (test key e) e (others key es) a.0 (apart_others k key es a.1)
 
-distinct_or : (b : Bool) (e : Signature) (xs : List Signature) → IsApart e.keyid xs → AreDistinct (ids_of xs) → AreDistinct (ids_of (cond b (e ∷ xs) xs))
+pub distinct_or : (b : Bool) (e : Signature) (xs : List Signature) → IsApart e.keyid xs → AreDistinct (ids_of xs) → AreDistinct (ids_of (cond b (e ∷ xs) xs))
 distinct_or true e xs a d = (a, d)
 distinct_or false e xs a d = d
 

@@ -5,3 +5,9 @@ pub mod Allowed
 pub mod SignedFiles
 pub mod Reserving
 pub mod SeedFiles
+pub mod Members
+pub mod Rivals
+pub mod OneVersion
+pub mod LeafDigits
+pub mod JoinedEntries
+pub mod JoinedFiles

@@ -59,7 +59,7 @@ digits_are ots height signature bytes long =
     let m = most ots height in
     (omega (arith, n, m, long), omega (arith, n), encoded_hex signature bytes)
 
-plain_entries : (es : List Signature) → AllByRecursion IsEntryText es → AllByRecursion IsPlainEntry es
+pub plain_entries : (es : List Signature) → AllByRecursion IsEntryText es → AllByRecursion IsPlainEntry es
 plain_entries [] t = tt
 plain_entries (e ∷ es) t = (record { keyid = t.0.keyid.1; sig = t.0.sig.2 }, plain_entries es t.1)
 

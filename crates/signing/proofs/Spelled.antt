@@ -12,7 +12,7 @@ use Rattle.signing.proofs.Plain.{IsHexText, plain_text}
 regrouped : (i d : List ℕ) → ((i ++ 34 ∷ []) ++ (44 ∷ (codes "\"sig\":" ++ (34 ∷ (d ++ 34 ∷ []))))) ++ 125 ∷ [] ≡ i ++ (codes "\",\"sig\":\"" ++ (d ++ codes "\"}"))
 regrouped i d = simp append_assoc
 
-spelled_entry : (id digits : List ℕ) → IsHexText id → IsHexText digits → spelling (signature_object id digits) ≡ entry_text id digits
+pub spelled_entry : (id digits : List ℕ) → IsHexText id → IsHexText digits → spelling (signature_object id digits) ≡ entry_text id digits
 spelled_entry id digits plain_id plain_digits =
     ap₂ (λ i d. codes "{\"keyid\":\"" ++ (((i ++ 34 ∷ []) ++ (44 ∷ (codes "\"sig\":" ++ (34 ∷ (d ++ 34 ∷ []))))) ++ 125 ∷ [])) (plain_text id plain_id) (plain_text digits plain_digits)
     ∙ ap (λ rest. codes "{\"keyid\":\"" ++ rest) (regrouped id digits)
@@ -32,7 +32,7 @@ spelled_items (e ∷ f ∷ es) id digits all plain_id plain_digits =
     ap₂ (λ a b. a ++ (44 ∷ b)) (spelled_entry e.keyid e.sig all.0.keyid all.0.sig) (spelled_items (f ∷ es) id digits all.1 plain_id plain_digits)
     ∙ sym (append_assoc (entry_text e.keyid e.sig) (44 ∷ entries_text (f ∷ es)) (entry_text id digits))
 
-around : (j p : List ℕ) → ((j ++ 93 ∷ []) ++ (44 ∷ (codes "\"signed\":" ++ p))) ++ 125 ∷ [] ≡ j ++ (codes "],\"signed\":" ++ (p ++ codes "}"))
+pub around : (j p : List ℕ) → ((j ++ 93 ∷ []) ++ (44 ∷ (codes "\"signed\":" ++ p))) ++ 125 ∷ [] ≡ j ++ (codes "],\"signed\":" ++ (p ++ codes "}"))
 around j p = simp append_assoc
 
 pub parts_are : (es : List Signature) (id digits : List ℕ) (part : Json) → AllByRecursion IsPlainEntry es → IsHexText id → IsHexText digits

@@ -2,4 +2,8 @@ pub mod Seeds
 pub mod Faults
 pub mod Messages
 pub mod Files
+pub mod Versions
+pub mod Once
+pub mod Leaves
+pub mod Joining
 pub mod steps

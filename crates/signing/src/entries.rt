@@ -62,7 +62,7 @@ fn put_others(out: &mut Vec<u8>, entries: &[Signature], id: &KeyId) -> Result<()
 }
 
 // Appends an entry and a comma.
-fn put_with_comma(out: &mut Vec<u8>, entry: &Signature) -> Result<(), NoMemory>
+pub(crate) fn put_with_comma(out: &mut Vec<u8>, entry: &Signature) -> Result<(), NoMemory>
     ensures { OnOk result (out.new.items ≡ out.old.items ++ (entry_text (id_text entry.now.keyid) (string_bytes entry.now.sig) ++ 44 ∷ [])) }
 {
     put_entry(out, &entry.keyid, entry.sig.as_bytes())?;

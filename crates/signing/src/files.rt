@@ -74,7 +74,7 @@ pub fn sign_file_with<S: Alter>(
 }
 
 // The same of a file that was read.
-fn sign_parts<S: Alter>(
+pub(crate) fn sign_parts<S: Alter>(
     alloc: Global,
     book: &mut Book<S>,
     pair: &KeyPair,
@@ -106,7 +106,7 @@ fn sign_parts<S: Alter>(
 }
 
 // The id of the pair's key.
-fn id_of(alloc: Global, pair: &KeyPair) -> KeyId
+pub(crate) fn id_of(alloc: Global, pair: &KeyPair) -> KeyId
     ensures { id_text result ≡ key_of pair.now.seed pair.now.params }
 {
     match key_id(alloc, &Key::Lms(pair.public())) {

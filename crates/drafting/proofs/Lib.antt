@@ -1,0 +1,11 @@
+pub mod Alike
+pub mod Rows
+pub mod Files
+pub mod Lists
+pub mod Listings
+pub mod Moments
+pub mod Refusals
+pub mod Parts
+pub mod Results
+pub mod Holders
+pub mod RootParts

@@ -1,0 +1,17 @@
+use Rattle.std.proofs.Common.{ℕ, List, Option, option_map, Bor, ap}
+use Rattle.drafting.specs.Drafts.{File}
+use Rattle.drafting.proofs.Refusals.{or_last, or_next, unbegun, unheld}
+use Rattle.drafting.proofs.base.base_members.Goals as goal
+
+abbrev file_of : Option (Bor (List ℕ)) → Option File
+file_of f = option_map (λ b. b.now) f
+
+pub returns-in-Err-clause-err : goal.returns-in-Err-clause-err
+returns-in-Err-clause-err c =
+    or_next (unbegun c.args.kind (file_of c.args.begun) c.in-Some.file.now c.begun_fault.result (ap file_of c.in-Some.is)
+    (c.begun_fault.ensures c.args.kind c.in-Some.file.now c.in-Err.ensures.err))
+
+pub returns-in-Err-members_in-clause-err : goal.returns-in-Err-members_in-clause-err
+returns-in-Err-members_in-clause-err c =
+    or_last (unheld c.args.kind (file_of c.args.held) c.in-Some-held.file.now c.held_fault.result (ap file_of c.in-Some-held.is)
+    (c.held_fault.ensures c.args.kind c.in-Some-held.file.now c.in-Err-members_in.ensures.err))

@@ -1,0 +1,7 @@
+pub mod Members
+pub mod Drafts
+pub mod Timestamps
+pub mod Snapshots
+pub mod Targets
+pub mod Roots
+pub mod steps

@@ -1,0 +1,37 @@
+//! The next document, of the one that is held and of a description (TUF 1.0, sections 4.3 to 4.6).
+//!
+//! A draft is a document of its kind without signatures. Its version is one more than that of the document that is held, its
+//! `expires` and `term` are those of `Terms`, and what the description does not name is what the document says that the draft
+//! goes on from.
+#![tactic(auto)]
+
+mod base;
+mod dates;
+mod delegating;
+mod faults;
+mod finding;
+mod finishing;
+mod head;
+mod members;
+mod named;
+mod names;
+mod roots;
+mod rules;
+mod snapshots;
+mod tables;
+mod targets;
+mod terms;
+mod timestamps;
+
+pub use delegating::{Delegated, DelegationChanges, draft_delegations};
+pub use denials::Denial;
+pub use faults::{DraftFault, TopRole};
+pub use finding::{Found, find_key};
+pub use metadata::Moment;
+pub use names::{name_of_key, number_in, text_in};
+pub use roots::draft_root;
+pub use rules::{NamedKey, Rule};
+pub use snapshots::draft_snapshot;
+pub use targets::{Addition, TargetsChanges, draft_targets};
+pub use terms::Terms;
+pub use timestamps::draft_timestamp;

@@ -1,0 +1,3 @@
+-- Definitions that contracts of private functions cite.
+pub mod Cut
+pub mod Joined

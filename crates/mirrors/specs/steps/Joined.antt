@@ -1,0 +1,10 @@
+-- What mirrors answer with one more that has no such file.
+use Rattle.std.specs.Prelude.{None, Ok, Err}
+use Rattle.sources.specs.Source.{Answer}
+use Rattle.sources.specs.declared.FetchFault.TheVariants.{TooLong, Broken, OutOfMemory}
+
+abbrev pub with_none : Answer → Answer
+with_none (Ok file) = Ok None
+with_none (Err TooLong) = Err TooLong
+with_none (Err Broken) = Ok None
+with_none (Err OutOfMemory) = Err OutOfMemory
