@@ -1,0 +1,115 @@
+//! How many keys of a rule have signed.
+use keys_roles::{KeyId, KeyTable, RoleRule, meets};
+use metadata::{Body, Delegations, Kind, Root, ShapeFault, SignedFile, read_document, read_signed};
+use std::alloc::{AllocError, Global};
+
+/// How many distinct keys of a rule have signed, and how many it asks for.
+#[derive(Clone, Copy)]
+pub(crate) struct Tally {
+    pub count: usize,
+    pub threshold: usize,
+}
+
+/// How many keys have signed the offered file by the rule that the root, or the targets metadata, gives the role. None where the file
+/// is no such document or gives the role no rule.
+pub(crate) fn counted(
+    alloc: Global,
+    kind: Kind,
+    file: &[u8],
+    role: &str,
+    offered: &[u8],
+) -> Result<Option<Tally>, AllocError> {
+    match read_document(alloc, kind, file) {
+        Ok(document) => counted_by(alloc, &document.body, role, offered),
+        Err(ShapeFault::OutOfMemory) => Err(AllocError),
+        Err(_) => Ok(None),
+    }
+}
+
+fn counted_by(
+    alloc: Global,
+    body: &Body,
+    role: &str,
+    offered: &[u8],
+) -> Result<Option<Tally>, AllocError> {
+    match body {
+        Body::Root(root) => counted_over(alloc, root_rule(root, role), &root.keys, offered),
+        Body::Targets(targets) => match &targets.delegations {
+            Some(found) => counted_over(alloc, delegated_rule(found, role), &found.keys, offered),
+            None => Ok(None),
+        },
+        _ => Ok(None),
+    }
+}
+
+// The root's rule for a role of its own.
+fn root_rule<'a>(root: &'a Root, role: &str) -> Option<&'a RoleRule> {
+    if role == "root" {
+        Some(&root.root)
+    } else if role == "targets" {
+        Some(&root.targets)
+    } else if role == "snapshot" {
+        Some(&root.snapshot)
+    } else if role == "timestamp" {
+        Some(&root.timestamp)
+    } else {
+        None
+    }
+}
+
+// The rule of the delegation to the role.
+fn delegated_rule<'a>(delegations: &'a Delegations, role: &str) -> Option<&'a RoleRule> {
+    for delegation in &delegations.roles {
+        if delegation.name.as_str() == role {
+            return Some(&delegation.rule);
+        }
+    }
+    None
+}
+
+fn counted_over(
+    alloc: Global,
+    rule: Option<&RoleRule>,
+    keys: &KeyTable,
+    offered: &[u8],
+) -> Result<Option<Tally>, AllocError> {
+    let Some(rule) = rule else {
+        return Ok(None);
+    };
+    match read_signed(alloc, offered) {
+        Ok(file) => signers(alloc, rule, keys, &file),
+        Err(ShapeFault::OutOfMemory) => Err(AllocError),
+        Err(_) => Ok(None),
+    }
+}
+
+// A rule of a document names no two ids whose keys have one top key, so its ids are counted.
+fn signers(
+    alloc: Global,
+    rule: &RoleRule,
+    keys: &KeyTable,
+    file: &SignedFile,
+) -> Result<Option<Tally>, AllocError> {
+    let mut count = 0usize;
+    for id in &rule.keyids {
+        if has_signed(alloc, *id, keys, file)? {
+            count = count.saturating_add(1);
+        }
+    }
+    let threshold = usize::from(rule.threshold);
+    Ok(Some(Tally { count, threshold }))
+}
+
+fn has_signed(
+    alloc: Global,
+    id: KeyId,
+    keys: &KeyTable,
+    file: &SignedFile,
+) -> Result<bool, AllocError> {
+    let keyids = vec![in alloc; id]?;
+    let alone = RoleRule {
+        keyids,
+        threshold: 1,
+    };
+    Ok(meets(&alone, keys, file.signed, &file.signatures))
+}

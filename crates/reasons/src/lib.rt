@@ -1,0 +1,27 @@
+//! Why a document of a batch was denied, in words.
+//!
+//! It decides nothing: it is asked behind a denial, and answers `None` where nothing is certain. Everything it is given is read anew.
+#![tactic(auto)]
+
+mod bytes;
+mod counts;
+mod denied;
+mod forms;
+mod held;
+mod ids;
+mod incoherent;
+mod keys;
+mod kinds;
+mod listings;
+mod members;
+mod metas;
+mod place;
+mod rules;
+mod standing;
+mod thresholds;
+
+pub use denials::Denial;
+pub use denied::reason;
+pub use held::HeldFiles;
+pub use metadata::Kind;
+pub use place::place_of;
