@@ -1,5 +1,5 @@
 -- The command line, in the definitions of `clap`: what words say with the arguments that each subcommand has.
-use Rattle.std.specs.Prelude.{◌≡◌, ◌⊎◌, ℕ, ◌≤◌, Bool, List, [], ◌∷◌, Option, Some, None, nat_lt, codes, length, map, string_bytes, String}
+use Rattle.std.specs.Prelude.{◌≡◌, ◌⊎◌, ℕ, ◌≤◌, Bool, false, List, [], ◌∷◌, Option, Some, None, IsSome, nat_lt, codes, length, map, string_bytes, String}
 use Rattle.std.specs.declared.alloc.Global.{Global}
 use Rattle.std.specs.Str.Parse.{digits_value, without_leading_plus}
 use Rattle.limits.specs.Limits.{most_documents}
@@ -7,16 +7,25 @@ use Rattle.lms.specs.declared.Params.{Params}
 use Rattle.lms.specs.Parameters.{height, signing_type, width}
 use Rattle.clap.specs.Words.{IsAmong, Row, Text, all_of, count_of, fault_of, first_of, subcommand_of}
 use Rattle.clap.specs.declared.error.kind.ErrorKind.TheVariants.{DisplayHelp, DisplayVersion}
-use Rattle.command_words.specs.Subcommands.{last_moment, last_port, most_connections, most_seconds, release_line}
+use Rattle.command_words.specs.Subcommands.{last_moment, last_port, most_connections, most_days, most_seconds, release_line}
 use Rattle.command_line.specs.declared.tasks.Place.{Place}
 use Rattle.command_line.specs.declared.tasks.Place.TheVariants.{Database, Port}
+use Rattle.command_line.specs.declared.tasks.Draft.{Draft}
+use Rattle.command_line.specs.declared.tasks.Draft.TheVariants as drafts
+use Rattle.command_line.specs.declared.tasks.Drafting.{Drafting}
+use Rattle.command_line.specs.declared.tasks.LayoutDraft.{LayoutDraft}
+use Rattle.command_line.specs.declared.tasks.LinkDraft.{LinkDraft}
+use Rattle.command_line.specs.declared.tasks.Server.{Server}
+use Rattle.command_line.specs.declared.tasks.Server.TheVariants as servers
+use Rattle.command_line.specs.declared.tasks.Showing.{Showing}
+use Rattle.command_line.specs.declared.tasks.TargetsDraft.{TargetsDraft}
 use Rattle.command_line.specs.declared.tasks.Task.{Task}
 use Rattle.command_line.specs.declared.tasks.Unread.{Unread}
 use Rattle.command_line.specs.declared.tasks.Unread.TheVariants as unread
 use Rattle.command_line.specs.declared.tasks.Usage.{Usage}
 use Rattle.command_line.specs.declared.tasks.Usage.TheVariants as usages
 use Rattle.command_line.specs.declared.tasks.Subcommand.{Subcommand}
-use Rattle.command_line.specs.declared.tasks.Subcommand.TheVariants.{Canon, Export, Get, Init, Key, Prune, Publish, Put, Serve, Sign, Update}
+use Rattle.command_line.specs.declared.tasks.Subcommand.TheVariants.{Canon, Draft as DraftOf, Export, Get, Init, Key, NewKey, Prune, Publish, PublishIn, Put, Serve, Show, Sign, SignIn, Update}
 
 -- ---- what is found for a subcommand's arguments
 
@@ -42,47 +51,170 @@ MayHaveNumber rows id least most (Some n) = HasNumber rows id least most n
 abbrev pub HasTexts : List Row → Text → ℕ → List (String Global) → Type 0
 HasTexts rows id most ss = (all_of id rows ≡ Some (map string_bytes ss)) × (1 ≤ length ss) × (length ss ≤ most)
 
+-- an argument that is left out
+abbrev pub Lacks : List Row → Text → Type 0
+Lacks rows id = all_of id rows ≡ None
+
+-- the text of an argument that may be left out
+abbrev pub MayHaveText : List Row → Text → Option (String Global) → Type 0
+MayHaveText rows id None = Lacks rows id
+MayHaveText rows id (Some s) = HasText rows id s
+
+-- the texts of an argument that may be left out
+abbrev pub MayHaveTexts : List Row → Text → ℕ → List (String Global) → Type 0
+MayHaveTexts rows id most ss = (Lacks rows id × (ss ≡ [])) ⊎ HasTexts rows id most ss
+
 -- where a repository is: in a database file, or at a port, beside which no moment is given
 abbrev pub HasPlace : List Row → Place → Type 0
 HasPlace rows (Database db) = HasText rows (codes "db") db × (first_of (codes "port") rows ≡ None)
 HasPlace rows (Port port) = HasNumber rows (codes "port") 1 last_port port × (first_of (codes "db") rows ≡ None) × (first_of (codes "at") rows ≡ None)
 
+-- the most mirrors of a client
+abbrev pub most_mirrors : ℕ
+most_mirrors = 16
+
+-- the most times that an option stands which may stand more than once
+abbrev pub most_times : ℕ
+most_times = 4096
+
+-- where a client fetches from: a port, or mirrors
+abbrev pub HasServer : List Row → Server → Type 0
+HasServer rows (servers.Port port) = HasNumber rows (codes "port") 1 last_port port × Lacks rows (codes "mirror")
+HasServer rows (servers.Mirrors mirrors) = HasTexts rows (codes "mirror") most_mirrors mirrors.items × Lacks rows (codes "port")
+
+-- the same number, and another one where it is left out
+abbrev pub HasNumberOr : List Row → Text → ℕ → ℕ → ℕ → ℕ → Type 0
+HasNumberOr rows id least most other n = (Lacks rows id × (n ≡ other)) ⊎ HasNumber rows id least most n
+
+-- the width and the height of a new key, 8 and 10 where they are left out
+abbrev pub HasParamsOr : List Row → Params → Type 0
+HasParamsOr rows p = HasNumberOr rows (codes "ots") 1 8 8 (width p.ots) × HasNumberOr rows (codes "height") 5 10 10 (height (signing_type p.height))
+
+-- ---- drafts
+
+-- no option that targets metadata alone has
+pub record LacksTargets (rows : List Row) : Type 0 where
+  pub role : Lacks rows (codes "role")
+  pub add : Lacks rows (codes "add")
+  pub remove : Lacks rows (codes "remove")
+  pub delegate : Lacks rows (codes "delegate")
+  pub before : Lacks rows (codes "before")
+  pub undelegate : Lacks rows (codes "undelegate")
+
+pub record HasTargets (rows : List Row) (t : TargetsDraft) : Type 0 where
+  pub role : MayHaveText rows (codes "role") t.role
+  pub add : MayHaveTexts rows (codes "add") most_times t.add.items
+  pub remove : MayHaveTexts rows (codes "remove") most_times t.remove.items
+  pub delegate : MayHaveTexts rows (codes "delegate") most_times t.delegate.items
+  pub terminating : t.terminating ≡ is_used rows (codes "terminating")
+  pub before : MayHaveText rows (codes "before") t.before
+  pub undelegate : MayHaveTexts rows (codes "undelegate") most_times t.undelegate.items
+
+-- no option that layouts alone have, and none that links alone have
+abbrev pub LacksLayout : List Row → Type 0
+LacksLayout rows = Lacks rows (codes "owners") × Lacks rows (codes "rules")
+
+abbrev pub LacksLink : List Row → Type 0
+LacksLink rows = Lacks rows (codes "step") × Lacks rows (codes "materials") × Lacks rows (codes "products")
+
+abbrev pub LacksChain : List Row → Type 0
+LacksChain rows = Lacks rows (codes "target") × LacksLayout rows × LacksLink rows
+
+pub record HasLayout (rows : List Row) (l : LayoutDraft) : Type 0 where
+  pub target : HasText rows (codes "target") l.target
+  pub owners : HasText rows (codes "owners") l.owners
+  pub rules : MayHaveText rows (codes "rules") l.rules
+  pub steps : HasTexts rows (codes "word") most_documents l.steps.items
+
+pub record HasLink (rows : List Row) (l : LinkDraft) : Type 0 where
+  pub step : HasText rows (codes "step") l.step
+  pub materials : MayHaveTexts rows (codes "materials") most_times l.materials.items
+  pub products : MayHaveTexts rows (codes "products") most_times l.products.items
+
+-- the kind by its name, with what belongs to it and nothing else
+abbrev pub HasKind : List Row → Text → Draft → Type 0
+HasKind rows kind (drafts.Root rules) = (kind ≡ codes "root") × MayHaveTexts rows (codes "word") most_documents rules.items × LacksTargets rows
+    × LacksChain rows
+HasKind rows kind (drafts.Targets t) = (kind ≡ codes "targets") × HasTargets rows t × Lacks rows (codes "word") × LacksChain rows
+HasKind rows kind (drafts.Layout l) = (kind ≡ codes "layout") × HasLayout rows l × LacksTargets rows × LacksLink rows
+HasKind rows kind (drafts.Link l) = (kind ≡ codes "link") × HasLink rows l × Lacks rows (codes "word") × LacksTargets rows × Lacks rows (codes "target")
+    × LacksLayout rows
+HasKind rows kind drafts.Seal = (kind ≡ codes "seal") × Lacks rows (codes "word") × LacksTargets rows × LacksChain rows
+HasKind rows kind (drafts.Take target files) = (kind ≡ codes "take") × MayHaveText rows (codes "target") target
+    × HasTexts rows (codes "word") most_documents files.items × LacksTargets rows × LacksLayout rows × LacksLink rows
+
+abbrev pub HasDraft : List Row → Drafting → Type 0
+HasDraft rows d = MayHaveText rows (codes "db") d.db × HasText rows (codes "in") d.folder × MayHaveText rows (codes "expires") d.expires
+    × (d.anew ≡ is_used rows (codes "anew")) × ((kind : Text) × (first_of (codes "kind") rows ≡ Some kind) × HasKind rows kind d.kind)
+
+-- ---- keys
+
+-- no book, no seed and no parameters
+abbrev pub LacksPair : List Row → Type 0
+LacksPair rows = Lacks rows (codes "book") × Lacks rows (codes "seed") × Lacks rows (codes "ots") × Lacks rows (codes "height")
+    × (false ≡ is_used rows (codes "known"))
+
 -- the width of the one-time signatures and the height of the tree
 abbrev pub HasParams : List Row → Params → Type 0
 HasParams rows p = HasNumber rows (codes "ots") 1 8 (width p.ots) × HasNumber rows (codes "height") 5 10 (height (signing_type p.height))
+
+-- ---- what is shown
+
+pub record HasShowing (rows : List Row) (s : Showing) : Type 0 where
+  pub db : MayHaveText rows (codes "db") s.db
+  pub folder : MayHaveText rows (codes "in") s.folder
+  pub one : IsSome s.db ⊎ IsSome s.folder
+  pub due : MayHaveNumber rows (codes "due") 0 most_days s.due
+  pub keys : MayHaveTexts rows (codes "key") most_documents s.keys.items
+  pub json : s.json ≡ is_used rows (codes "json")
+  pub html : MayHaveText rows (codes "html") s.html
+  pub paths : MayHaveTexts rows (codes "path") 1 s.paths.items
 
 -- ---- tasks
 
 abbrev pub name_of : Subcommand → Text
 name_of (Canon file) = codes "canon"
+name_of (DraftOf d) = codes "draft"
 name_of (Export db to) = codes "export"
-name_of (Get db port within out path) = codes "get"
+name_of (Get db server within out path) = codes "get"
 name_of (Init db root) = codes "init"
 name_of (Key seed params) = codes "key"
+name_of (NewKey name params) = codes "key"
 name_of (Prune place) = codes "prune"
 name_of (Publish place documents) = codes "publish"
+name_of (PublishIn place folder) = codes "publish"
 name_of (Put place file) = codes "put"
 name_of (Serve db port count read_only) = codes "serve"
+name_of (Show showing) = codes "show"
 name_of (Sign book seed params known file) = codes "sign"
-name_of (Update db port within) = codes "update"
+name_of (SignIn key folder documents agreed again) = codes "sign"
+name_of (Update db server within) = codes "update"
 
 -- the subcommand has the options and operands that were found
 abbrev pub HasArguments : List Row → Subcommand → Type 0
 HasArguments rows (Canon file) = HasText rows (codes "file") file
+HasArguments rows (DraftOf d) = HasDraft rows d
 HasArguments rows (Export db to) = HasText rows (codes "db") db × HasText rows (codes "to") to
-HasArguments rows (Get db port within out path) = HasText rows (codes "db") db × HasNumber rows (codes "port") 1 last_port port
+HasArguments rows (Get db server within out path) = HasText rows (codes "db") db × HasServer rows server
     × MayHaveNumber rows (codes "within") 1 most_seconds within
     × HasText rows (codes "out") out × HasText rows (codes "path") path
 HasArguments rows (Init db root) = HasText rows (codes "db") db × HasText rows (codes "root") root
-HasArguments rows (Key seed params) = HasText rows (codes "seed") seed × HasParams rows params
+HasArguments rows (Key seed params) = HasText rows (codes "seed") seed × HasParams rows params × Lacks rows (codes "new")
+HasArguments rows (NewKey name params) = HasText rows (codes "new") name × HasParamsOr rows params × Lacks rows (codes "seed")
 HasArguments rows (Prune place) = HasPlace rows place
-HasArguments rows (Publish place documents) = HasPlace rows place × HasTexts rows (codes "document") most_documents documents.items
+HasArguments rows (Publish place documents) = HasPlace rows place × HasTexts rows (codes "document") most_documents documents.items × Lacks rows (codes "in")
+HasArguments rows (PublishIn place folder) = HasPlace rows place × HasText rows (codes "in") folder × Lacks rows (codes "document")
 HasArguments rows (Put place file) = HasPlace rows place × HasText rows (codes "file") file
 HasArguments rows (Serve db port count read_only) = HasText rows (codes "db") db × HasNumber rows (codes "port") 1 last_port port
     × MayHaveNumber rows (codes "count") 1 most_connections count × (read_only ≡ is_used rows (codes "read-only"))
+HasArguments rows (Show s) = HasShowing rows s
 HasArguments rows (Sign book seed params known file) = HasText rows (codes "book") book × HasText rows (codes "seed") seed × HasParams rows params
-    × (known ≡ is_used rows (codes "known")) × HasText rows (codes "file") file
-HasArguments rows (Update db port within) = HasText rows (codes "db") db × HasNumber rows (codes "port") 1 last_port port
+    × (known ≡ is_used rows (codes "known")) × HasTexts rows (codes "file") 1 (file ∷ []) × Lacks rows (codes "key") × Lacks rows (codes "in")
+    × (false ≡ is_used rows (codes "yes")) × (false ≡ is_used rows (codes "again"))
+HasArguments rows (SignIn key folder documents agreed again) = HasText rows (codes "key") key × HasText rows (codes "in") folder
+    × MayHaveTexts rows (codes "file") most_documents documents.items × (agreed ≡ is_used rows (codes "yes")) × (again ≡ is_used rows (codes "again"))
+    × LacksPair rows
+HasArguments rows (Update db server within) = HasText rows (codes "db") db × HasServer rows server
     × MayHaveNumber rows (codes "within") 1 most_seconds within
 
 -- a subcommand of this name with what was found for it

@@ -1,17 +1,37 @@
 //! What the words give for the arguments of a subcommand.
-ghost use Rattle.std.specs.Prelude.{◌≡◌, ◌≤◌, IfOk, IsTrue, Some, codes, map, string_bytes};
+ghost use Rattle.std.specs.Prelude.{◌≡◌, ◌≤◌, IfOk, IsTrue, None, Some, codes, false, map, string_bytes};
 ghost use Rattle.std.specs.Str.Parse.{digits_value, without_leading_plus};
-ghost use Rattle.clap.specs.Words.{first_of, found_of, rows_of};
+ghost use Rattle.clap.specs.Words.{all_of, first_of, found_of, rows_of};
 ghost use Rattle.lms.specs.Parameters.{height, signing_type, width};
-ghost use Rattle.command_line.specs.CommandLine.{HasNumber, HasPlace, HasText, HasTexts, HasParams, MayHaveNumber, is_used};
-ghost use Rattle.command_words.specs.Subcommands.{last_moment, last_port, most_connections, most_seconds};
-ghost use Rattle.limits.specs.Limits.{most_documents};
+ghost use Rattle.command_line.specs.CommandLine.{HasNumber, HasNumberOr, HasParams, HasParamsOr, HasPlace, HasServer, HasText, HasTexts, Lacks, MayHaveNumber, MayHaveText, MayHaveTexts, is_used, most_mirrors};
+ghost use Rattle.command_words.specs.Subcommands.{last_moment, last_port, most_connections, most_days, most_seconds};
 
-use crate::tasks::{LAST_MOMENT, LAST_PORT, MOST_CONNECTIONS, MOST_SECONDS, Place, Unread};
+use crate::tasks::{
+    LAST_MOMENT, LAST_PORT, MOST_CONNECTIONS, MOST_DAYS, MOST_MIRRORS, MOST_SECONDS, Place, Server,
+    Unread,
+};
 use clap::ArgMatches;
-use limits::MOST_DOCUMENTS;
 use lms::{OtsType, Params, SigningHeight};
+use mirrors::read_mirror;
 use std::alloc::{AllocError, Global};
+
+// Neither a port nor a mirror, and both of them, likewise.
+const NO_SERVER: &str = concat!(
+    "error: the following required arguments were not provided:\n",
+    "  <--port <P>|--mirror <URL>>\n\n",
+    "For more information, try '--help'.\n",
+);
+
+const TWO_SERVERS: &str = concat!(
+    "error: the argument '--port <P>' cannot be used with '--mirror <URL>'\n\n",
+    "For more information, try '--help'.\n",
+);
+
+// A text that is no mirror.
+const NO_MIRROR: &str = concat!(
+    "error: the argument '--mirror <URL>' wants http://HOST[:PORT][/FOLDER], without TLS; for https see docs/OPERATING.md\n\n",
+    "For more information, try '--help'.\n",
+);
 
 // Neither of the two options that say where a repository is, both of them, and a moment beside the one that has none: each as
 // `clap` says it of options of which it is told that they exclude one another.
@@ -37,25 +57,92 @@ pub fn text_of(alloc: Global, given: &ArgMatches<'_>, id: &str) -> Result<String
 {
     match given.get_str(id) {
         Some(text) => Ok(String::from_str(alloc, text)?),
-        None => Err(fault(alloc, "error: an argument is not there\n")),
+        None => Err(missing(alloc, id)),
     }
 }
 
-/// The texts that are given for an argument, 1 to 160.
-pub fn texts_of(alloc: Global, given: &ArgMatches<'_>, id: &str) -> Result<Vec<String>, Unread>
-    ensures { IfOk result (λ texts. HasTexts (rows_of (found_of given.now)) id.now most_documents texts.items) }
+/// The texts that are given for an argument, at least one and at most so many.
+pub fn texts_of(
+    alloc: Global,
+    given: &ArgMatches<'_>,
+    id: &str,
+    most: usize,
+) -> Result<Vec<String>, Unread>
+    ensures { IfOk result (λ texts. HasTexts (rows_of (found_of given.now)) id.now most texts.items) }
 {
     let Some(found) = given.get_strs(id) else {
-        return Err(fault(alloc, "error: no documents\n"));
+        return Err(missing(alloc, id));
     };
-    if found.is_empty() || MOST_DOCUMENTS < found.len() {
-        return Err(fault(
-            alloc,
-            "error: 1 to 160 documents may be published at once\n",
-        ));
+    if found.is_empty() || most < found.len() {
+        return Err(out_of_bounds(alloc, id, most));
     }
     let texts = copied(alloc, found)?;
     Ok(texts)
+}
+
+/// The texts that are given for an argument, at most so many.
+pub fn texts_or_none(
+    alloc: Global,
+    given: &ArgMatches<'_>,
+    id: &str,
+    most: usize,
+) -> Result<Vec<String>, Unread>
+    ensures { IfOk result (λ texts. MayHaveTexts (rows_of (found_of given.now)) id.now most texts.items) }
+{
+    if is_left_out(given, id) {
+        return Ok(Vec::new(alloc));
+    }
+    texts_of(alloc, given, id, most)
+}
+
+/// The text that is given for an argument, if there is one.
+pub fn text_or_none(
+    alloc: Global,
+    given: &ArgMatches<'_>,
+    id: &str,
+) -> Result<Option<String>, Unread>
+    ensures { IfOk result (MayHaveText (rows_of (found_of given.now)) id.now) }
+{
+    if is_left_out(given, id) {
+        return Ok(None);
+    }
+    let text = text_of(alloc, given, id)?;
+    Ok(Some(text))
+}
+
+/// Whether an argument is left out.
+pub fn is_left_out(given: &ArgMatches<'_>, id: &str) -> bool
+    ensures { IsTrue result → all_of id.now (rows_of (found_of given.now)) ≡ None }
+{
+    match given.get_strs(id) {
+        None => true,
+        Some(_) => false,
+    }
+}
+
+/// Refuses an argument that is given where another one has what it is about.
+pub fn refuse(alloc: Global, given: &ArgMatches<'_>, id: &str, beside: &str) -> Result<(), Unread>
+    ensures { IfOk result (λ _. Lacks (rows_of (found_of given.now)) id.now) }
+{
+    if is_left_out(given, id) {
+        return Ok(());
+    }
+    Err(beside_another(alloc, id, beside))
+}
+
+/// The same of an argument that takes no value.
+pub fn refuse_flag(
+    alloc: Global,
+    given: &ArgMatches<'_>,
+    id: &str,
+    beside: &str,
+) -> Result<(), Unread>
+    ensures { IfOk result (λ _. false ≡ is_used (rows_of (found_of given.now)) id.now) }
+{
+    if !is_given(given, id) {
+        return Ok(());
+    }
+    Err(beside_another(alloc, id, beside))
 }
 
 // The texts, as texts of their own.
@@ -96,6 +183,41 @@ pub fn within_of(alloc: Global, given: &ArgMatches<'_>) -> Result<Option<u64>, U
     ensures { IfOk result (MayHaveNumber (rows_of (found_of given.now)) (codes "within") 1 most_seconds) }
 {
     number_of(alloc, given, "within", 1, MOST_SECONDS)
+}
+
+/// How many days are looked ahead, if that is given.
+pub fn due_of(alloc: Global, given: &ArgMatches<'_>) -> Result<Option<u64>, Unread>
+    ensures { IfOk result (MayHaveNumber (rows_of (found_of given.now)) (codes "due") 0 most_days) }
+{
+    number_of(alloc, given, "due", 0, MOST_DAYS)
+}
+
+/// Where a client fetches from: exactly one of the two is given.
+pub fn server_of(alloc: Global, given: &ArgMatches<'_>) -> Result<Server, Unread>
+    ensures { IfOk result (HasServer (rows_of (found_of given.now))) }
+{
+    if is_left_out(given, "mirror") {
+        if is_left_out(given, "port") {
+            return Err(fault(alloc, NO_SERVER));
+        }
+        return Ok(Server::Port(port_of(alloc, given)?));
+    }
+    if !is_left_out(given, "port") {
+        return Err(fault(alloc, TWO_SERVERS));
+    }
+    let mirrors = texts_of(alloc, given, "mirror", MOST_MIRRORS)?;
+    see_mirrors(alloc, &mirrors)?;
+    Ok(Server::Mirrors(mirrors))
+}
+
+// Each of the texts is the URL of a mirror.
+fn see_mirrors(alloc: Global, texts: &[String]) -> Result<(), Unread> {
+    for text in texts {
+        if read_mirror(text.as_str()).is_none() {
+            return Err(fault(alloc, NO_MIRROR));
+        }
+    }
+    Ok(())
 }
 
 /// The port that is given.
@@ -146,6 +268,33 @@ pub fn params_of(alloc: Global, given: &ArgMatches<'_>) -> Result<Params, Unread
     Ok(Params { ots, height })
 }
 
+/// The parameters of a new key: width 8 and height 10 where they are not given.
+pub fn params_or(alloc: Global, given: &ArgMatches<'_>) -> Result<Params, Unread>
+    ensures { IfOk result (HasParamsOr (rows_of (found_of given.now))) }
+{
+    let ots = ots_or(alloc, given)?;
+    let height = height_or(alloc, given)?;
+    Ok(Params { ots, height })
+}
+
+fn ots_or(alloc: Global, given: &ArgMatches<'_>) -> Result<OtsType, Unread>
+    ensures { IfOk result (λ t. HasNumberOr (rows_of (found_of given.now)) (codes "ots") 1 8 8 (width t)) }
+{
+    if is_left_out(given, "ots") {
+        return Ok(OtsType::W8);
+    }
+    ots_of(alloc, given)
+}
+
+fn height_or(alloc: Global, given: &ArgMatches<'_>) -> Result<SigningHeight, Unread>
+    ensures { IfOk result (λ h. HasNumberOr (rows_of (found_of given.now)) (codes "height") 5 10 10 (height (signing_type h))) }
+{
+    if is_left_out(given, "height") {
+        return Ok(SigningHeight::H10);
+    }
+    height_of(alloc, given)
+}
+
 // The LM-OTS type of the width that is given.
 fn ots_of(alloc: Global, given: &ArgMatches<'_>) -> Result<OtsType, Unread>
     ensures { IfOk result (λ t. HasNumber (rows_of (found_of given.now)) (codes "ots") 1 8 (width t)) }
@@ -155,6 +304,7 @@ fn ots_of(alloc: Global, given: &ArgMatches<'_>) -> Result<OtsType, Unread>
         Some(2) => Ok(OtsType::W2),
         Some(4) => Ok(OtsType::W4),
         Some(8) => Ok(OtsType::W8),
+        None => Err(missing(alloc, "ots")),
         _ => Err(fault(alloc, "error: '--ots' is 1, 2, 4 or 8\n")),
     }
 }
@@ -166,6 +316,7 @@ fn height_of(alloc: Global, given: &ArgMatches<'_>) -> Result<SigningHeight, Unr
     match number_of(alloc, given, "height", 5, 10)? {
         Some(5) => Ok(SigningHeight::H5),
         Some(10) => Ok(SigningHeight::H10),
+        None => Err(missing(alloc, "height")),
         _ => Err(fault(alloc, "error: '--height' is 5 or 10\n")),
     }
 }
@@ -202,6 +353,34 @@ fn number(alloc: Global, text: &str, least: u64, most: u64) -> Result<u64, Unrea
 /// A fault that `clap` does not name. Its own tests of the words leave few of these.
 pub fn fault(alloc: Global, text: &str) -> Unread {
     match String::from_str(alloc, text) {
+        Ok(text) => Unread::Text(text),
+        Err(_) => Unread::OutOfMemory,
+    }
+}
+
+// An argument that has to be there and is not.
+fn missing(alloc: Global, id: &str) -> Unread {
+    told(format!(in alloc;
+        "error: the following required arguments were not provided:\n  --{id}\n\nFor more information, try '--help'.\n"
+    ))
+}
+
+// An argument that stands more often than it may.
+fn out_of_bounds(alloc: Global, id: &str, most: usize) -> Unread {
+    told(format!(in alloc;
+        "error: '{id}' may stand 1 to {most} times\n\nFor more information, try '--help'.\n"
+    ))
+}
+
+// Two arguments that exclude one another.
+fn beside_another(alloc: Global, id: &str, beside: &str) -> Unread {
+    told(format!(in alloc;
+        "error: the argument '{id}' cannot be used with '{beside}'\n\nFor more information, try '--help'.\n"
+    ))
+}
+
+fn told(text: Result<String, AllocError>) -> Unread {
+    match text {
         Ok(text) => Unread::Text(text),
         Err(_) => Unread::OutOfMemory,
     }

@@ -1,10 +1,11 @@
 //! The command line of the program `release`, read with `clap`: the words, and the task that they ask for.
 #![tactic(auto)]
 
-ghost use Rattle.std.specs.Prelude.{◌≡◌, ◌⊎◌, Err, IfOk, codes, map, string_bytes};
+ghost use Rattle.std.specs.Prelude.{◌≡◌, ◌⊎◌, ◌∷◌, [], Err, IfOk, codes, map, string_bytes};
 ghost use Rattle.clap.specs.Words.{found_of, kind_of, rows_of, subcommand_rows_of};
-ghost use Rattle.command_line.specs.CommandLine.{AsksForHelp, IsAsked, IsTask, IsTaskOf, Says};
+ghost use Rattle.command_line.specs.CommandLine.{AsksForHelp, HasShowing, HasTexts, IsAsked, IsTask, IsTaskOf, Lacks, LacksPair, Says};
 
+mod drafts;
 mod given;
 mod help;
 mod tasks;
@@ -12,13 +13,33 @@ mod tasks;
 use clap::ArgMatches;
 use clap::error::ErrorKind;
 use command_words::release;
+use drafts::draft_of;
 use given::{
-    count_of, fault, is_given, moment_of, params_of, place_of, port_of, text_of, texts_of,
+    count_of, due_of, fault, is_given, is_left_out, moment_of, params_of, params_or, place_of,
+    port_of, refuse, refuse_flag, server_of, text_of, text_or_none, texts_of, texts_or_none,
     within_of,
 };
+use limits::MOST_DOCUMENTS;
 use std::alloc::Global;
 use tasks::Unread;
-pub use tasks::{Place, Subcommand, Task, Usage};
+pub use tasks::{
+    Draft, Drafting, LayoutDraft, LinkDraft, Place, Server, Showing, Subcommand, TargetsDraft,
+    Task, Usage,
+};
+
+// Neither a seed nor a new name.
+const NO_KEY: &str = concat!(
+    "error: the following required arguments were not provided:\n",
+    "  <--seed <S>|--new <NAME>>\n\n",
+    "For more information, try '--help'.\n",
+);
+
+// Neither a database nor a folder.
+const NOTHING_SHOWN: &str = concat!(
+    "error: the following required arguments were not provided:\n",
+    "  <--db <FILE>|--in <DIR>>\n\n",
+    "For more information, try '--help'.\n",
+);
 
 /// The task that the words ask for, the program's own name first: the subcommand, its options and operands, each one
 /// that has to be there, and numbers within their range. Other words are answered with the fault text of `clap`, and help only
@@ -66,6 +87,7 @@ fn asked(alloc: Global, name: &str, given: &ArgMatches<'_>) -> Result<Subcommand
 {
     match name {
         "canon" => canon_asked(alloc, given),
+        "draft" => draft_asked(alloc, given),
         "export" => export_asked(alloc, given),
         "get" => get_asked(alloc, given),
         "init" => init_asked(alloc, given),
@@ -74,6 +96,7 @@ fn asked(alloc: Global, name: &str, given: &ArgMatches<'_>) -> Result<Subcommand
         "publish" => publish_asked(alloc, given),
         "put" => put_asked(alloc, given),
         "serve" => serve_asked(alloc, given),
+        "show" => show_asked(alloc, given),
         "sign" => sign_asked(alloc, given),
         "update" => update_asked(alloc, given),
         _ => Err(fault(alloc, "error: no such subcommand\n")),
@@ -85,6 +108,12 @@ fn canon_asked(alloc: Global, given: &ArgMatches<'_>) -> Result<Subcommand, Unre
 {
     let file = text_of(alloc, given, "file")?;
     Ok(Subcommand::Canon { file })
+}
+
+fn draft_asked(alloc: Global, given: &ArgMatches<'_>) -> Result<Subcommand, Unread>
+    ensures { IfOk result (IsAsked (codes "draft") (rows_of (found_of given.now))) }
+{
+    Ok(Subcommand::Draft(draft_of(alloc, given)?))
 }
 
 fn export_asked(alloc: Global, given: &ArgMatches<'_>) -> Result<Subcommand, Unread>
@@ -99,13 +128,13 @@ fn get_asked(alloc: Global, given: &ArgMatches<'_>) -> Result<Subcommand, Unread
     ensures { IfOk result (IsAsked (codes "get") (rows_of (found_of given.now))) }
 {
     let db = text_of(alloc, given, "db")?;
-    let port = port_of(alloc, given)?;
+    let server = server_of(alloc, given)?;
     let within = within_of(alloc, given)?;
     let out = text_of(alloc, given, "out")?;
     let path = text_of(alloc, given, "path")?;
     Ok(Subcommand::Get {
         db,
-        port,
+        server,
         within,
         out,
         path,
@@ -123,9 +152,18 @@ fn init_asked(alloc: Global, given: &ArgMatches<'_>) -> Result<Subcommand, Unrea
 fn key_asked(alloc: Global, given: &ArgMatches<'_>) -> Result<Subcommand, Unread>
     ensures { IfOk result (IsAsked (codes "key") (rows_of (found_of given.now))) }
 {
-    let seed = text_of(alloc, given, "seed")?;
-    let params = params_of(alloc, given)?;
-    Ok(Subcommand::Key { seed, params })
+    if is_left_out(given, "new") {
+        if is_left_out(given, "seed") {
+            return Err(fault(alloc, NO_KEY));
+        }
+        let seed = text_of(alloc, given, "seed")?;
+        let params = params_of(alloc, given)?;
+        return Ok(Subcommand::Key { seed, params });
+    }
+    refuse(alloc, given, "seed", "--new <NAME>")?;
+    let name = text_of(alloc, given, "new")?;
+    let params = params_or(alloc, given)?;
+    Ok(Subcommand::NewKey { name, params })
 }
 
 fn prune_asked(alloc: Global, given: &ArgMatches<'_>) -> Result<Subcommand, Unread>
@@ -139,8 +177,13 @@ fn publish_asked(alloc: Global, given: &ArgMatches<'_>) -> Result<Subcommand, Un
     ensures { IfOk result (IsAsked (codes "publish") (rows_of (found_of given.now))) }
 {
     let place = place_of(alloc, given)?;
-    let documents = texts_of(alloc, given, "document")?;
-    Ok(Subcommand::Publish { place, documents })
+    if is_left_out(given, "in") {
+        let documents = texts_of(alloc, given, "document", MOST_DOCUMENTS)?;
+        return Ok(Subcommand::Publish { place, documents });
+    }
+    refuse(alloc, given, "document", "--in <DIR>")?;
+    let folder = text_of(alloc, given, "in")?;
+    Ok(Subcommand::PublishIn { place, folder })
 }
 
 fn put_asked(alloc: Global, given: &ArgMatches<'_>) -> Result<Subcommand, Unread>
@@ -166,14 +209,58 @@ fn serve_asked(alloc: Global, given: &ArgMatches<'_>) -> Result<Subcommand, Unre
     })
 }
 
+fn show_asked(alloc: Global, given: &ArgMatches<'_>) -> Result<Subcommand, Unread>
+    ensures { IfOk result (IsAsked (codes "show") (rows_of (found_of given.now))) }
+{
+    Ok(Subcommand::Show(showing_of(alloc, given)?))
+}
+
+fn showing_of(alloc: Global, given: &ArgMatches<'_>) -> Result<Showing, Unread>
+    ensures { IfOk result (HasShowing (rows_of (found_of given.now))) }
+{
+    let db = text_or_none(alloc, given, "db")?;
+    let folder = text_or_none(alloc, given, "in")?;
+    if db.is_none() && folder.is_none() {
+        return Err(fault(alloc, NOTHING_SHOWN));
+    }
+    let due = due_of(alloc, given)?;
+    let keys = texts_or_none(alloc, given, "key", MOST_DOCUMENTS)?;
+    let html = text_or_none(alloc, given, "html")?;
+    let paths = texts_or_none(alloc, given, "path", 1)?;
+    Ok(Showing {
+        db,
+        folder,
+        due,
+        keys,
+        json: is_given(given, "json"),
+        html,
+        paths,
+    })
+}
+
 fn sign_asked(alloc: Global, given: &ArgMatches<'_>) -> Result<Subcommand, Unread>
     ensures { IfOk result (IsAsked (codes "sign") (rows_of (found_of given.now))) }
 {
+    if is_left_out(given, "key") {
+        sign_by_book(alloc, given)
+    } else {
+        sign_in(alloc, given)
+    }
+}
+
+// Of `sign` by a book and a seed there is one document.
+fn sign_by_book(alloc: Global, given: &ArgMatches<'_>) -> Result<Subcommand, Unread>
+    requires { Lacks (rows_of (found_of given.now)) (codes "key") }
+    ensures { IfOk result (IsAsked (codes "sign") (rows_of (found_of given.now))) }
+{
+    refuse(alloc, given, "in", "--book <B>")?;
+    refuse_flag(alloc, given, "yes", "--book <B>")?;
+    refuse_flag(alloc, given, "again", "--book <B>")?;
     let book = text_of(alloc, given, "book")?;
     let seed = text_of(alloc, given, "seed")?;
     let params = params_of(alloc, given)?;
     let known = is_given(given, "known");
-    let file = text_of(alloc, given, "file")?;
+    let file = one_text_of(alloc, given, "file")?;
     Ok(Subcommand::Sign {
         book,
         seed,
@@ -183,13 +270,51 @@ fn sign_asked(alloc: Global, given: &ArgMatches<'_>) -> Result<Subcommand, Unrea
     })
 }
 
+// The one text of an argument.
+fn one_text_of(alloc: Global, given: &ArgMatches<'_>, id: &str) -> Result<String, Unread>
+    ensures { IfOk result (λ text. HasTexts (rows_of (found_of given.now)) id.now 1 (text ∷ [])) }
+{
+    let mut texts = texts_of(alloc, given, id, 1)?;
+    match texts.pop() {
+        Some(text) => Ok(text),
+        None => Err(fault(alloc, "error: a document is missing\n")),
+    }
+}
+
+fn sign_in(alloc: Global, given: &ArgMatches<'_>) -> Result<Subcommand, Unread>
+    ensures { IfOk result (IsAsked (codes "sign") (rows_of (found_of given.now))) }
+{
+    refuse_pair(alloc, given)?;
+    let key = text_of(alloc, given, "key")?;
+    let folder = text_of(alloc, given, "in")?;
+    let documents = texts_or_none(alloc, given, "file", MOST_DOCUMENTS)?;
+    Ok(Subcommand::SignIn {
+        key,
+        folder,
+        documents,
+        yes: is_given(given, "yes"),
+        again: is_given(given, "again"),
+    })
+}
+
+// Beside a key by its name stands no book and no seed.
+fn refuse_pair(alloc: Global, given: &ArgMatches<'_>) -> Result<(), Unread>
+    ensures { IfOk result (λ _. LacksPair (rows_of (found_of given.now))) }
+{
+    refuse(alloc, given, "book", "--key <NAME>")?;
+    refuse(alloc, given, "seed", "--key <NAME>")?;
+    refuse(alloc, given, "ots", "--key <NAME>")?;
+    refuse(alloc, given, "height", "--key <NAME>")?;
+    refuse_flag(alloc, given, "known", "--key <NAME>")
+}
+
 fn update_asked(alloc: Global, given: &ArgMatches<'_>) -> Result<Subcommand, Unread>
     ensures { IfOk result (IsAsked (codes "update") (rows_of (found_of given.now))) }
 {
     let db = text_of(alloc, given, "db")?;
-    let port = port_of(alloc, given)?;
+    let server = server_of(alloc, given)?;
     let within = within_of(alloc, given)?;
-    Ok(Subcommand::Update { db, port, within })
+    Ok(Subcommand::Update { db, server, within })
 }
 
 // The text of a fault of the command line.

@@ -15,6 +15,15 @@ pub const MOST_CONNECTIONS: u64 = 4294967295;
 /// The most seconds that a client gives itself, a day.
 pub const MOST_SECONDS: u64 = 86400;
 
+/// The most days that `--due` looks ahead, ten years.
+pub const MOST_DAYS: u64 = 3650;
+
+/// The most mirrors of a client.
+pub const MOST_MIRRORS: usize = 16;
+
+/// The most times that an option stands that may stand more than once.
+pub const MOST_TIMES: usize = 4096;
+
 /// What the words of a command line ask for.
 #[derive(Debug, Drop)]
 pub struct Task {
@@ -34,6 +43,92 @@ pub enum Place {
     Port(u16),
 }
 
+/// Where a client fetches from.
+#[derive(Debug, Drop)]
+pub enum Server {
+    /// A port of 127.0.0.1.
+    Port(u16),
+    /// Mirrors, 1 to 16, each by the text that names it.
+    Mirrors(Vec<String>),
+}
+
+/// What is drafted: the database that the draft follows, if one is given, the folder of the drafts, when the document expires, and whether
+/// signatures are taken off.
+#[derive(Debug, Drop)]
+pub struct Drafting {
+    pub db: Option<String>,
+    pub folder: String,
+    pub expires: Option<String>,
+    pub anew: bool,
+    pub kind: Draft,
+}
+
+/// The kind of a draft, with what it is told.
+#[derive(Debug, Drop)]
+pub enum Draft {
+    /// The next root, with these rules, each `ROLE=RULE`.
+    Root {
+        rules: Vec<String>,
+    },
+    /// The next targets metadata of a role.
+    Targets(TargetsDraft),
+    /// A layout for a target.
+    Layout(LayoutDraft),
+    /// A link of a step.
+    Link(LinkDraft),
+    /// The next snapshot and timestamp.
+    Seal,
+    /// Files that another machine sent back, links among them for a target.
+    Take {
+        target: Option<String>,
+        files: Vec<String>,
+    },
+}
+
+/// What is told of a layout: the target that it is for, the rule of its owners, a file of other artifact rules, and its steps as
+/// `STEP=RULE:PRODUCT[,..]`.
+#[derive(Debug, Drop)]
+pub struct LayoutDraft {
+    pub target: String,
+    pub owners: String,
+    pub rules: Option<String>,
+    pub steps: Vec<String>,
+}
+
+/// What is told of a link: its step, and the files of its materials and products.
+#[derive(Debug, Drop)]
+pub struct LinkDraft {
+    pub step: String,
+    pub materials: Vec<String>,
+    pub products: Vec<String>,
+}
+
+/// What is shown: what a database holds, a folder of drafts, or both; and how: so many days ahead, with these keys' leaves, as JSON, as a
+/// page in a file, and of one path, if one is given.
+#[derive(Debug, Drop)]
+pub struct Showing {
+    pub db: Option<String>,
+    pub folder: Option<String>,
+    pub due: Option<u64>,
+    pub keys: Vec<String>,
+    pub json: bool,
+    pub html: Option<String>,
+    pub paths: Vec<String>,
+}
+
+/// What is told of targets metadata: its role, targets as `PATH[=FILE]`, paths, delegations as `NAME=RULE:PATTERN[,..]`, before which role
+/// these stand and whether they are terminating, and names of roles.
+#[derive(Debug, Drop)]
+pub struct TargetsDraft {
+    pub role: Option<String>,
+    pub add: Vec<String>,
+    pub remove: Vec<String>,
+    pub delegate: Vec<String>,
+    pub terminating: bool,
+    pub before: Option<String>,
+    pub undelegate: Vec<String>,
+}
+
 /// A subcommand with its options and operands.
 #[derive(Debug, Drop)]
 pub enum Subcommand {
@@ -41,16 +136,18 @@ pub enum Subcommand {
     Canon {
         file: String,
     },
+    /// `draft [--db FILE] --in DIR [--expires TERM] [--anew] KIND ..`: drafts the next document of a kind into a folder.
+    Draft(Drafting),
     /// `export --db FILE --to FOLDER`: writes the repository into a folder, as files under the names that a client asks for.
     Export {
         db: String,
         to: String,
     },
-    /// `get --db FILE --port P [--within SECONDS] --out OUT PATH`: fetches a target from 127.0.0.1, and writes the file where the client's own
-    /// state grants it.
+    /// `get --db FILE (--port P | --mirror URL ..) [--within SECONDS] --out OUT PATH`: fetches a target, and writes the file where the client's
+    /// own state grants it.
     Get {
         db: String,
-        port: u16,
+        server: Server,
         within: Option<u64>,
         out: String,
         path: String,
@@ -65,6 +162,11 @@ pub enum Subcommand {
         seed: String,
         params: Params,
     },
+    /// `key --new NAME [--ots W] [--height H]`: makes the three files of a key, of width 8 and height 10 where these are not given.
+    NewKey {
+        name: String,
+        params: Params,
+    },
     /// `prune --db FILE` or `prune --port P`: removes the documents and target files that the snapshot does not list.
     Prune {
         place: Place,
@@ -73,6 +175,11 @@ pub enum Subcommand {
     Publish {
         place: Place,
         documents: Vec<String>,
+    },
+    /// `publish --db FILE --in DIR` or `publish --port P --in DIR`: offers what a folder of drafts has.
+    PublishIn {
+        place: Place,
+        folder: String,
     },
     /// `put --db FILE FILE` or `put --port P FILE`: stores a target file under its digest.
     Put {
@@ -87,6 +194,9 @@ pub enum Subcommand {
         count: Option<u64>,
         read_only: bool,
     },
+    /// `show [--db FILE] [--in DIR] [--due DAYS] [--key NAME ..] [--json] [--html FILE] [PATH]`: shows what a database holds, or a folder of
+    /// drafts, over a database where both are given.
+    Show(Showing),
     /// `sign --book B --seed S --ots W --height H [--known] DOC`: signs a file with a leaf that the book keeps for it, and where it is said
     /// so, only by a book and a key that are known.
     Sign {
@@ -96,10 +206,19 @@ pub enum Subcommand {
         known: bool,
         file: String,
     },
-    /// `update --db FILE --port P [--within SECONDS]`: brings a client's own state up to date from 127.0.0.1.
+    /// `sign --key NAME --in DIR [DOC ..] [--yes] [--again]`: signs drafts, those that are named or all that the key may sign, without being
+    /// asked where it is said so, and where it is said so also another document of a kind and version that the key has signed.
+    SignIn {
+        key: String,
+        folder: String,
+        documents: Vec<String>,
+        yes: bool,
+        again: bool,
+    },
+    /// `update --db FILE (--port P | --mirror URL ..) [--within SECONDS]`: brings a client's own state up to date.
     Update {
         db: String,
-        port: u16,
+        server: Server,
         within: Option<u64>,
     },
 }

@@ -31,36 +31,29 @@ verbose_rule = record (new_rule (codes "verbose")) { long = Some (codes "verbose
 abbrev pub db_rule : Rule
 db_rule = record (option_rule (codes "db")) { required = true }
 
--- `--book B`, which has to be there
-abbrev pub book_rule : Rule
-book_rule = record (option_rule (codes "book")) { required = true }
+-- `--NAME`, which takes no value and may stand more than once
+abbrev pub flag_rule : Text → Rule
+flag_rule name = record (new_rule name) { long = Some name; action = Some Count }
 
--- `--known`, which takes no value and may stand more than once
-abbrev pub known_rule : Rule
-known_rule = record (new_rule (codes "known")) { long = Some (codes "known"); action = Some Count }
+-- `--NAME VALUE`, which may stand more than once
+abbrev pub many_rule : Text → Rule
+many_rule name = record (option_rule name) { action = Some Append }
 
--- `--read-only`, likewise
-abbrev pub read_only_rule : Rule
-read_only_rule = record (new_rule (codes "read-only")) { long = Some (codes "read-only"); action = Some Count }
-
--- `--seed S`, which has to be there
-abbrev pub seed_rule : Rule
-seed_rule = record (option_rule (codes "seed")) { required = true }
-
--- `--ots W` and `--height H`, which have to be there
+-- `--ots W` and `--height H`
 abbrev pub ots_rule : Rule
-ots_rule = record (option_rule (codes "ots")) { required = true; parser = Some (Unsigned 1 8) }
+ots_rule = record (option_rule (codes "ots")) { parser = Some (Unsigned 1 8) }
 
 abbrev pub height_rule : Rule
-height_rule = record (option_rule (codes "height")) { required = true; parser = Some (Unsigned 5 10) }
+height_rule = record (option_rule (codes "height")) { parser = Some (Unsigned 5 10) }
 
 -- an operand, which has to be there
 abbrev pub operand_rule : Text → Rule
 operand_rule name = record (new_rule name) { value_names = 1; required = true; action = Some Set }
 
--- `ROLE:FILE ..`, as many as a batch has at most
-abbrev pub documents_rule : Rule
-documents_rule = record (operand_rule (codes "document")) {
+-- operands, as many as a batch has documents at most, or none
+abbrev pub operands_rule : Text → Rule
+operands_rule name = record (new_rule name) {
+  value_names = 1;
   action = Some Append;
   range = Some (record { start_inclusive = 1; end_inclusive = most_documents });
 }
@@ -76,7 +69,7 @@ most_connections = 4294967295
 abbrev pub port_rule : Rule
 port_rule = record (option_rule (codes "port")) { required = true; parser = Some (Unsigned 1 last_port) }
 
--- `--port P` in place of `--db FILE`
+-- `--port P`, where something else may stand in its place
 abbrev pub port_option_rule : Rule
 port_option_rule = record (option_rule (codes "port")) { parser = Some (Unsigned 1 last_port) }
 
@@ -90,6 +83,13 @@ most_seconds = 86400
 
 abbrev pub within_rule : Rule
 within_rule = record (option_rule (codes "within")) { parser = Some (Unsigned 1 most_seconds) }
+
+-- `--due DAYS`, ten years at most
+abbrev pub most_days : ℕ
+most_days = 3650
+
+abbrev pub due_rule : Rule
+due_rule = record (option_rule (codes "due")) { parser = Some (Unsigned 0 most_days) }
 
 -- `--out OUT` and `--to FOLDER`, which have to be there
 abbrev pub out_rule : Rule
@@ -116,36 +116,73 @@ canon_line = with_rule (begun_line (codes "canon")) (operand_rule (codes "file")
 abbrev pub export_line : App
 export_line = with_rule (stored_line (codes "export")) folder_rule
 
+-- a subcommand over a database and over what is at a port or at mirrors, each of which may be left out as far as `clap` is told
+abbrev pub client_line : Text → App
+client_line name = with_rule (with_rule (with_rule (stored_line name) port_option_rule) (many_rule (codes "mirror"))) within_rule
+
 abbrev pub get_line : App
-get_line = with_rule (with_rule (with_rule (with_rule (stored_line (codes "get")) port_rule) within_rule) out_rule) (operand_rule (codes "path"))
+get_line = with_rule (with_rule (client_line (codes "get")) out_rule) (operand_rule (codes "path"))
 
 abbrev pub init_line : App
 init_line = with_rule (stored_line (codes "init")) (operand_rule (codes "root"))
 
--- a subcommand that is told a key pair
+-- a subcommand that may be told a key pair
 abbrev pub with_key_pair : App → App
-with_key_pair a = with_rule (with_rule (with_rule a seed_rule) ots_rule) height_rule
+with_key_pair a = with_rule (with_rule (with_rule a (option_rule (codes "seed"))) ots_rule) height_rule
 
 abbrev pub key_line : App
-key_line = with_key_pair (begun_line (codes "key"))
+key_line = with_rule (with_key_pair (begun_line (codes "key"))) (option_rule (codes "new"))
 
 abbrev pub prune_line : App
 prune_line = placed_line (codes "prune")
 
 abbrev pub publish_line : App
-publish_line = with_rule (placed_line (codes "publish")) documents_rule
+publish_line = with_rule (with_rule (placed_line (codes "publish")) (option_rule (codes "in"))) (operands_rule (codes "document"))
 
 abbrev pub put_line : App
 put_line = with_rule (placed_line (codes "put")) (operand_rule (codes "file"))
 
 abbrev pub serve_line : App
-serve_line = with_rule (with_rule (with_rule (stored_line (codes "serve")) port_rule) count_rule) read_only_rule
+serve_line = with_rule (with_rule (with_rule (stored_line (codes "serve")) port_rule) count_rule) (flag_rule (codes "read-only"))
+
+-- `show`, over a database, a folder of drafts, or both: what is shown, and how
+abbrev pub shown_line : App
+shown_line = with_rule (with_rule (with_rule (begun_line (codes "show")) (option_rule (codes "db"))) (option_rule (codes "in"))) due_rule
+
+abbrev pub show_line : App
+show_line = with_rule (with_rule (with_rule (with_rule shown_line (many_rule (codes "key"))) (flag_rule (codes "json"))) (option_rule (codes "html"))) (operands_rule (codes "path"))
+
+-- `sign` by a book and a seed, and by a key's three files over a folder of drafts
+abbrev pub by_book_line : App
+by_book_line = with_rule (with_key_pair (with_rule (begun_line (codes "sign")) (option_rule (codes "book")))) (flag_rule (codes "known"))
 
 abbrev pub sign_line : App
-sign_line = with_rule (with_rule (with_key_pair (with_rule (begun_line (codes "sign")) book_rule)) known_rule) (operand_rule (codes "file"))
+sign_line = with_rule (with_rule (with_rule (with_rule (with_rule by_book_line (option_rule (codes "key"))) (option_rule (codes "in")))
+    (flag_rule (codes "yes"))) (flag_rule (codes "again"))) (operands_rule (codes "file"))
 
 abbrev pub update_line : App
-update_line = with_rule (with_rule (stored_line (codes "update")) port_rule) within_rule
+update_line = client_line (codes "update")
+
+-- `draft`: what each kind has, what targets metadata, layouts and links have, the kind itself and its words
+abbrev pub begun_draft_line : App
+begun_draft_line = with_rule (with_rule (with_rule (with_rule (begun_line (codes "draft")) (option_rule (codes "db"))) (required_rule (option_rule (codes "in"))))
+    (option_rule (codes "expires"))) (flag_rule (codes "anew"))
+
+abbrev pub with_listings : App → App
+with_listings a = with_rule (with_rule (with_rule a (option_rule (codes "role"))) (many_rule (codes "add"))) (many_rule (codes "remove"))
+
+abbrev pub with_delegations : App → App
+with_delegations a = with_rule (with_rule (with_rule (with_rule a (many_rule (codes "delegate"))) (flag_rule (codes "terminating")))
+    (option_rule (codes "before"))) (many_rule (codes "undelegate"))
+
+abbrev pub with_layouts : App → App
+with_layouts a = with_rule (with_rule (with_rule a (option_rule (codes "target"))) (option_rule (codes "owners"))) (option_rule (codes "rules"))
+
+abbrev pub with_links : App → App
+with_links a = with_rule (with_rule (with_rule a (option_rule (codes "step"))) (many_rule (codes "materials"))) (many_rule (codes "products"))
+
+abbrev pub draft_line : App
+draft_line = with_rule (with_rule (with_links (with_layouts (with_delegations (with_listings begun_draft_line)))) (operand_rule (codes "kind"))) (operands_rule (codes "word"))
 
 abbrev pub needs_subcommand : App → App
 needs_subcommand a = record a { top = record a.top { subcommand_required = true } }
@@ -158,6 +195,6 @@ with_version a = record a { top = record a.top { has_version = true } }
 
 -- the whole command line
 abbrev pub release_line : App
-release_line = with_command (with_command (with_command (with_command (with_command (with_command (with_command (with_command (with_command (with_command (with_command
+release_line = with_command (with_command (with_command (with_command (with_command (with_command (with_command (with_command (with_command (with_command (with_command (with_command (with_command
     (needs_subcommand (with_version (new_app (codes "release"))))
-    canon_line) export_line) get_line) init_line) key_line) prune_line) publish_line) put_line) serve_line) sign_line) update_line
+    canon_line) draft_line) export_line) get_line) init_line) key_line) prune_line) publish_line) put_line) serve_line) show_line) sign_line) update_line

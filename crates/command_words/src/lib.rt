@@ -12,7 +12,9 @@ mod texts;
 
 use clap::Command;
 use std::alloc::{AllocError, Global};
-use subcommands::{canon, export, get, init, key, prune, publish, put, serve, sign, update};
+use subcommands::{
+    canon, draft, export, get, init, key, prune, publish, put, serve, show, sign, update,
+};
 pub use texts::DENIALS;
 
 /// The whole command line.
@@ -21,6 +23,7 @@ pub fn release<'a>(alloc: Global) -> Result<Command<'a>, AllocError>
 {
     let command = begun(alloc);
     let command = with(command, canon(alloc)?)?;
+    let command = with(command, draft(alloc)?)?;
     let command = with(command, export(alloc)?)?;
     let command = with(command, get(alloc)?)?;
     let command = with(command, init(alloc)?)?;
@@ -29,6 +32,7 @@ pub fn release<'a>(alloc: Global) -> Result<Command<'a>, AllocError>
     let command = with(command, publish(alloc)?)?;
     let command = with(command, put(alloc)?)?;
     let command = with(command, serve(alloc)?)?;
+    let command = with(command, show(alloc)?)?;
     let command = with(command, sign(alloc)?)?;
     with(command, update(alloc)?)
 }

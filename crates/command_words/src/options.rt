@@ -2,15 +2,15 @@
 ghost use Rattle.std.specs.Prelude.{◌≡◌, Some, codes, false, true};
 ghost use Rattle.clap.specs.Words.{rule_of};
 ghost use Rattle.clap.specs.declared.builder.value_parser.ValueParser.TheVariants.{Unsigned};
-ghost use Rattle.command_words.specs.Subcommands.{book_rule, count_rule, db_rule, documents_rule, folder_rule, height_rule, known_rule, moment_rule, operand_rule, option_rule, ots_rule, out_rule, port_option_rule, port_rule, read_only_rule, required_rule, seed_rule, verbose_rule, within_rule};
+ghost use Rattle.command_words.specs.Subcommands.{count_rule, db_rule, due_rule, flag_rule, folder_rule, height_rule, many_rule, moment_rule, operand_rule, operands_rule, option_rule, ots_rule, out_rule, port_option_rule, port_rule, required_rule, verbose_rule, within_rule};
 
 use clap::builder::ValueParser;
 use clap::{Arg, ArgAction};
 use limits::MOST_DOCUMENTS;
 use std::alloc::Global;
 
-// `--NAME VALUE`
-fn option<'a>(alloc: Global, name: &'a str, value: &'a str, help: &'a str) -> Arg<'a>
+/// `--NAME VALUE`
+pub(crate) fn option<'a>(alloc: Global, name: &'a str, value: &'a str, help: &'a str) -> Arg<'a>
     ensures rule { rule_of result ≡ option_rule name.entry.now }
     ensures local { result.global ≡ false }
 {
@@ -21,12 +21,31 @@ fn option<'a>(alloc: Global, name: &'a str, value: &'a str, help: &'a str) -> Ar
         .action(ArgAction::Set)
 }
 
-// `--NAME VALUE`, which has to be there.
-fn required<'a>(alloc: Global, name: &'a str, value: &'a str, help: &'a str) -> Arg<'a>
+/// `--NAME VALUE`, which has to be there.
+pub(crate) fn required<'a>(alloc: Global, name: &'a str, value: &'a str, help: &'a str) -> Arg<'a>
     ensures rule { rule_of result ≡ required_rule (option_rule name.entry.now) }
     ensures local { result.global ≡ false }
 {
     option(alloc, name, value, help).required(true)
+}
+
+/// `--NAME`, which takes no value.
+pub(crate) fn flag<'a>(alloc: Global, name: &'a str, help: &'a str) -> Arg<'a>
+    ensures rule { rule_of result ≡ flag_rule name.entry.now }
+    ensures local { result.global ≡ false }
+{
+    Arg::new(alloc, name)
+        .long(name)
+        .help(help)
+        .action(ArgAction::Count)
+}
+
+/// `--NAME VALUE ..`, as often as it is given.
+pub(crate) fn many<'a>(alloc: Global, name: &'a str, value: &'a str, help: &'a str) -> Arg<'a>
+    ensures rule { rule_of result ≡ many_rule name.entry.now }
+    ensures local { result.global ≡ false }
+{
+    option(alloc, name, value, help).action(ArgAction::Append)
 }
 
 // The argument, whose value is a number within these bounds.
@@ -76,57 +95,14 @@ pub(crate) fn db_or_port<'a>(alloc: Global) -> Arg<'a>
     option(alloc, "db", "FILE", help)
 }
 
-/// `--book B`
-pub(crate) fn book<'a>(alloc: Global) -> Arg<'a>
-    ensures rule { rule_of result ≡ book_rule }
-    ensures local { result.global ≡ false }
-{
-    let help = "The database file of the leaves that are spent, made where there is none";
-    required(alloc, "book", "B", help)
-}
-
-/// `--known`
-pub(crate) fn known<'a>(alloc: Global) -> Arg<'a>
-    ensures rule { rule_of result ≡ known_rule }
-    ensures local { result.global ≡ false }
-{
-    Arg::new(alloc, "known")
-        .long("known")
-        .help(
-            "Refuse a book that is not there, and a key that it does not have, before a leaf is spent",
-        )
-        .action(ArgAction::Count)
-}
-
-/// `--read-only`
-pub(crate) fn read_only<'a>(alloc: Global) -> Arg<'a>
-    ensures rule { rule_of result ≡ read_only_rule }
-    ensures local { result.global ≡ false }
-{
-    Arg::new(alloc, "read-only")
-        .long("read-only")
-        .help(
-            "Serve documents and target files alone: POST /batch, PUT /blobs and POST /prune are not there",
-        )
-        .action(ArgAction::Count)
-}
-
-/// `--seed S`
-pub(crate) fn seed<'a>(alloc: Global) -> Arg<'a>
-    ensures rule { rule_of result ≡ seed_rule }
-    ensures local { result.global ≡ false }
-{
-    let help = "The seed file: 96 hex digits of lower case, I and SEED, and a line feed";
-    required(alloc, "seed", "S", help)
-}
-
 /// `--ots W`
 pub(crate) fn ots<'a>(alloc: Global) -> Arg<'a>
     ensures rule { rule_of result ≡ ots_rule }
     ensures local { result.global ≡ false }
 {
-    let help = "The width of the one-time signatures: 1, 2, 4 or 8";
-    within(required(alloc, "ots", "W", help), 1, 8)
+    let help =
+        "The width of the one-time signatures: 1, 2, 4 or 8 (of a new key 8 where it is not given)";
+    within(option(alloc, "ots", "W", help), 1, 8)
 }
 
 /// `--height H`
@@ -134,8 +110,9 @@ pub(crate) fn height<'a>(alloc: Global) -> Arg<'a>
     ensures rule { rule_of result ≡ height_rule }
     ensures local { result.global ≡ false }
 {
-    let help = "The height of the tree: 5 for 32 signatures, 10 for 1,024";
-    within(required(alloc, "height", "H", help), 5, 10)
+    let help =
+        "The height of the tree: 5 for 32 signatures, 10 for 1,024 (of a new key 10 where it is not given)";
+    within(option(alloc, "height", "H", help), 5, 10)
 }
 
 /// `--port P`
@@ -146,13 +123,11 @@ pub(crate) fn port<'a>(alloc: Global, help: &'a str) -> Arg<'a>
     within(required(alloc, "port", "P", help), 1, 65535)
 }
 
-/// `--port P` in place of `--db FILE`
-pub(crate) fn port_or_db<'a>(alloc: Global) -> Arg<'a>
+/// `--port P`, where something else may stand in its place.
+pub(crate) fn port_option<'a>(alloc: Global, help: &'a str) -> Arg<'a>
     ensures rule { rule_of result ≡ port_option_rule }
     ensures local { result.global ≡ false }
 {
-    let help =
-        "The port of 127.0.0.1 that the repository is served at, in place of --db. The moment is then the server's, so --at may not be given";
     within(option(alloc, "port", "P", help), 1, 65535)
 }
 
@@ -204,13 +179,23 @@ pub(crate) fn operand<'a>(alloc: Global, id: &'a str, name: &'a str, help: &'a s
         .action(ArgAction::Set)
 }
 
-/// `ROLE:FILE ..`
-pub(crate) fn documents<'a>(alloc: Global) -> Arg<'a>
-    ensures rule { rule_of result ≡ documents_rule }
+/// Operands, as many as documents of a batch, or none.
+pub(crate) fn operands<'a>(alloc: Global, id: &'a str, name: &'a str, help: &'a str) -> Arg<'a>
+    ensures rule { rule_of result ≡ operands_rule id.entry.now }
     ensures local { result.global ≡ false }
 {
-    let help = "A document's role and file: root, timestamp, snapshot, targets or a delegated role";
-    operand(alloc, "document", "ROLE:FILE", help)
+    Arg::new(alloc, id)
+        .value_name(name)
+        .help(help)
         .action(ArgAction::Append)
         .num_args(1..=MOST_DOCUMENTS)
+}
+
+/// `--due DAYS`
+pub(crate) fn due<'a>(alloc: Global) -> Arg<'a>
+    ensures rule { rule_of result ≡ due_rule }
+    ensures local { result.global ≡ false }
+{
+    let help = "End with status 1 where something expires within so many days";
+    within(option(alloc, "due", "DAYS", help), 0, 3650)
 }

@@ -2,18 +2,27 @@
 ghost use Rattle.std.specs.Prelude.{◌≡◌, IfOk, false};
 ghost use Rattle.clap.specs.Words.{app_of, rule_of, with_rule};
 ghost use Rattle.clap.specs.declared.builder.command.Command.TheViews.{out-Command};
-ghost use Rattle.command_words.specs.Subcommands.{begun_line, canon_line, export_line, get_line, init_line, key_line, placed_line, prune_line, publish_line, put_line, serve_line, sign_line, stored_line, update_line, with_key_pair};
+ghost use Rattle.command_words.specs.Subcommands.{begun_draft_line, begun_line, by_book_line, canon_line, client_line, draft_line, export_line, get_line, init_line, key_line, placed_line, prune_line, publish_line, put_line, serve_line, show_line, shown_line, sign_line, stored_line, update_line, with_delegations, with_key_pair, with_layouts, with_links, with_listings};
 
 use crate::options::{
-    at, book, count, db, db_or_port, deadline, documents, folder, height, known, operand, ots, out,
-    port, port_or_db, read_only, seed, verbose,
+    at, count, db, db_or_port, deadline, due, flag, folder, height, many, operand, operands,
+    option, ots, out, port, port_option, required, verbose,
 };
 use crate::texts;
 use clap::{Arg, Command};
 use std::alloc::{AllocError, Global};
 
-// What the port of a client is.
-const SERVER: &str = "The port that the repository is served at";
+// What the port of a client is, and that in place of a database.
+const SERVER: &str = "The port of 127.0.0.1 that the repository is served at; or --mirror";
+
+const IN_PLACE: &str =
+    "The port of 127.0.0.1 that the repository is served at, in place of --db. The moment is then the server's, so --at may not be given";
+
+const MIRROR: &str =
+    "A mirror, http://HOST[:PORT][/PREFIX], in place of --port. Of several each file is taken from the first that has it";
+
+// What a folder of drafts is.
+const DRAFTS: &str = "The folder of the drafts";
 
 /// `canon [--at SECONDS] [--verbose] FILE`
 pub fn canon<'a>(alloc: Global) -> Result<Command<'a>, AllocError>
@@ -23,6 +32,106 @@ pub fn canon<'a>(alloc: Global) -> Result<Command<'a>, AllocError>
     let about = "Print the canonical form of any JSON";
     let command = begun(alloc, "canon", about, texts::CANON)?;
     with(command, operand(alloc, "file", "FILE", "The file to read"))
+}
+
+/// `draft [--at SECONDS] [--verbose] [--db FILE] --in DIR [--expires TERM] [--anew] KIND ..`
+pub fn draft<'a>(alloc: Global) -> Result<Command<'a>, AllocError>
+    ensures line { IfOk result (λ c. app_of c ≡ draft_line) }
+    ensures local { IfOk result (λ c. (out-Command c).has_globals ≡ false) }
+{
+    let command = begun_draft(alloc)?;
+    let command = listings(alloc, command)?;
+    let command = delegations(alloc, command)?;
+    let command = layouts(alloc, command)?;
+    let command = links(alloc, command)?;
+    let help =
+        "root, targets, layout, link, seal (snapshot and timestamp) or take (what another machine sends back)";
+    let command = with(command, operand(alloc, "kind", "KIND", help))?;
+    let help =
+        "Of root ROLE=RULE, where a rule is [N@]KEY[,KEY..] and a key a file, a name or digits of its ID; of layout STEP=RULE:PRODUCT[,..]; of take files";
+    with(command, operands(alloc, "word", "WORD", help))
+}
+
+// `draft`, as far as all kinds have it.
+fn begun_draft<'a>(alloc: Global) -> Result<Command<'a>, AllocError>
+    ensures line { IfOk result (λ c. app_of c ≡ begun_draft_line) }
+    ensures local { IfOk result (λ c. (out-Command c).has_globals ≡ false) }
+{
+    let about = "Draft the next document into a folder; no leaf is spent";
+    let command = begun(alloc, "draft", about, texts::DRAFT)?;
+    let help = "The database file of the repository, or of a client, that the draft follows";
+    let command = with(command, option(alloc, "db", "FILE", help))?;
+    let command = with(command, required(alloc, "in", "DIR", DRAFTS))?;
+    let help = "When the document expires: 90d, 12h, or a moment as 2030-01-01T00:00:00Z";
+    let command = with(command, option(alloc, "expires", "TERM", help))?;
+    let help = "Draft anew what has signatures, which are taken off";
+    with(command, flag(alloc, "anew", help))
+}
+
+// What targets metadata has of targets.
+fn listings<'a>(alloc: Global, command: Command<'a>) -> Result<Command<'a>, AllocError>
+    requires no_globals { (out-Command command).has_globals ≡ false }
+    ensures line { IfOk result (λ c. app_of c ≡ with_listings (app_of command.entry)) }
+    ensures local { IfOk result (λ c. (out-Command c).has_globals ≡ false) }
+{
+    let help = "The role of the targets metadata, targets where it is not given";
+    let command = with(command, option(alloc, "role", "R", help))?;
+    let help = "List a target; of a folder all that it has";
+    let command = with(command, many(alloc, "add", "PATH[=FILE]", help))?;
+    with(
+        command,
+        many(alloc, "remove", "PATH", "List a target no more"),
+    )
+}
+
+// And of delegations.
+fn delegations<'a>(alloc: Global, command: Command<'a>) -> Result<Command<'a>, AllocError>
+    requires no_globals { (out-Command command).has_globals ≡ false }
+    ensures line { IfOk result (λ c. app_of c ≡ with_delegations (app_of command.entry)) }
+    ensures local { IfOk result (λ c. (out-Command c).has_globals ≡ false) }
+{
+    let help = "Delegate what the patterns match to a role";
+    let value = "NAME=RULE:PATTERN[,..]";
+    let command = with(command, many(alloc, "delegate", value, help))?;
+    let help = "Nothing behind these delegations is searched for what they cover";
+    let command = with(command, flag(alloc, "terminating", help))?;
+    let help = "Put these delegations before that of another role";
+    let command = with(command, option(alloc, "before", "NAME", help))?;
+    with(
+        command,
+        many(alloc, "undelegate", "NAME", "Delegate to a role no more"),
+    )
+}
+
+// What layouts have.
+fn layouts<'a>(alloc: Global, command: Command<'a>) -> Result<Command<'a>, AllocError>
+    requires no_globals { (out-Command command).has_globals ≡ false }
+    ensures line { IfOk result (λ c. app_of c ≡ with_layouts (app_of command.entry)) }
+    ensures local { IfOk result (λ c. (out-Command c).has_globals ≡ false) }
+{
+    let help = "The target that the layout is for, or that a link is taken for";
+    let command = with(command, option(alloc, "target", "PATH", help))?;
+    let help = "Whose signatures a layout needs";
+    let command = with(command, option(alloc, "owners", "RULE", help))?;
+    let help =
+        "A file of other artifact rules, a line each: STEP materials or STEP products, and the rule's words";
+    with(command, option(alloc, "rules", "FILE", help))
+}
+
+// And links.
+fn links<'a>(alloc: Global, command: Command<'a>) -> Result<Command<'a>, AllocError>
+    requires no_globals { (out-Command command).has_globals ≡ false }
+    ensures line { IfOk result (λ c. app_of c ≡ with_links (app_of command.entry)) }
+    ensures local { IfOk result (λ c. (out-Command c).has_globals ≡ false) }
+{
+    let help = "The step that a link is of";
+    let command = with(command, option(alloc, "step", "NAME", help))?;
+    let help = "A file that the step begins with";
+    let command = with(command, many(alloc, "materials", "FILE", help))?;
+    with(
+        command,
+        many(alloc, "products", "FILE", "A file that the step leaves"),
+    )
 }
 
 /// `export [--at SECONDS] [--verbose] --db FILE --to FOLDER`
@@ -35,15 +144,13 @@ pub fn export<'a>(alloc: Global) -> Result<Command<'a>, AllocError>
     with(command, folder(alloc))
 }
 
-/// `get [--at SECONDS] [--verbose] --db FILE --port P [--within SECONDS] --out OUT PATH`
+/// `get [--at SECONDS] [--verbose] --db FILE (--port P | --mirror URL ..) [--within SECONDS] --out OUT PATH`
 pub fn get<'a>(alloc: Global) -> Result<Command<'a>, AllocError>
     ensures line { IfOk result (λ c. app_of c ≡ get_line) }
     ensures local { IfOk result (λ c. (out-Command c).has_globals ≡ false) }
 {
-    let about = "Fetch a target from 127.0.0.1, as a client";
-    let command = stored(alloc, "get", about, texts::GET)?;
-    let command = with(command, port(alloc, SERVER))?;
-    let command = with(command, deadline(alloc))?;
+    let about = "Fetch a target, as a client";
+    let command = client(alloc, "get", about, texts::GET)?;
     let command = with(command, out(alloc))?;
     with(
         command,
@@ -64,14 +171,16 @@ pub fn init<'a>(alloc: Global) -> Result<Command<'a>, AllocError>
     )
 }
 
-/// `key [--at SECONDS] [--verbose] --seed S --ots W --height H`
+/// `key [--at SECONDS] [--verbose] --seed S --ots W --height H` or `key [--at SECONDS] [--verbose] --new NAME [--ots W] [--height H]`
 pub fn key<'a>(alloc: Global) -> Result<Command<'a>, AllocError>
     ensures line { IfOk result (λ c. app_of c ≡ key_line) }
     ensures local { IfOk result (λ c. (out-Command c).has_globals ≡ false) }
 {
-    let about = "Print the public key object of a seed";
+    let about = "Print the public key object of a seed, or make a key";
     let command = begun(alloc, "key", about, texts::KEY)?;
-    with_key(alloc, command)
+    let command = with_key(alloc, command)?;
+    let help = "Make NAME.seed, NAME.key and NAME.book, and print the key's ID";
+    with(command, option(alloc, "new", "NAME", help))
 }
 
 /// `prune [--at SECONDS] [--verbose] --db FILE` or `prune [--verbose] --port P`
@@ -83,14 +192,16 @@ pub fn prune<'a>(alloc: Global) -> Result<Command<'a>, AllocError>
     placed(alloc, "prune", about, texts::PRUNE)
 }
 
-/// `publish [--at SECONDS] [--verbose] --db FILE ROLE:FILE ..` or `publish [--verbose] --port P ROLE:FILE ..`
+/// `publish [--at SECONDS] [--verbose] --db FILE (ROLE:FILE .. | --in DIR)` or `publish [--verbose] --port P (ROLE:FILE .. | --in DIR)`
 pub fn publish<'a>(alloc: Global) -> Result<Command<'a>, AllocError>
     ensures line { IfOk result (λ c. app_of c ≡ publish_line) }
     ensures local { IfOk result (λ c. (out-Command c).has_globals ≡ false) }
 {
-    let about = "Take documents in the order given, all or none";
+    let about = "Take documents in the order given, or those of a folder of drafts, all or none";
     let command = placed(alloc, "publish", about, texts::PUBLISH)?;
-    with(command, documents(alloc))
+    let command = with(command, option(alloc, "in", "DIR", DRAFTS))?;
+    let help = "A document's role and file: root, timestamp, snapshot, targets or a delegated role";
+    with(command, operands(alloc, "document", "ROLE:FILE", help))
 }
 
 /// `put [--at SECONDS] [--verbose] --db FILE FILE` or `put [--verbose] --port P FILE`
@@ -112,33 +223,94 @@ pub fn serve<'a>(alloc: Global) -> Result<Command<'a>, AllocError>
     let command = stored(alloc, "serve", about, texts::SERVE)?;
     let command = with(command, port(alloc, "The port to listen on"))?;
     let command = with(command, count(alloc))?;
-    with(command, read_only(alloc))
+    let help =
+        "Serve documents and target files alone: POST /batch, PUT /blobs and POST /prune are not there";
+    with(command, flag(alloc, "read-only", help))
 }
 
-/// `sign [--at SECONDS] [--verbose] --book B --seed S --ots W --height H [--known] DOC`
+/// `show [--at SECONDS] [--verbose] [--db FILE] [--in DIR] [--due DAYS] [--key NAME ..] [--json] [--html FILE] [PATH]`, of which `--db` or
+/// `--in` has to be there
+pub fn show<'a>(alloc: Global) -> Result<Command<'a>, AllocError>
+    ensures line { IfOk result (λ c. app_of c ≡ show_line) }
+    ensures local { IfOk result (λ c. (out-Command c).has_globals ≡ false) }
+{
+    let command = shown(alloc)?;
+    let help = "A key whose leaves are counted: NAME of NAME.key and NAME.book";
+    let command = with(command, many(alloc, "key", "NAME", help))?;
+    let command = with(command, flag(alloc, "json", "Print the same facts as JSON"))?;
+    let help = "Write a page that stands alone, too";
+    let command = with(command, option(alloc, "html", "FILE", help))?;
+    let help = "A target: who lists it, and what a search visits";
+    with(command, operands(alloc, "path", "PATH", help))
+}
+
+// `show`, as far as it says what is shown.
+fn shown<'a>(alloc: Global) -> Result<Command<'a>, AllocError>
+    ensures line { IfOk result (λ c. app_of c ≡ shown_line) }
+    ensures local { IfOk result (λ c. (out-Command c).has_globals ≡ false) }
+{
+    let about = "Show what is held, or drafts and what is to be done next";
+    let command = begun(alloc, "show", about, texts::SHOW)?;
+    let help = "The database file of a repository or of a client";
+    let command = with(command, option(alloc, "db", "FILE", help))?;
+    let command = with(command, option(alloc, "in", "DIR", DRAFTS))?;
+    with(command, due(alloc))
+}
+
+/// `sign [--at SECONDS] [--verbose] --book B --seed S --ots W --height H [--known] DOC` or `sign [--at SECONDS] [--verbose] --key K --in DIR
+/// [DOC ..] [--yes] [--again]`
 pub fn sign<'a>(alloc: Global) -> Result<Command<'a>, AllocError>
     ensures line { IfOk result (λ c. app_of c ≡ sign_line) }
     ensures local { IfOk result (λ c. (out-Command c).has_globals ≡ false) }
 {
-    let about = "Sign a document by a leaf that no other document gets";
-    let command = begun(alloc, "sign", about, texts::SIGN)?;
-    let command = with(command, book(alloc))?;
-    let command = with_key(alloc, command)?;
-    let command = with(command, known(alloc))?;
-    with(
-        command,
-        operand(alloc, "file", "DOC", "The document to sign"),
-    )
+    let command = by_book(alloc)?;
+    let help = "The key: NAME of NAME.seed, NAME.key and NAME.book, in place of --seed and --book";
+    let command = with(command, option(alloc, "key", "NAME", help))?;
+    let command = with(command, option(alloc, "in", "DIR", DRAFTS))?;
+    let command = with(command, flag(alloc, "yes", "Sign without being asked"))?;
+    let help = "Sign another document of a kind and version that this key has signed";
+    let command = with(command, flag(alloc, "again", help))?;
+    let help = "The document to sign; with --in its name there, or all that the key may sign";
+    with(command, operands(alloc, "file", "DOC", help))
 }
 
-/// `update [--at SECONDS] [--verbose] --db FILE --port P [--within SECONDS]`
+// `sign`, as far as a book and a seed are told.
+fn by_book<'a>(alloc: Global) -> Result<Command<'a>, AllocError>
+    ensures line { IfOk result (λ c. app_of c ≡ by_book_line) }
+    ensures local { IfOk result (λ c. (out-Command c).has_globals ≡ false) }
+{
+    let about = "Sign documents by leaves that no other document gets";
+    let command = begun(alloc, "sign", about, texts::SIGN)?;
+    let help = "The database file of the leaves that are spent, made where there is none";
+    let command = with(command, option(alloc, "book", "B", help))?;
+    let command = with_key(alloc, command)?;
+    let help =
+        "Refuse a book that is not there, and a key that it does not have, before a leaf is spent";
+    with(command, flag(alloc, "known", help))
+}
+
+/// `update [--at SECONDS] [--verbose] --db FILE (--port P | --mirror URL ..) [--within SECONDS]`
 pub fn update<'a>(alloc: Global) -> Result<Command<'a>, AllocError>
     ensures line { IfOk result (λ c. app_of c ≡ update_line) }
     ensures local { IfOk result (λ c. (out-Command c).has_globals ≡ false) }
 {
-    let about = "Bring the trusted metadata up to date from 127.0.0.1, as a client";
-    let command = stored(alloc, "update", about, texts::UPDATE)?;
-    let command = with(command, port(alloc, SERVER))?;
+    let about = "Bring the trusted metadata up to date, as a client";
+    client(alloc, "update", about, texts::UPDATE)
+}
+
+// A subcommand of a client.
+fn client<'a>(
+    alloc: Global,
+    name: &'a str,
+    about: &'a str,
+    behind: &'a str,
+) -> Result<Command<'a>, AllocError>
+    ensures line { IfOk result (λ c. app_of c ≡ client_line name.entry.now) }
+    ensures local { IfOk result (λ c. (out-Command c).has_globals ≡ false) }
+{
+    let command = stored(alloc, name, about, behind)?;
+    let command = with(command, port_option(alloc, SERVER))?;
+    let command = with(command, many(alloc, "mirror", "URL", MIRROR))?;
     with(command, deadline(alloc))
 }
 
@@ -168,7 +340,7 @@ fn placed<'a>(
 {
     let command = begun(alloc, name, about, behind)?;
     let command = with(command, db_or_port(alloc))?;
-    with(command, port_or_db(alloc))
+    with(command, port_option(alloc, IN_PLACE))
 }
 
 // A subcommand, which takes a moment, and may tell more. Behind its help stands a text.
@@ -186,13 +358,14 @@ fn begun<'a>(
     with(command, verbose(alloc))
 }
 
-// The command with the arguments that say a key pair.
+// The command with the arguments that may say a key pair.
 fn with_key<'a>(alloc: Global, command: Command<'a>) -> Result<Command<'a>, AllocError>
     requires no_globals { (out-Command command).has_globals ≡ false }
     ensures line { IfOk result (λ c. app_of c ≡ with_key_pair (app_of command.entry)) }
     ensures local { IfOk result (λ c. (out-Command c).has_globals ≡ false) }
 {
-    let command = with(command, seed(alloc))?;
+    let help = "The seed file: 96 hex digits of lower case, I and SEED, and a line feed";
+    let command = with(command, option(alloc, "seed", "S", help))?;
     let command = with(command, ots(alloc))?;
     with(command, height(alloc))
 }

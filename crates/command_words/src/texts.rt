@@ -11,7 +11,7 @@ macro_rules! behind {
             "\n\nExit status:\n",
             "  0  done\n",
             "  1  denied: 'denied N Name' on standard error, for a document of a batch with ' at I' behind it;\n",
-            "     of sign also 'leaves spent' and 'unknown key'\n",
+            "     also 'leaves spent', 'unknown key', 'refused WORD' of drafts, and 'due' of show\n",
             "  2  a fault of the command line\n",
             "  3  all else: 'fault' and one of memory, database, damaged, network, file and clock\n",
             "\n",
@@ -27,6 +27,11 @@ pub const PROGRAM: &str = behind!("release init --db repository.db root.json");
 /// Behind the help of `canon`.
 pub const CANON: &str = behind!("release canon document.json > canonical.json");
 
+/// Behind the help of `draft`.
+pub const DRAFT: &str = behind!(
+    "release draft --db repository.db --in drafts targets --add hello.txt --remove old.txt"
+);
+
 /// Behind the help of `export`.
 pub const EXPORT: &str = behind!("release export --db repository.db --to /srv/repository");
 
@@ -37,7 +42,7 @@ pub const GET: &str = behind!("release get --db client.db --port 8080 --out hell
 pub const INIT: &str = behind!("release init --db repository.db root.json");
 
 /// Behind the help of `key`.
-pub const KEY: &str = behind!("release key --seed root.seed --ots 8 --height 10");
+pub const KEY: &str = behind!("release key --new root");
 
 /// Behind the help of `prune`.
 pub const PRUNE: &str = behind!("release prune --db repository.db");
@@ -53,10 +58,11 @@ pub const PUT: &str = behind!("release put --db repository.db hello.txt");
 /// Behind the help of `serve`.
 pub const SERVE: &str = behind!("release serve --db repository.db --port 8080 --verbose");
 
+/// Behind the help of `show`.
+pub const SHOW: &str = behind!("release show --in drafts --db repository.db");
+
 /// Behind the help of `sign`.
-pub const SIGN: &str = behind!(
-    "release sign --book book.db --seed root.seed --ots 8 --height 10 root.json > root.signed.json"
-);
+pub const SIGN: &str = behind!("release sign --key root --in drafts");
 
 /// Behind the help of `update`.
 pub const UPDATE: &str = behind!("release update --db client.db --port 8080");

@@ -5,7 +5,5 @@ use Rattle.command_words.proofs.subcommands.get.Goals as goal
 
 pub returns-clause-line : goal.returns-clause-line
 returns-clause-line c =
-    let one = c.in_ok-command-2.ensures.line ∙ ap₂ with_rule c.in_ok-command.ensures.line c.port.ensures.rule in
-    let two = c.in_ok-command-3.ensures.line ∙ ap₂ with_rule one c.deadline.ensures.rule in
-    let three = c.in_ok-command-4.ensures.line ∙ ap₂ with_rule two c.out.ensures.rule in
-    IfOk-weaker c.with-4.result _ _ (λ r added. added ∙ ap₂ with_rule three c.operand.ensures.rule) c.with-4.ensures.line
+    let one = c.in_ok-command-2.ensures.line ∙ ap₂ with_rule c.in_ok-command.ensures.line c.out.ensures.rule in
+    IfOk-weaker c.with-2.result _ _ (λ r added. added ∙ ap₂ with_rule one c.operand.ensures.rule) c.with-2.ensures.line

@@ -7,4 +7,4 @@ pub returns-clause-line : goal.returns-clause-line
 returns-clause-line c =
     let one = c.in_ok-command-2.ensures.line ∙ ap₂ with_rule c.in_ok-command.ensures.line c.port.ensures.rule in
     let two = c.in_ok-command-3.ensures.line ∙ ap₂ with_rule one c.count.ensures.rule in
-    IfOk-weaker c.with-3.result _ _ (λ r added. added ∙ ap₂ with_rule two c.read_only.ensures.rule) c.with-3.ensures.line
+    IfOk-weaker c.with-3.result _ _ (λ r added. added ∙ ap₂ with_rule two c.flag.ensures.rule) c.with-3.ensures.line

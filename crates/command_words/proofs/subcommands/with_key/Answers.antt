@@ -5,6 +5,6 @@ use Rattle.command_words.proofs.subcommands.with_key.Goals as goal
 
 pub returns-clause-line : goal.returns-clause-line
 returns-clause-line c =
-    let one = c.in_ok-command.ensures.line ∙ ap (with_rule (app_of c.args.command)) c.seed.ensures.rule in
+    let one = c.in_ok-command.ensures.line ∙ ap (with_rule (app_of c.args.command)) c.option.ensures.rule in
     let two = c.in_ok-command-2.ensures.line ∙ ap₂ with_rule one c.ots.ensures.rule in
     IfOk-weaker c.with-3.result _ _ (λ r added. added ∙ ap₂ with_rule two c.height.ensures.rule) c.with-3.ensures.line

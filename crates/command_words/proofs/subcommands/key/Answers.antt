@@ -1,0 +1,10 @@
+use Rattle.std.proofs.Common.{ap, ap₂, ◌∙◌}
+use Rattle.std.proofs.lemmas.Result.{IfOk-weaker}
+use Rattle.clap.specs.Words.{with_rule}
+use Rattle.command_words.specs.Subcommands.{with_key_pair}
+use Rattle.command_words.proofs.subcommands.key.Goals as goal
+
+pub returns-clause-line : goal.returns-clause-line
+returns-clause-line c =
+    let one = c.in_ok-command-2.ensures.line ∙ ap with_key_pair c.in_ok-command.ensures.line in
+    IfOk-weaker c.with.result _ _ (λ r added. added ∙ ap₂ with_rule one c.option.ensures.rule) c.with.ensures.line
