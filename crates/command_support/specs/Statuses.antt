@@ -2,10 +2,12 @@
 use Rattle.std.specs.Prelude.{ℕ, None}
 use Rattle.denials.specs.declared.denial.Denial.TheVariants as denials
 use Rattle.command_support.specs.declared.fault.Fault.{Fault}
-use Rattle.command_support.specs.declared.fault.Fault.TheVariants.{Usage, Help, Denied, Refused, LeavesSpent, UnknownKey, Memory, Database, Damaged, Network, File, Clock}
+use Rattle.command_support.specs.declared.fault.Fault.TheVariants.{Usage, Help, Denied, Refused, Slip, Due, LeavesSpent, UnknownKey, Memory, Database, Damaged, Network, File, Clock}
 use Rattle.command_line.specs.declared.tasks.Usage.{Usage as Usages}
 use Rattle.command_line.specs.declared.tasks.Usage.TheVariants as usages
 use Rattle.canon.specs.declared.CanonFault.{CanonFault}
+use Rattle.metadata.specs.declared.documents.ShapeFault.{ShapeFault}
+use Rattle.metadata.specs.declared.documents.ShapeFault.TheVariants as shapes
 use Rattle.canon.specs.declared.CanonFault.TheVariants as canon_faults
 
 -- help is no fault: it is printed as asked
@@ -13,6 +15,8 @@ abbrev pub status_of : Fault → ℕ
 status_of (Help text) = 0
 status_of (Denied denial index) = 1
 status_of (Refused number name index) = 1
+status_of (Slip slip) = 1
+status_of Due = 1
 status_of LeavesSpent = 1
 status_of UnknownKey = 1
 status_of (Usage text) = 2
@@ -32,3 +36,12 @@ fault_of_usage usages.OutOfMemory = Memory
 abbrev pub fault_of_canon : CanonFault → Fault
 fault_of_canon canon_faults.NotCanonical = Denied denials.NotCanonical None
 fault_of_canon canon_faults.OutOfMemory = Memory
+
+-- what a file that is no document of its kind comes to
+abbrev pub fault_of_shape : ShapeFault → Fault
+fault_of_shape shapes.TooLong = Denied denials.TooLong None
+fault_of_shape shapes.NotCanonical = Denied denials.NotCanonical None
+fault_of_shape shapes.WrongShape = Denied denials.WrongShape None
+fault_of_shape shapes.WrongType = Denied denials.WrongType None
+fault_of_shape shapes.BadKeyId = Denied denials.BadKeyId None
+fault_of_shape shapes.OutOfMemory = Memory

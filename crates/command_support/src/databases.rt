@@ -1,5 +1,8 @@
 //! Database files.
+ghost use Rattle.std.specs.Prelude.{◌+◌, ◌≤◌, length};
+
 use crate::fault::Fault;
+use crate::files::read_at_most;
 use crate::notes::Notes;
 use crate::placing::OWNER_ALONE;
 use sqlite::{Connection, Error, ErrorCode, FileFrom, FileStore, Wary};
@@ -13,6 +16,11 @@ const IN_MEMORY: &str = ":memory:";
 
 // The bytes of a log without a change: its head.
 const LOG_HEAD: u64 = 41;
+
+// Where the first change of a log has its page, and the most bytes of a page.
+const FIRST_PAGE: usize = 56;
+
+const PAGE: usize = 65_536;
 
 // So many MiB take a while to open, and each so many milliseconds (docs/OPERATING.md).
 const LARGE: u64 = 64;
@@ -36,8 +44,17 @@ pub fn connected<E: Write>(
     }
     make_both(rt, db)?;
     tell_size(rt, db, notes)?;
+    let is_disregarded = has_ill_log(rt, db, notes)?;
     match Connection::open_from(rt, db, false, Wary) {
-        Ok(conn) => Ok(conn),
+        Ok(conn) => {
+            if is_disregarded {
+                notes.tell(
+                    &db,
+                    &"the first change of its log does not check: the log is disregarded",
+                );
+            }
+            Ok(conn)
+        }
         Err((error, _)) => Err(unopened(rt, db, &error, notes)),
     }
 }
@@ -91,6 +108,71 @@ fn is_log_alone(rt: &HostRuntime, db: &str) -> Result<bool, AllocError> {
     }
     let log = format!(in rt.alloc(); "{db}-wal")?;
     Ok(length_of(rt, log.as_str()) > LOG_HEAD)
+}
+
+// Whether facts are told, and the log has changes that an opening disregards, since the first of them does not check.
+fn has_ill_log<E: Write>(
+    rt: &HostRuntime,
+    db: &str,
+    notes: &mut Notes<'_, E>,
+) -> Result<bool, AllocError> {
+    if !notes.are_told() {
+        return Ok(false);
+    }
+    let log = format!(in rt.alloc(); "{db}-wal")?;
+    if length_of(rt, log.as_str()) <= LOG_HEAD {
+        return Ok(false);
+    }
+    match read_at_most(rt, log.as_str(), FIRST_PAGE + PAGE, notes) {
+        Ok(read) => Ok(!has_first_change(&read)),
+        Err(_) => Ok(false),
+    }
+}
+
+// Whether the head of a log checks, and its first change: it has the salt of the head, a page's number, and the sum of both (the file
+// format of SQLite, "WAL File Format").
+fn has_first_change(log: &[u8]) -> bool {
+    if log.len() < FIRST_PAGE || log[..3] != [0x37, 0x7f, 0x06] || log[3] & 0xfe != 0x82 {
+        return false;
+    }
+    let is_big = log[3] == 0x83;
+    let end = FIRST_PAGE + word(true, log, 8) as usize;
+    if log.len() < end || log[40..48] != log[16..24] || word(true, log, 32) == 0 {
+        return false;
+    }
+    let head = sum_over(is_big, (0, 0), &log[..24]);
+    let change = sum_over(is_big, head, &log[32..40]);
+    let change = sum_over(is_big, change, &log[FIRST_PAGE..end]);
+    head == sum_at(log, 24) && change == sum_at(log, 48)
+}
+
+// The sum of a log over these bytes, behind that of what stands before them.
+fn sum_over(is_big: bool, before: (u32, u32), bytes: &[u8]) -> (u32, u32) {
+    let (mut first, mut second) = before;
+    for i in 0..bytes.len() / 8 {
+        let one = word(is_big, bytes, 8 * i);
+        first = first.wrapping_add(one).wrapping_add(second);
+        let other = word(is_big, bytes, 8 * i + 4);
+        second = second.wrapping_add(other).wrapping_add(first);
+    }
+    (first, second)
+}
+
+fn sum_at(log: &[u8], at: usize) -> (u32, u32)
+    requires { at + 8 ≤ length log.now }
+{
+    (word(true, log, at), word(true, log, at + 4))
+}
+
+fn word(is_big: bool, bytes: &[u8], at: usize) -> u32
+    requires { at + 4 ≤ length bytes.now }
+{
+    let word = [bytes[at], bytes[at + 1], bytes[at + 2], bytes[at + 3]];
+    if is_big {
+        u32::from_be_bytes(word)
+    } else {
+        u32::from_le_bytes(word)
+    }
 }
 
 // The bytes of a file, none where there is no file.

@@ -5,8 +5,64 @@ ghost use Rattle.command_support.specs.Statuses.{status_of};
 use canon::CanonFault;
 use command_line::Usage;
 use denials::Denial;
+use metadata::ShapeFault;
 use std::alloc::{AllocError, AllocFailed};
 use std::{fmt, io};
+
+/// What a slip of the hand over drafts is refused for, before a leaf is spent. Its text is one word.
+#[derive(Debug, Clone, Copy, PartialEq, Eq)]
+pub enum Slip {
+    /// Behind what is published fewer targets would be granted, for want of documents.
+    Bare,
+    /// The key has no book, or one that does not know a signature of the key.
+    Book,
+    /// A file that was sent back is over another signed part.
+    Different,
+    /// What is to be made stands there.
+    Exists,
+    /// A listed target file is neither in the folder nor held, or is another one.
+    File,
+    /// No key, or more than one, is called so.
+    Key,
+    /// Nothing to do: no document that the key may sign, or no draft.
+    Nothing,
+    /// Documents that a snapshot or timestamp is over have too few signatures.
+    Order,
+    /// The key has signed another document of this kind and version.
+    Other,
+    /// The document expires at the moment or before it.
+    Past,
+    /// A path or a role that is to go is not there.
+    Path,
+    /// The draft has signatures.
+    Signed,
+    /// No rule has this key for this document.
+    Stranger,
+    /// Nothing is held that the draft could follow.
+    Unheld,
+}
+
+impl Slip {
+    /// The word that is told.
+    pub fn word(self) -> &'static str {
+        match self {
+            Slip::Bare => "bare",
+            Slip::Book => "book",
+            Slip::Different => "different",
+            Slip::Exists => "exists",
+            Slip::File => "file",
+            Slip::Key => "key",
+            Slip::Nothing => "nothing",
+            Slip::Order => "order",
+            Slip::Other => "other",
+            Slip::Past => "past",
+            Slip::Path => "path",
+            Slip::Signed => "signed",
+            Slip::Stranger => "stranger",
+            Slip::Unheld => "unheld",
+        }
+    }
+}
 
 /// Why a command was not done. Its text is what standard error gets.
 #[derive(Debug, Drop)]
@@ -20,6 +76,10 @@ pub enum Fault {
     Denied(Denial, Option<usize>),
     /// The number of the first rule that fails, its name and the index, as a server tells them.
     Refused(u8, String, Option<usize>),
+    /// A slip over drafts.
+    Slip(Slip),
+    /// Something expires within the days that are looked ahead.
+    Due,
     /// All leaves of a key are spent.
     LeavesSpent,
     /// The book is to be known and is not there, or the key is to be known and is not in it.
@@ -43,6 +103,8 @@ impl Fault {
             Fault::Help(_) => 0,
             Fault::Denied(_, _)
             | Fault::Refused(_, _, _)
+            | Fault::Slip(_)
+            | Fault::Due
             | Fault::LeavesSpent
             | Fault::UnknownKey => 1,
             Fault::Usage(_) => 2,
@@ -62,6 +124,11 @@ impl fmt::Display for Fault {
             Fault::Usage(text) | Fault::Help(text) => f.write_str(text.as_str()),
             Fault::Denied(denial, index) => write_denial(f, denial.number(), denial.name(), *index),
             Fault::Refused(number, name, index) => write_denial(f, *number, name, *index),
+            Fault::Slip(slip) => {
+                let word = slip.word();
+                writeln!(f, "refused {word}")
+            }
+            Fault::Due => f.write_str("due\n"),
             Fault::LeavesSpent => f.write_str("leaves spent\n"),
             Fault::UnknownKey => f.write_str("unknown key\n"),
             Fault::Memory => f.write_str("fault memory\n"),
@@ -133,6 +200,25 @@ impl From<CanonFault> for Fault {
         match fault {
             CanonFault::NotCanonical => Fault::Denied(Denial::NotCanonical, None),
             CanonFault::OutOfMemory => Fault::Memory,
+        }
+    }
+}
+
+/// A file that is no document of its kind is denied by the first check that fails.
+impl From<ShapeFault> for Fault {
+    ghost use Rattle.std.specs.Prelude.{◌≡◌};
+    ghost use Rattle.command_support.specs.Statuses.{fault_of_shape};
+
+    ghost from_gives = { λ s f. f ≡ fault_of_shape s };
+
+    fn from(fault: ShapeFault) -> Fault {
+        match fault {
+            ShapeFault::TooLong => Fault::Denied(Denial::TooLong, None),
+            ShapeFault::NotCanonical => Fault::Denied(Denial::NotCanonical, None),
+            ShapeFault::WrongShape => Fault::Denied(Denial::WrongShape, None),
+            ShapeFault::WrongType => Fault::Denied(Denial::WrongType, None),
+            ShapeFault::BadKeyId => Fault::Denied(Denial::BadKeyId, None),
+            ShapeFault::OutOfMemory => Fault::Memory,
         }
     }
 }

@@ -13,7 +13,7 @@ pub use canon::CanonFault;
 pub use command_line::Usage;
 pub use databases::connected;
 pub use denials::Denial;
-pub use fault::{Fault, file_fault};
+pub use fault::{Fault, Slip, file_fault};
 pub use files::{DOCUMENT_LIMIT, print, read, read_at_most};
 pub use moments::moment;
 pub use notes::Notes;

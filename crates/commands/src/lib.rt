@@ -5,6 +5,7 @@
 mod arguments;
 mod faults;
 mod files;
+mod forgetting;
 mod repository;
 mod standing;
 
@@ -12,6 +13,7 @@ pub use arguments::{batch_of, documents_of, told};
 pub use command_support::{Denial, Fault, Notes};
 pub use faults::{fault_of_store, refused};
 pub use files::{InputFile, read_all};
+pub use forgetting::{FORGETS, FORGOTTEN, NOT_TAKEN, forgets};
 pub use machine::Offer;
 pub use repository::{Work, applied, is_shut, worked};
 pub use standing::{Versions, tell_standing};

@@ -1,0 +1,56 @@
+//! When a root makes a repository forget its timestamp, and what is warned of where documents are published.
+use command_support::Fault;
+use metadata::{Body, Document, KeyId, Kind, RoleRule, read_document};
+use std::alloc::Global;
+
+/// What is said before a root is published that makes the repository forget its timestamp, where none is offered behind it.
+pub const FORGETS: &str =
+    "the root has other keys for the timestamp or the snapshot, and no timestamp stands behind it: every target will be denied";
+
+/// What is said of a root with other keys for the timestamp or the snapshot that was published without their successors.
+pub const FORGOTTEN: &str =
+    "no timestamp any more: every target is denied until timestamp, snapshot and targets metadata are published";
+
+/// What is said of a timestamp that counted as the same, and has other bytes than the one that is held.
+pub const NOT_TAKEN: &str = "not taken, another timestamp of its version is held";
+
+/// Whether the one root has another rule than the other for the timestamp or the snapshot: a repository that takes it behind the other
+/// forgets its timestamp, its snapshot and its targets metadata. A fault is why one of them is no root: the newer one is read first.
+pub fn forgets(alloc: Global, held: &[u8], root: &[u8]) -> Result<bool, Fault> {
+    match read_document(alloc, Kind::Root, root) {
+        Ok(root) => forgets_by(alloc, held, &root),
+        Err(fault) => Err(Fault::from(fault)),
+    }
+}
+
+fn forgets_by(alloc: Global, held: &[u8], root: &Document<'_>) -> Result<bool, Fault> {
+    match read_document(alloc, Kind::Root, held) {
+        Ok(held) => Ok(has_other_rules(&held.body, &root.body)),
+        Err(fault) => Err(Fault::from(fault)),
+    }
+}
+
+fn has_other_rules(held: &Body, root: &Body) -> bool {
+    match (held, root) {
+        (Body::Root(held), Body::Root(root)) => {
+            !is_same(&held.timestamp, &root.timestamp) || !is_same(&held.snapshot, &root.snapshot)
+        }
+        _ => false,
+    }
+}
+
+// Whether two rules of roots that were read ask for as many signatures of the same keys: in these a key's ID is its digest.
+fn is_same(held: &RoleRule, rule: &RoleRule) -> bool {
+    held.threshold == rule.threshold
+        && are_among(&held.keyids, &rule.keyids)
+        && are_among(&rule.keyids, &held.keyids)
+}
+
+fn are_among(ids: &[KeyId], others: &[KeyId]) -> bool {
+    for id in ids {
+        if !others.contains(id) {
+            return false;
+        }
+    }
+    true
+}
