@@ -68,7 +68,7 @@ pub(crate) fn next_version(
 }
 
 /// The members of the signed part that a draft goes on from.
-pub(crate) fn base_members(
+pub fn base_members(
     alloc: Global,
     kind: Kind,
     held: Option<&[u8]>,
@@ -108,8 +108,8 @@ fn members_in(alloc: Global, kind: Kind, file: &[u8]) -> Result<Vec<(String, Val
     }
 }
 
-// The members of the object that the bytes spell. The signed part of a document is one, so nothing but memory is wanting.
-fn part_members(alloc: Global, signed: &[u8]) -> Result<Vec<(String, Value)>, ShapeFault>
+/// The members of the object that the bytes spell. The signed part of a document is one, so nothing but memory is wanting.
+pub fn part_members(alloc: Global, signed: &[u8]) -> Result<Vec<(String, Value)>, ShapeFault>
     ensures ok { IfOk result (λ ms. IsCanonical (object (members_view ms.items)) signed.now) }
     ensures err { IfErr result (λ e. e ≡ ShapeFault.OutOfMemory) }
 {

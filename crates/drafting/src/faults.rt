@@ -100,7 +100,7 @@ pub(crate) fn held_fault(fault: ShapeFault) -> DraftFault
 }
 
 /// What is gone on from is refused so.
-pub(crate) fn begun_fault(fault: ShapeFault) -> DraftFault
+pub fn begun_fault(fault: ShapeFault) -> DraftFault
     ensures { (kind : Kind) (file : List ℕ) → (fault ≡ ShapeFault.OutOfMemory) ⊎ IsShapeFault kind file fault
         → (result ≡ DraftFault.OutOfMemory) ⊎ ((d : Denial) × (result ≡ DraftFault.Begun d) × IsDenied kind file d) }
 {

@@ -16,7 +16,7 @@ use metadata::{Kind, read_document};
 use std::alloc::{AllocError, Global};
 
 /// The file of the signed part with these members, without signatures.
-pub(crate) fn finish(
+pub fn finish(
     alloc: Global,
     kind: Kind,
     members: Vec<(String, Value)>,
@@ -45,8 +45,8 @@ fn judge(alloc: Global, kind: Kind, file: &[u8]) -> Result<(), DraftFault>
     }
 }
 
-// The file of the signed part with these members.
-fn file_of(alloc: Global, members: Vec<(String, Value)>) -> Result<Value, AllocError>
+/// The file of the signed part with these members.
+pub fn file_of(alloc: Global, members: Vec<(String, Value)>) -> Result<Value, AllocError>
     ensures { IfOk result (λ v. view v ≡ unsigned_file (object (members_view members.items))) }
 {
     let mut list = Vec::new(alloc);
@@ -57,8 +57,8 @@ fn file_of(alloc: Global, members: Vec<(String, Value)>) -> Result<Value, AllocE
     Ok(Value::Object(list))
 }
 
-// The bytes of the file that the value is.
-fn written(alloc: Global, value: &Value) -> Result<Vec<u8>, DraftFault>
+/// The bytes of the file that the value is.
+pub fn written(alloc: Global, value: &Value) -> Result<Vec<u8>, DraftFault>
     ensures ok { IfOk result (λ out. (out.items ≡ spelling (view value.now)) × IsCanonical (view value.now) out.items) }
     ensures err { IfErr result (λ e. (e ≡ DraftFault.OutOfMemory) ⊎ IsUnwritten (view value.now) e) }
 {

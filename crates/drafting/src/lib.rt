@@ -23,15 +23,22 @@ mod targets;
 mod terms;
 mod timestamps;
 
+pub use base::{base_members, part_members};
+pub use dates::date_text;
 pub use delegating::{Delegated, DelegationChanges, draft_delegations};
 pub use denials::Denial;
-pub use faults::{DraftFault, TopRole};
+pub use faults::{DraftFault, TopRole, begun_fault};
 pub use finding::{Found, find_key};
+pub use finishing::{file_of, finish, written};
+pub use members::{
+    integer_value, is_there, number_value, object_value, put, string_value, take_object, text_value,
+};
 pub use metadata::Moment;
 pub use names::{name_of_key, number_in, text_in};
 pub use roots::draft_root;
-pub use rules::{NamedKey, Rule};
+pub use rules::{NamedKey, Rule, ids_value};
 pub use snapshots::draft_snapshot;
-pub use targets::{Addition, TargetsChanges, draft_targets};
+pub use tables::{add_rule_keys, add_rule_names};
+pub use targets::{Addition, TargetsChanges, draft_targets, hashes_value};
 pub use terms::Terms;
 pub use timestamps::draft_timestamp;

@@ -24,7 +24,7 @@ fn place_of(members: &[(String, Value)], name: &str) -> Option<usize>
 }
 
 /// Whether there is a member of this name.
-pub(crate) fn is_there(members: &[(String, Value)], name: &str) -> bool
+pub fn is_there(members: &[(String, Value)], name: &str) -> bool
     ensures there { result ≡ true → IsThere (object (members_view members.now)) name.now }
     ensures none { result ≡ false → HasNone (object (members_view members.now)) name.now }
 {
@@ -44,7 +44,7 @@ pub(crate) fn take_out(members: &mut Vec<(String, Value)>, name: &str)
 }
 
 /// Puts a member, in the place of those of its name.
-pub(crate) fn put(
+pub fn put(
     alloc: Global,
     members: &mut Vec<(String, Value)>,
     name: &str,
@@ -72,7 +72,7 @@ fn place_for(members: &[(String, Value)], name: &str) -> usize
 }
 
 /// Takes the object out that stands under the name: it has no members where no object does.
-pub(crate) fn take_object(
+pub fn take_object(
     alloc: Global,
     members: &mut Vec<(String, Value)>,
     name: &str,
@@ -98,35 +98,35 @@ fn into_members(alloc: Global, value: Value) -> Vec<(String, Value)>
 }
 
 /// A text of its own.
-pub(crate) fn text_value(alloc: Global, said: &str) -> Result<Value, AllocError>
+pub fn text_value(alloc: Global, said: &str) -> Result<Value, AllocError>
     ensures { IfOk result (λ v. view v ≡ text said.now) }
 {
     Ok(Value::Text(String::from_str(alloc, said)?))
 }
 
 /// A number.
-pub(crate) fn number_value(number: u32) -> Value
+pub fn number_value(number: u32) -> Value
     ensures { view result ≡ integer (pos number) }
 {
     Value::Int(i64::from(number))
 }
 
 /// A number of any size.
-pub(crate) fn integer_value(number: i64) -> Value
+pub fn integer_value(number: i64) -> Value
     ensures { view result ≡ integer number }
 {
     Value::Int(number)
 }
 
 /// The text, as a value.
-pub(crate) fn string_value(said: String) -> Value
+pub fn string_value(said: String) -> Value
     ensures { view result ≡ text (string_bytes said) }
 {
     Value::Text(said)
 }
 
 /// The object of these members.
-pub(crate) fn object_value(members: Vec<(String, Value)>) -> Value
+pub fn object_value(members: Vec<(String, Value)>) -> Value
     ensures { view result ≡ object (members_view members.items) }
 {
     Value::Object(members)

@@ -48,8 +48,8 @@ pub(crate) fn rule_value(alloc: Global, rule: &Rule<'_>) -> Result<Value, AllocE
     Ok(Value::Object(members))
 }
 
-// The ids of the keys.
-fn ids_value(alloc: Global, keys: &[NamedKey]) -> Result<Value, AllocError>
+/// The ids of the keys.
+pub fn ids_value(alloc: Global, keys: &[NamedKey]) -> Result<Value, AllocError>
     ensures { IfOk result (λ v. view v ≡ array (items_of (ids_of (keys_view keys.now)))) }
 {
     let mut ids = Vec::new(alloc);

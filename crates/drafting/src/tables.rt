@@ -57,8 +57,8 @@ fn add_keys(
     Ok(())
 }
 
-// Puts the keys of a rule, under what else is put.
-fn add_rule_keys(
+/// Puts the keys of a rule, under what else is put.
+pub fn add_rule_keys(
     alloc: Global,
     table: &mut Vec<(String, Value)>,
     keys: &[NamedKey],
@@ -90,8 +90,8 @@ fn add_names(
     Ok(())
 }
 
-// Puts the names of the keys of a rule, under what else is put.
-fn add_rule_names(
+/// Puts the names of the keys of a rule, under what else is put.
+pub fn add_rule_names(
     alloc: Global,
     table: &mut Vec<(String, Value)>,
     keys: &[NamedKey],

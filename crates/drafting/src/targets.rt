@@ -147,8 +147,8 @@ fn put_said(
     put(alloc, listing, "length", number_value(said.length))
 }
 
-// {"sha256":..}
-fn hashes_value(alloc: Global, digest: &Digest) -> Result<Value, AllocError>
+/// The member `hashes` of a digest: `{"sha256":..}`.
+pub fn hashes_value(alloc: Global, digest: &Digest) -> Result<Value, AllocError>
     ensures { IfOk result (λ v. view v ≡ hashes digest.now.0) }
 {
     let mut members = Vec::new(alloc);

@@ -1,0 +1,4 @@
+pub mod Within
+pub mod Rowed
+pub mod LinkFiles
+pub mod Pushed

@@ -1,0 +1,12 @@
+use Rattle.std.proofs.Common.{drop}
+use Rattle.canonical_json.specs.Json.{Json}
+use Rattle.drafting.specs.Members.{PutsAll}
+use Rattle.drafting.proofs.Rows.{shown}
+use Rattle.chain_drafting.specs.Layouts.{step_names}
+use Rattle.chain_drafting.specs.steps.Said.{steps_view}
+use Rattle.chain_drafting.proofs.keys.add_names.Given as goal
+
+-- what is left to be put comes on top of what was put
+abbrev pub invariant-loop-step : goal.invariant-loop-step
+invariant-loop-step l =
+    (c : Json) → PutsAll (step_names (steps_view (drop l.step-index l.steps))) (shown l.table.items) c → PutsAll (step_names (steps_view l.steps)) (shown l.fn.table.items) c

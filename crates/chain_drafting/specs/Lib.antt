@@ -1,0 +1,5 @@
+pub mod Within
+pub mod Layouts
+pub mod References
+pub mod Links
+pub mod steps
