@@ -1,0 +1,49 @@
+//! The subcommands of `release` by which documents are written: `draft` and `show`, and `publish` of a folder of drafts.
+#![tactic(auto)]
+
+mod following;
+mod judging;
+mod publishing;
+mod sealing;
+mod showing;
+mod standing;
+mod tree;
+mod visits;
+
+use command_line::{Draft, Drafting};
+use command_support::{Fault, Notes, moment};
+use drafting_commands::{draft_chain, draft_listing, draft_rules, draft_step, relist, take_all};
+use drafts::Folder;
+use following::follow;
+pub use publishing::{Batch, complete_batch_in, empty, waiting_files};
+use sealing::seal;
+pub use showing::show;
+use showing::show_folder;
+use std::io::Write;
+
+/// Drafts the next document of a kind into a folder, over what a database holds where one is given, and prints what the folder then has. No
+/// leaf is spent.
+pub fn draft<O: Write, E: Write>(
+    rt: &HostRuntime,
+    asked: &Drafting,
+    at: Option<u64>,
+    out: &mut O,
+    notes: &mut Notes<'_, E>,
+) -> Result<(), Fault> {
+    let now = moment(rt, at)?;
+    let folder = Folder::new(rt, asked.folder.as_str());
+    folder.make(notes)?;
+    if let Some(db) = &asked.db {
+        follow(rt, db, folder, now, notes)?;
+    }
+    match &asked.kind {
+        Draft::Root { rules } => draft_rules(rt, folder, asked, rules, now, notes)?,
+        Draft::Targets(told) => draft_listing(rt, folder, asked, told, now, notes)?,
+        Draft::Seal => seal(rt, folder, asked, now, notes)?,
+        Draft::Layout(told) => draft_chain(rt, folder, asked, told, now, notes)?,
+        Draft::Link(told) => draft_step(rt, folder, told, notes)?,
+        Draft::Take { target, files } => take_all(rt, folder, target.as_deref(), files, notes)?,
+    }
+    relist(rt, folder, asked.anew, notes)?;
+    show_folder(rt, folder, now, out, notes)
+}

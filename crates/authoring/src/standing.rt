@@ -1,0 +1,123 @@
+//! What a database holds, shown as a tree: each document with its version, how long it lives, the rule that it meets and what is delegated
+//! to it.
+use crate::tree::Looking;
+use crate::visits::look_for;
+use command_line::Showing;
+use command_support::{Fault, Notes, OWNER_ALONE, file_fault, print, put_in_place};
+use commands::{Work, worked};
+use keys_roles::KeyId;
+use metadata::Moment;
+use overviews::{Overview, as_bars, as_columns, as_json, as_page};
+use sqlite::Alter;
+use std::alloc::AllocError;
+use std::io::{IsTerminal, Write};
+use store::Store;
+
+// What expires within so many days is shown as due, where it is not said otherwise.
+const DUE: u64 = 7;
+
+/// Shows what a database holds, as columns, on a terminal with bars, or as JSON; and where a file is given, writes a page. Where something
+/// expires within the days that are given, or a key has a quarter of its leaves or fewer left, that is the answer.
+pub fn show_standing<O: Write, E: Write>(
+    rt: &HostRuntime,
+    db: &str,
+    asked: &Showing,
+    leaves: &[(KeyId, u32, u32)],
+    now: Moment,
+    out: &mut O,
+    notes: &mut Notes<'_, E>,
+) -> Result<(), Fault> {
+    let mut looking = Looked {
+        looking: Looking::new(rt.alloc(), now, asked.due.unwrap_or(DUE), leaves),
+        asked,
+    };
+    worked(rt, db, &mut looking, notes)?;
+    show_all(rt, asked, &looking.looking.shown, out, notes)?;
+    end(&looking.looking.shown, asked)
+}
+
+// What is looked at over the repository: all that it holds, and a target, if one is asked for.
+#[derive(Drop)]
+struct Looked<'a> {
+    looking: Looking<'a>,
+    asked: &'a Showing,
+}
+
+impl Work for Looked<'_> {
+    type Done = ();
+
+    fn work<S: Alter, E: Write>(
+        &mut self,
+        repository: &mut Store<S>,
+        _notes: &mut Notes<'_, E>,
+    ) -> Result<(), Fault> {
+        self.looking.look(repository)?;
+        if let Some(path) = self.asked.paths.first() {
+            let row = look_for(
+                self.looking.alloc,
+                repository,
+                path.as_str(),
+                self.looking.now,
+            )?;
+            self.looking.shown.path = Some(row);
+        }
+        Ok(())
+    }
+}
+
+fn show_all<O: Write, E: Write>(
+    rt: &HostRuntime,
+    asked: &Showing,
+    shown: &Overview,
+    out: &mut O,
+    notes: &mut Notes<'_, E>,
+) -> Result<(), Fault> {
+    if let Some(file) = &asked.html {
+        let page = as_page(rt.alloc(), shown)?;
+        put(rt, file.as_str(), &page, notes)?;
+    }
+    let text = text_of(rt, asked, shown)?;
+    print(out, &text, notes)
+}
+
+fn text_of(rt: &HostRuntime, asked: &Showing, shown: &Overview) -> Result<Vec<u8>, AllocError> {
+    if asked.json {
+        as_json(rt.alloc(), shown)
+    } else if rt.stdout().is_terminal() {
+        as_bars(rt.alloc(), shown)
+    } else {
+        as_columns(rt.alloc(), shown)
+    }
+}
+
+fn put<E: Write>(
+    rt: &HostRuntime,
+    file: &str,
+    bytes: &[u8],
+    notes: &mut Notes<'_, E>,
+) -> Result<(), Fault> {
+    match put_in_place(rt, file, bytes, OWNER_ALONE) {
+        Ok(()) => Ok(()),
+        Err(error) => {
+            notes.tell(&file, &error);
+            Err(file_fault(&error))
+        }
+    }
+}
+
+// What the command answers: that something is due, or what denies the target.
+fn end(shown: &Overview, asked: &Showing) -> Result<(), Fault> {
+    if asked.due.is_some() && is_due(shown) {
+        return Err(Fault::Due);
+    }
+    Ok(())
+}
+
+fn is_due(shown: &Overview) -> bool {
+    for row in &shown.rows {
+        if shown.is_due(row) || row.keys.iter().any(|key| key.is_low()) {
+            return true;
+        }
+    }
+    false
+}

@@ -1,0 +1,314 @@
+//! `draft layout`: the layout of a target, and what refers the target to it.
+use crate::drafting_faults::{drafted, usage};
+use crate::keys::{Known, RuleRead, rule_of};
+use crate::listing::digest_in;
+use crate::saving::Before;
+use crate::terms::{kept_terms, terms_of};
+use chain_drafting::{Reference, StepDraft, draft_layout, with_reference};
+use command_line::{Drafting, LayoutDraft};
+use command_support::{DOCUMENT_LIMIT, Fault, Notes, Slip, read_at_most};
+use drafting::{Addition, Rule, TargetsChanges, draft_targets};
+use drafts::{Folder, chain_name, kind_of, layout_in, layout_path, link_path, read_said};
+use keys_roles::key_id;
+use metadata::{Kind, Moment};
+use std::alloc::{AllocError, Global};
+use std::io::Write;
+
+// The days that a layout is valid.
+const DAYS: u64 = 365;
+
+// A step that was read, with its artifact rules where others are given.
+#[derive(Drop)]
+struct StepRead<'a> {
+    name: &'a str,
+    rule: RuleRead,
+    products: Vec<String>,
+    material_rules: Vec<Vec<String>>,
+    product_rules: Vec<Vec<String>>,
+}
+
+/// Drafts the layout of a target that drafted targets metadata list, and refers the target to it. The links that it is to have are told by
+/// the keys of the steps until they are there.
+pub fn draft_chain<E: Write>(
+    rt: &HostRuntime,
+    folder: Folder<'_>,
+    asked: &Drafting,
+    told: &LayoutDraft,
+    now: Moment,
+    notes: &mut Notes<'_, E>,
+) -> Result<(), Fault> {
+    let Some(role) = role_of(rt, folder, told.target.as_str(), notes)? else {
+        notes.warn(&told.target, &"no drafted targets metadata list it");
+        return Err(Fault::Slip(Slip::Path));
+    };
+    let before = Before::of(rt, folder, role.as_str(), asked.anew, notes)?;
+    let known = Known {
+        kind: Kind::Targets,
+        files: [before.begun(), before.held()],
+    };
+    let owners = rule_of(rt, known, told.owners.as_str(), notes)?;
+    let steps = steps_of(rt, known, told, notes)?;
+    let chain = Chain {
+        rt,
+        folder,
+        role: role.as_str(),
+        target: told.target.as_str(),
+    };
+    chain.put_layout(asked, &steps, now, notes)?;
+    chain.refer_first(&before, &owners, &steps, notes)
+}
+
+/// The role of the drafted targets metadata that list a target.
+pub fn role_of<E: Write>(
+    rt: &HostRuntime,
+    folder: Folder<'_>,
+    target: &str,
+    notes: &mut Notes<'_, E>,
+) -> Result<Option<String>, Fault> {
+    for role in folder.roles(notes)? {
+        if kind_of(role.as_str()) == Kind::Targets {
+            let bytes = folder.draft_or_none(role.as_str(), notes)?;
+            if lists(rt.alloc(), role.as_str(), &bytes, target)? {
+                return Ok(Some(role));
+            }
+        }
+    }
+    Ok(None)
+}
+
+fn lists(alloc: Global, role: &str, bytes: &[u8], target: &str) -> Result<bool, Fault> {
+    let said = read_said(alloc, role, bytes)?;
+    Ok(said.listed(target).is_some())
+}
+
+// The steps that words say, each `STEP=RULE:PRODUCT[,..]`.
+fn steps_of<'a, E: Write>(
+    rt: &HostRuntime,
+    known: Known<'_>,
+    told: &'a LayoutDraft,
+    notes: &mut Notes<'_, E>,
+) -> Result<Vec<StepRead<'a>>, Fault> {
+    let rules = match &told.rules {
+        Some(file) => read_at_most(rt, file.as_str(), DOCUMENT_LIMIT, notes)?,
+        None => Vec::new(rt.alloc()),
+    };
+    let lines = str::from_utf8(&rules).unwrap_or("");
+    let mut steps = Vec::new(rt.alloc());
+    for word in &told.steps {
+        steps.push(step_of(rt, known, word.as_str(), lines, notes)?)?;
+    }
+    Ok(steps)
+}
+
+fn step_of<'a, E: Write>(
+    rt: &HostRuntime,
+    known: Known<'_>,
+    word: &'a str,
+    lines: &str,
+    notes: &mut Notes<'_, E>,
+) -> Result<StepRead<'a>, Fault> {
+    let Some((name, rest)) = word.split_once('=') else {
+        return Err(no_step(rt));
+    };
+    let Some((rule, list)) = rest.split_once(':') else {
+        return Err(no_step(rt));
+    };
+    let rule = rule_of(rt, known, rule, notes)?;
+    let products = listed_in(rt.alloc(), list)?;
+    let material_rules = rules_in(rt.alloc(), lines, name, "materials")?;
+    let product_rules = rules_in(rt.alloc(), lines, name, "products")?;
+    Ok(StepRead {
+        name,
+        rule,
+        products,
+        material_rules,
+        product_rules,
+    })
+}
+
+fn no_step(rt: &HostRuntime) -> Fault {
+    usage(
+        rt.alloc(),
+        "error: a step is STEP=RULE:PRODUCT[,PRODUCT..]\n\nFor more information, try '--help'.\n",
+    )
+}
+
+// What stands between commas.
+fn listed_in(alloc: Global, list: &str) -> Result<Vec<String>, AllocError> {
+    let mut items = Vec::new(alloc);
+    for item in list.split(',') {
+        items.push(String::from_str(alloc, item)?)?;
+    }
+    Ok(items)
+}
+
+// The rules that lines say of a side of a step, each by its words.
+fn rules_in(
+    alloc: Global,
+    lines: &str,
+    step: &str,
+    side: &str,
+) -> Result<Vec<Vec<String>>, AllocError> {
+    let mut rules = Vec::new(alloc);
+    for line in lines.lines() {
+        if let Some(rest) = line.strip_prefix(step) {
+            if let Some(rest) = rest.trim_start().strip_prefix(side) {
+                if rest.starts_with(' ') {
+                    rules.push(words_in(alloc, rest)?)?;
+                }
+            }
+        }
+    }
+    Ok(rules)
+}
+
+fn words_in(alloc: Global, line: &str) -> Result<Vec<String>, AllocError> {
+    let mut words = Vec::new(alloc);
+    for word in line.split_whitespace() {
+        words.push(String::from_str(alloc, word)?)?;
+    }
+    Ok(words)
+}
+
+fn lent<'a>(alloc: Global, steps: &'a [StepRead<'_>]) -> Result<Vec<StepDraft<'a>>, AllocError> {
+    let mut drafts = Vec::new(alloc);
+    for step in steps {
+        drafts.push(StepDraft {
+            name: step.name,
+            rule: Rule {
+                threshold: step.rule.threshold,
+                keys: &step.rule.keys,
+            },
+            products: &step.products,
+            material_rules: given(&step.material_rules),
+            product_rules: given(&step.product_rules),
+        })?;
+    }
+    Ok(drafts)
+}
+
+fn given(rules: &[Vec<String>]) -> Option<&[Vec<String>]> {
+    if rules.is_empty() { None } else { Some(rules) }
+}
+
+// The links that the steps are to have: of each as many as its rule asks for, by its first keys.
+fn expected_links(
+    alloc: Global,
+    target: &str,
+    steps: &[StepRead<'_>],
+) -> Result<Vec<String>, AllocError> {
+    let mut links = Vec::new(alloc);
+    for step in steps {
+        let wanted = usize::from(step.rule.threshold);
+        for key in step.rule.keys.iter().take(wanted) {
+            let id = key_id(alloc, &key.key)?;
+            links.push(link_path(alloc, target, step.name, &id)?)?;
+        }
+    }
+    Ok(links)
+}
+
+/// The layout and the links of a target that a role's drafted metadata list.
+#[derive(Clone, Copy)]
+pub struct Chain<'a> {
+    pub rt: &'a HostRuntime,
+    pub folder: Folder<'a>,
+    pub role: &'a str,
+    pub target: &'a str,
+}
+
+impl Chain<'_> {
+    fn alloc(&self) -> Global {
+        self.rt.alloc()
+    }
+
+    // Drafts the layout.
+    fn put_layout<E: Write>(
+        &self,
+        asked: &Drafting,
+        steps: &[StepRead<'_>],
+        now: Moment,
+        notes: &mut Notes<'_, E>,
+    ) -> Result<(), Fault> {
+        let begun = layout_in(self.alloc(), self.folder, self.target, notes)?;
+        let begun = begun.as_deref();
+        let given = asked.expires.as_deref();
+        let terms = terms_of(self.alloc(), given, begun, DAYS, now)?;
+        let steps = lent(self.alloc(), steps)?;
+        let draft = draft_layout(self.alloc(), begun, terms, &steps);
+        let draft = drafted(self.alloc(), draft, "layout", notes)?;
+        self.folder.make_inner("layouts", notes)?;
+        let path = layout_path(self.alloc(), self.target)?;
+        let name = chain_name(self.alloc(), path.as_str())?;
+        self.folder.put_named(name.as_str(), &draft, notes)
+    }
+
+    // Lists the layout, and refers the target to it.
+    fn refer_first<E: Write>(
+        &self,
+        before: &Before,
+        owners: &RuleRead,
+        steps: &[StepRead<'_>],
+        notes: &mut Notes<'_, E>,
+    ) -> Result<(), Fault> {
+        let Some(last) = steps.last() else {
+            return Err(no_step(self.rt));
+        };
+        let product = match last.products.last() {
+            Some(product) => product.as_str(),
+            None => self.target,
+        };
+        let path = layout_path(self.alloc(), self.target)?;
+        let links = expected_links(self.alloc(), self.target, steps)?;
+        let reference = Reference {
+            owners: Rule {
+                threshold: owners.threshold,
+                keys: &owners.keys,
+            },
+            path: path.as_str(),
+            links: &links,
+            product,
+            step: last.name,
+        };
+        let mut added = Vec::new(self.alloc());
+        added.push(self.addition(path.as_str(), notes)?)?;
+        self.refer(before, &added, &reference, notes)
+    }
+
+    /// A layout or a link as an addition to a listing. Its bytes go to the target files.
+    pub fn addition<E: Write>(
+        &self,
+        path: &str,
+        notes: &mut Notes<'_, E>,
+    ) -> Result<Addition, Fault> {
+        let name = chain_name(self.alloc(), path)?;
+        let bytes = match self.folder.file(name.as_str(), notes)? {
+            Some(bytes) => bytes,
+            None => Vec::new(self.alloc()),
+        };
+        digest_in(self.alloc(), self.folder, path, &bytes, notes)
+    }
+
+    /// Lists these files and refers the target to its layout so. The terms are those of the draft.
+    pub fn refer<E: Write>(
+        &self,
+        before: &Before,
+        added: &[Addition],
+        reference: &Reference<'_>,
+        notes: &mut Notes<'_, E>,
+    ) -> Result<(), Fault> {
+        let Some(begun) = before.begun() else {
+            return Ok(());
+        };
+        let terms = kept_terms(self.alloc(), self.role, begun)?;
+        let listed = TargetsChanges {
+            add: added,
+            remove: &[],
+        };
+        let draft = draft_targets(self.alloc(), before.held(), Some(begun), terms, &listed);
+        let draft = drafted(self.alloc(), draft, self.role, notes)?;
+        let draft = with_reference(self.alloc(), &draft, self.target, reference);
+        let draft = drafted(self.alloc(), draft, self.role, notes)?;
+        self.folder.put_draft(self.role, &draft, notes)
+    }
+}

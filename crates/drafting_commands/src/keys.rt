@@ -1,0 +1,147 @@
+//! Keys and rules, as words.
+use crate::drafting_faults::drafted;
+use canonical_json::member;
+use command_support::{Fault, Notes, Slip, read_at_most};
+use drafting::{Found, NamedKey, find_key};
+use keys_roles::{Key, key_object};
+use metadata::Kind;
+use std::alloc::{AllocError, Global};
+use std::io::Write;
+
+// A key file has the key object, and may have a line end.
+const MOST: usize = 256;
+
+/// A rule that was read: how many of these keys have to sign.
+#[derive(Drop)]
+pub struct RuleRead {
+    pub threshold: u8,
+    pub keys: Vec<NamedKey>,
+}
+
+/// What the keys of a rule are looked up in: the documents that have names for them.
+#[derive(Clone, Copy)]
+pub struct Known<'a> {
+    pub kind: Kind,
+    pub files: [Option<&'a [u8]>; 2],
+}
+
+/// The rule that a word says: `[N@]KEY[,KEY..]`, N of these keys, 1 where it is not given.
+pub fn rule_of<E: Write>(
+    rt: &HostRuntime,
+    known: Known<'_>,
+    word: &str,
+    notes: &mut Notes<'_, E>,
+) -> Result<RuleRead, Fault> {
+    let (threshold, list) = match word.split_once('@') {
+        Some((digits, list)) => (digits.parse::<u8>().unwrap_or(0), list),
+        None => (1, word),
+    };
+    let mut keys = Vec::new(rt.alloc());
+    for word in list.split(',') {
+        keys.push(key_of(rt, known, word, notes)?)?;
+    }
+    if threshold == 0 || usize::from(threshold) > keys.len() {
+        notes.warn(
+            &word,
+            &"a rule is [N@]KEY[,KEY..], N at most the number of the keys",
+        );
+        return Err(Fault::Slip(Slip::Key));
+    }
+    Ok(RuleRead { threshold, keys })
+}
+
+// The key that a word says: a file, a name, or the first digits of an id.
+fn key_of<E: Write>(
+    rt: &HostRuntime,
+    known: Known<'_>,
+    word: &str,
+    notes: &mut Notes<'_, E>,
+) -> Result<NamedKey, Fault> {
+    if let Some(stem) = word.strip_suffix(".key") {
+        let key = key_in_file(rt, word, notes)?;
+        let name = String::from_str(rt.alloc(), last_segment(stem))?;
+        return Ok(NamedKey { key, name });
+    }
+    for file in known.files {
+        if let Some(bytes) = file {
+            if let Some(found) = key_among(rt.alloc(), bytes, known.kind, word, notes)? {
+                return Ok(found);
+            }
+        }
+    }
+    notes.warn(
+        &word,
+        &"no key is called so in what is held; a file ends in .key",
+    );
+    Err(Fault::Slip(Slip::Key))
+}
+
+// What stands behind the last slash.
+fn last_segment(path: &str) -> &str {
+    match path.rsplit_once('/') {
+        Some((_, last)) => last,
+        None => path,
+    }
+}
+
+fn key_among<E: Write>(
+    alloc: Global,
+    bytes: &[u8],
+    kind: Kind,
+    word: &str,
+    notes: &mut Notes<'_, E>,
+) -> Result<Option<NamedKey>, Fault> {
+    match drafted(alloc, find_key(alloc, bytes, kind, word), word, notes)? {
+        Found::One(key) => Ok(Some(key)),
+        Found::None => Ok(None),
+        Found::Several => {
+            notes.warn(&word, &"more than one key is called so");
+            Err(Fault::Slip(Slip::Key))
+        }
+    }
+}
+
+/// The key of a key file. A file of another form is a fault of a file.
+pub fn key_in_file<E: Write>(
+    rt: &HostRuntime,
+    path: &str,
+    notes: &mut Notes<'_, E>,
+) -> Result<Key, Fault> {
+    let bytes = read_at_most(rt, path, MOST, notes)?;
+    match key_in(rt.alloc(), &bytes)? {
+        Some(key) => Ok(key),
+        None => {
+            notes.tell(&path, &"no key object");
+            Err(Fault::File)
+        }
+    }
+}
+
+// The key whose object the bytes are, with a line end or without one.
+fn key_in(alloc: Global, bytes: &[u8]) -> Result<Option<Key>, AllocError> {
+    let object = bytes.strip_suffix(b"\n").unwrap_or(bytes);
+    let Some(key) = key_said(object) else {
+        return Ok(None);
+    };
+    let spelled = key_object(alloc, &key)?;
+    Ok(if spelled.as_slice() == object {
+        Some(key)
+    } else {
+        None
+    })
+}
+
+// The key that an object says, if it is of the form of one.
+fn key_said(object: &[u8]) -> Option<Key> {
+    let public = member(member(object, "keyval")?, "public")?;
+    let digits = public.strip_prefix(b"\"")?.strip_suffix(b"\"")?;
+    let mut lms = [0; 56];
+    if hex::decode_to_slice(digits, &mut lms).is_ok() {
+        return Some(Key::Lms(lms));
+    }
+    let mut hss = [0; 60];
+    if hex::decode_to_slice(digits, &mut hss).is_ok() {
+        return Some(Key::Hss(hss));
+    }
+    None
+}

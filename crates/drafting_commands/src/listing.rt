@@ -1,0 +1,347 @@
+//! `draft targets`.
+use crate::drafting_faults::{drafted, usage};
+use crate::keys::{Known, RuleRead, rule_of};
+use crate::saving::Before;
+use crate::terms::terms_of;
+use command_line::{Drafting, TargetsDraft};
+use command_support::{Denial, Fault, Notes, file_fault, read_at_most};
+use drafting::{
+    Addition, Delegated, DelegationChanges, Rule, TargetsChanges, Terms, draft_delegations,
+    draft_targets,
+};
+use drafts::Folder;
+use limits::BLOB_LIMIT;
+use metadata::{Kind, Moment, RoleName, TargetPath};
+use std::alloc::{AllocError, Global};
+use std::fs;
+use std::io::{self, Write};
+
+// The days that a first one is valid.
+const DAYS: u64 = 90;
+
+// A delegation that was read.
+#[derive(Drop)]
+struct DelegationRead<'a> {
+    name: &'a str,
+    rule: RuleRead,
+    patterns: Vec<String>,
+}
+
+/// Drafts the next targets metadata of a role. The files of what is added go into the folder.
+pub fn draft_listing<E: Write>(
+    rt: &HostRuntime,
+    folder: Folder<'_>,
+    asked: &Drafting,
+    told: &TargetsDraft,
+    now: Moment,
+    notes: &mut Notes<'_, E>,
+) -> Result<(), Fault> {
+    let role = role_of(rt, told)?;
+    let before = Before::of(rt, folder, role, asked.anew, notes)?;
+    let known = Known {
+        kind: Kind::Targets,
+        files: [before.begun(), before.held()],
+    };
+    let read = delegations_of(rt, known, &told.delegate, notes)?;
+    let terms = terms_of(
+        rt.alloc(),
+        asked.expires.as_deref(),
+        before.latest(),
+        DAYS,
+        now,
+    )?;
+    let next = Next {
+        rt,
+        folder,
+        told,
+        role,
+        before: &before,
+        terms,
+    };
+    next.put(&read, notes)
+}
+
+// The next targets metadata of a role, by what was told.
+#[derive(Clone, Copy)]
+struct Next<'a> {
+    rt: &'a HostRuntime,
+    folder: Folder<'a>,
+    told: &'a TargetsDraft,
+    role: &'a str,
+    before: &'a Before,
+    terms: Terms,
+}
+
+impl Next<'_> {
+    fn put<E: Write>(
+        &self,
+        read: &[DelegationRead<'_>],
+        notes: &mut Notes<'_, E>,
+    ) -> Result<(), Fault> {
+        let mut adding = Adding {
+            rt: self.rt,
+            folder: self.folder,
+            added: Vec::new(self.rt.alloc()),
+        };
+        adding.add_all(&self.told.add, notes)?;
+        let draft = self.listing(&adding.added, notes)?;
+        let draft = self.delegating(draft, read, notes)?;
+        self.folder.put_draft(self.role, &draft, notes)
+    }
+
+    // The draft with the listings that are added and without those that are removed.
+    fn listing<E: Write>(
+        &self,
+        added: &[Addition],
+        notes: &mut Notes<'_, E>,
+    ) -> Result<Vec<u8>, Fault> {
+        let listed = TargetsChanges {
+            add: added,
+            remove: &self.told.remove,
+        };
+        let (held, begun) = (self.before.held(), self.before.begun());
+        let draft = draft_targets(self.rt.alloc(), held, begun, self.terms, &listed);
+        drafted(self.rt.alloc(), draft, self.role, notes)
+    }
+
+    // The draft with the changes of its delegations.
+    fn delegating<E: Write>(
+        &self,
+        draft: Vec<u8>,
+        read: &[DelegationRead<'_>],
+        notes: &mut Notes<'_, E>,
+    ) -> Result<Vec<u8>, Fault> {
+        if read.is_empty() && self.told.undelegate.is_empty() {
+            return Ok(draft);
+        }
+        let delegate = lent(self.rt, read, self.told)?;
+        let changes = DelegationChanges {
+            delegate: &delegate,
+            undelegate: &self.told.undelegate,
+        };
+        let held = self.before.held();
+        let next = draft_delegations(self.rt.alloc(), held, Some(&draft), self.terms, &changes);
+        drafted(self.rt.alloc(), next, self.role, notes)
+    }
+}
+
+// The role whose targets metadata is drafted.
+fn role_of<'a>(rt: &HostRuntime, told: &'a TargetsDraft) -> Result<&'a str, Fault> {
+    let role = told.role.as_deref().unwrap_or("targets");
+    let is_name = RoleName::read(rt.alloc(), role)?.is_some();
+    if !is_name || role == "root" || role == "snapshot" || role == "timestamp" {
+        return Err(usage(
+            rt.alloc(),
+            "error: '--role' is targets or the name of a delegated role\n\nFor more information, try '--help'.\n",
+        ));
+    }
+    Ok(role)
+}
+
+// The delegations that words say, each `NAME=RULE:PATTERN[,..]`.
+fn delegations_of<'a, E: Write>(
+    rt: &HostRuntime,
+    known: Known<'_>,
+    words: &'a [String],
+    notes: &mut Notes<'_, E>,
+) -> Result<Vec<DelegationRead<'a>>, Fault> {
+    let mut read = Vec::new(rt.alloc());
+    for word in words {
+        read.push(delegation_of(rt, known, word.as_str(), notes)?)?;
+    }
+    Ok(read)
+}
+
+fn delegation_of<'a, E: Write>(
+    rt: &HostRuntime,
+    known: Known<'_>,
+    word: &'a str,
+    notes: &mut Notes<'_, E>,
+) -> Result<DelegationRead<'a>, Fault> {
+    let Some((name, rest)) = word.split_once('=') else {
+        return Err(no_delegation(rt));
+    };
+    let Some((rule, list)) = rest.split_once(':') else {
+        return Err(no_delegation(rt));
+    };
+    let rule = rule_of(rt, known, rule, notes)?;
+    let mut patterns = Vec::new(rt.alloc());
+    for pattern in list.split(',') {
+        patterns.push(String::from_str(rt.alloc(), pattern)?)?;
+    }
+    Ok(DelegationRead {
+        name,
+        rule,
+        patterns,
+    })
+}
+
+fn no_delegation(rt: &HostRuntime) -> Fault {
+    usage(
+        rt.alloc(),
+        "error: '--delegate' is NAME=RULE:PATTERN[,PATTERN..]\n\nFor more information, try '--help'.\n",
+    )
+}
+
+fn lent<'a>(
+    rt: &HostRuntime,
+    read: &'a [DelegationRead<'_>],
+    told: &'a TargetsDraft,
+) -> Result<Vec<Delegated<'a>>, AllocError> {
+    let mut delegations = Vec::new(rt.alloc());
+    for one in read {
+        delegations.push(Delegated {
+            name: one.name,
+            rule: Rule {
+                threshold: one.rule.threshold,
+                keys: &one.rule.keys,
+            },
+            patterns: &one.patterns,
+            terminating: told.terminating,
+            before: told.before.as_deref(),
+        })?;
+    }
+    Ok(delegations)
+}
+
+// Files that are added to a listing.
+#[derive(Drop)]
+struct Adding<'a, 'b> {
+    rt: &'a HostRuntime,
+    folder: Folder<'b>,
+    added: Vec<Addition>,
+}
+
+impl Adding<'_, '_> {
+    // Adds the file, or all files of the folder, of each word `PATH[=FILE]`.
+    fn add_all<E: Write>(
+        &mut self,
+        words: &[String],
+        notes: &mut Notes<'_, E>,
+    ) -> Result<(), Fault> {
+        for word in words {
+            let (path, file) = match word.as_str().split_once('=') {
+                Some(both) => both,
+                None => (word.as_str(), word.as_str()),
+            };
+            self.add(path, file, notes)?;
+        }
+        Ok(())
+    }
+
+    // Adds a file, or what a folder has, folders in it too.
+    fn add<E: Write>(
+        &mut self,
+        path: &str,
+        file: &str,
+        notes: &mut Notes<'_, E>,
+    ) -> Result<(), Fault> {
+        let alloc = self.rt.alloc();
+        let mut waiting = Vec::new(alloc);
+        waiting.push((
+            String::from_str(alloc, path)?,
+            String::from_str(alloc, file)?,
+        ))?;
+        for _ in 0..MOST_FOUND {
+            let Some((path, file)) = waiting.pop() else {
+                return Ok(());
+            };
+            if is_folder(self.rt, file.as_str()) {
+                self.look_into(path.as_str(), file.as_str(), &mut waiting, notes)?;
+            } else {
+                self.add_file(path.as_str(), file.as_str(), notes)?;
+            }
+        }
+        notes.warn(&file, &"more files and folders than a listing can have");
+        Err(Fault::File)
+    }
+
+    // What a folder has is to be added, too.
+    fn look_into<E: Write>(
+        &mut self,
+        path: &str,
+        folder: &str,
+        waiting: &mut Vec<(String, String)>,
+        notes: &mut Notes<'_, E>,
+    ) -> Result<(), Fault> {
+        let alloc = self.rt.alloc();
+        let names = match names_of(self.rt, folder) {
+            Ok(names) => names,
+            Err(error) => {
+                notes.tell(&folder, &error);
+                return Err(file_fault(&error));
+            }
+        };
+        for name in &names {
+            let name = name.as_str();
+            let inner = format!(in alloc; "{path}/{name}")?;
+            let file = format!(in alloc; "{folder}/{name}")?;
+            waiting.push((inner, file))?;
+        }
+        Ok(())
+    }
+
+    // Adds a file, whose bytes go into the folder of drafts.
+    fn add_file<E: Write>(
+        &mut self,
+        path: &str,
+        file: &str,
+        notes: &mut Notes<'_, E>,
+    ) -> Result<(), Fault> {
+        let alloc = self.rt.alloc();
+        if TargetPath::read(alloc, path)?.is_none() {
+            notes.warn(&path, &"no target path; PATH=FILE gives a file another one");
+            return Err(Fault::Denied(Denial::BadPath, None));
+        }
+        let bytes = read_at_most(self.rt, file, BLOB_LIMIT, notes)?;
+        if bytes.len() > BLOB_LIMIT {
+            notes.warn(&file, &"longer than 1,048,576 bytes");
+            return Err(Fault::Denied(Denial::BlobLength, None));
+        }
+        let addition = digest_in(alloc, self.folder, path, &bytes, notes)?;
+        self.added.push(addition)?;
+        Ok(())
+    }
+}
+
+/// A file as an addition to a listing. Its bytes, at most 1,048,576, go into the folder under their digest.
+pub fn digest_in<E: Write>(
+    alloc: Global,
+    folder: Folder<'_>,
+    path: &str,
+    bytes: &[u8],
+    notes: &mut Notes<'_, E>,
+) -> Result<Addition, Fault> {
+    let length = match u32::try_from(bytes.len()) {
+        Ok(length) => length,
+        Err(_) => return Err(Fault::Denied(Denial::BlobLength, None)),
+    };
+    let digest = folder.put_file(bytes, notes)?;
+    let path = String::from_str(alloc, path)?;
+    Ok(Addition {
+        path,
+        length,
+        digest,
+    })
+}
+
+// More files and folders than these are not looked at: a listing has room for fewer.
+const MOST_FOUND: u32 = 16_384;
+
+fn is_folder(rt: &HostRuntime, path: &str) -> bool {
+    match fs::metadata(rt, path) {
+        Ok(found) => found.is_dir(),
+        Err(_) => false,
+    }
+}
+
+// The names of what stands in a folder, in their order.
+fn names_of(rt: &HostRuntime, folder: &str) -> io::Result<Vec<String>> {
+    let mut names = Vec::new(rt.alloc());
+    for entry in fs::read_dir(rt, folder)? {
+        let entry = entry?;
+        names.push(String::from_str(rt.alloc(), entry.file_name())?)?;
+    }
+    names.sort_unstable();
+    Ok(names)
+}

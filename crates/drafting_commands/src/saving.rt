@@ -1,0 +1,59 @@
+//! What a draft goes on from, and where it is put.
+use command_support::{Fault, Notes, Slip};
+use drafts::Folder;
+use metadata::read_signed;
+use std::io::Write;
+
+/// What is held of a role, and the draft that is gone on from.
+#[derive(Drop)]
+pub struct Before {
+    pub held: Option<Vec<u8>>,
+    pub begun: Option<Vec<u8>>,
+}
+
+impl Before {
+    /// What is held and what is begun. A draft that has signatures is changed only where they are to be taken off.
+    pub fn of<E: Write>(
+        rt: &HostRuntime,
+        folder: Folder<'_>,
+        role: &str,
+        anew: bool,
+        notes: &mut Notes<'_, E>,
+    ) -> Result<Before, Fault> {
+        let held = folder.held(role, notes)?;
+        let begun = folder.draft(role, notes)?;
+        if let Some(bytes) = &begun {
+            let file = read_signed(rt.alloc(), bytes)?;
+            if !anew && !file.signatures.is_empty() {
+                notes.warn(&role, &"its draft has signatures; --anew takes them off");
+                return Err(Fault::Slip(Slip::Signed));
+            }
+        }
+        Ok(Before { held, begun })
+    }
+
+    /// What is held.
+    pub fn held(&self) -> Option<&[u8]> {
+        lent(&self.held)
+    }
+
+    /// What is begun.
+    pub fn begun(&self) -> Option<&[u8]> {
+        lent(&self.begun)
+    }
+
+    /// What is begun, or else what is held.
+    pub fn latest(&self) -> Option<&[u8]> {
+        match &self.begun {
+            Some(bytes) => Some(bytes),
+            None => lent(&self.held),
+        }
+    }
+}
+
+fn lent(bytes: &Option<Vec<u8>>) -> Option<&[u8]> {
+    match bytes {
+        Some(bytes) => Some(bytes),
+        None => None,
+    }
+}

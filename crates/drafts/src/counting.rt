@@ -1,0 +1,100 @@
+//! How many keys of a rule have signed.
+use crate::folder::Folder;
+use crate::roles::kind_of;
+use crate::vouching::{Vouching, rules_for};
+use command_support::{Fault, Notes};
+use keys_roles::{KeyId, RoleRule, meets};
+use metadata::{Document, SignedFile, read_document};
+use std::alloc::{AllocError, Global};
+use std::fmt;
+use std::io::Write;
+
+/// How many keys have signed, and how many have to.
+#[derive(Clone, Copy)]
+pub struct Count {
+    pub signed: usize,
+    pub threshold: u8,
+}
+
+impl Count {
+    /// Whether enough have signed.
+    pub fn is_met(&self) -> bool {
+        self.signed >= usize::from(self.threshold)
+    }
+}
+
+impl fmt::Display for Count {
+    fn fmt<W: fmt::Write>(&self, f: &mut fmt::Formatter<W>) -> fmt::Result {
+        let Count { signed, threshold } = self;
+        write!(f, "{signed} of {threshold}")
+    }
+}
+
+/// How many keys of the rule have signed the file.
+pub fn count_of(
+    alloc: Global,
+    vouching: &Vouching,
+    file: &SignedFile<'_>,
+) -> Result<Count, AllocError> {
+    let mut signed = 0usize;
+    for id in &vouching.rule.keyids {
+        if has_signed(alloc, vouching, id, file)? {
+            signed = signed.saturating_add(1);
+        }
+    }
+    Ok(Count {
+        signed,
+        threshold: vouching.rule.threshold,
+    })
+}
+
+/// Whether a key of the rule's table has signed the file.
+pub fn has_signed(
+    alloc: Global,
+    vouching: &Vouching,
+    id: &KeyId,
+    file: &SignedFile<'_>,
+) -> Result<bool, AllocError> {
+    let mut keyids = Vec::new(alloc);
+    keyids.push(*id)?;
+    let rule = RoleRule {
+        keyids,
+        threshold: 1,
+    };
+    Ok(meets(&rule, &vouching.keys, file.signed, &file.signatures))
+}
+
+/// Whether the draft of a role has the signatures that its rules ask for. Bytes that are no document of the role are denied by the first
+/// check that fails.
+pub fn has_signatures<E: Write>(
+    alloc: Global,
+    folder: Folder<'_>,
+    role: &str,
+    notes: &mut Notes<'_, E>,
+) -> Result<bool, Fault> {
+    let rules = rules_for(alloc, folder, role, notes)?;
+    let bytes = folder.draft_or_none(role, notes)?;
+    meets_in(alloc, role, &rules, &bytes)
+}
+
+fn meets_in(alloc: Global, role: &str, rules: &[Vouching], bytes: &[u8]) -> Result<bool, Fault> {
+    match read_document(alloc, kind_of(role), bytes) {
+        Ok(document) => Ok(meets_all(rules, &document)),
+        Err(fault) => Err(Fault::from(fault)),
+    }
+}
+
+// Whether the document meets every one of these rules, and there is one.
+fn meets_all(rules: &[Vouching], document: &Document<'_>) -> bool {
+    for vouching in rules {
+        if !meets(
+            &vouching.rule,
+            &vouching.keys,
+            document.signed,
+            &document.signatures,
+        ) {
+            return false;
+        }
+    }
+    !rules.is_empty()
+}

@@ -1,0 +1,25 @@
+//! Folders of drafts: documents that are on their way, what they follow, the target files that wait to be put, and what is said of them.
+#![tactic(auto)]
+
+mod chains;
+mod changes;
+mod counting;
+mod covering;
+mod folder;
+mod roles;
+mod said;
+mod vouching;
+
+pub use chains::{
+    Referred, chain_name, layout_in, layout_path, layout_said, link_path, links_in, owners_of,
+    path_of, reference_of, target_of_layout,
+};
+pub use changes::changes_of;
+pub use command_support::{Fault, Notes, Slip};
+pub use counting::{Count, count_of, has_signatures, has_signed};
+pub use covering::{Covering, covered_by};
+pub use drafting::{name_of_key, number_in};
+pub use folder::Folder;
+pub use roles::{kind_of, offer_order, sign_order};
+pub use said::{ListedFile, Said, SaidRule, held_said, read_said, read_said_of, version_in};
+pub use vouching::{Vouching, rules_for};

@@ -1,0 +1,304 @@
+//! What a document says, as far as drafts are about it.
+use crate::folder::Folder;
+use crate::roles::kind_of;
+use command_support::{Fault, Notes};
+use keys_roles::{KeyId, RoleRule};
+use metadata::{
+    Body, Delegation, Digest, Kind, Listing, Meta, Moment, Pattern, Root, Scope, Step, Targets,
+    read_document,
+};
+use path_patterns::RoleName;
+use std::alloc::{AllocError, Global};
+use std::io::Write;
+
+/// What a document says: its version, 0 of one that has none, when it expires, if it does, the documents that it names with their versions,
+/// the target files that it lists, and the rules that it has for roles.
+#[derive(Drop)]
+pub struct Said {
+    pub version: u32,
+    pub expires: Option<Moment>,
+    pub names: Vec<(String, u32)>,
+    pub files: Vec<ListedFile>,
+    pub rules: Vec<SaidRule>,
+}
+
+/// A target file as targets metadata list it.
+#[derive(Drop)]
+pub struct ListedFile {
+    pub path: String,
+    pub length: u32,
+    pub digest: Digest,
+    pub has_layout: bool,
+}
+
+/// The rule of a role: how many of which keys have to sign, and of a delegation what it covers, as text.
+#[derive(Drop)]
+pub struct SaidRule {
+    pub role: String,
+    pub threshold: u8,
+    pub keyids: Vec<KeyId>,
+    pub covers: String,
+}
+
+/// What a role's document says. Bytes that are none are denied by the first check that fails.
+pub fn read_said(alloc: Global, role: &str, bytes: &[u8]) -> Result<Said, Fault> {
+    read_said_of(alloc, kind_of(role), bytes)
+}
+
+/// What a document of a kind says; of a layout the rules of its steps.
+pub fn read_said_of(alloc: Global, kind: Kind, bytes: &[u8]) -> Result<Said, Fault> {
+    match read_document(alloc, kind, bytes) {
+        Ok(document) => said_by(alloc, &document.body),
+        Err(fault) => Err(Fault::from(fault)),
+    }
+}
+
+/// The version of a role's document.
+pub fn version_in(alloc: Global, role: &str, bytes: &[u8]) -> Result<u32, Fault> {
+    let said = read_said(alloc, role, bytes)?;
+    Ok(said.version)
+}
+
+/// What a role's document that is held says, if there is one.
+pub fn held_said<E: Write>(
+    alloc: Global,
+    folder: Folder<'_>,
+    role: &str,
+    notes: &mut Notes<'_, E>,
+) -> Result<Option<Said>, Fault> {
+    let Some(bytes) = folder.held(role, notes)? else {
+        return Ok(None);
+    };
+    let said = read_said(alloc, role, &bytes)?;
+    Ok(Some(said))
+}
+
+fn said_by(alloc: Global, body: &Body) -> Result<Said, Fault> {
+    let names = names_of(alloc, body)?;
+    let files = files_of(alloc, body)?;
+    let rules = rules_of(alloc, body)?;
+    Ok(Said {
+        version: version_of(body),
+        expires: expiry_of(body),
+        names,
+        files,
+        rules,
+    })
+}
+
+fn version_of(body: &Body) -> u32 {
+    match body {
+        Body::Root(root) => root.version,
+        Body::Timestamp(timestamp) => timestamp.version,
+        Body::Snapshot(snapshot) => snapshot.version,
+        Body::Targets(targets) => targets.version,
+        Body::Layout(_) | Body::Link(_) => 0,
+    }
+}
+
+fn expiry_of(body: &Body) -> Option<Moment> {
+    match body {
+        Body::Root(root) => Some(root.expires),
+        Body::Timestamp(timestamp) => Some(timestamp.expires),
+        Body::Snapshot(snapshot) => Some(snapshot.expires),
+        Body::Targets(targets) => Some(targets.expires),
+        Body::Layout(layout) => Some(layout.expires),
+        Body::Link(_) => None,
+    }
+}
+
+// The documents that a timestamp or a snapshot names.
+fn names_of(alloc: Global, body: &Body) -> Result<Vec<(String, u32)>, AllocError> {
+    match body {
+        Body::Timestamp(timestamp) => {
+            let mut names = Vec::new(alloc);
+            names.push((
+                String::from_str(alloc, "snapshot")?,
+                timestamp.snapshot.version,
+            ))?;
+            Ok(names)
+        }
+        Body::Snapshot(snapshot) => named_in(alloc, &snapshot.meta),
+        _ => Ok(Vec::new(alloc)),
+    }
+}
+
+fn named_in(alloc: Global, meta: &[(RoleName, Meta)]) -> Result<Vec<(String, u32)>, AllocError> {
+    let mut names = Vec::new(alloc);
+    for (role, meta) in meta {
+        let role = String::from_str(alloc, role.as_str())?;
+        names.push((role, meta.version))?;
+    }
+    Ok(names)
+}
+
+fn files_of(alloc: Global, body: &Body) -> Result<Vec<ListedFile>, AllocError> {
+    match body {
+        Body::Targets(targets) => listed_in(alloc, &targets.targets),
+        _ => Ok(Vec::new(alloc)),
+    }
+}
+
+fn listed_in(alloc: Global, listings: &[Listing]) -> Result<Vec<ListedFile>, AllocError> {
+    let mut files = Vec::new(alloc);
+    for listing in listings {
+        let path = String::from_str(alloc, listing.path.as_str())?;
+        files.push(ListedFile {
+            path,
+            length: listing.length,
+            digest: listing.digest,
+            has_layout: listing.layout.is_some(),
+        })?;
+    }
+    Ok(files)
+}
+
+// The rules of the four roles of a root, of those that targets metadata delegate to, or of the steps of a layout.
+fn rules_of(alloc: Global, body: &Body) -> Result<Vec<SaidRule>, AllocError> {
+    match body {
+        Body::Root(root) => rules_in_root(alloc, root),
+        Body::Targets(targets) => rules_in(alloc, delegated_by(targets)),
+        Body::Layout(layout) => rules_in_steps(alloc, &layout.steps),
+        _ => Ok(Vec::new(alloc)),
+    }
+}
+
+fn delegated_by(targets: &Targets) -> &[Delegation] {
+    match &targets.delegations {
+        Some(delegations) => &delegations.roles,
+        None => &[],
+    }
+}
+
+fn rules_in_root(alloc: Global, root: &Root) -> Result<Vec<SaidRule>, AllocError> {
+    let mut rules = Vec::new(alloc);
+    for (role, rule) in [
+        ("root", &root.root),
+        ("targets", &root.targets),
+        ("snapshot", &root.snapshot),
+        ("timestamp", &root.timestamp),
+    ] {
+        rules.push(said_rule(alloc, role, rule)?)?;
+    }
+    Ok(rules)
+}
+
+fn rules_in(alloc: Global, delegations: &[Delegation]) -> Result<Vec<SaidRule>, AllocError> {
+    let mut rules = Vec::new(alloc);
+    for delegation in delegations {
+        rules.push(delegated_rule(alloc, delegation)?)?;
+    }
+    Ok(rules)
+}
+
+fn delegated_rule(alloc: Global, delegation: &Delegation) -> Result<SaidRule, AllocError> {
+    let mut rule = said_rule(alloc, delegation.name.as_str(), &delegation.rule)?;
+    match &delegation.scope {
+        Scope::Patterns(patterns) => add_patterns(&mut rule.covers, patterns)?,
+        Scope::Prefixes(prefixes) => add_prefixes(&mut rule.covers, prefixes)?,
+    }
+    if delegation.terminating {
+        rule.covers.push_str(" (terminating)")?;
+    }
+    Ok(rule)
+}
+
+fn add_patterns(covers: &mut String, patterns: &[Pattern]) -> Result<(), AllocError> {
+    for pattern in patterns {
+        add_word(covers, pattern.as_str())?;
+    }
+    Ok(())
+}
+
+fn add_prefixes(covers: &mut String, prefixes: &[String]) -> Result<(), AllocError> {
+    for prefix in prefixes {
+        add_word(covers, prefix.as_str())?;
+    }
+    Ok(())
+}
+
+fn add_word(covers: &mut String, word: &str) -> Result<(), AllocError> {
+    if !covers.is_empty() {
+        covers.push(' ')?;
+    }
+    covers.push_str(word)
+}
+
+fn rules_in_steps(alloc: Global, steps: &[Step]) -> Result<Vec<SaidRule>, AllocError> {
+    let mut rules = Vec::new(alloc);
+    for step in steps {
+        rules.push(said_rule(alloc, step.name.as_str(), &step.rule)?)?;
+    }
+    Ok(rules)
+}
+
+fn said_rule(alloc: Global, role: &str, rule: &RoleRule) -> Result<SaidRule, AllocError> {
+    let role = String::from_str(alloc, role)?;
+    let keyids = Vec::from_slice(alloc, &rule.keyids)?;
+    Ok(SaidRule {
+        role,
+        threshold: rule.threshold,
+        keyids,
+        covers: String::new(alloc),
+    })
+}
+
+impl Said {
+    /// The version at which a role's document is named, if it is.
+    pub fn named(&self, role: &str) -> Option<u32> {
+        for (name, version) in &self.names {
+            if name.as_str() == role {
+                return Some(*version);
+            }
+        }
+        None
+    }
+
+    /// The target file that is listed under a path, if one is.
+    pub fn listed(&self, path: &str) -> Option<&ListedFile> {
+        for file in &self.files {
+            if file.path.as_str() == path {
+                return Some(file);
+            }
+        }
+        None
+    }
+
+    /// The rule of a role, if there is one.
+    pub fn rule(&self, role: &str) -> Option<&SaidRule> {
+        for rule in &self.rules {
+            if rule.role.as_str() == role {
+                return Some(rule);
+            }
+        }
+        None
+    }
+
+    /// Whether a file of this length and digest is listed, under any path.
+    pub fn has_file(&self, length: u32, digest: &Digest) -> bool {
+        for file in &self.files {
+            if file.length == length && file.digest == *digest {
+                return true;
+            }
+        }
+        false
+    }
+}
+
+impl SaidRule {
+    /// Whether both rules take as many of the same keys.
+    pub fn is_like(&self, other: &SaidRule) -> bool {
+        self.threshold == other.threshold
+            && are_among(&self.keyids, &other.keyids)
+            && are_among(&other.keyids, &self.keyids)
+    }
+}
+
+fn are_among(ids: &[KeyId], others: &[KeyId]) -> bool {
+    for id in ids {
+        if !others.contains(id) {
+            return false;
+        }
+    }
+    true
+}

@@ -1,0 +1,120 @@
+//! Bars and colour, as a terminal gets them.
+use crate::columns::{say_part, say_path};
+use crate::rows::{KeyRow, Overview, Row};
+use crate::writing::{Text, in_order};
+use std::alloc::{AllocError, Global};
+
+const RED: &str = "\x1b[31m";
+
+const GREEN: &str = "\x1b[32m";
+
+const PLAIN: &str = "\x1b[0m";
+
+/// So many parts has a bar.
+pub(crate) const PARTS: u64 = 8;
+
+/// The rows as a tree with bars: the days left, red where they are due, and the leaves of each key, red where a quarter or fewer are left;
+/// then the same rows by expiry, the nearest first, and what becomes of the target that is asked for.
+pub fn as_bars(alloc: Global, shown: &Overview) -> Result<Vec<u8>, AllocError> {
+    let mut text = Text::new(alloc);
+    for row in &shown.rows {
+        say_row(&mut text, shown, row)?;
+    }
+    text.say("\nby expiry\n")?;
+    for index in &in_order(alloc, &expiries(alloc, shown)?)? {
+        if let Some(row) = shown.rows.get(*index) {
+            say_expiry(&mut text, shown, row)?;
+        }
+    }
+    if let Some(path) = &shown.path {
+        text.say(if path.is_granted { GREEN } else { RED })?;
+        say_path(&mut text, path)?;
+        text.say(PLAIN)?;
+    }
+    Ok(text.bytes)
+}
+
+/// The moments at which the rows expire.
+pub(crate) fn expiries(alloc: Global, shown: &Overview) -> Result<Vec<u64>, AllocError> {
+    let mut moments = Vec::new(alloc);
+    for row in &shown.rows {
+        moments.push(row.expires)?;
+    }
+    Ok(moments)
+}
+
+fn say_row(text: &mut Text, shown: &Overview, row: &Row) -> Result<(), AllocError> {
+    text.repeat("  ", row.depth)?;
+    let width = 20usize.saturating_sub(row.depth.saturating_mul(2));
+    let role = row.role.as_str();
+    let (version, days) = (row.version, shown.days(row));
+    let line = format!(in text.alloc; "{role:<width$} {version:>5} {days:>5} d  ")?;
+    text.say(line.as_str())?;
+    say_bar(text, parts_of_days(days), shown.is_due(row))?;
+    let (threshold, count) = (row.threshold, row.keys.len());
+    let line = format!(in text.alloc; "  {threshold} of {count}")?;
+    text.say(line.as_str())?;
+    for key in &row.keys {
+        say_leaves(text, key)?;
+    }
+    say_part(text, &row.covers)?;
+    say_part(text, &row.facts)?;
+    text.say("\n")
+}
+
+fn say_expiry(text: &mut Text, shown: &Overview, row: &Row) -> Result<(), AllocError> {
+    let days = shown.days(row);
+    let role = row.role.as_str();
+    let line = format!(in text.alloc; "{days:>5} d  ")?;
+    text.say(line.as_str())?;
+    say_bar(text, parts_of_days(days), shown.is_due(row))?;
+    text.say("  ")?;
+    text.say(role)?;
+    if shown.is_due(row) {
+        text.say("  DUE")?;
+    }
+    text.say("\n")
+}
+
+fn say_leaves(text: &mut Text, key: &KeyRow) -> Result<(), AllocError> {
+    text.say("  ")?;
+    text.say(key.name.as_str())?;
+    if let Some(left) = key.left {
+        text.say(" ")?;
+        say_bar(text, parts_of_leaves(left, key.most), key.is_low())?;
+        text.say(" ")?;
+        text.number(u64::from(left))?;
+    }
+    Ok(())
+}
+
+fn say_bar(text: &mut Text, parts: u64, is_red: bool) -> Result<(), AllocError> {
+    text.say(if is_red { RED } else { GREEN })?;
+    for part in 0..PARTS {
+        text.say(if part < parts { "#" } else { "." })?;
+    }
+    text.say(PLAIN)
+}
+
+/// How much of a bar so many days are: a part for a day, all of it for a year.
+pub(crate) fn parts_of_days(days: u64) -> u64 {
+    match days {
+        0 => 0,
+        1..=2 => 1,
+        3..=6 => 2,
+        7..=13 => 3,
+        14..=29 => 4,
+        30..=89 => 5,
+        90..=179 => 6,
+        180..=364 => 7,
+        _ => 8,
+    }
+}
+
+/// How much of a bar the leaves are that are left.
+pub(crate) fn parts_of_leaves(left: u32, most: u32) -> u64 {
+    if most == 0 {
+        return 0;
+    }
+    u64::from(left).saturating_mul(PARTS) / u64::from(most)
+}

@@ -1,0 +1,78 @@
+//! Plain columns, as a pipe gets them.
+use crate::rows::{KeyRow, Overview, PathRow, Row};
+use crate::writing::Text;
+use std::alloc::{AllocError, Global};
+
+/// The rows as columns: role, version, days left, rule, keys with their leaves, what is delegated to it and what else is said of it; behind
+/// them what becomes of the target that is asked for.
+pub fn as_columns(alloc: Global, shown: &Overview) -> Result<Vec<u8>, AllocError> {
+    let mut text = Text::new(alloc);
+    for row in &shown.rows {
+        say_row(&mut text, shown, row)?;
+    }
+    if let Some(path) = &shown.path {
+        say_path(&mut text, path)?;
+    }
+    Ok(text.bytes)
+}
+
+fn say_row(text: &mut Text, shown: &Overview, row: &Row) -> Result<(), AllocError> {
+    text.repeat("  ", row.depth)?;
+    let width = 24usize.saturating_sub(row.depth.saturating_mul(2));
+    let role = row.role.as_str();
+    let (version, days) = (row.version, shown.days(row));
+    let (threshold, count) = (row.threshold, row.keys.len());
+    let line = format!(in text.alloc;
+        "{role:<width$} {version:>6} {days:>6} days  {threshold} of {count}"
+    )?;
+    text.say(line.as_str())?;
+    for key in &row.keys {
+        say_key(text, key)?;
+    }
+    say_part(text, &row.covers)?;
+    say_part(text, &row.facts)?;
+    text.say("\n")
+}
+
+/// A part of a line, where there is any.
+pub(crate) fn say_part(text: &mut Text, part: &str) -> Result<(), AllocError> {
+    if part.is_empty() {
+        return Ok(());
+    }
+    text.say("  ")?;
+    text.say(part)
+}
+
+/// The name of a key with its leaves, and a mark where few are left.
+pub(crate) fn say_key(text: &mut Text, key: &KeyRow) -> Result<(), AllocError> {
+    text.say("  ")?;
+    text.say(key.name.as_str())?;
+    if let Some(left) = key.left {
+        text.say(" ")?;
+        text.number(u64::from(left))?;
+        if key.is_low() {
+            text.say(" !")?;
+        }
+    }
+    Ok(())
+}
+
+/// What becomes of a target.
+pub(crate) fn say_path(text: &mut Text, path: &PathRow) -> Result<(), AllocError> {
+    text.say("target ")?;
+    text.say(path.path.as_str())?;
+    text.say("\n")?;
+    for visit in &path.visits {
+        text.say("  visit ")?;
+        text.say(visit.as_str())?;
+        text.say("\n")?;
+    }
+    for found in &path.found {
+        text.say("  ")?;
+        text.say(found.as_str())?;
+        text.say("\n")?;
+    }
+    text.say("  ")?;
+    text.say(path.end.as_str())?;
+    text.say("\n")
+}

@@ -1,0 +1,130 @@
+//! A page that stands alone: no script, nothing that is fetched.
+use crate::bars::{expiries, parts_of_days, parts_of_leaves};
+use crate::rows::{KeyRow, Overview, PathRow, Row};
+use crate::writing::{Text, in_order};
+use std::alloc::{AllocError, Global};
+
+const HEAD: &str = concat!(
+    "<!DOCTYPE html>\n<html lang=\"en\"><head><meta charset=\"utf-8\"><title>Repository</title>\n<style>\n",
+    "body{font-family:sans-serif;margin:2em;color:#222;background:#fff}\n",
+    "table{border-collapse:collapse;margin-bottom:2em}\n",
+    "td,th{padding:.3em .8em;text-align:left;border-bottom:1px solid #ddd;vertical-align:top}\n",
+    ".bar{display:inline-block;width:96px;height:10px;background:#eee;margin-right:.4em}\n",
+    ".bar i{display:block;height:10px;background:#2a7d2a}\n",
+    ".due i{background:#c0281f}\n.due{outline:1px solid #c0281f}\n",
+    ".denied{color:#c0281f;font-weight:bold}\n.granted{color:#2a7d2a;font-weight:bold}\n",
+    "</style></head><body>\n<h1>Repository</h1>\n",
+);
+
+const TREE: &str =
+    "<h2>Documents</h2>\n<table id=\"tree\"><tr><th>role</th><th>version</th><th>days left</th><th>rule</th><th>keys and leaves left</th><th>delegated</th></tr>\n";
+
+const EXPIRY: &str = "<h2>By expiry</h2>\n<table id=\"expiry\">\n";
+
+/// The page: the tree of the documents with bars of the days and of the leaves that are left, the same by expiry, and what becomes of the
+/// target that is asked for.
+pub fn as_page(alloc: Global, shown: &Overview) -> Result<Vec<u8>, AllocError> {
+    let mut text = Text::new(alloc);
+    text.say(HEAD)?;
+    text.say(TREE)?;
+    for row in &shown.rows {
+        say_row(&mut text, shown, row)?;
+    }
+    text.say("</table>\n")?;
+    text.say(EXPIRY)?;
+    for index in &in_order(alloc, &expiries(alloc, shown)?)? {
+        if let Some(row) = shown.rows.get(*index) {
+            say_expiry(&mut text, shown, row)?;
+        }
+    }
+    text.say("</table>\n")?;
+    if let Some(path) = &shown.path {
+        say_path(&mut text, path)?;
+    }
+    text.say("</body></html>\n")?;
+    Ok(text.bytes)
+}
+
+fn say_row(text: &mut Text, shown: &Overview, row: &Row) -> Result<(), AllocError> {
+    text.say("<tr><td style=\"padding-left:")?;
+    text.number((row.depth as u64).saturating_mul(24).saturating_add(8))?;
+    text.say("px\">")?;
+    text.escaped(row.role.as_str())?;
+    text.say("</td><td>")?;
+    text.number(u64::from(row.version))?;
+    text.say("</td><td>")?;
+    say_days(text, shown, row)?;
+    text.say("</td><td>")?;
+    text.number(u64::from(row.threshold))?;
+    text.say(" of ")?;
+    text.number(row.keys.len() as u64)?;
+    text.say("</td><td>")?;
+    for key in &row.keys {
+        say_key(text, key)?;
+    }
+    text.say("</td><td>")?;
+    text.escaped(row.covers.as_str())?;
+    text.say("</td></tr>\n")
+}
+
+fn say_days(text: &mut Text, shown: &Overview, row: &Row) -> Result<(), AllocError> {
+    let days = shown.days(row);
+    say_bar(text, parts_of_days(days), shown.is_due(row))?;
+    text.number(days)
+}
+
+fn say_bar(text: &mut Text, parts: u64, is_due: bool) -> Result<(), AllocError> {
+    text.say(if is_due {
+        "<span class=\"bar due\"><i style=\"width:"
+    } else {
+        "<span class=\"bar\"><i style=\"width:"
+    })?;
+    text.number(parts.saturating_mul(12))?;
+    text.say("px\"></i></span>")
+}
+
+fn say_key(text: &mut Text, key: &KeyRow) -> Result<(), AllocError> {
+    text.say("<div>")?;
+    if let Some(left) = key.left {
+        say_bar(text, parts_of_leaves(left, key.most), key.is_low())?;
+        text.number(u64::from(left))?;
+        text.say(" ")?;
+    }
+    text.escaped(key.name.as_str())?;
+    text.say("</div>")
+}
+
+fn say_expiry(text: &mut Text, shown: &Overview, row: &Row) -> Result<(), AllocError> {
+    text.say("<tr><td>")?;
+    say_days(text, shown, row)?;
+    text.say("</td><td>")?;
+    text.escaped(row.role.as_str())?;
+    text.say("</td></tr>\n")
+}
+
+fn say_path(text: &mut Text, path: &PathRow) -> Result<(), AllocError> {
+    text.say("<h2 id=\"target\">")?;
+    text.escaped(path.path.as_str())?;
+    text.say("</h2>\n<ol>\n")?;
+    for visit in &path.visits {
+        say_item(text, visit)?;
+    }
+    text.say("</ol>\n<ul>\n")?;
+    for found in &path.found {
+        say_item(text, found)?;
+    }
+    text.say("</ul>\n")?;
+    text.say(if path.is_granted {
+        "<p class=\"granted\">"
+    } else {
+        "<p class=\"denied\">"
+    })?;
+    text.escaped(path.end.as_str())?;
+    text.say("</p>\n")
+}
+
+fn say_item(text: &mut Text, item: &str) -> Result<(), AllocError> {
+    text.say("<li>")?;
+    text.escaped(item)?;
+    text.say("</li>\n")
+}

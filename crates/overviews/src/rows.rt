@@ -1,0 +1,65 @@
+//! What is shown.
+
+/// A key of a rule: what it is called, and how many of its leaves are left, of how many, where its book was looked at.
+#[derive(Drop)]
+pub struct KeyRow {
+    pub name: String,
+    pub left: Option<u32>,
+    pub most: u32,
+}
+
+/// A document: its role, how deep it stands below `targets`, its version, when it expires in seconds since 1970-01-01T00:00:00Z, how many of
+/// which keys have to sign, what is delegated to it, and what else is said of it.
+#[derive(Drop)]
+pub struct Row {
+    pub role: String,
+    pub depth: usize,
+    pub version: u32,
+    pub expires: u64,
+    pub threshold: u8,
+    pub keys: Vec<KeyRow>,
+    pub covers: String,
+    pub facts: String,
+}
+
+/// What becomes of a target: the roles that a search visits, in order, what is found on the way, and how it ends.
+#[derive(Drop)]
+pub struct PathRow {
+    pub path: String,
+    pub visits: Vec<String>,
+    pub found: Vec<String>,
+    pub end: String,
+    pub is_granted: bool,
+}
+
+/// What is shown: the moment, the rows in the order of the search, and the target that is asked for, if one is. What expires within so many
+/// days is due.
+#[derive(Drop)]
+pub struct Overview {
+    pub now: u64,
+    pub due: u64,
+    pub rows: Vec<Row>,
+    pub path: Option<PathRow>,
+}
+
+impl Overview {
+    /// The whole days that a row has left, 0 where it has expired.
+    pub fn days(&self, row: &Row) -> u64 {
+        row.expires.saturating_sub(self.now) / 86_400
+    }
+
+    /// Whether a row expires within the days.
+    pub fn is_due(&self, row: &Row) -> bool {
+        row.expires <= self.now.saturating_add(self.due.saturating_mul(86_400))
+    }
+}
+
+impl KeyRow {
+    /// Whether a quarter of its leaves or fewer are left.
+    pub fn is_low(&self) -> bool {
+        match self.left {
+            Some(left) => u64::from(left).saturating_mul(4) <= u64::from(self.most),
+            None => false,
+        }
+    }
+}
