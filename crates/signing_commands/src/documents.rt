@@ -71,8 +71,8 @@ fn signed_by<E: Write>(
     signed_in(rt, conn, seed, asked, bytes, notes)
 }
 
-// Whether a file is there and is not empty. One of which the system does not say so is opened, and then has its own fault.
-fn has_bytes(rt: &HostRuntime, path: &str) -> bool {
+/// Whether a file is there and is not empty. One of which the system does not say so is opened, and then has its own fault.
+pub fn has_bytes(rt: &HostRuntime, path: &str) -> bool {
     match fs::metadata(rt, path) {
         Ok(found) => 0 < found.len(),
         Err(error) => error.kind() != ErrorKind::NotFound,
@@ -177,7 +177,8 @@ fn told<E: Write>(fault: SignFileFault, asked: Signing<'_>, notes: &mut Notes<'_
     }
 }
 
-fn book_fault(fault: BookFault) -> Fault {
+/// What a fault of a book comes to.
+pub fn book_fault(fault: BookFault) -> Fault {
     match fault {
         BookFault::LeavesSpent => Fault::LeavesSpent,
         BookFault::Damaged => Fault::Damaged,

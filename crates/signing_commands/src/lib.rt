@@ -2,11 +2,18 @@
 //! a key.
 #![tactic(auto)]
 
+mod by_key;
 mod documents;
+mod files;
+mod judging;
 mod key;
+mod leaves;
 mod seeds;
 
+pub use by_key::{SigningIn, sign_in};
 pub use command_support::{Fault, Notes};
 pub use documents::{Signing, sign};
+pub use files::make_key;
 pub use key::print_key;
+pub use leaves::leaves_of;
 pub use lms::Params;

@@ -1,0 +1,444 @@
+//! `sign --key`: signs drafts by a key that is kept in three files.
+use crate::documents::{book_fault, has_bytes};
+use crate::files::{KeyFiles, book_place};
+use crate::judging::{Judged, have_key};
+use command_support::{Fault, Notes, Slip, connected, moment, print};
+use drafts::{
+    Folder, Said, changes_of, held_said, owners_of, read_said, rules_for, sign_order,
+    target_of_layout,
+};
+use keys_roles::KeyId;
+use lms::KeyPair;
+use metadata::{Moment, SignedFile, read_signed};
+use signing::{Book, SignFileFault, SignOnceFault, leaf_of, sign_file_once, sign_file_with};
+use sqlite::{Alter, Connection, FileStore};
+use sqlite_disk::Disk;
+use std::alloc::Global;
+use std::io::{IsTerminal, Write};
+
+/// What is signed: the key, the folder, the documents that are named, whether it is done without being asked, and whether another document
+/// of a kind and version that the key has signed is.
+#[derive(Clone, Copy)]
+pub struct SigningIn<'a> {
+    pub key: &'a str,
+    pub folder: &'a str,
+    pub documents: &'a [String],
+    pub yes: bool,
+    pub again: bool,
+}
+
+/// Signs the drafts that are named, or all whose rules have the key and that lack its signature, in the order root, targets metadata,
+/// snapshot, timestamp, and prints a line for each. Before a leaf is spent each is judged. No book is made.
+pub fn sign_in<O: Write, E: Write>(
+    rt: &HostRuntime,
+    asked: SigningIn<'_>,
+    at: Option<u64>,
+    out: &mut O,
+    notes: &mut Notes<'_, E>,
+) -> Result<(), Fault> {
+    let now = moment(rt, at)?;
+    if !asked.yes && !rt.stdin().is_terminal() {
+        return Err(unasked(rt));
+    }
+    let files = KeyFiles::read(rt, asked.key, notes)?;
+    let book = book_place(rt, asked.key)?;
+    if !has_bytes(rt, book.as_str()) {
+        notes.warn(&book, &"no such book");
+        return Err(Fault::Slip(Slip::Book));
+    }
+    let conn = connected(rt, book.as_str(), notes)?;
+    let mut signing = Signing {
+        rt,
+        asked,
+        folder: Folder::new(rt, asked.folder),
+        files,
+        now,
+        done: 0,
+    };
+    signed_in(conn, &mut signing, out, notes)
+}
+
+// Without a terminal nobody can be asked.
+fn unasked(rt: &HostRuntime) -> Fault {
+    let text =
+        "error: without a terminal '--yes' has to be given\n\nFor more information, try '--help'.\n";
+    match String::from_str(rt.alloc(), text) {
+        Ok(text) => Fault::Usage(text),
+        Err(_) => Fault::Memory,
+    }
+}
+
+// The same over the book's connection to two files, which is closed behind it.
+fn signed_in<D: Disk + Drop, O: Write, E: Write>(
+    conn: Connection<FileStore<D>>,
+    signing: &mut Signing<'_>,
+    out: &mut O,
+    notes: &mut Notes<'_, E>,
+) -> Result<(), Fault> {
+    let (done, conn) = signed_over(conn, signing, out, notes);
+    if let Some(conn) = conn {
+        let _ = conn.close();
+    }
+    done
+}
+
+fn signed_over<S: Alter + Drop, O: Write, E: Write>(
+    conn: Connection<S>,
+    signing: &mut Signing<'_>,
+    out: &mut O,
+    notes: &mut Notes<'_, E>,
+) -> (Result<(), Fault>, Option<Connection<S>>) {
+    match Book::open(signing.rt.alloc(), conn) {
+        Ok(book) => {
+            let mut book = book;
+            let done = signing.sign_all(&mut book, out, notes);
+            (done, Some(book.into_connection()))
+        }
+        Err(fault) => {
+            notes.tell(&signing.asked.key, &fault);
+            (Err(book_fault(fault)), None)
+        }
+    }
+}
+
+// A signing that is under way, and how many documents are signed.
+#[derive(Drop)]
+struct Signing<'a> {
+    rt: &'a HostRuntime,
+    asked: SigningIn<'a>,
+    folder: Folder<'a>,
+    files: KeyFiles,
+    now: Moment,
+    done: u64,
+}
+
+impl Signing<'_> {
+    fn alloc(&self) -> Global {
+        self.rt.alloc()
+    }
+
+    fn sign_all<S: Alter, O: Write, E: Write>(
+        &mut self,
+        book: &mut Book<S>,
+        out: &mut O,
+        notes: &mut Notes<'_, E>,
+    ) -> Result<(), Fault> {
+        let pair = self.files.pair(self.rt, notes)?;
+        if book.registered(&self.files.half.id).is_none() {
+            notes.warn(&self.asked.key, &"its book does not have the key");
+            return Err(Fault::Slip(Slip::Book));
+        }
+        let roles = self.roles(notes)?;
+        for order in 0..5u8 {
+            for role in &roles {
+                if sign_order(role.as_str()) == order {
+                    self.sign(book, &pair, role.as_str(), out, notes)?;
+                }
+            }
+            if order == 0 {
+                self.sign_layouts(book, &pair, out, notes)?;
+                self.sign_links(book, &pair, out, notes)?;
+            }
+        }
+        if self.done == 0 {
+            notes.warn(
+                &self.asked.folder,
+                &"no document that the key may sign and has not signed",
+            );
+            return Err(Fault::Slip(Slip::Nothing));
+        }
+        Ok(())
+    }
+
+    // Signs the layouts that are named, or whose owners have the key and that lack its signature.
+    fn sign_layouts<S: Alter, O: Write, E: Write>(
+        &mut self,
+        book: &mut Book<S>,
+        pair: &KeyPair,
+        out: &mut O,
+        notes: &mut Notes<'_, E>,
+    ) -> Result<(), Fault> {
+        for name in &self.folder.chain_files("layouts", notes)? {
+            let name = name.as_str();
+            let place = format!(in self.alloc(); "layouts/{name}")?;
+            if let Some(target) = target_of_layout(self.alloc(), name)? {
+                let target = target.as_str();
+                let bytes = self.bytes_at(place.as_str(), notes)?;
+                if self.is_layout_wanted(name, target, &bytes, notes)? {
+                    self.judged().judge_layout(book, target, &bytes, notes)?;
+                    self.sign_chain(book, pair, place.as_str(), &bytes, out, notes)?;
+                }
+            }
+        }
+        Ok(())
+    }
+
+    fn is_layout_wanted<E: Write>(
+        &self,
+        name: &str,
+        target: &str,
+        bytes: &[u8],
+        notes: &mut Notes<'_, E>,
+    ) -> Result<bool, Fault> {
+        if !self.asked.documents.is_empty() {
+            return Ok(self.is_asked(name));
+        }
+        let owners = owners_of(self.alloc(), self.folder, target, notes)?;
+        Ok(have_key(&owners, &self.files.half.id) && !self.has_signed(bytes)?)
+    }
+
+    // Signs the links that are named, or all that have no signature: a link has one.
+    fn sign_links<S: Alter, O: Write, E: Write>(
+        &mut self,
+        book: &mut Book<S>,
+        pair: &KeyPair,
+        out: &mut O,
+        notes: &mut Notes<'_, E>,
+    ) -> Result<(), Fault> {
+        for name in &self.folder.chain_files("links", notes)? {
+            let name = name.as_str();
+            let place = format!(in self.alloc(); "links/{name}")?;
+            let bytes = self.bytes_at(place.as_str(), notes)?;
+            let is_wanted = self.asked.documents.is_empty() || self.is_asked(name);
+            if is_wanted && is_unsigned(self.alloc(), &bytes)? {
+                self.sign_chain(book, pair, place.as_str(), &bytes, out, notes)?;
+            }
+        }
+        Ok(())
+    }
+
+    // Signs a layout or a link.
+    fn sign_chain<S: Alter, O: Write, E: Write>(
+        &mut self,
+        book: &mut Book<S>,
+        pair: &KeyPair,
+        place: &str,
+        bytes: &[u8],
+        out: &mut O,
+        notes: &mut Notes<'_, E>,
+    ) -> Result<(), Fault> {
+        if !self.asked.yes {
+            notes.progress(&format!(in self.alloc(); "sign {place}? [y/N]")?);
+            if !is_yes(self.rt) {
+                return Ok(());
+            }
+        }
+        let signed = self.signed(book, pair, place, bytes, notes)?;
+        self.folder.put_named(place, &signed, notes)?;
+        self.done = self.done.saturating_add(1);
+        self.tell(place, &signed, out, notes)
+    }
+
+    fn bytes_at<E: Write>(&self, place: &str, notes: &mut Notes<'_, E>) -> Result<Vec<u8>, Fault> {
+        match self.folder.file(place, notes)? {
+            Some(bytes) => Ok(bytes),
+            None => Ok(Vec::new(self.alloc())),
+        }
+    }
+
+    fn judged(&self) -> Judged<'_> {
+        Judged {
+            alloc: self.alloc(),
+            folder: self.folder,
+            id: &self.files.half.id,
+            now: self.now,
+        }
+    }
+
+    // Whether a document is named, with its ending or without.
+    fn is_asked(&self, name: &str) -> bool {
+        let name = name.strip_suffix(".json").unwrap_or(name);
+        for word in self.asked.documents {
+            if is_named(word.as_str(), name) {
+                return true;
+            }
+        }
+        false
+    }
+
+    // Whether the key has signed the file.
+    fn has_signed(&self, bytes: &[u8]) -> Result<bool, Fault> {
+        match read_signed(self.alloc(), bytes) {
+            Ok(file) => Ok(has_entry(&file, &self.files.half.id)),
+            Err(fault) => Err(Fault::from(fault)),
+        }
+    }
+
+    // The roles of the documents to sign: those that are named, or of all drafts those that the key may sign and has not signed.
+    fn roles<E: Write>(&self, notes: &mut Notes<'_, E>) -> Result<Vec<String>, Fault> {
+        let mut roles = Vec::new(self.alloc());
+        let named = self.asked.documents;
+        for role in &self.folder.roles(notes)? {
+            let is_wanted = if named.is_empty() {
+                self.may_sign(role.as_str(), notes)?
+            } else {
+                self.is_asked(role.as_str())
+            };
+            if is_wanted {
+                roles.push(String::from_str(self.alloc(), role.as_str())?)?;
+            }
+        }
+        Ok(roles)
+    }
+
+    // Whether a rule of the role has the key, and the draft no entry of it.
+    fn may_sign<E: Write>(&self, role: &str, notes: &mut Notes<'_, E>) -> Result<bool, Fault> {
+        let rules = rules_for(self.alloc(), self.folder, role, notes)?;
+        if !have_key(&rules, &self.files.half.id) {
+            return Ok(false);
+        }
+        let bytes = self.folder.draft_or_none(role, notes)?;
+        Ok(!self.has_signed(&bytes)?)
+    }
+
+    // Signs the draft of a role.
+    fn sign<S: Alter, O: Write, E: Write>(
+        &mut self,
+        book: &mut Book<S>,
+        pair: &KeyPair,
+        role: &str,
+        out: &mut O,
+        notes: &mut Notes<'_, E>,
+    ) -> Result<(), Fault> {
+        let bytes = self.folder.draft_or_none(role, notes)?;
+        self.judged().judge(book, role, &bytes, notes)?;
+        if !self.is_agreed(role, &bytes, notes)? {
+            return Ok(());
+        }
+        let signed = self.signed(book, pair, role, &bytes, notes)?;
+        self.folder.put_draft(role, &signed, notes)?;
+        self.done = self.done.saturating_add(1);
+        self.tell(role, &signed, out, notes)
+    }
+
+    // The draft with the key's signature.
+    fn signed<S: Alter, E: Write>(
+        &self,
+        book: &mut Book<S>,
+        pair: &KeyPair,
+        role: &str,
+        bytes: &[u8],
+        notes: &mut Notes<'_, E>,
+    ) -> Result<Vec<u8>, Fault> {
+        if self.asked.again {
+            return match sign_file_with(self.alloc(), book, pair, bytes) {
+                Ok(signed) => Ok(signed),
+                Err(fault) => Err(fault_of_signing(fault)),
+            };
+        }
+        match sign_file_once(self.alloc(), book, pair, bytes) {
+            Ok(signed) => Ok(signed),
+            Err(SignOnceFault::Other(_)) => {
+                notes.warn(
+                    &role,
+                    &"the key has signed another document of this kind and version; --again goes on",
+                );
+                Err(Fault::Slip(Slip::Other))
+            }
+            Err(SignOnceFault::Unsigned(fault)) => Err(fault_of_signing(fault)),
+        }
+    }
+
+    // Whether the operator agrees: with `--yes`, or by the answer `y` to the question, behind what the draft changes.
+    fn is_agreed<E: Write>(
+        &self,
+        role: &str,
+        bytes: &[u8],
+        notes: &mut Notes<'_, E>,
+    ) -> Result<bool, Fault> {
+        if self.asked.yes {
+            return Ok(true);
+        }
+        let said = read_said(self.alloc(), role, bytes)?;
+        let held = held_said(self.alloc(), self.folder, role, notes)?;
+        self.ask(role, held.as_ref(), &said, notes)?;
+        Ok(is_yes(self.rt))
+    }
+
+    // What the draft changes, and the question.
+    fn ask<E: Write>(
+        &self,
+        role: &str,
+        held: Option<&Said>,
+        said: &Said,
+        notes: &mut Notes<'_, E>,
+    ) -> Result<(), Fault> {
+        for change in &changes_of(self.alloc(), role, held, said)? {
+            notes.progress(change);
+        }
+        let version = said.version;
+        notes.progress(&format!(in self.alloc(); "sign {role} {version}? [y/N]")?);
+        Ok(())
+    }
+
+    // Tells what was signed, and with which leaf.
+    fn tell<O: Write, E: Write>(
+        &self,
+        role: &str,
+        signed: &[u8],
+        out: &mut O,
+        notes: &mut Notes<'_, E>,
+    ) -> Result<(), Fault> {
+        let leaf = match read_signed(self.alloc(), signed) {
+            Ok(file) => last_leaf(&file),
+            Err(fault) => return Err(Fault::from(fault)),
+        };
+        let count = self.files.half.leaves();
+        let text = format!(in self.alloc(); "signed {role} with leaf {leaf} of {count}\n")?;
+        if u64::from(leaf) * 4 >= u64::from(count) * 3 {
+            notes.warn(
+                &self.asked.key,
+                &"a quarter of its leaves or fewer are left",
+            );
+        }
+        print(out, text.as_bytes(), notes)
+    }
+}
+
+// Whether the file has an entry of the key.
+fn has_entry(file: &SignedFile<'_>, id: &KeyId) -> bool {
+    for entry in &file.signatures {
+        if entry.keyid == *id {
+            return true;
+        }
+    }
+    false
+}
+
+// Whether the file has no entry.
+fn is_unsigned(alloc: Global, bytes: &[u8]) -> Result<bool, Fault> {
+    match read_signed(alloc, bytes) {
+        Ok(file) => Ok(file.signatures.is_empty()),
+        Err(fault) => Err(Fault::from(fault)),
+    }
+}
+
+// The leaf of the last entry.
+fn last_leaf(file: &SignedFile<'_>) -> u32 {
+    match file.signatures.last() {
+        Some(entry) => leaf_of(entry.sig.as_str()).unwrap_or(0),
+        None => 0,
+    }
+}
+
+// Whether a word names a role's document, with its ending or without.
+fn is_named(word: &str, role: &str) -> bool {
+    word.strip_suffix(".json").unwrap_or(word) == role
+}
+
+// Whether the next line of standard input says yes.
+fn is_yes(rt: &HostRuntime) -> bool {
+    let mut line = String::new(rt.alloc());
+    match rt.stdin().read_line(&mut line) {
+        Ok(_) => line.as_str().trim() == "y" || line.as_str().trim() == "yes",
+        Err(_) => false,
+    }
+}
+
+fn fault_of_signing(fault: SignFileFault) -> Fault {
+    match fault {
+        SignFileFault::Denied(denial) => Fault::Denied(denial, None),
+        SignFileFault::Book(fault) => book_fault(fault),
+        SignFileFault::OutOfMemory => Fault::Memory,
+    }
+}

@@ -1,0 +1,263 @@
+//! A key as three files: `NAME.seed`, `NAME.key` with its public object, and `NAME.book`.
+use crate::documents::{book_fault, has_bytes, tell_of_tree};
+use crate::seeds::seed_at;
+use canonical_json::member;
+use command_support::{
+    Fault, Notes, OWNER_ALONE, Slip, connected, file_fault, moment, print, read_at_most,
+};
+use keys_roles::{Key, KeyId, key_id, key_object};
+use lms::{KeyPair, OtsType, Params, SigningHeight, public_of};
+use signing::{Book, Seed};
+use sqlite::{Alter, Connection, FileStore};
+use sqlite_disk::Disk;
+use std::alloc::{AllocError, Global};
+use std::fs::{self, File};
+use std::io::{self, Write};
+use std::os::unix::fs::OpenOptionsExt;
+use std::random::RandomSource;
+
+// A key file has the key object, and a line end.
+const MOST: usize = 256;
+
+// The mode of the public half, less the process's mask.
+const FOR_ALL: u32 = 0o666;
+
+/// The public half of a key, as `NAME.key` has it: its parameters and its id.
+#[derive(Clone, Copy)]
+pub struct PublicHalf {
+    pub public: [u8; 56],
+    pub params: Params,
+    pub id: KeyId,
+}
+
+impl PublicHalf {
+    /// The public half of the key of this name.
+    pub fn read<E: Write>(
+        rt: &HostRuntime,
+        name: &str,
+        notes: &mut Notes<'_, E>,
+    ) -> Result<PublicHalf, Fault> {
+        let place = format!(in rt.alloc(); "{name}.key")?;
+        let bytes = read_at_most(rt, place.as_str(), MOST, notes)?;
+        let Some(public) = public_in(rt.alloc(), &bytes)? else {
+            notes.tell(&place, &"no key object of the scheme lms-sha256");
+            return Err(Fault::File);
+        };
+        let Some(params) = params_of(&public) else {
+            notes.tell(&place, &"no parameters that are signed by");
+            return Err(Fault::File);
+        };
+        let id = key_id(rt.alloc(), &Key::Lms(public))?;
+        Ok(PublicHalf { public, params, id })
+    }
+
+    /// How many signatures the key can make.
+    pub fn leaves(&self) -> u32 {
+        match self.params.height {
+            SigningHeight::H5 => 32,
+            SigningHeight::H10 => 1024,
+        }
+    }
+}
+
+/// A key that was read from its files.
+#[derive(Drop)]
+pub struct KeyFiles {
+    pub seed: Seed,
+    pub half: PublicHalf,
+}
+
+impl KeyFiles {
+    /// The key of this name. The parameters are those of its public half.
+    pub fn read<E: Write>(
+        rt: &HostRuntime,
+        name: &str,
+        notes: &mut Notes<'_, E>,
+    ) -> Result<KeyFiles, Fault> {
+        let half = PublicHalf::read(rt, name, notes)?;
+        let place = format!(in rt.alloc(); "{name}.seed")?;
+        let seed = seed_at(rt, place.as_str(), notes)?;
+        Ok(KeyFiles { seed, half })
+    }
+
+    /// The key pair. A seed of another key is a fault of a file.
+    pub fn pair<E: Write>(
+        &self,
+        rt: &HostRuntime,
+        notes: &mut Notes<'_, E>,
+    ) -> Result<KeyPair, Fault> {
+        tell_of_tree(rt, self.half.params, notes);
+        let pair = KeyPair::new(rt.alloc(), &self.seed, self.half.params)?;
+        if pair.public() != self.half.public {
+            notes.warn(&"the seed", &"it is of another key than the public half");
+            return Err(Fault::File);
+        }
+        Ok(pair)
+    }
+}
+
+/// Where the book of a key stands.
+pub fn book_place(rt: &HostRuntime, name: &str) -> Result<String, AllocError> {
+    format!(in rt.alloc(); "{name}.book")
+}
+
+// The public key whose object the bytes are, with a line end or without one.
+fn public_in(alloc: Global, bytes: &[u8]) -> Result<Option<[u8; 56]>, AllocError> {
+    let object = bytes.strip_suffix(b"\n").unwrap_or(bytes);
+    let Some(public) = public_said(object) else {
+        return Ok(None);
+    };
+    let spelled = key_object(alloc, &Key::Lms(public))?;
+    Ok(if spelled.as_slice() == object {
+        Some(public)
+    } else {
+        None
+    })
+}
+
+fn public_said(object: &[u8]) -> Option<[u8; 56]> {
+    let digits = member(member(object, "keyval")?, "public")?;
+    let digits = digits.strip_prefix(b"\"")?.strip_suffix(b"\"")?;
+    let mut public = [0; 56];
+    hex::decode_to_slice(digits, &mut public).ok()?;
+    Some(public)
+}
+
+// The parameters that a public key says, its type of tree and of one-time signatures (RFC 8554, section 5.3), where a signer has them.
+fn params_of(public: &[u8; 56]) -> Option<Params> {
+    let height = match &public[..4] {
+        [0, 0, 0, 5] => SigningHeight::H5,
+        [0, 0, 0, 6] => SigningHeight::H10,
+        _ => return None,
+    };
+    let ots = match &public[4..8] {
+        [0, 0, 0, 1] => OtsType::W1,
+        [0, 0, 0, 2] => OtsType::W2,
+        [0, 0, 0, 3] => OtsType::W4,
+        [0, 0, 0, 4] => OtsType::W8,
+        _ => return None,
+    };
+    Some(Params { ots, height })
+}
+
+/// Makes the three files of a key, seed and book for their owner alone, and prints the key's id. Where one of them stands nothing is made.
+pub fn make_key<O: Write, E: Write>(
+    rt: &HostRuntime,
+    name: &str,
+    params: Params,
+    at: Option<u64>,
+    out: &mut O,
+    notes: &mut Notes<'_, E>,
+) -> Result<(), Fault> {
+    let _now = moment(rt, at)?;
+    let alloc = rt.alloc();
+    let places = [
+        format!(in alloc; "{name}.seed")?,
+        format!(in alloc; "{name}.key")?,
+        book_place(rt, name)?,
+    ];
+    for place in &places {
+        if has_bytes(rt, place.as_str()) || stands(rt, place.as_str()) {
+            notes.warn(place, &"it stands already");
+            return Err(Fault::Slip(Slip::Exists));
+        }
+    }
+    let [seed_place, key_place, book_place] = &places;
+    let seed = new_seed(rt, seed_place.as_str(), notes)?;
+    tell_of_tree(rt, params, notes);
+    let conn = connected(rt, book_place.as_str(), notes)?;
+    let id = registered_in(rt, conn, &seed, params, notes)?;
+    let mut object = key_object(alloc, &Key::Lms(public_of(&seed, params)))?;
+    object.push(b'\n')?;
+    made(rt, key_place.as_str(), &object, FOR_ALL, notes)?;
+    let mut line = metadata::Digest::new(id.0).text(alloc)?;
+    line.push('\n')?;
+    print(out, line.as_bytes(), notes)
+}
+
+// Whether anything stands there.
+fn stands(rt: &HostRuntime, place: &str) -> bool {
+    fs::symlink_metadata(rt, place).is_ok()
+}
+
+// A new seed, in its file: 48 bytes of the system's randomness as hex digits.
+fn new_seed<E: Write>(
+    rt: &HostRuntime,
+    place: &str,
+    notes: &mut Notes<'_, E>,
+) -> Result<Seed, Fault> {
+    let mut bytes = [0; 48];
+    if let Err(error) = rt.fill_bytes(&mut bytes) {
+        notes.tell(&place, &error);
+        return Err(file_fault(&error));
+    }
+    let mut text = hex::encode(rt.alloc(), &bytes)?;
+    text.push('\n')?;
+    made(rt, place, text.as_bytes(), OWNER_ALONE, notes)?;
+    seed_at(rt, place, notes)
+}
+
+// Makes a file where none stands.
+fn made<E: Write>(
+    rt: &HostRuntime,
+    place: &str,
+    bytes: &[u8],
+    mode: u32,
+    notes: &mut Notes<'_, E>,
+) -> Result<(), Fault> {
+    match written(rt, place, bytes, mode) {
+        Ok(()) => Ok(()),
+        Err(error) => {
+            notes.tell(&place, &error);
+            Err(file_fault(&error))
+        }
+    }
+}
+
+fn written(rt: &HostRuntime, place: &str, bytes: &[u8], mode: u32) -> io::Result<()> {
+    let mut file = File::options()
+        .write(true)
+        .create_new(true)
+        .mode(mode)
+        .open(rt, place)?;
+    file.write_all(bytes)?;
+    file.sync_all()
+}
+
+// Registers the key in a new book, which is closed behind it.
+fn registered_in<D: Disk + Drop, E: Write>(
+    rt: &HostRuntime,
+    conn: Connection<FileStore<D>>,
+    seed: &Seed,
+    params: Params,
+    notes: &mut Notes<'_, E>,
+) -> Result<KeyId, Fault> {
+    let (id, conn) = registered_over(rt, conn, seed, params, notes);
+    if let Some(conn) = conn {
+        let _ = conn.close();
+    }
+    id
+}
+
+fn registered_over<S: Alter + Drop, E: Write>(
+    rt: &HostRuntime,
+    conn: Connection<S>,
+    seed: &Seed,
+    params: Params,
+    notes: &mut Notes<'_, E>,
+) -> (Result<KeyId, Fault>, Option<Connection<S>>) {
+    match Book::open(rt.alloc(), conn) {
+        Ok(book) => {
+            let mut book = book;
+            let id = match book.register(seed, params) {
+                Ok(id) => Ok(id),
+                Err(fault) => Err(book_fault(fault)),
+            };
+            (id, Some(book.into_connection()))
+        }
+        Err(fault) => {
+            notes.tell(&"the book", &fault);
+            (Err(book_fault(fault)), None)
+        }
+    }
+}

@@ -1,0 +1,242 @@
+//! What is looked at before a leaf is spent on a draft, in this order; the first that fails is the answer.
+use command_support::{Denial, Fault, Notes, Slip};
+use drafts::{
+    Folder, Said, Vouching, has_signatures, held_said, owners_of, read_said, read_said_of,
+    rules_for,
+};
+use keys_roles::KeyId;
+use metadata::{Kind, Moment, SignedFile, read_signed};
+use signing::{Book, keeps, leaf_of};
+use sqlite::Alter;
+use std::alloc::Global;
+use std::io::Write;
+
+/// By what a draft is judged: the folder, the key, and the moment.
+#[derive(Clone, Copy)]
+pub struct Judged<'a> {
+    pub alloc: Global,
+    pub folder: Folder<'a>,
+    pub id: &'a KeyId,
+    pub now: Moment,
+}
+
+impl Judged<'_> {
+    /// Judges the draft of a role: its shape; whether a rule has the key for it; whether the book knows each signature of the key that stands
+    /// in the folder; what is held, whose version it follows; its expiry; the signatures of what it is over; and the files that it lists.
+    pub fn judge<S: Alter, E: Write>(
+        &self,
+        book: &Book<S>,
+        role: &str,
+        bytes: &[u8],
+        notes: &mut Notes<'_, E>,
+    ) -> Result<(), Fault> {
+        let said = read_said(self.alloc, role, bytes)?;
+        self.see_rule(role, notes)?;
+        self.see_book(book, notes)?;
+        let held = held_said(self.alloc, self.folder, role, notes)?;
+        self.see_said(role, held.as_ref(), &said, notes)
+    }
+
+    /// Judges a layout: its shape; whether its owners' rule has the key; whether the book knows each signature of the key; and its expiry.
+    pub fn judge_layout<S: Alter, E: Write>(
+        &self,
+        book: &Book<S>,
+        target: &str,
+        bytes: &[u8],
+        notes: &mut Notes<'_, E>,
+    ) -> Result<(), Fault> {
+        let said = read_said_of(self.alloc, Kind::Layout, bytes)?;
+        let owners = owners_of(self.alloc, self.folder, target, notes)?;
+        if !have_key(&owners, self.id) {
+            notes.warn(&target, &"its layout's owners do not have this key");
+            return Err(Fault::Slip(Slip::Stranger));
+        }
+        self.see_book(book, notes)?;
+        self.see_expiry(target, &said, notes)
+    }
+
+    fn see_expiry<E: Write>(
+        &self,
+        role: &str,
+        said: &Said,
+        notes: &mut Notes<'_, E>,
+    ) -> Result<(), Fault> {
+        if said.expires.is_some_and(|expires| expires <= self.now) {
+            notes.warn(&role, &"it expires at the moment or before it");
+            return Err(Fault::Slip(Slip::Past));
+        }
+        Ok(())
+    }
+
+    fn see_said<E: Write>(
+        &self,
+        role: &str,
+        held: Option<&Said>,
+        said: &Said,
+        notes: &mut Notes<'_, E>,
+    ) -> Result<(), Fault> {
+        if let Some(denial) = denied_behind(role, held, said) {
+            notes.warn(&role, &denial.name());
+            return Err(Fault::Denied(denial, None));
+        }
+        self.see_expiry(role, said, notes)?;
+        self.see_order(role, notes)?;
+        self.see_files(held, said, notes)
+    }
+
+    // A rule has the key for the role's document.
+    fn see_rule<E: Write>(&self, role: &str, notes: &mut Notes<'_, E>) -> Result<(), Fault> {
+        let rules = rules_for(self.alloc, self.folder, role, notes)?;
+        if have_key(&rules, self.id) {
+            return Ok(());
+        }
+        notes.warn(&role, &"no rule has this key for it");
+        Err(Fault::Slip(Slip::Stranger))
+    }
+
+    // The book knows each signature of the key that stands in the folder.
+    fn see_book<S: Alter, E: Write>(
+        &self,
+        book: &Book<S>,
+        notes: &mut Notes<'_, E>,
+    ) -> Result<(), Fault> {
+        for role in &self.folder.held_roles(notes)? {
+            let held = self.folder.held(role.as_str(), notes)?;
+            self.see_entries(book, role.as_str(), held, notes)?;
+        }
+        for role in &self.folder.roles(notes)? {
+            let draft = self.folder.draft(role.as_str(), notes)?;
+            self.see_entries(book, role.as_str(), draft, notes)?;
+        }
+        for name in &self.folder.chain_files("layouts", notes)? {
+            let name = name.as_str();
+            let place = format!(in self.alloc; "layouts/{name}")?;
+            let bytes = self.folder.file(place.as_str(), notes)?;
+            self.see_entries(book, name, bytes, notes)?;
+        }
+        Ok(())
+    }
+
+    /// The book knows each signature of the key that these bytes have.
+    pub fn see_entries<S: Alter, E: Write>(
+        &self,
+        book: &Book<S>,
+        role: &str,
+        bytes: Option<Vec<u8>>,
+        notes: &mut Notes<'_, E>,
+    ) -> Result<(), Fault> {
+        let Some(bytes) = bytes else {
+            return Ok(());
+        };
+        let file = read_signed(self.alloc, &bytes)?;
+        if self.are_kept(book, &file) {
+            return Ok(());
+        }
+        notes.warn(
+            &role,
+            &"the book of the key does not know its signature here: another book has signed it",
+        );
+        Err(Fault::Slip(Slip::Book))
+    }
+
+    // Whether the book keeps each entry of the key.
+    fn are_kept<S: Alter>(&self, book: &Book<S>, file: &SignedFile<'_>) -> bool {
+        for entry in &file.signatures {
+            if entry.keyid == *self.id && !is_kept(book, self.id, entry.sig.as_str(), file.signed) {
+                return false;
+            }
+        }
+        true
+    }
+
+    // A snapshot or timestamp is over documents that have their signatures.
+    fn see_order<E: Write>(&self, role: &str, notes: &mut Notes<'_, E>) -> Result<(), Fault> {
+        if role != "snapshot" && role != "timestamp" {
+            return Ok(());
+        }
+        for under in &self.folder.roles(notes)? {
+            let under = under.as_str();
+            let is_under = under != "timestamp" && !(role == "snapshot" && under == "snapshot");
+            if is_under && !has_signatures(self.alloc, self.folder, under, notes)? {
+                notes.warn(
+                    &under,
+                    &"too few signatures: a change of it would cost a snapshot and a timestamp",
+                );
+                return Err(Fault::Slip(Slip::Order));
+            }
+        }
+        Ok(())
+    }
+
+    // Each listed file is in the folder with its length, or is listed so in what is held.
+    fn see_files<E: Write>(
+        &self,
+        held: Option<&Said>,
+        said: &Said,
+        notes: &mut Notes<'_, E>,
+    ) -> Result<(), Fault> {
+        for file in &said.files {
+            let waits = self.folder.length_of_file(&file.digest)? == Some(u64::from(file.length));
+            let is_held = held.is_some_and(|held| held.has_file(file.length, &file.digest));
+            if !waits && !is_held {
+                notes.warn(&file.path, &"its file is neither in the folder nor held");
+                return Err(Fault::Slip(Slip::File));
+            }
+        }
+        Ok(())
+    }
+}
+
+/// Whether one of the rules has the key.
+pub fn have_key(rules: &[Vouching], id: &KeyId) -> bool {
+    for vouching in rules {
+        if vouching.rule.keyids.contains(id) {
+            return true;
+        }
+    }
+    false
+}
+
+// Whether the book keeps the leaf of a signature for the message that it is over.
+fn is_kept<S: Alter>(book: &Book<S>, id: &KeyId, sig: &str, message: &[u8]) -> bool {
+    match leaf_of(sig) {
+        Some(leaf) => keeps(book, id, leaf, message),
+        None => false,
+    }
+}
+
+// The first denial of a document behind the one that is held: 8, 13, 14, 21, 22.
+fn denied_behind(role: &str, held: Option<&Said>, said: &Said) -> Option<Denial> {
+    let held = held?;
+    match role {
+        "root" if held.version.checked_add(1) != Some(said.version) => Some(Denial::RootVersion),
+        "timestamp" if said.version <= held.version => Some(Denial::TimestampRollback),
+        "timestamp" if are_rolled_back(held, said) => Some(Denial::NamedSnapshotRollback),
+        "snapshot" if are_rolled_back(held, said) => Some(Denial::SnapshotRollback),
+        "snapshot" if are_dropped(held, said) => Some(Denial::RoleDropped),
+        _ => None,
+    }
+}
+
+// Whether a document is named at a lower version than before.
+fn are_rolled_back(held: &Said, said: &Said) -> bool {
+    for (role, before) in &held.names {
+        if said
+            .named(role.as_str())
+            .is_some_and(|version| version < *before)
+        {
+            return true;
+        }
+    }
+    false
+}
+
+// Whether a document is named no more.
+fn are_dropped(held: &Said, said: &Said) -> bool {
+    for (role, _) in &held.names {
+        if said.named(role.as_str()).is_none() {
+            return true;
+        }
+    }
+    false
+}
