@@ -1,6 +1,7 @@
 //! `get`: fetches a target as a client.
 use crate::fault::fault_of_client;
-use crate::mirror::{Call, Mirror};
+use crate::remote::{Call, Remote};
+use crate::server::Server;
 use client::fetch_target;
 use command_support::{
     Denial, Fault, Notes, OWNER_ALONE, are_one_file, file_fault, moment, print, put_in_place,
@@ -13,12 +14,12 @@ use std::alloc::AllocError;
 use std::io::Write;
 use store::Store;
 
-/// What is fetched, and where from and to: the file of the client's own state, the port of 127.0.0.1, how many seconds all of it
+/// What is fetched, and where from and to: the file of the client's own state, the port or the mirrors, how many seconds all of it
 /// has, 600 where none are given, the file that is written, and the target's path.
 #[derive(Clone, Copy)]
 pub struct Getting<'a> {
     pub db: &'a str,
-    pub port: u16,
+    pub from: Server<'a>,
     pub within: Option<u64>,
     pub out: &'a str,
     pub path: &'a str,
@@ -27,14 +28,14 @@ pub struct Getting<'a> {
 impl<'a> Getting<'a> {
     pub fn new(
         db: &'a str,
-        port: u16,
+        from: Server<'a>,
         within: Option<u64>,
         out: &'a str,
         path: &'a str,
     ) -> Getting<'a> {
         Getting {
             db,
-            port,
+            from,
             within,
             out,
             path,
@@ -57,7 +58,7 @@ pub fn get<O: Write, E: Write>(
     let mut fetching = Fetching {
         rt,
         call,
-        port: asked.port,
+        from: asked.from,
         path: &path,
         now,
     };
@@ -111,7 +112,7 @@ fn target_path<E: Write>(
 struct Fetching<'a> {
     rt: &'a HostRuntime,
     call: Call<'a>,
-    port: u16,
+    from: Server<'a>,
     path: &'a TargetPath,
     now: Moment,
 }
@@ -125,8 +126,8 @@ impl Work for Fetching<'_> {
         notes: &mut Notes<'_, E>,
     ) -> Result<Vec<u8>, Fault> {
         let done = {
-            let mut mirror = Mirror::new(self.call, self.port, notes);
-            fetch_target(self.rt.alloc(), state, &mut mirror, self.path, self.now)
+            let mut remote = Remote::new(self.call, self.from, notes);
+            fetch_target(self.rt.alloc(), state, &mut remote, self.path, self.now)
         };
         match done {
             Ok(bytes) => Ok(bytes),

@@ -1,12 +1,15 @@
-//! The subcommands of `release` over a repository that is served at a port of 127.0.0.1: `update` and `get`, as a client, and `publish`,
-//! `put` and `prune`, which the server does.
+//! The subcommands of `release` over a repository that is served: `update` and `get`, as a client of a port of 127.0.0.1 or of mirrors,
+//! and `publish`, `put` and `prune`, which the server at a port does.
 #![tactic(auto)]
 
+mod asking;
+mod expiring;
 mod fault;
 mod getting;
-mod mirror;
 mod publishing;
+mod remote;
 mod sending;
+mod server;
 mod updating;
 mod wire;
 
@@ -15,4 +18,5 @@ pub use command_support::{Fault, Notes};
 pub use fault::fault_of_client;
 pub use getting::{Getting, get};
 pub use publishing::{prune_at, publish_at, put_at};
+pub use server::Server;
 pub use updating::update;

@@ -1,14 +1,16 @@
 //! `publish`, `put` and `prune` over a repository that is served at a port of 127.0.0.1. The moment is the server's.
+use crate::asking::Asking;
 use crate::sending::Sending;
 use command_support::{Denial, Fault, Notes, print, read_at_most};
-use commands::{InputFile, documents_of, read_all, told};
+use commands::{InputFile, batch_of, documents_of, read_all, told};
 use http_fetch::{Method, read_accepted, read_pruned};
 use http_messages::{BATCH_LIMIT, BLOB_LIMIT, stored_body};
 use metadata::digest_of;
 use std::io::Write;
 
 /// Offers the documents to the server, together, and prints how many were accepted and how many were held already, as `publish` over a
-/// database does. Documents that are together longer than a server takes are a fault of a file, before it is asked.
+/// database does. Documents that are together longer than a server takes are a fault of a file, before it is asked. What `publish` over a
+/// database warns of is warned of as far as the server answers what it holds.
 pub fn publish_at<O: Write, E: Write>(
     rt: &HostRuntime,
     port: u16,
@@ -19,6 +21,9 @@ pub fn publish_at<O: Write, E: Write>(
     let documents = told(documents_of(rt.alloc(), arguments), arguments, notes)?;
     let files = read_all(rt, &documents, notes)?;
     let body = batch_body(rt, arguments, &files, notes)?;
+    let batch = batch_of(rt.alloc(), documents, &files)?;
+    let asking = Asking { rt, port };
+    let had_timestamp = asking.before(&batch, notes);
     let sending = Sending {
         rt,
         port,
@@ -27,9 +32,10 @@ pub fn publish_at<O: Write, E: Write>(
         body: &body,
     };
     let reply = told(sending.send(notes), arguments, notes)?;
-    if read_accepted(&reply).is_none() {
+    let Some((_, same)) = read_accepted(&reply) else {
         return Err(sending.unknown(Fault::Network, notes));
-    }
+    };
+    asking.behind(arguments, &batch, had_timestamp, same, notes);
     print(out, &reply, notes)?;
     print(out, b"\n", notes)
 }

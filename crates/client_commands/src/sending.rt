@@ -28,7 +28,7 @@ impl Sending<'_> {
     /// Sends the request over one connection, and answers the body of the reply that says that the command was done. Where the
     /// request was sent and no reply says what became of it, a warning says so.
     pub fn send<E: Write>(&self, notes: &mut Notes<'_, E>) -> Result<Vec<u8>, Fault> {
-        match connected(self.rt, self.port, FILE_SECONDS) {
+        match connected(self.rt, "127.0.0.1", self.port, FILE_SECONDS) {
             Ok((stream, timer)) => self.send_by(&stream, timer, notes),
             Err(error) => {
                 notes.tell(&Port(self.port), &error);

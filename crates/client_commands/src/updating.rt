@@ -1,22 +1,23 @@
 //! `update`: brings a client's own state up to date.
+use crate::expiring::FirstExpiry;
 use crate::fault::fault_of_client;
-use crate::mirror::{Call, Mirror};
+use crate::remote::{Call, Remote};
+use crate::server::Server;
 use command_support::{Fault, Notes, moment, print};
 use commands::{Versions, Work, tell_standing, worked};
-use connections::Port;
 use metadata::Moment;
 use sqlite::Alter;
 use std::fmt;
 use std::io::{IsTerminal, Write};
 use store::Store;
 
-/// Takes new roots, the timestamp and the snapshot from the repository at the port of 127.0.0.1 into the state in the database
+/// Takes new roots, the timestamp and the snapshot from the repository at the port or the mirrors into the state in the database
 /// file, each where the state's own rules accept it, and prints `updated`. It warns where the repository has no timestamp, or the one that is
 /// held then has expired: from then on nothing is granted. All of it has so many seconds, 600 where none are given.
 pub fn update<O: Write, E: Write>(
     rt: &HostRuntime,
     db: &str,
-    port: u16,
+    from: Server<'_>,
     within: Option<u64>,
     at: Option<u64>,
     out: &mut O,
@@ -28,7 +29,7 @@ pub fn update<O: Write, E: Write>(
         rt,
         call,
         db,
-        port,
+        from,
         now,
     };
     worked(rt, db, &mut updating, notes)?;
@@ -41,7 +42,7 @@ struct Updating<'a> {
     rt: &'a HostRuntime,
     call: Call<'a>,
     db: &'a str,
-    port: u16,
+    from: Server<'a>,
     now: Moment,
 }
 
@@ -56,15 +57,15 @@ impl Work for Updating<'_> {
         let alloc = self.rt.alloc();
         let before = Versions::of(alloc, state, self.now);
         let (done, lacks_timestamp) = {
-            let mut mirror = Mirror::new(self.call, self.port, notes);
-            let done = client::update(alloc, state, &mut mirror, self.now);
-            (done, mirror.lacks_timestamp())
+            let mut remote = Remote::new(self.call, self.from, notes);
+            let done = client::update(alloc, state, &mut remote, self.now);
+            (done, remote.lacks_timestamp())
         };
         match done {
             Ok(()) => {
                 self.tell_found(before, state, notes);
                 if lacks_timestamp {
-                    notes.warn(&Port(self.port), &"no timestamp");
+                    notes.warn(&self.from, &"no timestamp");
                 }
                 Ok(())
             }
@@ -93,6 +94,9 @@ impl Updating<'_> {
             tell_standing(alloc, self.db, state, self.now, notes);
         } else if self.rt.stderr().is_terminal() {
             notes.progress(&change);
+            if let Ok(Some(first)) = FirstExpiry::of(alloc, state, self.now) {
+                notes.progress(&first);
+            }
         }
         if has_expired {
             notes.warn(&self.db, &"the timestamp has expired");

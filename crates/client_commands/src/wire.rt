@@ -1,27 +1,38 @@
-//! Connections to a port of 127.0.0.1, with their deadlines.
+//! Connections to a host, with their deadlines.
 ghost use Rattle.std.specs.Io.{ReadsAtMost, WritesAtMost};
 
+use arrayvec::ArrayVec;
 use connections::{QUIET_SECONDS, Timer};
 use http_messages::{Receive, Transmit};
 use std::alloc::{AllocError, Global};
 use std::io::{self, ErrorKind, Read, Write};
-use std::net::{Ipv4Addr, SocketAddr, TcpStream};
+use std::net::{TcpStream, ToSocketAddrs};
 use std::time::Duration;
 
-/// A connection to the port, which has so many seconds to be made, 30 at most, and when it was begun.
+// So much of a reply is kept: its status, and most heads.
+const KEPT: usize = 1024;
+
+/// A connection to the host, and when it was begun. It has so many seconds to be made, by the first of the host's addresses that takes
+/// it, and each of them 30 at most. How long the host's name is looked up the system decides.
 pub fn connected<'a>(
     rt: &'a HostRuntime,
+    host: &str,
     port: u16,
     seconds: u64,
 ) -> io::Result<(TcpStream, Timer<'a>)> {
     let timer = Timer::start(rt)?;
-    let there = SocketAddr::from((Ipv4Addr::new(127, 0, 0, 1), port));
-    let quiet = Duration::from_secs(QUIET_SECONDS.min(seconds));
-    let stream = TcpStream::connect_timeout(rt, &there, quiet)?;
-    Ok((stream, timer))
+    let mut last = io::Error::from(ErrorKind::AddrNotAvailable);
+    for there in (host, port).to_socket_addrs(rt)? {
+        let quiet = timer.left(seconds)?.min(Duration::from_secs(QUIET_SECONDS));
+        match TcpStream::connect_timeout(rt, &there, quiet) {
+            Ok(stream) => return Ok((stream, timer)),
+            Err(error) => last = error,
+        }
+    }
+    Err(last)
 }
 
-/// The host as a request names it.
+/// The host as a request to a port of 127.0.0.1 names it.
 pub fn host(alloc: Global, port: u16) -> Result<String, AllocError> {
     format!(in alloc; "127.0.0.1:{port}")
 }
@@ -112,5 +123,52 @@ impl Transmit for Wire<'_> {
 
     fn transmit(&mut self, buf: &[u8]) -> io::Result<usize> {
         self.write_some(buf)
+    }
+}
+
+/// The reading side of a connection, of which the beginning is kept.
+#[derive(Drop)]
+pub struct Hearing<'a> {
+    wire: Wire<'a>,
+    kept: ArrayVec<u8, KEPT>,
+}
+
+impl<'a> Hearing<'a> {
+    pub fn new(wire: Wire<'a>) -> Hearing<'a> {
+        Hearing {
+            wire,
+            kept: ArrayVec::new(),
+        }
+    }
+
+    /// The beginning of what came, at most 1,024 bytes.
+    pub fn beginning(&self) -> &[u8] {
+        self.kept.as_slice()
+    }
+
+    // Keeps what came as far as there is room.
+    fn keep(&mut self, came: &[u8]) {
+        let room = KEPT - self.kept.len();
+        let _ = self
+            .kept
+            .try_extend_from_slice(&came[..came.len().min(room)]);
+    }
+}
+
+impl Read for Hearing<'_> {
+    fn read(&mut self, buf: &mut [u8]) -> io::Result<usize> {
+        let count = self.wire.read_some(buf)?;
+        self.keep(&buf[..count]);
+        Ok(count)
+    }
+}
+
+impl Receive for Hearing<'_> {
+    ghost use Rattle.std.specs.Prelude.{false};
+
+    ghost sound = { λ _. false };
+
+    fn receive(&mut self, buf: &mut [u8]) -> io::Result<usize> {
+        self.read(buf)
     }
 }

@@ -1,0 +1,182 @@
+//! What the server at a port of 127.0.0.1 is asked beside a batch, and what is warned of by its answers, as `publish` over a database
+//! warns. A question that gets no answer costs its warning, and nothing else.
+use crate::wire::{Wire, connected, host};
+use command_support::{DOCUMENT_LIMIT, Notes};
+use commands::{FORGETS, FORGOTTEN, NOT_TAKEN, Offer, forgets};
+use connections::Port;
+use http_fetch::fetch_over;
+use metadata::{Body, Kind, read_document};
+use std::alloc::Global;
+use std::io::Write;
+
+// An answer has so many seconds.
+const ANSWER_SECONDS: u64 = 10;
+
+const TIMESTAMP: &str = "metadata/timestamp.json";
+
+/// The port that is asked.
+#[derive(Clone, Copy)]
+pub struct Asking<'a> {
+    pub rt: &'a HostRuntime,
+    pub port: u16,
+}
+
+impl Asking<'_> {
+    /// Before a batch with a root: warns where the server will forget its timestamp by it, and answers whether it has one. Of another batch
+    /// nothing is asked.
+    pub fn before<E: Write>(&self, batch: &[(Offer, &[u8])], notes: &mut Notes<'_, E>) -> bool {
+        if !offers_root(batch) {
+            return false;
+        }
+        let Some(Some(_)) = self.ask(TIMESTAMP) else {
+            return false;
+        };
+        if self.will_forget(batch) {
+            notes.warn(&Port(self.port), &FORGETS);
+        }
+        true
+    }
+
+    /// Behind a batch of which so many counted as the same: warns where the server has no timestamp any more, and where it has another one
+    /// than the last of the batch.
+    pub fn behind<E: Write>(
+        &self,
+        arguments: &[String],
+        batch: &[(Offer, &[u8])],
+        had_timestamp: bool,
+        same: usize,
+        notes: &mut Notes<'_, E>,
+    ) {
+        let last = last_timestamp(batch);
+        if !had_timestamp && (same == 0 || last.is_none()) {
+            return;
+        }
+        match self.ask(TIMESTAMP) {
+            Some(Some(held)) => warn_of_other(&held, arguments, batch, last, notes),
+            Some(None) => {
+                if had_timestamp {
+                    notes.warn(&Port(self.port), &FORGOTTEN);
+                }
+            }
+            None => {}
+        }
+    }
+
+    // Whether the server forgets its timestamp by the last root of the batch, and none is offered behind it.
+    fn will_forget(&self, batch: &[(Offer, &[u8])]) -> bool {
+        let Some(root) = last_root(batch) else {
+            return false;
+        };
+        match self.root_before(root, batch) {
+            Some(held) => forgets(self.rt.alloc(), &held, root).unwrap_or(false),
+            None => false,
+        }
+    }
+
+    // The newest root that the server has, where it has not this one: between them are roots of the batch alone.
+    fn root_before(&self, root: &[u8], batch: &[(Offer, &[u8])]) -> Option<Vec<u8>> {
+        let mut version = version_of(self.rt.alloc(), root)?;
+        if self.ask_root(version)?.is_some() {
+            return None;
+        }
+        for (offer, _) in batch {
+            if let Offer::Root = offer {
+                version = version.checked_sub(1)?;
+                let held = self.ask_root(version)?;
+                if held.is_some() {
+                    return held;
+                }
+            }
+        }
+        None
+    }
+
+    fn ask_root(&self, version: u32) -> Option<Option<Vec<u8>>> {
+        let name = format!(in self.rt.alloc(); "metadata/{version}.root.json").ok()?;
+        self.ask(name.as_str())
+    }
+
+    // What the server has under this name, where it answers.
+    fn ask(&self, name: &str) -> Option<Option<Vec<u8>>> {
+        let alloc = self.rt.alloc();
+        let host = host(alloc, self.port).ok()?;
+        let (stream, timer) = connected(self.rt, "127.0.0.1", self.port, ANSWER_SECONDS).ok()?;
+        let mut writer = Wire::new(&stream, timer, ANSWER_SECONDS);
+        let mut reader = Wire::new(&stream, timer, ANSWER_SECONDS);
+        fetch_over(
+            alloc,
+            &mut writer,
+            &mut reader,
+            host.as_str(),
+            name,
+            DOCUMENT_LIMIT,
+        )
+        .ok()
+    }
+}
+
+// Warns where the last timestamp of the batch, at this place, has other bytes than the one that is held.
+fn warn_of_other<E: Write>(
+    held: &[u8],
+    arguments: &[String],
+    batch: &[(Offer, &[u8])],
+    last: Option<usize>,
+    notes: &mut Notes<'_, E>,
+) {
+    let Some(last) = last else {
+        return;
+    };
+    if let (Some(argument), Some((_, bytes))) = (arguments.get(last), batch.get(last)) {
+        if *bytes != held {
+            notes.warn(&argument.as_str(), &NOT_TAKEN);
+        }
+    }
+}
+
+fn offers_root(batch: &[(Offer, &[u8])]) -> bool {
+    for (offer, _) in batch {
+        if let Offer::Root = offer {
+            return true;
+        }
+    }
+    false
+}
+
+// The place of the last timestamp of the batch.
+fn last_timestamp(batch: &[(Offer, &[u8])]) -> Option<usize> {
+    let mut last = None;
+    for (place, (offer, _)) in batch.iter().enumerate() {
+        if let Offer::Timestamp = offer {
+            last = Some(place);
+        }
+    }
+    last
+}
+
+// The last root of the batch, where no timestamp stands behind it.
+fn last_root<'f>(batch: &[(Offer, &'f [u8])]) -> Option<&'f [u8]> {
+    let mut last = None;
+    for (offer, bytes) in batch {
+        match offer {
+            Offer::Root => last = Some(*bytes),
+            Offer::Timestamp => last = None,
+            _ => {}
+        }
+    }
+    last
+}
+
+// The version of a root, if the bytes are one.
+fn version_of(alloc: Global, bytes: &[u8]) -> Option<u32> {
+    match read_document(alloc, Kind::Root, bytes) {
+        Ok(document) => version_in(&document.body),
+        Err(_) => None,
+    }
+}
+
+fn version_in(body: &Body) -> Option<u32> {
+    match body {
+        Body::Root(root) => Some(root.version),
+        _ => None,
+    }
+}
