@@ -1,13 +1,19 @@
 //! `publish`: offers documents in order, which are taken together or not at all.
+use crate::put::put;
+use crate::why::Offered;
+use authoring::{complete_batch_in, empty, waiting_files};
 use client_commands::publish_at;
 use command_line::Place;
 use command_support::{Fault, Notes, moment, print};
 use commands::{
-    Offer, Work, batch_of, documents_of, fault_of_store, read_all, refused, told, worked,
+    FORGETS, FORGOTTEN, NOT_TAKEN, Offer, Work, batch_of, documents_of, fault_of_store, forgets,
+    read_all, refused, told, worked,
 };
+use drafts::Folder;
 use http_messages::accepted_body;
 use metadata::Moment;
 use sqlite::Alter;
+use std::alloc::Global;
 use std::io::Write;
 use store::{Command, Reply, Store};
 
@@ -27,6 +33,28 @@ pub fn publish<O: Write, E: Write>(
     }
 }
 
+/// Puts the target files that wait in a folder of drafts, offers its documents together, and empties it behind that.
+pub fn publish_in_folder<O: Write, E: Write>(
+    rt: &HostRuntime,
+    place: &Place,
+    folder: &str,
+    at: Option<u64>,
+    out: &mut O,
+    notes: &mut Notes<'_, E>,
+) -> Result<(), Fault> {
+    let _now = moment(rt, at)?;
+    let folder = Folder::new(rt, folder);
+    let batch = complete_batch_in(rt.alloc(), folder, notes)?;
+    let files = waiting_files(rt.alloc(), folder, notes)?;
+    for file in &files {
+        let mut unheard = Vec::new(rt.alloc());
+        put(rt, place, file.as_str(), at, &mut unheard, notes)?;
+    }
+    let arguments = batch.arguments(rt.alloc(), folder)?;
+    publish(rt, place, &arguments, at, out, notes)?;
+    empty(rt.alloc(), folder, &batch, notes)
+}
+
 fn publish_in<O: Write, E: Write>(
     rt: &HostRuntime,
     db: &str,
@@ -40,6 +68,7 @@ fn publish_in<O: Write, E: Write>(
     let files = read_all(rt, &documents, notes)?;
     let batch = batch_of(rt.alloc(), documents, &files)?;
     let mut offering = Offering {
+        alloc: rt.alloc(),
         db,
         arguments,
         batch: &batch,
@@ -54,10 +83,6 @@ fn publish_in<O: Write, E: Write>(
     }
 }
 
-// What is said of a root with other keys for the timestamp or the snapshot that was published without their successors.
-const FORGOTTEN: &str =
-    "no timestamp any more: every target is denied until timestamp, snapshot and targets metadata are published";
-
 // The timestamp that is held.
 fn timestamp_of<S: Alter>(repository: &mut Store<S>, now: Moment) -> Option<Vec<u8>> {
     match repository.apply(Command::Metadata("timestamp.json"), now) {
@@ -69,6 +94,7 @@ fn timestamp_of<S: Alter>(repository: &mut Store<S>, now: Moment) -> Option<Vec<
 // What is done over the repository. A fault is told with the name of its database.
 #[derive(Clone, Copy)]
 struct Offering<'a> {
+    alloc: Global,
     db: &'a str,
     arguments: &'a [String],
     batch: &'a [(Offer, &'a [u8])],
@@ -84,12 +110,19 @@ impl Work for Offering<'_> {
         notes: &mut Notes<'_, E>,
     ) -> Result<Reply, Fault> {
         let had_timestamp = timestamp_of(repository, self.now).is_some();
+        if had_timestamp && self.will_forget(repository) {
+            notes.warn(&self.db, &FORGETS);
+        }
         match repository.apply(Command::Batch(self.batch), self.now) {
             Ok(reply) => {
                 if let Reply::Batch { same, .. } = &reply {
                     if 0 < *same {
                         self.warn_of_timestamp(repository, notes);
                     }
+                }
+                if let Reply::Denied(denial, Some(index)) = &reply {
+                    self.offered()
+                        .tell(self.alloc, repository, denial, *index, notes);
                 }
                 if had_timestamp && timestamp_of(repository, self.now).is_none() {
                     notes.warn(&self.db, &FORGOTTEN);
@@ -105,6 +138,39 @@ impl Work for Offering<'_> {
 }
 
 impl Offering<'_> {
+    fn offered(&self) -> Offered<'_> {
+        Offered {
+            arguments: self.arguments,
+            batch: self.batch,
+            now: self.now,
+        }
+    }
+
+    // Whether the last root of the batch makes the repository forget its timestamp, and none is offered behind it.
+    fn will_forget<S: Alter>(&self, repository: &mut Store<S>) -> bool {
+        let mut last = None;
+        for (offer, bytes) in self.batch {
+            match offer {
+                Offer::Root => last = Some(*bytes),
+                Offer::Timestamp => last = None,
+                _ => {}
+            }
+        }
+        match (last, self.trusted_root(repository)) {
+            (Some(root), Some(held)) => forgets(self.alloc, &held, root).unwrap_or(false),
+            _ => false,
+        }
+    }
+
+    fn trusted_root<S: Alter>(&self, repository: &mut Store<S>) -> Option<Vec<u8>> {
+        let version = repository.root_version()?;
+        let name = format!(in self.alloc; "{version}.root.json").ok()?;
+        match repository.apply(Command::Metadata(name.as_str()), self.now) {
+            Ok(Reply::Bytes(held)) => Some(held),
+            _ => None,
+        }
+    }
+
     // Warns where the last timestamp of the batch is another one than that which is held: one of its version was held, so it counts as the
     // same, and was not taken. No other document counts as the same where its bytes are others.
     fn warn_of_timestamp<S: Alter, E: Write>(
@@ -122,10 +188,7 @@ impl Offering<'_> {
             return;
         };
         match timestamp_of(repository, self.now) {
-            Some(held) if held.as_slice() != bytes => notes.warn(
-                &argument.as_str(),
-                &"not taken, another timestamp of its version is held",
-            ),
+            Some(held) if held.as_slice() != bytes => notes.warn(&argument.as_str(), &NOT_TAKEN),
             _ => {}
         }
     }

@@ -1,15 +1,16 @@
 //! A command from its words to its exit status.
 use crate::init::init;
 use crate::prune::prune;
-use crate::publish::publish;
+use crate::publish::{publish, publish_in_folder};
 use crate::put::put;
 use crate::serve::Server;
+use authoring::{draft, show};
 use canon::canon;
-use client_commands::{Getting, get, update};
+use client_commands::{Getting, Server as Remote, get, update};
 use command_line::{Subcommand, Task, task};
 use command_support::{Fault, Notes, moment, print, read};
 use exporting::export;
-use signing_commands::{Signing, print_key, sign};
+use signing_commands::{Signing, SigningIn, leaves_of, make_key, print_key, sign, sign_in};
 use std::io::Write;
 
 /// Does what the words ask for. What it prints goes to `out`, why it was not done to `err`, and the exit status is
@@ -57,22 +58,65 @@ fn perform_task<O: Write, E: Write>(
     let notes = &mut Notes::new(err, task.verbose);
     match &task.subcommand {
         Subcommand::Canon { file } => print_canon(rt, file, at, out, notes),
+        Subcommand::Draft(drafting) => draft(rt, drafting, at, out, notes),
         Subcommand::Export { db, to } => export(rt, db, to, at, out, notes),
         Subcommand::Get {
             db,
-            port,
+            server,
             within,
             out: to,
             path,
         } => {
-            let getting = Getting::new(db, *port, *within, to, path);
+            let getting = Getting::new(db, remote(server), *within, to, path);
             get(rt, getting, at, out, notes)
         }
         Subcommand::Init { db, root } => init(rt, db, root, at, out, notes),
-        Subcommand::Key { seed, params } => print_key(rt, seed, *params, at, out, notes),
+        Subcommand::Update { db, server, within } => {
+            update(rt, db, remote(server), *within, at, out, notes)
+        }
+        Subcommand::Serve {
+            db,
+            port,
+            count,
+            read_only,
+        } => Server::new(rt, db, *port, *count, *read_only, at).run(out, notes),
+        Subcommand::Show(showing) => {
+            let leaves = leaves_of(rt, &showing.keys, notes)?;
+            show(rt, showing, &leaves, at, out, notes)
+        }
+        other => perform_writing(rt, other, at, out, notes),
+    }
+}
+
+// What makes keys and signatures, and what changes a repository.
+fn perform_writing<O: Write, E: Write>(
+    rt: &HostRuntime,
+    subcommand: &Subcommand,
+    at: Option<u64>,
+    out: &mut O,
+    notes: &mut Notes<'_, E>,
+) -> Result<(), Fault> {
+    match subcommand {
         Subcommand::Prune { place } => prune(rt, place, at, out, notes),
         Subcommand::Publish { place, documents } => publish(rt, place, documents, at, out, notes),
+        Subcommand::PublishIn { place, folder } => {
+            publish_in_folder(rt, place, folder, at, out, notes)
+        }
         Subcommand::Put { place, file } => put(rt, place, file, at, out, notes),
+        other => perform_signing(rt, other, at, out, notes),
+    }
+}
+
+fn perform_signing<O: Write, E: Write>(
+    rt: &HostRuntime,
+    subcommand: &Subcommand,
+    at: Option<u64>,
+    out: &mut O,
+    notes: &mut Notes<'_, E>,
+) -> Result<(), Fault> {
+    match subcommand {
+        Subcommand::Key { seed, params } => print_key(rt, seed, *params, at, out, notes),
+        Subcommand::NewKey { name, params } => make_key(rt, name, *params, at, out, notes),
         Subcommand::Sign {
             book,
             seed,
@@ -83,15 +127,31 @@ fn perform_task<O: Write, E: Write>(
             let signing = Signing::new(book, seed, *params, *known, file);
             sign(rt, signing, at, out, notes)
         }
-        Subcommand::Update { db, port, within } => {
-            update(rt, db, *port, *within, at, out, notes)
+        Subcommand::SignIn {
+            key,
+            folder,
+            documents,
+            yes,
+            again,
+        } => {
+            let signing = SigningIn {
+                key,
+                folder,
+                documents,
+                yes: *yes,
+                again: *again,
+            };
+            sign_in(rt, signing, at, out, notes)
         }
-        Subcommand::Serve {
-            db,
-            port,
-            count,
-            read_only,
-        } => Server::new(rt, db, *port, *count, *read_only, at).run(out, notes),
+        _ => Ok(()),
+    }
+}
+
+// Where a client fetches from.
+fn remote(server: &command_line::Server) -> Remote<'_> {
+    match server {
+        command_line::Server::Port(port) => Remote::Port(*port),
+        command_line::Server::Mirrors(urls) => Remote::Mirrors(urls),
     }
 }
 
