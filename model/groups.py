@@ -9,6 +9,7 @@ import delegation_rows
 import delegation_scenes
 import delegation_shapes
 import document_shapes
+import drafting_cases
 import following
 import histories
 import http_cases
@@ -92,6 +93,9 @@ def of_databases_and_words(chosen):
     yield "signing by hand", signing_cases.compare_by_hand
     yield "signing: order of faults", signing_cases.compare_faults
     yield "signing: several keys over one book", signing_cases.compare_histories, 2 * chosen.histories
+    yield "drafts: roots", drafting_cases.compare_roots, chosen.histories
+    yield "drafts: targets metadata", drafting_cases.compare_targets, chosen.histories
+    yield "drafts: seals", drafting_cases.compare_seals, 4 * chosen.histories
     yield "random histories", histories.compare_histories, chosen.histories
 
 

@@ -1,0 +1,132 @@
+"""The next document of the one that is held: what `draft` writes into a folder, as a function of what is held, of the draft that it goes on from, of a
+description and of a moment.
+
+A version is one more than the one that is held. What the description does not name is what the document says that the draft goes on from, but for
+`version`, `expires` and two further members that decide nothing: `term`, the seconds that it is to be valid, and `names`, what its keys are called.
+"""
+import copy
+import re
+
+import canonical_json
+from document_parts import key_object
+from signed_documents import date
+
+DAY = 86400
+FIRST_DAYS = {"root": 365, "targets": 90, "snapshot": 30, "timestamp": 7}
+TOP_ROLES = ("root", "targets", "snapshot", "timestamp")
+FIRST = {
+    "root": {"roles": {}, "keys": {}, "names": {}, "consistent_snapshot": True},
+    "targets": {"targets": {}},
+    "snapshot": {"meta": {}},
+    "timestamp": {"meta": {}},
+}
+LAST_VERSION = 4294967295
+
+
+class Refused(Exception):
+    """Why there is no draft: the word that is told."""
+
+
+def terms(kind, given, base, now):
+    """The moment at which the draft expires, and its term. `given` is days (90d), hours (12h), a moment in seconds, or None."""
+    if isinstance(given, int):
+        return given, max(given - now, 0)
+    if given:
+        seconds = int(given[:-1]) * (DAY if given.endswith("d") else 3600)
+    else:
+        seconds = base.get("term", FIRST_DAYS[kind] * DAY) if base else FIRST_DAYS[kind] * DAY
+    return now + seconds, seconds
+
+
+def begun_with(kind, held, begun):
+    base = begun or held or {"_type": kind, "spec_version": "1.0.31", **FIRST[kind]}
+    return copy.deepcopy(base)
+
+
+def headed(signed, kind, held, given, base, now):
+    expires, term = terms(kind, given, base, now)
+    version = held["version"] + 1 if held else 1
+    if version > LAST_VERSION:
+        raise Refused("nothing")
+    return {**signed, "version": version, "expires": date(expires), "term": term}
+
+
+def rule_said(keys, threshold):
+    return {"keyids": [key.id for key in keys], "threshold": threshold}
+
+
+def put_keys(table, names, keys, called):
+    for key in keys:
+        table[key.id] = key_object(key.public.hex())
+        names[key.id] = called[key.id]
+
+
+def ids_of(rules):
+    return {keyid for rule in rules for keyid in rule["keyids"]}
+
+
+def next_root(held, begun, rules, called, given, now):
+    """`rules` has for roles their keys and thresholds; a root keeps the keys, and the names of them, that a rule of it has."""
+    signed = begun_with("root", held, begun)
+    roles = signed.setdefault("roles", {})
+    table, names = signed.setdefault("keys", {}), signed.setdefault("names", {})
+    for role, keys, threshold in rules:
+        roles[role] = rule_said(keys, threshold)
+        put_keys(table, names, keys, called)
+    if any(role not in roles for role in TOP_ROLES):
+        raise Refused("usage")
+    used = ids_of(roles.values())
+    signed["keys"] = {keyid: table[keyid] for keyid in table if keyid in used}
+    signed["names"] = {keyid: names[keyid] for keyid in names if keyid in used}
+    signed["consistent_snapshot"] = True
+    return headed(signed, "root", held, given, begun or held, now)
+
+
+def next_targets(held, begun, added, removed, given, now):
+    """`added` has for paths their lengths and digests, `removed` paths that are listed."""
+    signed = begun_with("targets", held, begun)
+    listed = signed["targets"]
+    for path in removed:
+        if path not in listed:
+            raise Refused("path")
+        del listed[path]
+    for path, length, sha256 in added:
+        listing = listed.setdefault(path, {})
+        listing["length"] = length
+        listing["hashes"] = {"sha256": sha256}
+    return headed(signed, "targets", held, given, begun or held, now)
+
+
+def next_timestamp(held, begun, version, given, now):
+    signed = begun_with("timestamp", held, begun)
+    signed["meta"] = {"snapshot.json": {"version": version}}
+    return headed(signed, "timestamp", held, given, begun or held, now)
+
+
+def next_snapshot(held, begun, versions, given, now):
+    signed = begun_with("snapshot", held, begun)
+    for role, version in versions:
+        signed["meta"][f"{role}.json"] = {"version": version}
+    return headed(signed, "snapshot", held, given, begun or held, now)
+
+
+def seconds_of(text):
+    """The moment of a date that a document says."""
+    import datetime
+
+    found = re.fullmatch(r"(\d{4})-(\d\d)-(\d\d)T(\d\d):(\d\d):(\d\d)Z", text)
+    return int((datetime.datetime(*map(int, found.groups())) - datetime.datetime(1970, 1, 1)).total_seconds())
+
+
+def sealed(held_snapshot, held_timestamp, versions, given, now):
+    """The snapshot, or None where the held one is not due and lists these versions, and the timestamp."""
+    snapshot = held_snapshot
+    lists = held_snapshot and all(held_snapshot["meta"].get(f"{role}.json", {}).get("version") == version for role, version in versions)
+    drafted = None
+    if not lists or seconds_of(held_snapshot["expires"]) <= now + DAY:
+        snapshot = drafted = next_snapshot(held_snapshot, None, versions, given, now)
+    return drafted, next_timestamp(held_timestamp, None, snapshot["version"], given, now)
+
+
+def file_of(signed):
+    return canonical_json.write({"signatures": [], "signed": signed})

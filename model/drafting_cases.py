@@ -1,0 +1,151 @@
+"""The command `draft` over folders: roots, targets metadata and seals, one draft behind the other, beside the model."""
+import json
+import os
+import shutil
+
+import canonical_json
+import drafting
+from signed_documents import BEGIN, date, digest
+from test_keys import LMS_KEYS as KEYS
+
+PATHS = ("a", "b.txt", "dir/c", "dir/deep/d", "e-1_2", "f.tar.gz")
+TERMS = (None, None, "90d", "12h", "1d", "0d", BEGIN + 123456789)
+
+
+def name_of(key):
+    return f"key{KEYS.index(key)}"
+
+
+CALLED = {key.id: name_of(key) for key in KEYS}
+
+
+class Folder:
+    """A folder of drafts that is empty but for what is held."""
+
+    def __init__(self, session):
+        self.session = session
+        self.path = session.folder / "drafts"
+        shutil.rmtree(self.path, ignore_errors=True)
+        os.makedirs(self.path / "held")
+        self.held = {}
+        self.begun = {}
+        for key in KEYS:
+            (session.folder / f"{name_of(key)}.key").write_bytes(canonical_json.write(drafting.key_object(key.public.hex())) + b"\n")
+
+    def hold(self, kind, signed):
+        self.held[kind] = signed
+        (self.path / "held" / f"{kind}.json").write_bytes(drafting.file_of(signed))
+
+    def draft(self, label, kinds, wanted, words, now):
+        """Runs `draft`, and compares its end and the documents that it leaves. `wanted` has the documents, or the word of what refuses."""
+        ended = self.session.run("draft", "--at", str(now), "--in", str(self.path), *words)
+        if isinstance(wanted, str):
+            found = ended[0], ended[2].decode().splitlines()[-1:]
+            end = (2, found[1]) if wanted == "usage" else (1, [f"refused {wanted}"])
+            return self.session.check(f"{label}: refused", end, found, " ".join(words))
+        found = {kind: self.read(kind) for kind in kinds}
+        files = {kind: drafting.file_of(wanted[kind]) if wanted.get(kind) else None for kind in kinds}
+        self.begun.update({kind: wanted[kind] for kind in kinds if wanted.get(kind)})
+        return self.session.check(f"{label}: drafts", (0, files), (ended[0], found), " ".join(words))
+
+    def read(self, kind):
+        place = self.path / f"{kind}.json"
+        return place.read_bytes() if place.exists() else None
+
+    def publish(self, kind):
+        """What was drafted is held."""
+        self.hold(kind, self.begun.pop(kind))
+        os.remove(self.path / f"{kind}.json")
+
+
+def term_words(given):
+    if given is None:
+        return []
+    return ["--expires", date(given) if isinstance(given, int) else given]
+
+
+def random_rules(random, roles):
+    for role in roles:
+        keys = random.sample(KEYS[:6], random.randint(1, 3))
+        yield role, keys, random.randint(1, len(keys))
+
+
+def rule_words(folder, rules):
+    for role, keys, threshold in rules:
+        listed = ",".join(f"{folder}/{name_of(key)}.key" for key in keys)
+        yield f"{role}={threshold}@{listed}"
+
+
+def answered(make):
+    try:
+        return make()
+    except drafting.Refused as refused:
+        return str(refused)
+
+
+def compare_roots(session, random, count):
+    """Roots one behind the other: rules by role, renewals, and drafts that are gone on from."""
+    for _ in range(count):
+        folder = Folder(session)
+        for step in range(random.randint(1, 6)):
+            now = BEGIN + step * 1000
+            held, begun = folder.held.get("root"), folder.begun.get("root")
+            roles = drafting.TOP_ROLES if not (held or begun) and random.random() < 0.8 else random.sample(drafting.TOP_ROLES, random.randint(0, 4))
+            rules, given = list(random_rules(random, roles)), random.choice(TERMS)
+            wanted = answered(lambda: {"root": drafting.next_root(held, begun, rules, CALLED, given, now)})
+            folder.draft("root", ["root"], wanted, ["root", *rule_words(session.folder, rules), *term_words(given)], now)
+            if folder.begun.get("root") and random.random() < 0.5:
+                folder.publish("root")
+
+
+def compare_targets(session, random, count):
+    """Targets metadata one behind the other: files that are added, changed and taken away, of `targets` and of another role."""
+    for _ in range(count):
+        folder = Folder(session)
+        role = random.choice(("targets", "targets", "dev"))
+        for step in range(random.randint(1, 6)):
+            now = BEGIN + step * 1000
+            held, begun = folder.held.get(role), folder.begun.get(role)
+            if step == 0 and random.random() < 0.3:
+                further = {"_type": "targets", "spec_version": "1.0.0", "version": random.choice((1, 7, 4294967294, 4294967295)), "expires": date(now + 9)}
+                folder.hold(role, {**further, "targets": {"a": {"length": 0, "hashes": {"sha256": digest(b"")}, "custom": {"x": [1, None]}}}, "z": "kept"})
+                held = folder.held[role]
+            listed = list((begun or held or {"targets": {}})["targets"])
+            removed = random.sample(listed, random.randint(0, len(listed))) if random.random() < 0.5 else []
+            if random.random() < 0.1:
+                removed = removed + ["none"]
+            added = [file_said(session, random, path) for path in random.sample(PATHS, random.randint(0, 3))]
+            given = random.choice(TERMS)
+            wanted = answered(lambda: {role: drafting.next_targets(held, begun, [it[:3] for it in added], removed, given, now)})
+            words = ["targets", *([] if role == "targets" else ["--role", role]), *term_words(given)]
+            words += [word for path, _, _, place in added for word in ("--add", f"{path}={place}")]
+            words += [word for path in removed for word in ("--remove", path)]
+            folder.draft("targets", [role], wanted, words, now)
+            if folder.begun.get(role) and random.random() < 0.5:
+                folder.publish(role)
+
+
+def file_said(session, random, path):
+    text = random.choice((b"", b"x", b"some text\n", bytes(range(256)) * random.randint(1, 4)))
+    place = session.folder / f"file {len(text)}"
+    place.write_bytes(text)
+    return path, len(text), digest(text), place
+
+
+def compare_seals(session, random, count):
+    """Seals over what is held: the timestamp, and the snapshot where it is due or is none."""
+    for _ in range(count):
+        folder = Folder(session)
+        now = BEGIN
+        if random.random() < 0.8:
+            expires = date(now + random.choice((0, 1, 86399, 86400, 86401, 10**6)))
+            meta = {"targets.json": {"version": random.randint(1, 9)}, "dev.json": {"version": 2}}
+            folder.hold("snapshot", {"_type": "snapshot", "spec_version": "1.0.31", "version": random.randint(1, 99), "expires": expires, "meta": meta, "more": {}})
+        if random.random() < 0.8:
+            meta = {"snapshot.json": {"version": 1, "length": 5}}
+            folder.hold("timestamp", {"_type": "timestamp", "spec_version": "1.0.31", "version": random.randint(1, 99), "expires": date(now), "meta": meta, "term": random.choice((5, 86400))})
+        given = random.choice(TERMS)
+        if "snapshot" not in folder.held:
+            continue
+        drafted, timestamp = drafting.sealed(folder.held["snapshot"], folder.held.get("timestamp"), [], given, now)
+        folder.draft("seal", ["snapshot", "timestamp"], {"snapshot": drafted, "timestamp": timestamp}, ["seal", *term_words(given)], now)
