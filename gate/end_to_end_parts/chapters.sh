@@ -62,7 +62,7 @@ open(f"{folder}/alone.json", "w").write(json.dumps(text, sort_keys=True, separat
 END
     "$release" sign --book "$first/book.db" --known --seed "$first/root.seed" --ots 8 --height 5 "$first/alone.json" >"$first/alone"
     wants 0 '{"accepted":1,"same":0}\n' \
-        "warning: $first/repository.db: no timestamp any more: every target is denied until timestamp, snapshot and targets metadata are published\n" \
+        "warning: $first/repository.db: the root has other keys for the timestamp or the snapshot, and no timestamp stands behind it: every target will be denied\nwarning: $first/repository.db: no timestamp any more: every target is denied until timestamp, snapshot and targets metadata are published\n" \
         publish --db "$first/repository.db" "root:$first/alone"
     wants 0 '{"accepted":0,"same":1}\n' '' publish --db "$first/repository.db" "root:$first/alone"
 }
@@ -80,6 +80,17 @@ the_team_chapter() {
     grep '^denied' "$folder/team/err" >"$folder/team/denied"
     printf 'denied 9 OldThreshold at 0\ndenied 9 OldThreshold at 0\n' >"$folder/team/denied.wanted"
     same "what is denied in the chapter 'team'" "$folder/team/denied.wanted" "$folder/team/denied"
+}
+
+# An index that is begun and run by drafts.
+the_drafts_chapter() {
+    mkdir "$folder/drafts"
+    chapter drafts "$folder/drafts" TUTORIAL.md
+    grep -e '^begun$' -e '^{' -e '^ready$' "$folder/drafts/out" >"$folder/drafts/said"
+    {
+        printf 'begun\nready\n{"accepted":3,"same":0}\n{"accepted":1,"same":0}\n{"accepted":4,"same":0}\n{"accepted":3,"same":0}\n'
+    } >"$folder/drafts/wanted"
+    same "what the chapter 'drafts' prints" "$folder/drafts/wanted" "$folder/drafts/said"
 }
 
 the_backup_chapter() {

@@ -29,6 +29,39 @@ databases_are_for_their_owner() {
     has_mode 640 "$folder/modes.db-wal"
 }
 
+# spoilt FILE PLACE: the lowest bit of this byte is another one.
+spoilt() {
+    local byte
+    byte=$(od -An -tu1 -j "$2" -N 1 "$1")
+    printf "\\$(printf %03o $((byte ^ 1)))" | dd of="$1" bs=1 seek="$2" conv=notrunc 2>"$folder/told"
+}
+
+# A server that is killed leaves its changes in the log of its database. Where the first of them does not check, none of them is taken, and
+# --verbose says so. What is pruned shows whether the file that the server took is there.
+logs_that_do_not_check() {
+    local place db=$folder/killed.db told="$folder/killed.db: the first change of its log does not check: the log is disregarded\n"
+    wants 0 'begun\n' '' init --at=$at --db "$db" "$example/root.json"
+    served=$db
+    serve
+    served=$folder/db
+    wants 0 "$(sha256sum "$example/hello.txt" | cut -c1-64)\n" '' put --port "$port" "$example/hello.txt"
+    { kill -9 "$server" && wait "$server" || server=; } 2>"$folder/told"
+    cp "$db" "$folder/killed"
+    cp "$db-wal" "$folder/killed-wal"
+    wants 0 '{"blobs":1,"rows":0}\n' '' prune -v --at=$at --db "$db"
+    for place in 0 3 8 24 32 40 48 56 100 cut; do
+        cp "$folder/killed" "$db"
+        cp "$folder/killed-wal" "$db-wal"
+        if [ "$place" = cut ]; then truncate -s 100 "$db-wal"; else spoilt "$db-wal" "$place"; fi
+        wants 0 '{"blobs":0,"rows":0}\n' "$told" prune -v --at=$at --db "$db"
+        wants 0 '{"blobs":0,"rows":0}\n' '' prune -v --at=$at --db "$db"
+    done
+    cp "$folder/killed" "$db"
+    cp "$folder/killed-wal" "$db-wal"
+    spoilt "$db-wal" 100
+    wants 0 '{"blobs":0,"rows":0}\n' '' prune --at=$at --db "$db"
+}
+
 # makes WORD STATEMENT..: the held rows with what these statements make of them, each alone, are `fault WORD`, and stay as they are.
 makes() {
     local db=$folder/changed.db word=$1 statement

@@ -52,11 +52,11 @@ each_file_is_exported_once() {
     wants 3 '' 'fault file\n' export --at=$at --db "$served" --to "$served"
 }
 
-# own FILE SIGNED: a document with this signed part, signed by the one key of a repository of its own.
+# own FILE SIGNED [SEED]: a document with this signed part, signed by the one key of a repository of its own, or by the key of this seed.
 own() {
     printf '{"signatures":[],"signed":%s}' "$2" >"$folder/loose"
     "$release" canon "$folder/loose" >"$folder/unsigned"
-    "$release" sign --book "$folder/own.book" --seed "$folder/own.seed" --ots 4 --height 5 "$folder/unsigned" >"$1" 2>"$folder/told"
+    "$release" sign --book "$folder/own.book" --seed "${3:-$folder/own.seed}" --ots 4 --height 5 "$folder/unsigned" >"$1" 2>"$folder/told"
 }
 
 # listed FILE: what targets metadata say of a file.

@@ -96,9 +96,23 @@ more_is_told() {
     wants 1 '' "$folder/large: denied\ndenied 38 BlobLength\n" put -v --at=$at --db "$db" "$folder/large"
     wants 1 '' "Targets:a: denied\ndenied 3 WrongShape at 1\n" publish -v --at=$at --db "$db" targets:a Targets:a
     wants 3 '' "$none: $gone\nfault file\n" publish -v --at=$at --db "$db" "targets:$none"
-    wants 1 '' "the documents together: denied\ndenied 51 Incoherent at 1\n" publish -v --at=$at --db "$folder/begun.db" \
+    wants 1 '' "the documents together: the timestamp names snapshot 1\nthe documents together: denied\ndenied 51 Incoherent at 1\n" publish -v --at=$at --db "$folder/begun.db" \
         "timestamp:$example/timestamp.json"
+    places_are_named
     wants 3 '' "$folder/none/db: $gone\nfault database\n" put -v --db "$folder/none/db" "$example/hello.txt"
     wants 3 '' "$folder/damaged.db: database\nfault database\n" put -v --db "$folder/damaged.db" "$example/hello.txt"
     ends 3 '' 'standard output: No space left on device (os error 28)\nfault file\n' with_no_output canon -v "$folder/loose.json"
+}
+
+# Of a document that is denied the member, the keys that have signed, or what is missing.
+places_are_named() {
+    local begun=$folder/begun.db
+    sed 's/"expires":"[^"]*"/"expires":"soon"/' "$example/timestamp.json" >"$folder/soon.json"
+    wants 1 '' "timestamp:$folder/soon.json: at signed.expires\ntimestamp:$folder/soon.json: denied\ndenied 3 WrongShape at 0\n" \
+        publish -v --at=$at --db "$begun" "timestamp:$folder/soon.json"
+    sed 's/"version":1/"version":9/' "$example/timestamp.json" >"$folder/nine.json"
+    wants 1 '' "timestamp:$folder/nine.json: 0 of 1 keys have signed\ntimestamp:$folder/nine.json: denied\ndenied 12 TimestampThreshold at 0\n" \
+        publish -v --at=$at --db "$begun" "timestamp:$folder/nine.json"
+    wants 1 '' "the documents together: missing: targets 1\nthe documents together: denied\ndenied 51 Incoherent at 2\n" \
+        publish -v --at=$at --db "$begun" "timestamp:$example/timestamp.json" "snapshot:$example/snapshot.json"
 }

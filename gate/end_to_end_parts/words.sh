@@ -47,7 +47,7 @@ each_canonical_form() {
 the_help_is_printed() {
     local name text
     helps canon --help
-    for name in canon export get init key prune publish put serve sign update; do
+    for name in canon draft export get init key prune publish put serve show sign update; do
         for text in "Example:" "release $name" "Exit status:" "--verbose" "help denials" "HTTP" OPERATING.md; do
             helps "$text" "$name" --help
             helps "$text" help "$name"
@@ -183,6 +183,38 @@ words_of_a_port() {
     usage publish --port 80 $(documents 161 targets:none)
 }
 
+# Two forms of a command do not mix, and a kind of draft has its own options.
+words_of_drafts() {
+    local db=$folder/db
+    says 'seed <S>' key
+    says "'seed' cannot be used with '--new" key --new "$folder/key" --seed "$db"
+    says required sign --key "$db" root.json
+    says "'book' cannot be used with '--key" sign --key "$db" --in "$folder/files" --book "$db"
+    says "'known' cannot be used with '--key" sign --key "$db" --in "$folder/files" --known
+    says "'in' cannot be used with '--book" sign --book "$db" --seed "$db" --ots 8 --height 5 --in "$folder/files" a
+    says "'yes' cannot be used with '--book" sign --book "$db" --seed "$db" --ots 8 --height 5 --yes a
+    says "'file' may stand" sign --book "$db" --seed "$db" --ots 8 --height 5 a b
+    says "'document' cannot be used with '--in" publish --db "$db" --in "$folder/files" root:a
+    says required draft seal
+    says required draft --in "$folder/files"
+    says 'root, targets, layout, link, seal or take' draft --in "$folder/files" roots
+    says "'target' cannot be used with 'root'" draft --in "$folder/files" root --target a
+    says "'step' cannot be used with 'targets'" draft --in "$folder/files" targets --step a
+    says "'owners' cannot be used with 'take'" draft --in "$folder/files" take --owners a b
+    says "'products' cannot be used with 'layout'" draft --in "$folder/files" layout --target a --owners b --products c d
+    says "'target' cannot be used with 'link'" draft --in "$folder/files" link --step a --target b
+    says required draft --in "$folder/files" layout --target a --owners b
+    says required draft --in "$folder/files" link
+    says "'path' may stand 1 to 1 times" show --db "$db" a b
+    says "'add' cannot be used with 'root'" draft --in "$folder/files" root --add a
+    says "'word' cannot be used with 'targets'" draft --in "$folder/files" targets a
+    says required draft --in "$folder/files" take
+    says 'db <FILE>' show
+    usage show --db "$db" --due x
+    says 'port <P>' update --db "$db"
+    says "'--port <P>' cannot be used with '--mirror <URL>'" update --db "$db" --port 80 --mirror http://a
+}
+
 # Faults of usage make no database and no folder.
 other_words() {
     words_of_canon
@@ -193,6 +225,7 @@ other_words() {
     words_of_put_and_serve
     words_of_a_client_and_export
     words_of_a_port
+    words_of_drafts
     [ ! -e "$folder/db" ] || fail "a usage fault made a database"
     [ ! -e "$folder/files" ] || fail "a usage fault made a folder"
 }

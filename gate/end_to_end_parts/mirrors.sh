@@ -1,0 +1,172 @@
+# Mirrors by their URLs: each file comes from the first of them that has it.
+
+far=$folder/far.db
+# The processes of mirrors, which are ended behind this part.
+end_hosts() {
+    local one
+    for one in "${hosts[@]}"; do kill "$one" 2>/dev/null || true; done
+    hosts=()
+}
+
+# mirror_of WRONG [NAME [FILE]]: a mirror, in a folder, that does so with the file of this name. 'url' is its URL, and 'asked' a file whose
+# first line is its port and that gets the names that it is asked for.
+mirror_of() {
+    asked=$folder/asked.${#hosts[@]}
+    python3 model/hostile_mirror.py "$folder/mirrors" "$@" >"$asked" &
+    hosts+=($!)
+    for _ in $(seq 100); do
+        if [ -s "$asked" ]; then break; fi
+        sleep 0.1
+    done
+    url=http://127.0.0.1:$(head -n 1 "$asked")/files
+}
+
+# was_asked FILE NAME..: of a mirror these names were asked, in this order.
+was_asked() {
+    local file=$1
+    shift
+    printf 'files/%s\n' "$@" >"$folder/asked.wanted"
+    tail -n +2 "$file" >"$folder/asked.found"
+    same "what a mirror was asked for" "$folder/asked.wanted" "$folder/asked.found"
+}
+
+# A client that has the first root alone, and the words of its commands.
+fresh() {
+    rm -f "$far"*
+    wants 0 'begun\n' '' init --at=$at --db "$far" "$example/root.json"
+}
+
+updates() {
+    local status=$1 out=$2 err=$3
+    shift 3
+    wants "$status" "$out" "$err" update --at=$at --db "$far" "$@"
+}
+
+gets() {
+    local status=$1 out=$2 err=$3
+    shift 3
+    rm -f "$folder/out.txt"
+    wants "$status" "$out" "$err" get --at=$at --db "$far" --out "$folder/out.txt" "$@" hello.txt
+    if [ "$status" = 0 ]; then same "from mirrors" "$example/hello.txt" "$folder/out.txt"; fi
+}
+
+bytes_of() { wc -c <"$example/$1"; }
+
+mirrors_are_asked_in_order() {
+    local whole honest hello
+    hello=targets/$(sha256sum <"$example/hello.txt" | cut -c 1-64).hello.txt
+    "$release" export --at=$at --db "$folder/db" --to "$folder/mirrors/files" >"$folder/out"
+    mirror_of honest
+    whole=$url honest=$asked
+    the_first_that_has_it
+    mirrors_that_are_none
+    answers_together
+    hosts_and_redirections
+    end_hosts
+    words_that_are_no_mirror
+}
+
+# The first mirror lacks the target, or has another that is too long: that file alone comes from the second.
+the_first_that_has_it() {
+    local lacking long first
+    mirror_of withhold "$hello"
+    lacking=$url first=$asked
+    fresh
+    updates 0 'updated\n' '' --mirror "$lacking" --mirror "$whole"
+    was_asked "$first" metadata/2.root.json metadata/timestamp.json metadata/1.snapshot.json
+    was_asked "$honest" metadata/2.root.json
+    gets 0 'written\n' "$lacking: metadata/1.targets.json: $(bytes_of targets.json) bytes\n$(
+        )$lacking: $hello: none\n$whole: $hello: 32 bytes\n" -v --mirror "$lacking" --mirror "$whole"
+    was_asked "$honest" metadata/2.root.json "$hello"
+    mirror_of long "$hello"
+    long=$url
+    fresh
+    updates 0 'updated\n' '' --mirror "$long"
+    gets 3 '' 'fault network\n' --mirror "$long"
+    gets 3 '' 'fault network\n' --mirror "$long" --mirror "$lacking"
+    gets 3 '' 'fault network\n' --mirror "$lacking" --mirror "$long"
+    gets 1 '' 'denied 37 BlobMissing\n' --mirror "$lacking"
+    gets 0 'written\n' "$long: $hello: longer than its limit\n$whole: $hello: 32 bytes\n" -v --mirror "$long" --mirror "$whole"
+}
+
+# A mirror that is not there, and one that gives no answer, are passed over; where there is no other, the network failed.
+mirrors_that_are_none() {
+    local dead closing
+    dead=http://127.0.0.1:$(free_port)
+    mirror_of close
+    closing=$url
+    fresh
+    updates 3 '' 'fault network\n' --mirror "$dead" --mirror "$closing"
+    updates 0 'updated\n' "$dead: Connection refused (os error 111)\n$whole: metadata/2.root.json: none\n$(
+        )$dead: Connection refused (os error 111)\n$whole: metadata/timestamp.json: $(bytes_of timestamp.json) bytes\n$(
+        )$dead: Connection refused (os error 111)\n$whole: metadata/1.snapshot.json: $(bytes_of snapshot.json) bytes\n$(
+        )$far: root 1, timestamp 1, snapshot 1; before: root 1, no timestamp, no snapshot\n$far: root 1 is trusted\n$(
+        )$far: the first expiry is at $(first_expiry)\n" -v --mirror "$dead" --mirror "$whole"
+    gets 3 '' 'fault network\n' --mirror "$dead" --mirror "$closing" --mirror http://nowhere.invalid/files
+    gets 0 'written\n' '' --mirror "$dead" --mirror "$closing" --mirror http://nowhere.invalid/files --mirror "$whole/"
+}
+
+# None of the mirrors has a timestamp: it is warned of, as of a port. One that gives no answer stands for none.
+answers_together() {
+    local first second dead
+    dead=http://127.0.0.1:$(free_port)
+    mirror_of withhold metadata/timestamp.json
+    first=$url
+    mirror_of forbid metadata/timestamp.json
+    second=$url
+    fresh
+    updates 0 'updated\n' "warning: $first, $second: no timestamp\n" --mirror "$first" --mirror "$second"
+    updates 0 'updated\n' "warning: $dead, $first: no timestamp\n" --mirror "$dead" --mirror "$first"
+    updates 0 'updated\n' '' --mirror "$first" --mirror "$second" --mirror "$whole"
+}
+
+# nginx knows one host by its name, and another that points elsewhere: no redirection is followed, and a line tells of it.
+hosts_and_redirections() {
+    local known moved away
+    known=$(free_port) moved=$(free_port)
+    away=metadata/2.root.json:\ status\ 301,\ which\ points\ to\ https://mirror.example.org/files/metadata/2.root.json
+    nginx_with "server { listen 127.0.0.1:$known default_server; return 421; }
+        server { listen 127.0.0.1:$known; server_name localhost; root $folder/mirrors; }
+        server { listen 127.0.0.1:$moved; return 301 https://mirror.example.org\$request_uri; }" "$known"
+    known=http://localhost:$known moved=http://localhost:$moved
+    fresh
+    updates 3 '' "${known/localhost/127.0.0.1}/files: metadata/2.root.json: status 421\n$far: the source failed\nfault network\n" \
+        -v --mirror "${known/localhost/127.0.0.1}/files"
+    updates 3 '' "$moved/files: $away\n$far: the source failed\nfault network\n" -v --mirror "$moved/files"
+    updates 0 'updated\n' '' --mirror "$moved/files" --mirror "$known/files"
+    gets 0 'written\n' '' --mirror "$known/files/"
+    fresh
+    updates 0 'updated\n' "warning: $known: no timestamp\n" --mirror "$known"
+}
+
+# nginx_with SERVERS PORT: nginx with these servers, once it listens on this port.
+nginx_with() {
+    local one temporary=
+    mkdir "$folder/nginx"
+    for one in client_body proxy fastcgi uwsgi scgi; do temporary+="${one}_temp_path $folder/nginx/$one; "; done
+    printf 'pid %s; error_log %s; events {} http { access_log off; %s %s }\n' \
+        "$folder/nginx/pid" "$folder/nginx/log" "$temporary" "$1" >"$folder/nginx.conf"
+    if [ "$(id -u)" = 0 ]; then sed -i '1i user root;' "$folder/nginx.conf"; fi
+    nginx -c "$folder/nginx.conf" -g 'daemon off;' 2>"$folder/nginx/err" &
+    hosts+=($!)
+    for _ in $(seq 100); do
+        if (exec 3<>"/dev/tcp/127.0.0.1/$2") 2>/dev/null; then return; fi
+        sleep 0.1
+    done
+    fail "nginx: $(cat "$folder/nginx/err" "$folder/nginx/log")"
+}
+
+# What is no URL of a mirror is a fault of the command line.
+words_that_are_no_mirror() {
+    local word
+    for word in '' localhost localhost:80 ftp://localhost http:/localhost http:// http://:80 http://localhost: http://localhost:0 \
+        http://localhost:080 http://localhost:+80 http://localhost:65536 http://a_b 'http://a b' http://user@localhost http://[::1] \
+        http://localhost// http://localhost//files http://localhost/files// http://localhost/a/../b http://localhost/files?x \
+        http://localhost/files#x http://localhost/%20 HTTP://localhost "http://$(printf 'a%.0s' $(seq 254))"; do
+        usage update --db "$far" --mirror "$word"
+        usage get --db "$far" --mirror http://localhost --mirror "$word" --out "$folder/out.txt" hello.txt
+    done
+    says 'TLS|OPERATING' update --db "$far" --mirror https://mirror.example.org
+    usage update --db "$far" --mirror http://localhost --port 80
+    usage update --db "$far"
+}
