@@ -39,6 +39,9 @@ def terms(kind, given, base, now):
 
 
 def begun_with(kind, held, begun):
+    """The signed part that a draft goes on from. Behind the last version there is none, whatever else is asked for."""
+    if held and held["version"] >= LAST_VERSION:
+        raise Refused("nothing")
     base = begun or held or {"_type": kind, "spec_version": "1.0.31", **FIRST[kind]}
     return copy.deepcopy(base)
 
@@ -46,8 +49,6 @@ def begun_with(kind, held, begun):
 def headed(signed, kind, held, given, base, now):
     expires, term = terms(kind, given, base, now)
     version = held["version"] + 1 if held else 1
-    if version > LAST_VERSION:
-        raise Refused("nothing")
     return {**signed, "version": version, "expires": date(expires), "term": term}
 
 

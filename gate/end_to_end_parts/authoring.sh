@@ -221,7 +221,7 @@ a_layout_is_drafted() {
 # What is held, as columns, as JSON, as a page, and a target with its search.
 it_is_shown() {
     "$release" show --at $now --db repository.db --key timestamp2 >"$folder/out"
-    grep -q '^root *2 *364 days  2 of 3  alice  bob  carol' "$folder/out" || fail "no row of the root: $(cat "$folder/out")"
+    grep -q '^root *2 *365 days  2 of 3  alice  bob  carol' "$folder/out" || fail "no row of the root: $(cat "$folder/out")"
     grep -q '^  tools *[0-9]* *[0-9]* days  1 of 1  tools  tools/\*' "$folder/out" || fail "no row of the delegation: $(cat "$folder/out")"
     grep -q '^timestamp *[0-9]* *[0-9]* days  1 of 1  timestamp2 2[0-9]' "$folder/out" || fail "no leaves: $(cat "$folder/out")"
     ends_with 3 'fault file' show --at $now --db repository.db --key none
