@@ -226,7 +226,7 @@ def on_a_terminal(clients):
     mirror.asked()
     wanted = "".join(f"fetching {name}, {count} bytes so far\r\n" for name, count in
                      ((ROOT, 0), (TIMESTAMP, 0), (SNAPSHOT, len(read(f"{EXAMPLE}/timestamp.json")))))
-    wanted += "root 1, timestamp 1, snapshot 1; before: root 1, no timestamp, no snapshot\r\n"
+    wanted += "root 1, timestamp 1, snapshot 1; before: root 1, no timestamp, no snapshot\r\nthe first expiry is at 4102444800\r\n"
     want((found.returncode, found.stdout, told) == (0, b"updated\n", wanted), f"on a terminal: {told!r}")
 
 
