@@ -1,8 +1,8 @@
 //! The subcommands of `release` by which documents are written: `draft` and `show`, and `publish` of a folder of drafts.
 #![tactic(auto)]
 
+mod drafted;
 mod following;
-mod judging;
 mod publishing;
 mod sealing;
 mod showing;

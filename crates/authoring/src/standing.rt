@@ -90,7 +90,8 @@ fn text_of(rt: &HostRuntime, asked: &Showing, shown: &Overview) -> Result<Vec<u8
     }
 }
 
-fn put<E: Write>(
+/// Writes a page into a file of its owner alone, in the place of the one that stood there.
+pub fn put<E: Write>(
     rt: &HostRuntime,
     file: &str,
     bytes: &[u8],

@@ -1,9 +1,11 @@
 //! What becomes of a target: the roles that a search visits, who lists it, and how it ends.
+use crate::drafted::step_row;
 use crate::following::file_of;
+use canonical_json::member;
 use command_support::{Denial, Fault};
-use drafts::{ListedFile, covered_by, read_said, reference_of};
-use metadata::{Moment, TargetPath};
-use overviews::PathRow;
+use drafts::{ListedFile, Referred, SaidRule, covered_by, read_said, read_said_of, reference_of};
+use metadata::{Kind, Moment, SignedFile, TargetPath, read_signed};
+use overviews::{PathRow, StepRow};
 use sqlite::Alter;
 use std::alloc::{AllocError, Global};
 use store::{Command, Reply, Store};
@@ -28,6 +30,7 @@ pub fn look_for<S: Alter>(
         waiting: Vec::new(alloc),
         visits: Vec::new(alloc),
         found: Vec::new(alloc),
+        steps: Vec::new(alloc),
     };
     visiting.visit_all(repository)?;
     let (end, is_granted) = end_of(alloc, repository, path, now)?;
@@ -36,6 +39,7 @@ pub fn look_for<S: Alter>(
         path,
         visits: visiting.visits,
         found: visiting.found,
+        steps: visiting.steps,
         end,
         is_granted,
     })
@@ -62,7 +66,7 @@ fn end_of<S: Alter>(
 }
 
 // The roles that are still to be visited, the next one last, each with whether a terminating delegation leads to it; those that were
-// visited, and what was found.
+// visited, what was found, and the steps of the layout.
 #[derive(Drop)]
 struct Visiting<'a> {
     alloc: Global,
@@ -71,6 +75,7 @@ struct Visiting<'a> {
     waiting: Vec<(String, bool)>,
     visits: Vec<String>,
     found: Vec<String>,
+    steps: Vec<StepRow>,
 }
 
 impl Visiting<'_> {
@@ -122,7 +127,7 @@ impl Visiting<'_> {
         let name = self.name_of(role.as_str(), version)?;
         self.visits.push(role)?;
         match file_of(repository, name.as_str(), self.now) {
-            Some(bytes) => self.look_in(&bytes),
+            Some(bytes) => self.look_in(repository, &bytes),
             None => Ok(true),
         }
     }
@@ -131,10 +136,14 @@ impl Visiting<'_> {
         format!(in self.alloc; "{version}.{role}.json")
     }
 
-    fn look_in(&mut self, bytes: &[u8]) -> Result<bool, Fault> {
+    fn look_in<S: Alter>(
+        &mut self,
+        repository: &mut Store<S>,
+        bytes: &[u8],
+    ) -> Result<bool, Fault> {
         let said = read_said(self.alloc, "targets", bytes)?;
         if let Some(file) = said.listed(self.target.as_str()) {
-            self.tell_listed(bytes, file)?;
+            self.tell_listed(repository, bytes, file)?;
             return Ok(true);
         }
         for next in covered_by(self.alloc, bytes, self.target)?
@@ -147,14 +156,81 @@ impl Visiting<'_> {
     }
 
     // Tells the listing, and what its layout needs.
-    fn tell_listed(&mut self, bytes: &[u8], file: &ListedFile) -> Result<(), Fault> {
+    fn tell_listed<S: Alter>(
+        &mut self,
+        repository: &mut Store<S>,
+        bytes: &[u8],
+        file: &ListedFile,
+    ) -> Result<(), Fault> {
         let length = file.length;
         let digits = file.digest.text(self.alloc)?;
         let line = format!(in self.alloc; "listed: {length} bytes, {digits}")?;
         self.found.push(line)?;
         match reference_of(self.alloc, bytes, self.target.as_str())? {
-            Some(layout) => self.tell_layout(&layout.links, layout.step.as_str()),
+            Some(layout) => {
+                self.tell_layout(&layout.links, layout.step.as_str())?;
+                self.look_at_steps(repository, &layout)
+            }
             None => Ok(()),
+        }
+    }
+
+    // The steps of the layout, if it is granted, with how many links each has of its keys.
+    fn look_at_steps<S: Alter>(
+        &mut self,
+        repository: &mut Store<S>,
+        layout: &Referred,
+    ) -> Result<(), Fault> {
+        let Some(bytes) = self.target_of(repository, layout.path.as_str()) else {
+            return Ok(());
+        };
+        let Ok(said) = read_said_of(self.alloc, Kind::Layout, &bytes) else {
+            return Ok(());
+        };
+        for rule in &said.rules {
+            let links = self.links_of(repository, &layout.links, rule)?;
+            self.steps.push(step_row(self.alloc, &bytes, rule, links)?)?;
+        }
+        Ok(())
+    }
+
+    fn links_of<S: Alter>(
+        &self,
+        repository: &mut Store<S>,
+        links: &[String],
+        rule: &SaidRule,
+    ) -> Result<usize, AllocError> {
+        let mut count = 0usize;
+        for link in links {
+            if let Some(bytes) = self.target_of(repository, link.as_str()) {
+                if let Ok(file) = read_signed(self.alloc, &bytes) {
+                    count = count.saturating_add(usize::from(self.is_of(&file, rule)?));
+                }
+            }
+        }
+        Ok(count)
+    }
+
+    // Whether the link is of the step, and has an entry of one of its keys.
+    fn is_of(&self, link: &SignedFile<'_>, rule: &SaidRule) -> Result<bool, AllocError> {
+        let step = rule.role.as_str();
+        let name = format!(in self.alloc; "\"{step}\"")?;
+        if member(link.signed, "name") != Some(name.as_bytes()) {
+            return Ok(false);
+        }
+        for signature in &link.signatures {
+            if rule.keyids.contains(&signature.keyid) {
+                return Ok(true);
+            }
+        }
+        Ok(false)
+    }
+
+    // The bytes of a target, if it is granted.
+    fn target_of<S: Alter>(&self, repository: &mut Store<S>, path: &str) -> Option<Vec<u8>> {
+        match repository.apply(Command::Target(path, None), self.now) {
+            Ok(Reply::Bytes(bytes)) => Some(bytes),
+            _ => None,
         }
     }
 

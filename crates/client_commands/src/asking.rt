@@ -2,15 +2,19 @@
 //! warns. A question that gets no answer costs its warning, and nothing else.
 use crate::wire::{Wire, connected, host};
 use command_support::{DOCUMENT_LIMIT, Notes};
-use commands::{FORGETS, FORGOTTEN, NOT_TAKEN, Offer, forgets};
+use commands::{
+    FORGETS, FORGOTTEN, HeldFiles, NOT_TAKEN, Offer, forgets, root_version_of, tell_listed,
+};
 use connections::Port;
 use http_fetch::fetch_over;
-use metadata::{Body, Kind, read_document};
 use std::alloc::Global;
 use std::io::Write;
 
 // An answer has so many seconds.
 const ANSWER_SECONDS: u64 = 10;
+
+// More roots than these are not asked for.
+const MOST_ROOTS: u32 = 4096;
 
 const TIMESTAMP: &str = "metadata/timestamp.json";
 
@@ -24,7 +28,7 @@ pub struct Asking<'a> {
 impl Asking<'_> {
     /// Before a batch with a root: warns where the server will forget its timestamp by it, and answers whether it has one. Of another batch
     /// nothing is asked.
-    pub fn before<E: Write>(&self, batch: &[(Offer, &[u8])], notes: &mut Notes<'_, E>) -> bool {
+    pub fn before<E: Write>(&mut self, batch: &[(Offer, &[u8])], notes: &mut Notes<'_, E>) -> bool {
         if !offers_root(batch) {
             return false;
         }
@@ -33,6 +37,7 @@ impl Asking<'_> {
         };
         if self.will_forget(batch) {
             notes.warn(&Port(self.port), &FORGETS);
+            tell_listed(self.rt.alloc(), &Port(self.port), self, notes);
         }
         true
     }
@@ -75,7 +80,7 @@ impl Asking<'_> {
 
     // The newest root that the server has, where it has not this one: between them are roots of the batch alone.
     fn root_before(&self, root: &[u8], batch: &[(Offer, &[u8])]) -> Option<Vec<u8>> {
-        let mut version = version_of(self.rt.alloc(), root)?;
+        let mut version = root_version_of(self.rt.alloc(), root)?;
         if self.ask_root(version)?.is_some() {
             return None;
         }
@@ -112,6 +117,28 @@ impl Asking<'_> {
             DOCUMENT_LIMIT,
         )
         .ok()
+    }
+}
+
+// What the server holds, as far as it answers. Its roots are asked for from the first on, until one is not there.
+impl HeldFiles for Asking<'_> {
+    fn file(&mut self, alloc: Global, name: &str) -> Option<Vec<u8>> {
+        let name = format!(in alloc; "metadata/{name}").ok()?;
+        match self.ask(name.as_str()) {
+            Some(found) => found,
+            None => None,
+        }
+    }
+
+    fn root_version(&self) -> Option<u32> {
+        let mut newest = None;
+        for version in 1..MOST_ROOTS {
+            match self.ask_root(version) {
+                Some(Some(_)) => newest = Some(version),
+                _ => return newest,
+            }
+        }
+        newest
     }
 }
 
@@ -164,19 +191,4 @@ fn last_root<'f>(batch: &[(Offer, &'f [u8])]) -> Option<&'f [u8]> {
         }
     }
     last
-}
-
-// The version of a root, if the bytes are one.
-fn version_of(alloc: Global, bytes: &[u8]) -> Option<u32> {
-    match read_document(alloc, Kind::Root, bytes) {
-        Ok(document) => version_in(&document.body),
-        Err(_) => None,
-    }
-}
-
-fn version_in(body: &Body) -> Option<u32> {
-    match body {
-        Body::Root(root) => Some(root.version),
-        _ => None,
-    }
 }

@@ -3,7 +3,6 @@
 #![tactic(auto)]
 
 mod asking;
-mod expiring;
 mod fault;
 mod getting;
 mod publishing;

@@ -2,7 +2,7 @@
 use crate::asking::Asking;
 use crate::sending::Sending;
 use command_support::{Denial, Fault, Notes, print, read_at_most};
-use commands::{InputFile, batch_of, documents_of, read_all, told};
+use commands::{InputFile, Offered, batch_of, documents_of, read_all, told};
 use http_fetch::{Method, read_accepted, read_pruned};
 use http_messages::{BATCH_LIMIT, BLOB_LIMIT, stored_body};
 use metadata::digest_of;
@@ -10,7 +10,7 @@ use std::io::Write;
 
 /// Offers the documents to the server, together, and prints how many were accepted and how many were held already, as `publish` over a
 /// database does. Documents that are together longer than a server takes are a fault of a file, before it is asked. What `publish` over a
-/// database warns of is warned of as far as the server answers what it holds.
+/// database warns of is warned of, and why a document was denied is told, as far as the server answers what it holds.
 pub fn publish_at<O: Write, E: Write>(
     rt: &HostRuntime,
     port: u16,
@@ -22,7 +22,7 @@ pub fn publish_at<O: Write, E: Write>(
     let files = read_all(rt, &documents, notes)?;
     let body = batch_body(rt, arguments, &files, notes)?;
     let batch = batch_of(rt.alloc(), documents, &files)?;
-    let asking = Asking { rt, port };
+    let mut asking = Asking { rt, port };
     let had_timestamp = asking.before(&batch, notes);
     let sending = Sending {
         rt,
@@ -31,7 +31,15 @@ pub fn publish_at<O: Write, E: Write>(
         name: "batch",
         body: &body,
     };
-    let reply = told(sending.send(notes), arguments, notes)?;
+    let sent = sending.send(notes);
+    if let Err(Fault::Refused(number, _, Some(index))) = &sent {
+        let offered = Offered {
+            arguments,
+            batch: &batch,
+        };
+        offered.tell(rt.alloc(), &mut asking, *number, *index, notes);
+    }
+    let reply = told(sent, arguments, notes)?;
     let Some((_, same)) = read_accepted(&reply) else {
         return Err(sending.unknown(Fault::Network, notes));
     };

@@ -1,10 +1,9 @@
 //! `update`: brings a client's own state up to date.
-use crate::expiring::FirstExpiry;
 use crate::fault::fault_of_client;
 use crate::remote::{Call, Remote};
 use crate::server::Server;
 use command_support::{Fault, Notes, moment, print};
-use commands::{Versions, Work, tell_standing, worked};
+use commands::{FirstExpiry, Versions, Work, tell_standing, worked};
 use metadata::Moment;
 use sqlite::Alter;
 use std::fmt;
@@ -94,7 +93,7 @@ impl Updating<'_> {
             tell_standing(alloc, self.db, state, self.now, notes);
         } else if self.rt.stderr().is_terminal() {
             notes.progress(&change);
-            if let Ok(Some(first)) = FirstExpiry::of(alloc, state, self.now) {
+            if let Some(first) = FirstExpiry::of(alloc, state, self.now) {
                 notes.progress(&first);
             }
         }

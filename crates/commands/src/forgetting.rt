@@ -23,6 +23,21 @@ pub fn forgets(alloc: Global, held: &[u8], root: &[u8]) -> Result<bool, Fault> {
     }
 }
 
+/// The version of a root, if the bytes are one.
+pub fn root_version_of(alloc: Global, bytes: &[u8]) -> Option<u32> {
+    match read_document(alloc, Kind::Root, bytes) {
+        Ok(document) => version_in(&document.body),
+        Err(_) => None,
+    }
+}
+
+fn version_in(body: &Body) -> Option<u32> {
+    match body {
+        Body::Root(root) => Some(root.version),
+        _ => None,
+    }
+}
+
 fn forgets_by(alloc: Global, held: &[u8], root: &Document<'_>) -> Result<bool, Fault> {
     match read_document(alloc, Kind::Root, held) {
         Ok(held) => Ok(has_other_rules(&held.body, &root.body)),

@@ -21,15 +21,8 @@ pub fn tell_standing<S: Alter, E: Write>(
         return;
     };
     notes.tell(&db, &Trusted(version));
-    let mut looked = Looked {
-        alloc,
-        repository,
-        now,
-        nearest: None,
-    };
-    looked.at_all(version);
-    if let Some(nearest) = looked.nearest {
-        notes.tell(&db, &nearest);
+    if let Some(first) = FirstExpiry::of(alloc, repository, now) {
+        notes.tell(&db, &first);
     }
 }
 
@@ -109,11 +102,31 @@ impl fmt::Display for Trusted {
     }
 }
 
-// The moment at which the first document expires.
+/// The moment at which the first of the documents in use expires: root, timestamp, snapshot, and the targets metadata that the snapshot
+/// lists, as far as they are held.
 #[derive(Clone, Copy)]
-struct Nearest(Moment);
+pub struct FirstExpiry(Moment);
 
-impl fmt::Display for Nearest {
+impl FirstExpiry {
+    /// That of a repository or of a client's own state, if a root is trusted.
+    pub fn of<S: Alter>(
+        alloc: Global,
+        repository: &mut Store<S>,
+        now: Moment,
+    ) -> Option<FirstExpiry> {
+        let version = repository.root_version()?;
+        let mut looked = Looked {
+            alloc,
+            repository,
+            now,
+            first: None,
+        };
+        looked.at_all(version);
+        looked.first
+    }
+}
+
+impl fmt::Display for FirstExpiry {
     fn fmt<W: fmt::Write>(&self, f: &mut fmt::Formatter<W>) -> fmt::Result {
         let seconds = self.0.seconds();
         write!(f, "the first expiry is at {seconds}")
@@ -126,7 +139,7 @@ struct Looked<'a, S: Alter> {
     alloc: Global,
     repository: &'a mut Store<S>,
     now: Moment,
-    nearest: Option<Nearest>,
+    first: Option<FirstExpiry>,
 }
 
 impl<S: Alter> Looked<'_, S> {
@@ -196,8 +209,8 @@ impl<S: Alter> Looked<'_, S> {
 
     fn note(&mut self, expires: Option<Moment>) {
         if let Some(expires) = expires {
-            if self.nearest.is_none_or(|nearest| expires < nearest.0) {
-                self.nearest = Some(Nearest(expires));
+            if self.first.is_none_or(|first| expires < first.0) {
+                self.first = Some(FirstExpiry(expires));
             }
         }
     }

@@ -12,10 +12,11 @@ use std::io::Write;
 // So many digits of a key's id stand in the name of its link.
 const DIGITS: usize = 8;
 
-/// What refers a target to its layout: the rule of the layout's owners, the links, and the step among whose products the target stands, with
-/// its path there.
+/// What refers a target to its layout: the layout's path, the rule of its owners, the links, and the step among whose products the target
+/// stands, with its path there.
 #[derive(Drop)]
 pub struct Referred {
+    pub path: String,
     pub owners: Vouching,
     pub links: Vec<String>,
     pub product: String,
@@ -54,10 +55,12 @@ fn referred_by(
     layout: &LayoutReference,
 ) -> Result<Referred, AllocError> {
     let owners = copied(alloc, &layout.owners, &layout.keys, said)?;
+    let path = String::from_str(alloc, layout.path.as_str())?;
     let links = texts_of(alloc, &layout.links)?;
     let product = String::from_str(alloc, layout.product.as_str())?;
     let step = String::from_str(alloc, layout.step.as_str())?;
     Ok(Referred {
+        path,
         owners,
         links,
         product,

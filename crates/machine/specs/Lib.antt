@@ -5,6 +5,7 @@ pub mod Contents
 pub mod Effects
 pub mod Held
 pub mod Misses
+pub mod Ready
 pub mod Room
 pub mod Knowing
 pub mod Resending

@@ -1,9 +1,12 @@
 //! Batches: documents that are judged in order, each against what the earlier ones made, and taken together or not at all.
 ghost use Rattle.std.specs.Prelude.{◌≡◌, ◌↔◌, cond, ℕ, Result, IsTrue, IfOk, IfErr, length};
 ghost use Rattle.denials.specs.Orders as orders;
+ghost use Rattle.denials.specs.Views.{denial_view};
+ghost use Rattle.denials.specs.declared.denial.Denial.{Denial as Denials};
 ghost use Rattle.machine.specs.Answers.{AnswersBatch};
 ghost use Rattle.machine.specs.Held.{OfEachState};
 ghost use Rattle.machine.specs.Knowing.{BatchCarriesKnown, BatchCarriesVerdicts};
+ghost use Rattle.machine.specs.Ready.{AreDenied, AreTaken};
 ghost use Rattle.machine.specs.steps.Carrying.{BatchLeavesTrusted};
 ghost use Rattle.machine.specs.steps.Judging.{IsDeniedAt, IsRefusedAt};
 ghost use Rattle.machine.specs.Commands as commands;
@@ -54,6 +57,24 @@ impl Held {
     {
         let batched = judge_batch(alloc, self, documents, now)?;
         batch_with_verdicts(alloc, self, batched)
+    }
+
+    /// Whether the documents would be taken together at the moment, or the first rule that fails, with the index of its document: so of
+    /// every state in which just this is held. Nothing changes.
+    pub fn would_take(
+        &self,
+        alloc: Global,
+        documents: &[(Offer, &[u8])],
+        now: Moment,
+    ) -> Result<(), BatchRefusal>
+        ensures ready { IfOk result (λ _. OfEachState self.now.held (λ S. AreTaken S.trusted (documents_view documents.now) now)) }
+        ensures denied { IfErr result (λ r. (d : Denials) (i : ℕ) → r ≡ BatchRefusal.Denied d i
+            → OfEachState self.now.held (λ S. AreDenied S.trusted (documents_view documents.now) now (denial_view d) i)) }
+    {
+        match self.batch(alloc, documents, now) {
+            Ok(_batched) => Ok(()),
+            Err(refusal) => Err(refusal),
+        }
     }
 }
 

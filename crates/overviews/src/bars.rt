@@ -1,14 +1,9 @@
 //! Bars and colour, as a terminal gets them.
+use crate::chain::draw_steps;
 use crate::columns::{say_part, say_path};
 use crate::rows::{KeyRow, Overview, Row};
-use crate::writing::{Text, in_order};
+use crate::writing::{GREEN, PLAIN, RED, Text, in_order};
 use std::alloc::{AllocError, Global};
-
-const RED: &str = "\x1b[31m";
-
-const GREEN: &str = "\x1b[32m";
-
-const PLAIN: &str = "\x1b[0m";
 
 /// So many parts has a bar.
 pub(crate) const PARTS: u64 = 8;
@@ -30,6 +25,9 @@ pub fn as_bars(alloc: Global, shown: &Overview) -> Result<Vec<u8>, AllocError> {
         text.say(if path.is_granted { GREEN } else { RED })?;
         say_path(&mut text, path)?;
         text.say(PLAIN)?;
+        if !path.steps.is_empty() {
+            draw_steps(&mut text, &path.steps, path.path.as_str())?;
+        }
     }
     Ok(text.bytes)
 }

@@ -1,4 +1,5 @@
 //! Plain columns, as a pipe gets them.
+use crate::chain::say_steps;
 use crate::rows::{KeyRow, Overview, PathRow, Row};
 use crate::writing::Text;
 use std::alloc::{AllocError, Global};
@@ -59,20 +60,13 @@ pub(crate) fn say_key(text: &mut Text, key: &KeyRow) -> Result<(), AllocError> {
 
 /// What becomes of a target.
 pub(crate) fn say_path(text: &mut Text, path: &PathRow) -> Result<(), AllocError> {
-    text.say("target ")?;
-    text.say(path.path.as_str())?;
-    text.say("\n")?;
+    text.line("target ", path.path.as_str())?;
     for visit in &path.visits {
-        text.say("  visit ")?;
-        text.say(visit.as_str())?;
-        text.say("\n")?;
+        text.line("  visit ", visit.as_str())?;
     }
     for found in &path.found {
-        text.say("  ")?;
-        text.say(found.as_str())?;
-        text.say("\n")?;
+        text.line("  ", found.as_str())?;
     }
-    text.say("  ")?;
-    text.say(path.end.as_str())?;
-    text.say("\n")
+    say_steps(text, &path.steps)?;
+    text.line("  ", path.end.as_str())
 }

@@ -1,4 +1,5 @@
 //! The same facts as JSON.
+use crate::chain::json_steps;
 use crate::rows::{KeyRow, Overview, PathRow, Row};
 use crate::writing::Text;
 use std::alloc::{AllocError, Global};
@@ -66,21 +67,14 @@ fn say_path(text: &mut Text, path: &PathRow) -> Result<(), AllocError> {
     text.say(",\"target\":{\"end\":")?;
     text.quoted(path.end.as_str())?;
     text.say(",\"found\":")?;
-    say_list(text, &path.found)?;
+    text.list(&path.found)?;
     text.say(",\"path\":")?;
     text.quoted(path.path.as_str())?;
-    text.say(",\"visits\":")?;
-    say_list(text, &path.visits)?;
-    text.say("}")
-}
-
-fn say_list(text: &mut Text, items: &[String]) -> Result<(), AllocError> {
-    text.say("[")?;
-    let mut between = "";
-    for item in items {
-        text.say(between)?;
-        text.quoted(item.as_str())?;
-        between = ",";
+    if !path.steps.is_empty() {
+        text.say(",\"steps\":")?;
+        json_steps(text, &path.steps)?;
     }
-    text.say("]")
+    text.say(",\"visits\":")?;
+    text.list(&path.visits)?;
+    text.say("}")
 }

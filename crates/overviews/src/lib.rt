@@ -1,17 +1,27 @@
-//! What a repository holds, as columns, bars, JSON, or a page that stands alone.
+//! What a repository holds, and what a folder of drafts has, as lines, bars, JSON, or a page that stands alone.
 //!
-//! It knows no repository: what is shown is handed in as rows.
+//! It knows no repository and no folder: what is shown is handed in as rows.
 #![tactic(auto)]
 
 mod bars;
+mod chain;
 mod columns;
+mod folder;
+mod folder_json;
+mod folder_lines;
+mod folder_page;
 mod json;
 mod page;
 mod rows;
 mod writing;
 
 pub use bars::as_bars;
+pub use chain::StepRow;
 pub use columns::as_columns;
+pub use folder::{DraftRow, Drafts, LayoutRow, RuleRow};
+pub use folder_json::drafts_as_json;
+pub use folder_lines::drafts_as_lines;
+pub use folder_page::drafts_as_page;
 pub use json::as_json;
 pub use page::as_page;
 pub use rows::{KeyRow, Overview, PathRow, Row};

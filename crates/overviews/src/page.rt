@@ -1,10 +1,11 @@
 //! A page that stands alone: no script, nothing that is fetched.
 use crate::bars::{expiries, parts_of_days, parts_of_leaves};
+use crate::chain::page_steps;
 use crate::rows::{KeyRow, Overview, PathRow, Row};
 use crate::writing::{Text, in_order};
 use std::alloc::{AllocError, Global};
 
-const HEAD: &str = concat!(
+pub(crate) const HEAD: &str = concat!(
     "<!DOCTYPE html>\n<html lang=\"en\"><head><meta charset=\"utf-8\"><title>Repository</title>\n<style>\n",
     "body{font-family:sans-serif;margin:2em;color:#222;background:#fff}\n",
     "table{border-collapse:collapse;margin-bottom:2em}\n",
@@ -12,6 +13,7 @@ const HEAD: &str = concat!(
     ".bar{display:inline-block;width:96px;height:10px;background:#eee;margin-right:.4em}\n",
     ".bar i{display:block;height:10px;background:#2a7d2a}\n",
     ".due i{background:#c0281f}\n.due{outline:1px solid #c0281f}\n",
+    ".chain .step{display:inline-block;border:1px solid #2a7d2a;padding:.3em .6em;margin:.2em}\n",
     ".denied{color:#c0281f;font-weight:bold}\n.granted{color:#2a7d2a;font-weight:bold}\n",
     "</style></head><body>\n<h1>Repository</h1>\n",
 );
@@ -114,6 +116,9 @@ fn say_path(text: &mut Text, path: &PathRow) -> Result<(), AllocError> {
         say_item(text, found)?;
     }
     text.say("</ul>\n")?;
+    if !path.steps.is_empty() {
+        page_steps(text, &path.steps, path.path.as_str())?;
+    }
     text.say(if path.is_granted {
         "<p class=\"granted\">"
     } else {

@@ -1,4 +1,5 @@
-//! What is shown.
+//! What is shown of a repository.
+use crate::chain::StepRow;
 
 /// A key of a rule: what it is called, and how many of its leaves are left, of how many, where its book was looked at.
 #[derive(Drop)]
@@ -22,12 +23,14 @@ pub struct Row {
     pub facts: String,
 }
 
-/// What becomes of a target: the roles that a search visits, in order, what is found on the way, and how it ends.
+/// What becomes of a target: the roles that a search visits, in order, what is found on the way, the steps of its layout, if it has one, and
+/// how it ends.
 #[derive(Drop)]
 pub struct PathRow {
     pub path: String,
     pub visits: Vec<String>,
     pub found: Vec<String>,
+    pub steps: Vec<StepRow>,
     pub end: String,
     pub is_granted: bool,
 }

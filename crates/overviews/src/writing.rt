@@ -1,6 +1,14 @@
 //! Text that grows.
 use std::alloc::{AllocError, Global};
 
+pub(crate) const RED: &str = "\x1b[31m";
+
+pub(crate) const GREEN: &str = "\x1b[32m";
+
+pub(crate) const YELLOW: &str = "\x1b[33m";
+
+pub(crate) const PLAIN: &str = "\x1b[0m";
+
 /// Text so far.
 #[derive(Drop)]
 pub(crate) struct Text {
@@ -19,6 +27,13 @@ impl Text {
     pub(crate) fn say(&mut self, text: &str) -> Result<(), AllocError> {
         self.bytes.extend_from_slice(text.as_bytes())?;
         Ok(())
+    }
+
+    /// Says two parts of a line, and ends it.
+    pub(crate) fn line(&mut self, first: &str, second: &str) -> Result<(), AllocError> {
+        self.say(first)?;
+        self.say(second)?;
+        self.say("\n")
     }
 
     /// Says the text so many times.
@@ -61,6 +76,18 @@ impl Text {
             }
         }
         self.say("\"")
+    }
+
+    /// Says the texts as a list of JSON.
+    pub(crate) fn list(&mut self, items: &[String]) -> Result<(), AllocError> {
+        self.say("[")?;
+        let mut between = "";
+        for item in items {
+            self.say(between)?;
+            self.quoted(item.as_str())?;
+            between = ",";
+        }
+        self.say("]")
     }
 }
 

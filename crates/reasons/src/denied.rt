@@ -5,11 +5,10 @@ use crate::incoherent::incoherent;
 use crate::members::Found;
 use crate::place::place_of;
 use crate::thresholds::{by_delegation, by_root, worded};
-use denials::Denial;
 use metadata::Kind;
 use std::alloc::{AllocError, Global};
 
-// What a denial is about.
+// What a denial is about, by its number.
 #[derive(Clone, Copy)]
 enum Question {
     Length,
@@ -23,8 +22,8 @@ enum Question {
     Other,
 }
 
-fn question_of(denial: &Denial) -> Question {
-    match denial.number() {
+fn question_of(number: u8) -> Question {
+    match number {
         1 => Question::Length,
         2..=5 => Question::Shape,
         9 => Question::OldRoot,
@@ -42,15 +41,15 @@ fn question_of(denial: &Denial) -> Question {
 /// `the timestamp names snapshot 4`. `None` where nothing is certain.
 ///
 /// `documents` are those of the batch, each a role's name, `root`, `timestamp` or `snapshot`, with its bytes; `held` is what the
-/// repository held before it. The denial and the index are those that the batch was refused with.
+/// repository held before it. The number of the denial and the index are those that the batch was refused with.
 pub fn reason<H: HeldFiles>(
     alloc: Global,
     held: &mut H,
     documents: &[(&str, &[u8])],
-    denial: &Denial,
+    number: u8,
     index: usize,
 ) -> Result<Option<String>, AllocError> {
-    let question = question_of(denial);
+    let question = question_of(number);
     if let Question::Whole = question {
         return incoherent(alloc, held, documents);
     }

@@ -1,4 +1,4 @@
-//! Why a document of a batch was denied, in words.
+//! Why a document of a batch was denied, in words, and what a repository lists.
 //!
 //! It decides nothing: it is asked behind a denial, and answers `None` where nothing is certain. Everything it is given is read anew.
 #![tactic(auto)]
@@ -18,10 +18,11 @@ mod metas;
 mod place;
 mod rules;
 mod standing;
+mod targets;
 mod thresholds;
 
-pub use denials::Denial;
 pub use denied::reason;
 pub use held::HeldFiles;
 pub use metadata::Kind;
 pub use place::place_of;
+pub use targets::listed_targets;

@@ -101,8 +101,8 @@ pub(crate) fn last_of<'a>(
     last
 }
 
-// What spells the part of a document that these names lead to.
-fn part<'a>(bytes: &'a [u8], names: &[&str]) -> Option<&'a [u8]> {
+/// What spells the part of a document that these names lead to.
+pub(crate) fn part<'a>(bytes: &'a [u8], names: &[&str]) -> Option<&'a [u8]> {
     let mut at = bytes;
     for name in names {
         at = member(at, name)?;

@@ -1,6 +1,6 @@
 //! `init`: begins the trust with a first root.
 use command_support::{DOCUMENT_LIMIT, Fault, Notes, moment, print, read_at_most};
-use commands::{applied, refused};
+use commands::{applied, refused, tell_first_root};
 use std::io::Write;
 use store::{Command, Reply};
 
@@ -19,6 +19,9 @@ pub fn init<O: Write, E: Write>(
         Reply::Begun => print(out, b"begun\n", notes),
         other => {
             notes.tell(&root, &"denied");
+            if let Reply::Denied(denial, _) = &other {
+                tell_first_root(rt.alloc(), root, &bytes, denial.number(), notes);
+            }
             Err(refused(other))
         }
     }

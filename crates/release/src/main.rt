@@ -7,7 +7,6 @@ mod publish;
 mod put;
 mod run;
 mod serve;
-mod why;
 
 use command_support::Fault;
 use run::{report, run};

@@ -1,13 +1,12 @@
 //! `publish`: offers documents in order, which are taken together or not at all.
 use crate::put::put;
-use crate::why::Offered;
 use authoring::{complete_batch_in, empty, waiting_files};
 use client_commands::publish_at;
 use command_line::Place;
 use command_support::{Fault, Notes, moment, print};
 use commands::{
-    FORGETS, FORGOTTEN, NOT_TAKEN, Offer, Work, batch_of, documents_of, fault_of_store, forgets,
-    read_all, refused, told, worked,
+    FORGETS, FORGOTTEN, Holding, NOT_TAKEN, Offer, Offered, Work, batch_of, documents_of,
+    fault_of_store, forgets, read_all, refused, tell_listed, told, worked,
 };
 use drafts::Folder;
 use http_messages::accepted_body;
@@ -112,6 +111,7 @@ impl Work for Offering<'_> {
         let had_timestamp = timestamp_of(repository, self.now).is_some();
         if had_timestamp && self.will_forget(repository) {
             notes.warn(&self.db, &FORGETS);
+            tell_listed(self.alloc, &self.db, &mut self.held(repository), notes);
         }
         match repository.apply(Command::Batch(self.batch), self.now) {
             Ok(reply) => {
@@ -121,8 +121,14 @@ impl Work for Offering<'_> {
                     }
                 }
                 if let Reply::Denied(denial, Some(index)) = &reply {
-                    self.offered()
-                        .tell(self.alloc, repository, denial, *index, notes);
+                    let number = denial.number();
+                    self.offered().tell(
+                        self.alloc,
+                        &mut self.held(repository),
+                        number,
+                        *index,
+                        notes,
+                    );
                 }
                 if had_timestamp && timestamp_of(repository, self.now).is_none() {
                     notes.warn(&self.db, &FORGOTTEN);
@@ -142,6 +148,12 @@ impl Offering<'_> {
         Offered {
             arguments: self.arguments,
             batch: self.batch,
+        }
+    }
+
+    fn held<'r, S: Alter>(&self, repository: &'r mut Store<S>) -> Holding<'r, S> {
+        Holding {
+            repository,
             now: self.now,
         }
     }

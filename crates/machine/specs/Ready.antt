@@ -1,4 +1,4 @@
--- When drafts are ready: what `publish` of them is answered.
+-- When a batch would be taken, and when it would not.
 use Rattle.std.specs.Prelude.{ℕ, List, Err, Ok}
 use Rattle.denials.specs.Orders.{Denial}
 use Rattle.metadata.specs.File.{Bytes}

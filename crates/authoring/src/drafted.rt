@@ -1,0 +1,265 @@
+//! What a folder of drafts has.
+use canonical_json::member;
+use command_support::{Fault, Notes};
+use drafts::{
+    Folder, Said, SaidRule, Vouching, changes_of, has_signed, held_said, layout_in, links_in,
+    name_of_key, owners_of, read_said, read_said_of, rules_for, sign_order, target_of_layout,
+};
+use keys_roles::KeyId;
+use metadata::{Kind, Moment, SignedFile, read_signed};
+use overviews::{DraftRow, Drafts, LayoutRow, RuleRow, StepRow};
+use path_patterns::Digest;
+use std::alloc::{AllocError, Global};
+use std::io::Write;
+
+/// What a folder has: each draft with its version and the held one, when it expires, what it changes, who has signed and who has not; the
+/// layouts and links; and what is to be done next.
+pub fn drafts_in<E: Write>(
+    alloc: Global,
+    folder: Folder<'_>,
+    now: Moment,
+    notes: &mut Notes<'_, E>,
+) -> Result<Drafts, Fault> {
+    let mut looking = Looking {
+        alloc,
+        folder,
+        are_met: true,
+        is_sealed: false,
+        shown: Drafts {
+            now: now.seconds(),
+            drafts: Vec::new(alloc),
+            layouts: Vec::new(alloc),
+            links: Vec::new(alloc),
+            next: Vec::new(alloc),
+            answer: None,
+        },
+    };
+    match looking.look(notes) {
+        Ok(()) => Ok(looking.shown),
+        Err(fault) => Err(fault),
+    }
+}
+
+// What is known of the folder so far.
+#[derive(Drop)]
+struct Looking<'a> {
+    alloc: Global,
+    folder: Folder<'a>,
+    are_met: bool,
+    is_sealed: bool,
+    shown: Drafts,
+}
+
+impl Looking<'_> {
+    fn look<E: Write>(&mut self, notes: &mut Notes<'_, E>) -> Result<(), Fault> {
+        self.look_at_drafts(notes)?;
+        self.look_at_layouts(notes)?;
+        self.shown.links = self.folder.chain_files("links", notes)?;
+        Ok(self.tell_next()?)
+    }
+
+    fn look_at_drafts<E: Write>(&mut self, notes: &mut Notes<'_, E>) -> Result<(), Fault> {
+        let roles = self.folder.roles(notes)?;
+        for order in 0..5u8 {
+            for role in &roles {
+                if sign_order(role.as_str()) == order {
+                    self.look_at_draft(role.as_str(), notes)?;
+                }
+            }
+        }
+        Ok(())
+    }
+
+    fn look_at_draft<E: Write>(
+        &mut self,
+        role: &str,
+        notes: &mut Notes<'_, E>,
+    ) -> Result<(), Fault> {
+        self.is_sealed |= role == "timestamp";
+        let bytes = self.folder.draft_or_none(role, notes)?;
+        let said = read_said(self.alloc, role, &bytes)?;
+        let held = held_said(self.alloc, self.folder, role, notes)?;
+        let rules = rules_for(self.alloc, self.folder, role, notes)?;
+        let rules = self.signers_in(&rules, &bytes)?;
+        self.put_draft(role, held.as_ref(), &said, rules)
+    }
+
+    fn put_draft(
+        &mut self,
+        role: &str,
+        held: Option<&Said>,
+        said: &Said,
+        rules: Vec<RuleRow>,
+    ) -> Result<(), Fault> {
+        let changes = changes_of(self.alloc, role, held, said)?;
+        let role = String::from_str(self.alloc, role)?;
+        self.shown.drafts.push(DraftRow {
+            role,
+            version: said.version,
+            held: held.map_or(0, |held| held.version),
+            expires: said.expires.map_or(0, |expires| expires.seconds()),
+            changes,
+            rules,
+        })?;
+        Ok(())
+    }
+
+    // Each layout on its way: its steps, with how many links each has, and who has signed.
+    fn look_at_layouts<E: Write>(&mut self, notes: &mut Notes<'_, E>) -> Result<(), Fault> {
+        for name in &self.folder.chain_files("layouts", notes)? {
+            if let Some(target) = target_of_layout(self.alloc, name.as_str())? {
+                self.look_at_layout(target.as_str(), notes)?;
+            }
+        }
+        Ok(())
+    }
+
+    fn look_at_layout<E: Write>(
+        &mut self,
+        target: &str,
+        notes: &mut Notes<'_, E>,
+    ) -> Result<(), Fault> {
+        let owners = owners_of(self.alloc, self.folder, target, notes)?;
+        let Some(bytes) = layout_in(self.alloc, self.folder, target, notes)? else {
+            return Ok(());
+        };
+        let said = read_said_of(self.alloc, Kind::Layout, &bytes)?;
+        let rules = self.signers_in(&owners, &bytes)?;
+        let mut steps = Vec::new(self.alloc);
+        for rule in &said.rules {
+            let step = rule.role.as_str();
+            let links = links_in(self.alloc, self.folder, target, &said, step, notes)?;
+            let row = step_row(self.alloc, &bytes, rule, links)?;
+            self.are_met &= !row.is_short();
+            steps.push(row)?;
+        }
+        self.put_layout(target, steps, rules)
+    }
+
+    fn put_layout(
+        &mut self,
+        target: &str,
+        steps: Vec<StepRow>,
+        rules: Vec<RuleRow>,
+    ) -> Result<(), Fault> {
+        let target = String::from_str(self.alloc, target)?;
+        self.shown.layouts.push(LayoutRow {
+            target,
+            steps,
+            rules,
+        })?;
+        Ok(())
+    }
+
+    // Who has signed the file and who has not, by each of the rules; of a rule that is not met each key is wanted that has not.
+    fn signers_in(&mut self, rules: &[Vouching], bytes: &[u8]) -> Result<Vec<RuleRow>, Fault> {
+        match read_signed(self.alloc, bytes) {
+            Ok(file) => Ok(self.signers_of(rules, &file)?),
+            Err(fault) => Err(Fault::from(fault)),
+        }
+    }
+
+    fn signers_of(
+        &mut self,
+        rules: &[Vouching],
+        file: &SignedFile<'_>,
+    ) -> Result<Vec<RuleRow>, AllocError> {
+        let mut rows = Vec::new(self.alloc);
+        self.are_met &= !rules.is_empty();
+        for vouching in rules {
+            let row = rule_row(self.alloc, vouching, file)?;
+            self.want_all(&row)?;
+            rows.push(row)?;
+        }
+        Ok(rows)
+    }
+
+    fn want_all(&mut self, row: &RuleRow) -> Result<(), AllocError> {
+        if row.is_met() {
+            return Ok(());
+        }
+        self.are_met = false;
+        for name in &row.unsigned {
+            self.want(name.as_str())?;
+        }
+        Ok(())
+    }
+
+    // A key that is wanted, once.
+    fn want(&mut self, name: &str) -> Result<(), AllocError> {
+        let folder = self.folder.path();
+        let line = format!(in self.alloc; "next: release sign --key {name} --in {folder}")?;
+        if !self.shown.next.contains(&line) {
+            self.shown.next.push(line)?;
+        }
+        Ok(())
+    }
+
+    // What is to be done where no signature is wanted.
+    fn tell_next(&mut self) -> Result<(), AllocError> {
+        let folder = self.folder.path();
+        if !self.are_met {
+            return Ok(());
+        }
+        let line = if self.shown.drafts.is_empty() {
+            String::from_str(self.alloc, "no draft")?
+        } else if self.is_sealed {
+            format!(in self.alloc; "next: release publish --in {folder}")?
+        } else {
+            format!(in self.alloc; "next: release draft --in {folder} seal")?
+        };
+        self.shown.next.push(line)?;
+        Ok(())
+    }
+}
+
+// Who of a rule's keys has signed the file, and who has not.
+fn rule_row(
+    alloc: Global,
+    vouching: &Vouching,
+    file: &SignedFile<'_>,
+) -> Result<RuleRow, AllocError> {
+    let mut row = RuleRow {
+        threshold: vouching.rule.threshold,
+        signed: Vec::new(alloc),
+        unsigned: Vec::new(alloc),
+    };
+    for id in &vouching.rule.keyids {
+        let name = key_name(alloc, &vouching.said, id)?;
+        if has_signed(alloc, vouching, id, file)? {
+            row.signed.push(name)?;
+        } else {
+            row.unsigned.push(name)?;
+        }
+    }
+    Ok(row)
+}
+
+/// A step by its rule in the file of a layout, with so many links.
+pub fn step_row(
+    alloc: Global,
+    file: &[u8],
+    rule: &SaidRule,
+    links: usize,
+) -> Result<StepRow, AllocError> {
+    let said = member(file, "signed").unwrap_or(b"");
+    let mut keys = Vec::new(alloc);
+    for id in &rule.keyids {
+        keys.push(key_name(alloc, said, id)?)?;
+    }
+    let name = String::from_str(alloc, rule.role.as_str())?;
+    Ok(StepRow {
+        name,
+        threshold: rule.threshold,
+        keys,
+        links,
+    })
+}
+
+// What a document calls a key, or else its id.
+fn key_name(alloc: Global, said: &[u8], id: &KeyId) -> Result<String, AllocError> {
+    match name_of_key(said, id) {
+        Some(name) => String::from_str(alloc, name),
+        None => Digest::new(id.0).text(alloc),
+    }
+}

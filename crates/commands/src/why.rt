@@ -1,0 +1,125 @@
+//! Why documents were denied, in words, and how many targets are listed.
+use command_support::Notes;
+use machine::Offer;
+use metadata::Moment;
+use reasons::{HeldFiles, listed_targets, reason};
+use sqlite::Alter;
+use std::alloc::{AllocError, Global};
+use std::fmt::Display;
+use std::io::Write;
+use store::{Command, Reply, Store};
+
+/// What a repository holds at a moment.
+#[derive(Drop)]
+pub struct Holding<'a, S: Alter> {
+    pub repository: &'a mut Store<S>,
+    pub now: Moment,
+}
+
+impl<S: Alter> HeldFiles for Holding<'_, S> {
+    fn file(&mut self, _alloc: Global, name: &str) -> Option<Vec<u8>> {
+        match self.repository.apply(Command::Metadata(name), self.now) {
+            Ok(Reply::Bytes(bytes)) => Some(bytes),
+            _ => None,
+        }
+    }
+
+    fn root_version(&self) -> Option<u32> {
+        self.repository.root_version()
+    }
+}
+
+/// A batch that was denied: its arguments, each a role's name, a colon and a file, and its documents.
+#[derive(Clone, Copy)]
+pub struct Offered<'a> {
+    pub arguments: &'a [String],
+    pub batch: &'a [(Offer, &'a [u8])],
+}
+
+impl Offered<'_> {
+    /// Tells why the document at the index was denied, or the batch, by the number of the denial: its member, the keys that have signed,
+    /// or what is missing. Where facts are not told, nothing is asked for.
+    pub fn tell<H: HeldFiles, E: Write>(
+        &self,
+        alloc: Global,
+        held: &mut H,
+        number: u8,
+        index: usize,
+        notes: &mut Notes<'_, E>,
+    ) {
+        if !notes.are_told() {
+            return;
+        }
+        if let Ok(Some(found)) = self.reason(alloc, held, number, index) {
+            match self.arguments.get(index) {
+                Some(argument) => notes.tell(&argument.as_str(), &found),
+                None => notes.tell(&"the documents together", &found),
+            }
+        }
+    }
+
+    fn reason<H: HeldFiles>(
+        &self,
+        alloc: Global,
+        held: &mut H,
+        number: u8,
+        index: usize,
+    ) -> Result<Option<String>, AllocError> {
+        let mut documents = Vec::new(alloc);
+        for (argument, (_, bytes)) in self.arguments.iter().zip(self.batch.iter()) {
+            let role = match argument.as_str().split_once(':') {
+                Some((role, _)) => role,
+                None => "",
+            };
+            documents.push((role, *bytes))?;
+        }
+        reason(alloc, held, &documents, number, index)
+    }
+}
+
+// Nothing is held.
+#[derive(Clone, Copy)]
+struct Nothing;
+
+impl HeldFiles for Nothing {
+    fn file(&mut self, _alloc: Global, _name: &str) -> Option<Vec<u8>> {
+        None
+    }
+
+    fn root_version(&self) -> Option<u32> {
+        None
+    }
+}
+
+/// Tells why a first root was denied, by the number of the denial.
+pub fn tell_first_root<E: Write>(
+    alloc: Global,
+    file: &str,
+    bytes: &[u8],
+    number: u8,
+    notes: &mut Notes<'_, E>,
+) {
+    if !notes.are_told() {
+        return;
+    }
+    if let Ok(Some(found)) = reason(alloc, &mut Nothing, &[("root", bytes)], number, 0) {
+        notes.tell(&file, &found);
+    }
+}
+
+/// Tells how many targets are listed, of a repository that is to forget them.
+pub fn tell_listed<N: Display, H: HeldFiles, E: Write>(
+    alloc: Global,
+    name: &N,
+    held: &mut H,
+    notes: &mut Notes<'_, E>,
+) {
+    if !notes.are_told() {
+        return;
+    }
+    if let Ok(Some(count)) = listed_targets(alloc, held) {
+        if let Ok(told) = format!(in alloc; "targets that will be denied: {count}") {
+            notes.tell(name, &told);
+        }
+    }
+}

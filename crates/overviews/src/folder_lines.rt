@@ -1,0 +1,110 @@
+//! A folder of drafts as lines.
+use crate::chain::{draw_steps, say_steps};
+use crate::folder::{DraftRow, Drafts, LayoutRow, RuleRow};
+use crate::writing::{GREEN, PLAIN, RED, Text, YELLOW};
+use std::alloc::{AllocError, Global};
+
+/// The drafts with what they change and how many have signed, the layouts with their steps, the links, what is to be done next, and `ready` where
+/// `publish` would be taken. On a
+/// terminal what is new is green, what is gone red and what is another yellow, who has signed stands behind a mark and who has not behind a gap, and a layout is drawn as its chain.
+pub fn drafts_as_lines(
+    alloc: Global,
+    shown: &Drafts,
+    on_terminal: bool,
+) -> Result<Vec<u8>, AllocError> {
+    let mut text = Text::new(alloc);
+    for draft in &shown.drafts {
+        say_draft(&mut text, shown, draft, on_terminal)?;
+    }
+    for layout in &shown.layouts {
+        say_layout(&mut text, layout, on_terminal)?;
+    }
+    for link in &shown.links {
+        text.line("link ", link.as_str())?;
+    }
+    for next in &shown.next {
+        text.line("", next.as_str())?;
+    }
+    if shown.is_ready() {
+        text.line("", "ready")?;
+    }
+    Ok(text.bytes)
+}
+
+fn say_draft(
+    text: &mut Text,
+    shown: &Drafts,
+    draft: &DraftRow,
+    on_terminal: bool,
+) -> Result<(), AllocError> {
+    let role = draft.role.as_str();
+    let (version, held, days) = (draft.version, draft.held, shown.days(draft));
+    let line = format!(in text.alloc; "{role} {version} (held: {held}), expires in {days} days\n")?;
+    text.say(line.as_str())?;
+    for change in &draft.changes {
+        say_change(text, change.as_str(), on_terminal)?;
+    }
+    say_rules(text, &draft.rules, on_terminal)
+}
+
+fn say_change(text: &mut Text, change: &str, on_terminal: bool) -> Result<(), AllocError> {
+    if !on_terminal {
+        return text.line("  ", change);
+    }
+    text.say(colour_of(change))?;
+    text.say("  ")?;
+    text.say(change)?;
+    text.say(PLAIN)?;
+    text.say("\n")
+}
+
+fn colour_of(change: &str) -> &'static str {
+    if change.starts_with('+') {
+        GREEN
+    } else if change.starts_with('-') {
+        RED
+    } else {
+        YELLOW
+    }
+}
+
+fn say_layout(text: &mut Text, layout: &LayoutRow, on_terminal: bool) -> Result<(), AllocError> {
+    text.line("layout of ", layout.target.as_str())?;
+    if on_terminal {
+        draw_steps(text, &layout.steps, layout.target.as_str())?;
+    } else {
+        say_steps(text, &layout.steps)?;
+    }
+    say_rules(text, &layout.rules, on_terminal)
+}
+
+fn say_rules(text: &mut Text, rules: &[RuleRow], on_terminal: bool) -> Result<(), AllocError> {
+    if rules.is_empty() {
+        text.line("  ", "no rule names its keys: nothing delegates to it")?;
+    }
+    for rule in rules {
+        say_rule(text, rule, on_terminal)?;
+    }
+    Ok(())
+}
+
+fn say_rule(text: &mut Text, rule: &RuleRow, on_terminal: bool) -> Result<(), AllocError> {
+    let (count, threshold) = (rule.signed.len(), rule.threshold);
+    let line = format!(in text.alloc; "  {count} of {threshold} have signed")?;
+    text.say(line.as_str())?;
+    if on_terminal {
+        text.say(if rule.is_met() { GREEN } else { RED })?;
+        say_names(text, "  [x] ", &rule.signed)?;
+        say_names(text, "  [ ] ", &rule.unsigned)?;
+        text.say(PLAIN)?;
+    }
+    text.say("\n")
+}
+
+fn say_names(text: &mut Text, mark: &str, names: &[String]) -> Result<(), AllocError> {
+    for name in names {
+        text.say(mark)?;
+        text.say(name.as_str())?;
+    }
+    Ok(())
+}
