@@ -191,6 +191,7 @@ a_layout_is_drafted() {
     is_told '  step build: 0 of 1 links'
     is_told '  0 of 1 have signed'
     is_told "next: release sign --key $(head -c -1 owner.key | sha256sum | cut -c1-64) --in d"
+    a_folder_is_shown
     slips order draft --at $now --db repository.db --in d seal
     slips stranger sign --at $now --key builder --in d --yes tool.tgz.layout.json
     signs owner
@@ -213,6 +214,7 @@ a_layout_is_drafted() {
     signs timestamp2
     "$release" show --at $now --in d --db repository.db >"$folder/out"
     is_told ready
+    a_ready_folder_is_shown
     wants 0 '{"accepted":3,"same":0}\n' '' publish --at $now --db repository.db --in d
     [ -z "$(ls d/layouts)" ] || fail "layouts stay in the folder of drafts"
     serves_target tool.tgz
@@ -234,6 +236,7 @@ it_is_shown() {
     "$release" show --at $now --db repository.db tool.tgz >"$folder/out"
     is_told '  its layout: product of step pack'
     is_told '  granted, 8 bytes'
+    a_chain_is_shown
     "$release" show --at $now --db repository.db --html page.html tools/none >"$folder/out"
     is_told '  denied 35 NotFound'
     checks=$((checks + 3))

@@ -104,7 +104,7 @@ more_is_told() {
     ends 3 '' 'standard output: No space left on device (os error 28)\nfault file\n' with_no_output canon -v "$folder/loose.json"
 }
 
-# Of a document that is denied the member, the keys that have signed, or what is missing.
+# Of a document or a first root that is denied the member, the keys that have signed, or what is missing.
 places_are_named() {
     local begun=$folder/begun.db
     sed 's/"expires":"[^"]*"/"expires":"soon"/' "$example/timestamp.json" >"$folder/soon.json"
@@ -113,6 +113,11 @@ places_are_named() {
     sed 's/"version":1/"version":9/' "$example/timestamp.json" >"$folder/nine.json"
     wants 1 '' "timestamp:$folder/nine.json: 0 of 1 keys have signed\ntimestamp:$folder/nine.json: denied\ndenied 12 TimestampThreshold at 0\n" \
         publish -v --at=$at --db "$begun" "timestamp:$folder/nine.json"
+    sed 's/"expires":"[^"]*"/"expires":"soon"/' "$example/root.json" >"$folder/soon.root"
+    wants 1 '' "$folder/soon.root: denied\n$folder/soon.root: at signed.expires\ndenied 3 WrongShape\n" init -v --at=$at --db "$folder/none.db" "$folder/soon.root"
+    sed 's/"version":1/"version":9/' "$example/root.json" >"$folder/nine.root"
+    wants 1 '' "$folder/nine.root: denied\n$folder/nine.root: 0 of 1 keys have signed\ndenied 10 NewThreshold\n" init -v --at=$at --db "$folder/none.db" "$folder/nine.root"
+    rm -f "$folder/none.db"*
     wants 1 '' "the documents together: missing: targets 1\nthe documents together: denied\ndenied 51 Incoherent at 2\n" \
         publish -v --at=$at --db "$begun" "timestamp:$example/timestamp.json" "snapshot:$example/snapshot.json"
 }

@@ -21,22 +21,22 @@ publishing_beside_a_server() {
     served_one
     wants 0 'begun\n' '' init --at=$at --db "$served" "$example/root.json"
     wants 0 'begun\n' '' init --at=$at --db "$folder/apart.db" "$example/root.json"
-    # Fourteen requests, and four questions: one behind a batch of the same, and beside batches with a root before each and behind the taken one.
-    serve --count 18
+    # Sixteen requests, and eleven questions: one behind a batch of the same, beside batches with a root before each and behind the taken one,
+    # and for why a batch was denied: 51 the first two roots, the first again and the snapshot, 12 the same roots.
+    serve --count 27
     both 0 "$digest\n" '' put "$example/hello.txt"
     both 0 "$digest\n" '' put "$example/hello.txt"
     both 1 '' 'denied 16 NoTimestamp at 0\n' publish "snapshot:$example/snapshot.json"
     both 1 '' 'denied 51 Incoherent at 2\n' publish "timestamp:$example/timestamp.json" "snapshot:$example/snapshot.json"
-    wants 1 '' 'the documents together: denied\ndenied 51 Incoherent at 1\n' publish --port "$port" -v "timestamp:$example/timestamp.json"
-    wants 1 '' 'the documents together: the timestamp names snapshot 1\nthe documents together: denied\ndenied 51 Incoherent at 1\n' \
-        publish --at=$at --db "$folder/apart.db" -v "timestamp:$example/timestamp.json"
+    both 1 '' 'the documents together: the timestamp names snapshot 1\nthe documents together: denied\ndenied 51 Incoherent at 1\n' publish -v "timestamp:$example/timestamp.json"
+    both 1 '' "timestamp:$folder/soon.json: at signed.expires\ntimestamp:$folder/soon.json: denied\ndenied 3 WrongShape at 0\n" publish -v "timestamp:$folder/soon.json"
+    both 1 '' "timestamp:$folder/nine.json: 0 of 1 keys have signed\ntimestamp:$folder/nine.json: denied\ndenied 12 TimestampThreshold at 0\n" publish -v "timestamp:$folder/nine.json"
     both 1 '' 'denied 4 WrongType at 1\n' publish "timestamp:$example/timestamp.json" "some_role:$example/snapshot.json"
     both 0 '{"accepted":3,"same":0}\n' '' publish "${all[@]}"
     both 0 '{"accepted":0,"same":3}\n' '' publish "${all[@]}"
     both 0 '{"accepted":0,"same":4}\n' '' publish "root:$example/root.json" "${all[@]}"
-    wants 1 '' "targets:$folder/long: denied\ndenied 1 TooLong at 1\n" publish --port "$port" -v "timestamp:$example/timestamp.json" "targets:$folder/long"
-    wants 1 '' "targets:$folder/long: length 262145\ntargets:$folder/long: denied\ndenied 1 TooLong at 1\n" \
-        publish --at=$at --db "$folder/apart.db" -v "timestamp:$example/timestamp.json" "targets:$folder/long"
+    both 1 '' "targets:$folder/long: length 262145\ntargets:$folder/long: denied\ndenied 1 TooLong at 1\n" \
+        publish -v "timestamp:$example/timestamp.json" "targets:$folder/long"
     both 1 '' 'denied 20 SnapshotVersion at 2\n' publish "root:$example/refused/root.json" \
         "timestamp:$example/refused/timestamp.json" "snapshot:$example/refused/snapshot.json"
     both 0 "$(sha256sum "$example/chain/tool.txt" | cut -c1-64)\n" '' put "$example/chain/tool.txt"
@@ -117,7 +117,7 @@ roots_that_forget() {
     local forgotten='warning: NAME: no timestamp any more: every target is denied until timestamp, snapshot and targets metadata are published\n'
     local root=root:$folder/own targets=targets:$folder/own.targets timestamp=timestamp:$folder/new.timestamp
     each_of 0 '{"accepted":1,"same":0}\n' '' "$root.2.root"
-    each_of 0 '{"accepted":1,"same":1}\n' "$forgets$forgotten" "$root.2.root" "$root.3.root"
+    each_of 0 '{"accepted":1,"same":1}\n' "${forgets}NAME: targets that will be denied: 4\n$forgotten" -v "$root.2.root" "$root.3.root"
     each_of 0 '{"accepted":0,"same":1}\n' '' "$root.3.root"
     each_of 1 '' 'denied 8 RootVersion at 0\n' "$root.2.root" "$root.3.root"
     each_of 0 '{"accepted":3,"same":0}\n' '' "$timestamp" "snapshot:$folder/own.snapshot" "$targets"
