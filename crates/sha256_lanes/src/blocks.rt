@@ -50,7 +50,7 @@ fn counted(mut block: [u8; 64], len: usize) -> [u8; 64]
     block
 }
 
-// A block from the first on that is not the message's alone: the padding is one or two.
+// A block that is not the message's alone: there are one or two of them.
 fn last_block(message: &[u8], i: usize) -> [u8; 64]
     requires { length message.now / 64 ≤ i }
     ensures { i < blocks_of message.now → result ≡ block_at message.now i }
