@@ -1,5 +1,5 @@
 -- What is read of a table.
-use Rattle.std.specs.Prelude.{◌≡◌, ◌≢◌, ◌⊎◌, ◌&&◌, ℕ, ℤ, Bool, true, false, List, [], ◌∷◌, ◌++◌, map}
+use Rattle.std.specs.Prelude.{◌≡◌, ◌≢◌, ◌⊎◌, ◌&&◌, ℕ, ℤ, Bool, true, false, List, [], ◌∷◌, ◌++◌, map, MatchOption, Option}
 use Rattle.std.specs.Ordering.{is_lt, int_cmp}
 use Rattle.std.specs.declared.cmp.Ordering.{Ordering}
 use Rattle.std.specs.declared.cmp.Ordering.TheVariants.{Less}
@@ -65,6 +65,10 @@ abbrev pub AreSpoiled : {K V : Type 0} → (Row → K × V → Type 0) → (K ×
 AreSpoiled {K} {V} Reads Fits rows =
     ((r : Row) × Has rows r × ((x : K × V) → Fits x → Reads r x → ⊥))
     ⊎ ((r : Row) × (s : Row) × (x : K × V) × (y : K × V) × Has rows r × Has rows s × Reads r x × Reads s y × Fits x × Fits y × (x.0 ≡ y.0) × (x ≢ y))
+
+-- a row was read as its item, and as none where it is that of none that fits
+abbrev pub IsItem : {K V T : Type 0} → (Row → K × V → Type 0) → (K × V → Type 0) → (T → K × V) → Row → Option T → Type 0
+IsItem {K} {V} Reads Fits shows row found = MatchOption found ((x : K × V) → Fits x → Reads row x → ⊥) (λ item. Reads row (shows item) × Fits (shows item))
 
 -- where an item stands to those that were read before it
 abbrev pub IsPlace : {K V : Type 0} → (K → K → Ordering) → List (K × V) → K × V → Place → Type 0

@@ -1,5 +1,5 @@
 // Items that are read from the rows of a table, by their keys.
-ghost use Rattle.std.specs.Prelude.{◌≡◌, ◌≢◌, ℕ, List, [], false, IsTrue, IfOk, MatchOption, OnOk, map};
+ghost use Rattle.std.specs.Prelude.{◌≡◌, ◌≢◌, ℕ, List, [], ◌∷◌, ◌++◌, false, IsTrue, IfOk, MatchOption, OnOk, map};
 ghost use Rattle.std.specs.Cmp.{IsTotalOrder};
 ghost use Rattle.std.specs.declared.cmp.Ordering.{Ordering};
 ghost use Rattle.std.specs.declared.cmp.Ordering.TheVariants.{Equal};
@@ -9,7 +9,7 @@ ghost use Rattle.sqlite.specs.Schema.{Schema};
 ghost use Rattle.sqlite.specs.Held.{state};
 ghost use Rattle.sqlite.specs.State.{CommitsShowing, HasCleanDisk, IsUnchanged, Survives};
 ghost use Rattle.sql_tables.specs.Asking.{Reads};
-ghost use Rattle.sql_tables.specs.Loading.{AreGathered, AreLoaded, AreOrdered, AreSpoiled, ComeOnce, HasGathered, IsPlace};
+ghost use Rattle.sql_tables.specs.Loading.{AreGathered, AreLoaded, AreOrdered, AreSpoiled, ComeOnce, HasGathered, IsItem, IsPlace};
 
 use crate::numbering::take_rows;
 use crate::stepping::TakeRows;
@@ -48,7 +48,7 @@ pub trait Item {
 
     /// The item of a row, and `None` exactly where it is that of none.
     fn read(alloc: Global, row: &Row) -> Result<Option<Self::Of>, AllocError>
-        ensures { IfOk result (λ found. MatchOption found ((x : Key × Kept) → Fits x → Reads row.now x → ⊥) (λ item. Reads row.now (shows item) × Fits (shows item))) };
+        ensures { IfOk result (λ found. IsItem Reads Fits shows row.now found) };
 
     /// How the key of one stands to that of another.
     fn order(one: &Self::Of, other: &Self::Of) -> Ordering
@@ -89,17 +89,19 @@ fn place_of<T: Item>(items: &[T::Of], item: &T::Of) -> Place
     }
 }
 
-// The items of a table, gathered from its rows in the order of their keys. Rows of the same cells are one item.
+/// The items of a table, gathered from its rows in the order of their keys. Rows of the same cells are one item.
 #[derive(Drop)]
-struct Gathered<T: Item> {
+pub struct Gathered<T: Item> {
     alloc: Global,
-    items: Vec<T::Of>,
-    is_spoiled: bool,
+    /// The items of the rows so far.
+    pub items: Vec<T::Of>,
+    /// Whether a row was that of no item, or two rows had one key and two values.
+    pub is_spoiled: bool,
 }
 
 impl<T: Item> Gathered<T> {
-    // Of no rows yet.
-    fn new(alloc: Global) -> Gathered<T>
+    /// Of no rows yet.
+    pub fn new(alloc: Global) -> Gathered<T>
         ensures { HasGathered T.key_cmp T.Reads T.Fits [] (map T.shows result.items.items) result.is_spoiled }
     {
         Gathered {
@@ -109,8 +111,29 @@ impl<T: Item> Gathered<T> {
         }
     }
 
-    // The items, and `None` where a row was that of no item, or two rows had one key and two values.
-    fn into_items(self) -> Option<Vec<T::Of>>
+    /// Takes one more row as the item that it was read as, or as that of none. It fails only for want of memory.
+    pub fn take_item(&mut self, found: Option<T::Of>) -> Result<(), AllocError>
+        ensures { OnOk result ((rows : List Row) (row : Row) → IsItem T.Reads T.Fits T.shows row found
+            → HasGathered T.key_cmp T.Reads T.Fits rows (map T.shows self.old.items.items) self.old.is_spoiled
+            → HasGathered T.key_cmp T.Reads T.Fits (rows ++ row ∷ []) (map T.shows self.new.items.items) self.new.is_spoiled) }
+    {
+        if self.is_spoiled {
+            return Ok(());
+        }
+        let Some(item) = found else {
+            self.is_spoiled = true;
+            return Ok(());
+        };
+        match place_of::<T>(self.items.as_slice(), &item) {
+            Place::Behind => self.items.push(item)?,
+            Place::Same => {}
+            Place::Neither => self.is_spoiled = true,
+        }
+        Ok(())
+    }
+
+    /// The items, and `None` where a row was that of no item, or two rows had one key and two values.
+    pub fn into_items(self) -> Option<Vec<T::Of>>
         ensures { (rows : List Row) → HasGathered T.key_cmp T.Reads T.Fits rows (map T.shows self.items.items) self.is_spoiled
             → MatchOption result (AreOrdered T.key_cmp T.Reads T.Fits rows → AreSpoiled T.Reads T.Fits rows) (λ v. AreGathered T.key_cmp T.Reads T.Fits rows (map T.shows v.items)) }
     {
@@ -132,16 +155,8 @@ impl<T: Item> TakeRows for Gathered<T> {
         if self.is_spoiled {
             return Ok(());
         }
-        let Some(item) = T::read(self.alloc, row)? else {
-            self.is_spoiled = true;
-            return Ok(());
-        };
-        match place_of::<T>(self.items.as_slice(), &item) {
-            Place::Behind => self.items.push(item)?,
-            Place::Same => {}
-            Place::Neither => self.is_spoiled = true,
-        }
-        Ok(())
+        let found = T::read(self.alloc, row)?;
+        self.take_item(found)
     }
 }
 

@@ -17,7 +17,7 @@ pub use cells::{blob_at, digest_of, is_same, number_at, text_at};
 pub use closing::close;
 pub use connecting::{check_open, renew};
 pub use described::{Described, Key};
-pub use items::{Item, gather};
+pub use items::{Gathered, Item, gather};
 pub use laws::trees_tell_tables;
 pub use looking::has_rows;
 pub use making::make_rest;

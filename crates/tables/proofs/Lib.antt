@@ -12,6 +12,7 @@ pub mod Selects
 pub mod FileLemmas
 pub mod Singles
 pub mod ItemLemmas
+pub mod FourLemmas
 pub mod Openings
 pub mod SetLemmas
 pub mod One

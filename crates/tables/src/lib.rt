@@ -8,6 +8,7 @@ mod completing;
 mod current;
 mod described;
 mod faults;
+mod fours;
 mod laws;
 mod loading;
 mod making;

@@ -15,7 +15,8 @@ ghost use Rattle.sql_tables.specs.Loading.{AreLoaded, ComeOnce, rises, with_rowi
 
 use crate::current::{Current, Versions};
 use crate::faults::StoreFault;
-use crate::reading::{Documents, Files, FirstRoots, Roots};
+use crate::fours::Fours;
+use crate::reading::{Documents, FirstRoots, Roots};
 use contents::MetadataRows;
 use sql_tables::{gather, take_rows};
 use sqlite::{Alter, Connection};
@@ -117,7 +118,8 @@ fn shelf_rows<S: Alter>(
     )?)
 }
 
-// Digest and length of the target files, by digest. They are read by a cursor; how many rows are held at a time is as `each_row` says.
+// Digest and length of the target files, by digest. They are read by a cursor; how many rows are held at a time is as `each_row` says, and
+// besides those up to three of at most 16 MiB each, so that four are hashed side by side.
 fn blob_rows<S: Alter>(
     alloc: Global,
     conn: &mut Connection<S>,
@@ -129,11 +131,13 @@ fn blob_rows<S: Alter>(
     ensures mode { conn.old.in_transaction ≡ false → conn.new.in_transaction ≡ false }
     ensures survives { Survives (state S.Store conn.old) (state S.Store conn.new) (λ _. ⊥) }
 {
-    Ok(gather::<S, Files>(
+    let (files, once) = take_rows(
         alloc,
         conn,
         "SELECT digest, bytes, rowid FROM blob ORDER BY digest",
-    )?)
+        Fours::new(alloc),
+    )?;
+    Ok((files.into_items()?, once))
 }
 
 // The rows of `schema`, whose version is the rowid.

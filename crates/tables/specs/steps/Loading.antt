@@ -17,7 +17,7 @@ use Rattle.tables.specs.Rows.{root_cells, root2_cells, current_cells, shelf_cell
 use Rattle.std.specs.Cmp.Lexicographic.{slice_cmp}
 use Rattle.contents.specs.Contents.{Contents, no_rows}
 use Rattle.tables.specs.Tables.{IsVersion, IsDigest, row_cmp, AreBare, HoldsFirst, HoldsTables, StandsFor}
-use Rattle.sql_tables.specs.Loading.{AreGathered, AreLoaded, AreOrdered, AreRead, AreSpoiled, ComeOnce, rises, with_rowid}
+use Rattle.sql_tables.specs.Loading.{AreGathered, AreLoaded, AreOrdered, AreRead, AreSpoiled, ComeOnce, HasGathered, rises, with_rowid}
 
 -- ---- the items of a table: a key and a value each
 
@@ -137,6 +137,28 @@ length_shows r = r
 -- the items of the rows, and none only where they are spoiled; that keys rise is known of rows that come in their order
 abbrev pub IsGathered : {K V T : Type 0} → (K → K → Ordering) → (Row → K × V → Type 0) → (K × V → Type 0) → (T → K × V) → List Row → Option (Vec T Global) → Type 0
 IsGathered cmp Reads Fits shows rows o = MatchOption o (AreOrdered cmp Reads Fits rows → AreSpoiled Reads Fits rows) (λ v. AreGathered cmp Reads Fits rows (map shows v.items))
+
+-- what was gathered of the rows of `blob`
+abbrev pub HasFiles : List Row → List (List ℕ × ℕ) → Bool → Type 0
+HasFiles rows items is_spoiled = HasGathered (slice_cmp nat_cmp) IsLengthRow FitsLength rows (map length_shows items) is_spoiled
+
+-- the row is that of the digest and the bytes, which need not have it
+abbrev pub IsHeld : Row → List ℕ × Vec ℕ Global → Type 0
+IsHeld r h = IsBlobRow r (h.0, h.1.items) × IsDigest h.0
+
+abbrev pub AreHeld : List Row → List (List ℕ × Vec ℕ Global) → Type 0
+AreHeld [] [] = Unit {0}
+AreHeld [] (h ∷ held) = ⊥
+AreHeld (r ∷ rows) [] = ⊥
+AreHeld (r ∷ rows) (h ∷ held) = IsHeld r h × AreHeld rows held
+
+-- of the rows that have come, the last are held, and those before them were gathered
+pub record HaveCome (rows : List Row) (items : List (List ℕ × ℕ)) (is_spoiled : Bool) (held : List (List ℕ × Vec ℕ Global)) : Type 0 where
+  pub before : List Row
+  pub late : List Row
+  pub all : rows ≡ before ++ late
+  pub files : HasFiles before items is_spoiled
+  pub are : AreHeld late held
 
 -- what was made of the answers
 pub record AreTaken (a : Answers) (t : Taken) : Type 0 where

@@ -10,13 +10,18 @@ use Rattle.tables.proofs.Selects.{reads_blob}
 use Rattle.tables.proofs.loading.blob_rows.Goals as goal
 
 pub returns-clause-rows : goal.returns-clause-rows
-returns-clause-rows g c = let it = c.in_ok-gather.ensures.rows in (it.0, it.1, it.2, λ clean has. it.3 clean (followed five has.0) 5 (with_rowid blob_cells) (rises ∷ []) (reads_blob has.0) has.1)
+returns-clause-rows g c =
+    let it = c.in_ok-files.ensures.rows c.new.ensures in
+    (it.0, it.2, c.in_ok-into_items.ensures it.0 it.1, λ clean has. it.3 clean (followed five has.0) 5 (with_rowid blob_cells) (rises ∷ []) (reads_blob has.0) has.1)
 
 pub returns-clause-unchanged : goal.returns-clause-unchanged
-returns-clause-unchanged g c clean has = c.in_ok-gather.ensures.unchanged clean (followed five has.0) 5 (with_rowid blob_cells) (rises ∷ []) (reads_blob has.0) has.1
+returns-clause-unchanged g c clean has = c.in_ok-files.ensures.unchanged clean (followed five has.0) 5 (with_rowid blob_cells) (rises ∷ []) (reads_blob has.0) has.1 c.new.ensures
 
 pub returns-clause-survives : goal.returns-clause-survives
-returns-clause-survives g c = read_quietly (reads_blob none_behind) (state g.S.Store c.args.conn.now) (state g.S.Store c.gather.new.conn) c.gather.ensures.survives
+returns-clause-survives g c = read_quietly (reads_blob none_behind) (state g.S.Store c.args.conn.now) (state g.S.Store c.take_rows.new.conn) c.take_rows.ensures.survives
 
-pub returns-in_err-gather-clause-survives : goal.returns-in_err-gather-clause-survives
-returns-in_err-gather-clause-survives g c = read_quietly (reads_blob none_behind) (state g.S.Store c.args.conn.now) (state g.S.Store c.gather.new.conn) c.gather.ensures.survives
+pub returns-in_err-files-clause-survives : goal.returns-in_err-files-clause-survives
+returns-in_err-files-clause-survives g c = read_quietly (reads_blob none_behind) (state g.S.Store c.args.conn.now) (state g.S.Store c.take_rows.new.conn) c.take_rows.ensures.survives
+
+pub returns-in_err-into_items-clause-survives : goal.returns-in_err-into_items-clause-survives
+returns-in_err-into_items-clause-survives g c = read_quietly (reads_blob none_behind) (state g.S.Store c.args.conn.now) (state g.S.Store c.take_rows.new.conn) c.take_rows.ensures.survives
