@@ -1,6 +1,7 @@
 """All groups of comparisons in their order, each a name, a function of a session and a random source, and further arguments."""
 import broken_checks
 import canon_cases
+import chain_drafting_cases
 import client_cases
 import client_histories
 import databases
@@ -96,6 +97,9 @@ def of_databases_and_words(chosen):
     yield "drafts: roots", drafting_cases.compare_roots, chosen.histories
     yield "drafts: targets metadata", drafting_cases.compare_targets, chosen.histories
     yield "drafts: seals", drafting_cases.compare_seals, 4 * chosen.histories
+    yield "drafts: layouts", chain_drafting_cases.compare_layouts, chosen.histories
+    yield "drafts: links", chain_drafting_cases.compare_links, chosen.histories
+    yield "drafts: what is taken", chain_drafting_cases.compare_takes, chosen.histories
     yield "random histories", histories.compare_histories, chosen.histories
 
 
