@@ -32,13 +32,11 @@ pub fn publish_at<O: Write, E: Write>(
         body: &body,
     };
     let sent = sending.send(notes);
-    if let Err(Fault::Refused(number, _, Some(index))) = &sent {
-        let offered = Offered {
-            arguments,
-            batch: &batch,
-        };
-        offered.tell(rt.alloc(), &mut asking, *number, *index, notes);
-    }
+    let offered = Offered {
+        arguments,
+        batch: &batch,
+    };
+    tell_why(&mut asking, &sent, offered, notes);
     let reply = told(sent, arguments, notes)?;
     let Some((_, same)) = read_accepted(&reply) else {
         return Err(sending.unknown(Fault::Network, notes));
@@ -46,6 +44,19 @@ pub fn publish_at<O: Write, E: Write>(
     asking.behind(arguments, &batch, had_timestamp, same, notes);
     print(out, &reply, notes)?;
     print(out, b"\n", notes)
+}
+
+// Tells why a batch was denied, if it was.
+fn tell_why<E: Write>(
+    asking: &mut Asking<'_>,
+    sent: &Result<Vec<u8>, Fault>,
+    offered: Offered<'_>,
+    notes: &mut Notes<'_, E>,
+) {
+    if let Err(Fault::Refused(number, _, Some(index))) = sent {
+        let alloc = asking.rt.alloc();
+        offered.tell(alloc, asking, *number, *index, notes);
+    }
 }
 
 // The documents as the body of a batch: each behind a line with its role and its length. Each argument begins with a role and a colon.
