@@ -51,12 +51,7 @@ pub fn digests<const N: usize>(messages: &[[u8; N]; LANES]) -> [[u8; 32]; LANES]
     ensures { result ≡ map sha256 messages.now }
 {
     let [first, second, third, fourth] = messages;
-    digests_in(compress_first(&[
-        pad(first),
-        pad(second),
-        pad(third),
-        pad(fourth),
-    ]))
+    digests_in(compress_first(&[pad(first), pad(second), pad(third), pad(fourth)]))
 }
 
 /// The SHA-256 of each of four messages of any lengths. They are hashed side by side where they have as many blocks

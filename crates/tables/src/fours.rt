@@ -88,10 +88,7 @@ fn take_four(
 }
 
 // Takes the rows that are held, one by one.
-fn take_held(
-    tested: &mut Gathered<Files>,
-    held: &[([u8; 32], Vec<u8>)],
-) -> Result<(), AllocError>
+fn take_held(tested: &mut Gathered<Files>, held: &[([u8; 32], Vec<u8>)]) -> Result<(), AllocError>
     ensures { OnOk result ((rows late : List Row) → AreHeld late held.now
         → HasFiles rows tested.old.items.items tested.old.is_spoiled → HasFiles (rows ++ late) tested.new.items.items tested.new.is_spoiled) }
 {
