@@ -214,7 +214,7 @@ one_document_a_version() {
     names '--again goes on'
     rm d/targets.json d/snapshot.json d/timestamp.json
     draft targets --delegate 'more=tools.key:more/*'
-    draft targets --role more
+    draft targets --role more --add more/hello.txt=hello.txt
     refuses_to_sign 'refused other' tools
     signs tools --again
     is_told 'signed more with leaf 1 of 32'
