@@ -274,18 +274,26 @@ spends_none_of_none() {
     before=$(books)
     ends_with 1 'leaves spent' sign --at $now --key other --in links --yes
     [ "$(books)" = "$before" ] || fail "a book changed, all of whose leaves are spent"
-    ends_with 1 due show --at $now --db repository.db --due 0 --key other
+    few_leaves_are_due
 }
 
-# The form with a book that is named: one that is made is warned of, and the seed's key is another than that of three files with its book.
+# With a quarter of its leaves left a key of the repository is due.
+few_leaves_are_due() {
+    keeps_leaves timestamp 4 22
+    "$release" show --at $now --db repository.db --due 0 --key timestamp >"$folder/out" || fail "due with 9 leaves: $(cat "$folder/out")"
+    keeps_leaves timestamp 23 23
+    ends_with 1 due show --at $now --db repository.db --due 0 --key timestamp
+}
+
+# The form with a book that is named: one that is made is warned of. What it signed is a signature that the key's own book does not know.
 the_old_forms_warn() {
-    local root
+    local words=(--seed root.seed --ots "${ots:-4}" --height 5 f/root.json)
     "$release" draft --at $now --db repository.db --in f root >/dev/null
-    "$release" sign --book typed.book --seed root.seed --ots "${ots:-4}" --height 5 f/root.json >"$folder/out" 2>"$folder/err"
+    wants 1 '' 'unknown key\n' sign --known --book none.book "${words[@]}"
+    "$release" sign --book typed.book "${words[@]}" >typed.json 2>"$folder/err"
     printf 'warning: typed.book: a new book\nwarning: typed.book: a new key ID\n' >"$folder/err.wanted"
     same "what a mistyped book is warned of" "$folder/err.wanted" "$folder/err"
-    ends 1 '' 'unknown key\n' "$release" sign --known --book none.book --seed root.seed --ots "${ots:-4}" --height 5 f/root.json
-    cp "$folder/out" "$folder/typed.json" && rm -f typed.book
-    cp "$folder/typed.json" f/root.json
+    rm typed.book*
+    cp typed.json f/root.json
     spares 'refused book' sign --at $now --key root --in f --yes root
 }
