@@ -88,7 +88,7 @@ the_drafts_chapter() {
     chapter drafts "$folder/drafts" TUTORIAL.md
     grep -e '^begun$' -e '^{' -e '^ready$' "$folder/drafts/out" >"$folder/drafts/said"
     {
-        printf 'begun\nready\n{"accepted":3,"same":0}\n{"accepted":1,"same":0}\n{"accepted":4,"same":0}\n{"accepted":3,"same":0}\n'
+        printf 'begun\nready\n{"accepted":3,"same":1}\n{"accepted":1,"same":0}\n{"accepted":4,"same":0}\n{"accepted":3,"same":0}\n'
     } >"$folder/drafts/wanted"
     same "what the chapter 'drafts' prints" "$folder/drafts/wanted" "$folder/drafts/said"
 }
