@@ -118,7 +118,7 @@ def serve_nginx(folder):
     port = free_port()
     (folder / "nginx.conf").write_text(f"""
 daemon off; worker_processes 1; pid {folder}/nginx.pid; error_log {folder}/error.log; user root;
-events {{ worker_connections 64; }}
+events {{ worker_connections 1024; }}
 http {{ access_log off; keepalive_timeout 0; sendfile on; default_type application/octet-stream;
   client_body_temp_path {folder}/body; proxy_temp_path {folder}/proxy; fastcgi_temp_path {folder}/fastcgi;
   uwsgi_temp_path {folder}/uwsgi; scgi_temp_path {folder}/scgi;
