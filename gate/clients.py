@@ -261,11 +261,28 @@ def a_large_database(clients):
     want(found.returncode == 0 and re.fullmatch(wanted, told), f"a large database on a terminal: {told!r}")
 
 
+def a_folder_is_listed(clients):
+    """On a terminal each file that a draft lists is told, and how many there are so far."""
+    folder = f"{clients.room}/listed"
+    os.makedirs(f"{folder}/tree")
+    for name in ("one", "two"):
+        with open(f"{folder}/tree/{name}", "w", encoding="ascii") as file:
+            file.write(name)
+    terminal, end = pty.openpty()
+    words = ("draft", *AT, "--in", f"{folder}/d", "targets", "--add", f"tree={folder}/tree")
+    found = subprocess.run([clients.release, *words], stdout=subprocess.PIPE, stderr=end, timeout=400)
+    told = os.read(terminal, 4096).decode()
+    os.close(end)
+    os.close(terminal)
+    want((found.returncode, told) == (0, "added tree/two, 1 so far\r\nadded tree/one, 2 so far\r\n"), f"a folder that is listed: {told!r}")
+
+
 def main(words):
     clients = Clients(os.path.realpath(words[0]) if words else RELEASE)
     cases = [functools.partial(updates, clients, *case) for case in UPDATES]
     cases += [functools.partial(gets, clients, *case) for case in GETS]
-    cases += [functools.partial(case, clients) for case in (an_old_timestamp, a_server_of_files, on_a_terminal, a_large_database, a_call_has_its_deadline)]
+    cases += [functools.partial(case, clients) for case in (an_old_timestamp, a_server_of_files, on_a_terminal, a_large_database,
+                                                            a_folder_is_listed, a_call_has_its_deadline)]
     failed = 0
     with concurrent.futures.ThreadPoolExecutor(8) as pool:
         for done in concurrent.futures.as_completed(pool.submit(case) for case in cases):

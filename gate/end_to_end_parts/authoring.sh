@@ -186,6 +186,10 @@ a_layout_is_drafted() {
     echo script >tool.sh && echo archive >tool.tgz
     slips path draft --at $now --db repository.db --in d layout --target tool.tgz --owners owner.key build=builder.key:tool.sh
     draft targets --add tool.tgz
+    printf 'build products ALLOW \377\n' >ill.rules
+    ends_with 3 'fault file' draft --verbose --at $now --db repository.db --in d layout --target tool.tgz --owners owner.key --rules ill.rules build=builder.key:tool.sh
+    grep -qx 'ill.rules: not UTF-8' "$folder/err" || fail "not told of the rules: $(cat "$folder/err")"
+    [ ! -e d/layouts ] || fail "a layout is drafted by rules that are not UTF-8"
     draft layout --target tool.tgz --owners owner.key build=builder.key:tool.sh pack=packer.key:tool.tgz
     is_told 'layout of tool.tgz'
     is_told '  step build: 0 of 1 links'
@@ -196,6 +200,7 @@ a_layout_is_drafted() {
     slips stranger sign --at $now --key builder --in d --yes tool.tgz.layout.json
     signs owner
     is_told 'signed layouts/tool.tgz.layout.json with leaf 0 of 32'
+    cp d/layouts/tool.tgz.layout.json . && draft take tool.tgz.layout.json && rm tool.tgz.layout.json
     "$release" draft --at $now --in l link --step build --products tool.sh >"$folder/out"
     is_told 'link build.json'
     "$release" sign --at $now --key builder --in l --yes >"$folder/out"

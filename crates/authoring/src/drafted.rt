@@ -13,16 +13,18 @@ use std::alloc::{AllocError, Global};
 use std::io::Write;
 
 /// What a folder has: each draft with its version and the held one, when it expires, what it changes, who has signed and who has not; the
-/// layouts and links; and what is to be done next.
+/// layouts and links; and what is to be done next, over the database where one is given.
 pub fn drafts_in<E: Write>(
     alloc: Global,
     folder: Folder<'_>,
+    db: Option<&str>,
     now: Moment,
     notes: &mut Notes<'_, E>,
 ) -> Result<Drafts, Fault> {
     let mut looking = Looking {
         alloc,
         folder,
+        db,
         are_met: true,
         is_sealed: false,
         shown: Drafts {
@@ -45,6 +47,7 @@ pub fn drafts_in<E: Write>(
 struct Looking<'a> {
     alloc: Global,
     folder: Folder<'a>,
+    db: Option<&'a str>,
     are_met: bool,
     is_sealed: bool,
     shown: Drafts,
@@ -204,7 +207,12 @@ impl Looking<'_> {
         let line = if self.shown.drafts.is_empty() {
             String::from_str(self.alloc, "no draft")?
         } else if self.is_sealed {
-            format!(in self.alloc; "next: release publish --in {folder}")?
+            match self.db {
+                Some(db) => format!(in self.alloc;
+                    "next: release publish --db {db} --in {folder}"
+                )?,
+                None => format!(in self.alloc; "next: release publish --in {folder}")?,
+            }
         } else {
             format!(in self.alloc; "next: release draft --in {folder} seal")?
         };

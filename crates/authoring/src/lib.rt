@@ -41,7 +41,7 @@ pub fn draft<O: Write, E: Write>(
         Draft::Targets(told) => draft_listing(rt, folder, asked, told, now, notes)?,
         Draft::Seal => seal(rt, folder, asked, now, notes)?,
         Draft::Layout(told) => draft_chain(rt, folder, asked, told, now, notes)?,
-        Draft::Link(told) => draft_step(rt, folder, told, notes)?,
+        Draft::Link(told) => draft_step(rt, folder, told, asked.anew, notes)?,
         Draft::Take { target, files } => take_all(rt, folder, target.as_deref(), files, notes)?,
     }
     relist(rt, folder, asked.anew, notes)?;

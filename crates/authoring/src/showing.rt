@@ -28,7 +28,7 @@ pub fn show<O: Write, E: Write>(
     let now = moment(rt, at)?;
     match (&asked.folder, &asked.db) {
         (Some(folder), None) => {
-            let shown = drafts_in(rt.alloc(), Folder::new(rt, folder), now, notes)?;
+            let shown = drafts_in(rt.alloc(), Folder::new(rt, folder), None, now, notes)?;
             show_drafts(rt, asked, &shown, out, notes)
         }
         (Some(folder), Some(db)) => {
@@ -48,7 +48,7 @@ pub fn show_folder<O: Write, E: Write>(
     out: &mut O,
     notes: &mut Notes<'_, E>,
 ) -> Result<(), Fault> {
-    let shown = drafts_in(rt.alloc(), folder, now, notes)?;
+    let shown = drafts_in(rt.alloc(), folder, None, now, notes)?;
     let text = drafts_as_lines(rt.alloc(), &shown, rt.stdout().is_terminal())?;
     print(out, &text, notes)
 }
@@ -84,7 +84,7 @@ fn show_judged<O: Write, E: Write>(
     out: &mut O,
     notes: &mut Notes<'_, E>,
 ) -> Result<(), Fault> {
-    let mut shown = drafts_in(rt.alloc(), folder, now, notes)?;
+    let mut shown = drafts_in(rt.alloc(), folder, Some(db), now, notes)?;
     if shown.drafts.is_empty() {
         return show_drafts(rt, asked, &shown, out, notes);
     }

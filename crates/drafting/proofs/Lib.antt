@@ -9,3 +9,4 @@ pub mod Parts
 pub mod Results
 pub mod Holders
 pub mod RootParts
+pub mod Finds

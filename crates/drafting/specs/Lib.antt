@@ -4,4 +4,5 @@ pub mod Timestamps
 pub mod Snapshots
 pub mod Targets
 pub mod Roots
+pub mod Finding
 pub mod steps

@@ -3,3 +3,4 @@ pub mod Refused
 pub mod Unwritten
 pub mod Rows
 pub mod Rules
+pub mod Found

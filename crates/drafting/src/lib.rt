@@ -12,6 +12,7 @@ mod faults;
 mod finding;
 mod finishing;
 mod head;
+mod looking;
 mod members;
 mod named;
 mod names;
@@ -21,6 +22,7 @@ mod snapshots;
 mod tables;
 mod targets;
 mod terms;
+mod texts;
 mod timestamps;
 
 pub use base::{base_members, part_members};
@@ -30,6 +32,7 @@ pub use denials::Denial;
 pub use faults::{DraftFault, TopRole, begun_fault};
 pub use finding::{Found, find_key};
 pub use finishing::{file_of, finish, written};
+pub use looking::{Look, look_at};
 pub use members::{
     integer_value, is_there, number_value, object_value, put, string_value, take_object, text_value,
 };

@@ -102,8 +102,8 @@ fn is_item(items: &[Value], id: &str) -> bool
     false
 }
 
-// Whether the value is the text.
-fn is_text(value: &Value, said: &str) -> bool
+/// Whether the value is the text.
+pub(crate) fn is_text(value: &Value, said: &str) -> bool
     ensures { IsTrue result ↔ view value.now ≡ text said.now }
 {
     match text_of(value) {

@@ -1,14 +1,16 @@
 //! `draft layout`: the layout of a target, and what refers the target to it.
 use crate::drafting_faults::{drafted, usage};
 use crate::keys::{Known, RuleRead, rule_of};
-use crate::listing::digest_in;
-use crate::saving::Before;
+use crate::listing::{DAYS as TARGETS_DAYS, digest_in};
+use crate::saving::{Before, see_unsigned};
 use crate::terms::{kept_terms, terms_of};
 use chain_drafting::{Reference, StepDraft, draft_layout, with_reference};
 use command_line::{Drafting, LayoutDraft};
 use command_support::{DOCUMENT_LIMIT, Fault, Notes, Slip, read_at_most};
 use drafting::{Addition, Rule, TargetsChanges, draft_targets};
-use drafts::{Folder, chain_name, kind_of, layout_in, layout_path, link_path, read_said};
+use drafts::{
+    Folder, chain_name, kind_of, layout_in, layout_name, layout_path, link_path, read_said,
+};
 use keys_roles::key_id;
 use metadata::{Kind, Moment};
 use std::alloc::{AllocError, Global};
@@ -17,11 +19,17 @@ use std::io::Write;
 // The days that a layout is valid.
 const DAYS: u64 = 365;
 
-// A step that was read, with its artifact rules where others are given.
+// A step that was read.
 #[derive(Drop)]
 struct StepRead<'a> {
     name: &'a str,
     rule: RuleRead,
+    artifacts: ArtifactsRead,
+}
+
+// What is said of its artifacts: its products, and its artifact rules where others are given.
+#[derive(Drop)]
+struct ArtifactsRead {
     products: Vec<String>,
     material_rules: Vec<Vec<String>>,
     product_rules: Vec<Vec<String>>,
@@ -41,21 +49,14 @@ pub fn draft_chain<E: Write>(
         notes.warn(&told.target, &"no drafted targets metadata list it");
         return Err(Fault::Slip(Slip::Path));
     };
-    let before = Before::of(rt, folder, role.as_str(), asked.anew, notes)?;
-    let known = Known {
-        kind: Kind::Targets,
-        files: [before.begun(), before.held()],
-    };
-    let owners = rule_of(rt, known, told.owners.as_str(), notes)?;
-    let steps = steps_of(rt, known, told, notes)?;
     let chain = Chain {
         rt,
         folder,
         role: role.as_str(),
         target: told.target.as_str(),
     };
-    chain.put_layout(asked, &steps, now, notes)?;
-    chain.refer_first(&before, &owners, &steps, notes)
+    let before = Before::of(rt, folder, chain.role, asked.anew, notes)?;
+    chain.draft(&before, asked, told, now, notes)
 }
 
 /// The role of the drafted targets metadata that list a target.
@@ -88,11 +89,27 @@ fn steps_of<'a, E: Write>(
     told: &'a LayoutDraft,
     notes: &mut Notes<'_, E>,
 ) -> Result<Vec<StepRead<'a>>, Fault> {
-    let rules = match &told.rules {
-        Some(file) => read_at_most(rt, file.as_str(), DOCUMENT_LIMIT, notes)?,
-        None => Vec::new(rt.alloc()),
+    let Some(file) = &told.rules else {
+        return steps_by(rt, known, told, "", notes);
     };
-    let lines = str::from_utf8(&rules).unwrap_or("");
+    let bytes = read_at_most(rt, file.as_str(), DOCUMENT_LIMIT, notes)?;
+    match str::from_utf8(&bytes) {
+        Ok(lines) => steps_by(rt, known, told, lines, notes),
+        Err(_) => {
+            notes.tell(file, &"not UTF-8");
+            Err(Fault::File)
+        }
+    }
+}
+
+// The same with the lines of the artifact rules.
+fn steps_by<'a, E: Write>(
+    rt: &HostRuntime,
+    known: Known<'_>,
+    told: &'a LayoutDraft,
+    lines: &str,
+    notes: &mut Notes<'_, E>,
+) -> Result<Vec<StepRead<'a>>, Fault> {
     let mut steps = Vec::new(rt.alloc());
     for word in &told.steps {
         steps.push(step_of(rt, known, word.as_str(), lines, notes)?)?;
@@ -113,13 +130,26 @@ fn step_of<'a, E: Write>(
     let Some((rule, list)) = rest.split_once(':') else {
         return Err(no_step(rt));
     };
+    let artifacts = artifacts_of(rt.alloc(), lines, name, list)?;
     let rule = rule_of(rt, known, rule, notes)?;
-    let products = listed_in(rt.alloc(), list)?;
-    let material_rules = rules_in(rt.alloc(), lines, name, "materials")?;
-    let product_rules = rules_in(rt.alloc(), lines, name, "products")?;
     Ok(StepRead {
         name,
         rule,
+        artifacts,
+    })
+}
+
+// What is said of a step's artifacts: its products between commas, and its rules by the lines.
+fn artifacts_of(
+    alloc: Global,
+    lines: &str,
+    step: &str,
+    list: &str,
+) -> Result<ArtifactsRead, AllocError> {
+    let products = listed_in(alloc, list)?;
+    let material_rules = rules_in(alloc, lines, step, "materials")?;
+    let product_rules = rules_in(alloc, lines, step, "products")?;
+    Ok(ArtifactsRead {
         products,
         material_rules,
         product_rules,
@@ -179,9 +209,9 @@ fn lent<'a>(alloc: Global, steps: &'a [StepRead<'_>]) -> Result<Vec<StepDraft<'a
                 threshold: step.rule.threshold,
                 keys: &step.rule.keys,
             },
-            products: &step.products,
-            material_rules: given(&step.material_rules),
-            product_rules: given(&step.product_rules),
+            products: &step.artifacts.products,
+            material_rules: given(&step.artifacts.material_rules),
+            product_rules: given(&step.artifacts.product_rules),
         })?;
     }
     Ok(drafts)
@@ -222,6 +252,61 @@ impl Chain<'_> {
         self.rt.alloc()
     }
 
+    // Drafts the layout that is told, and refers the target to it.
+    fn draft<E: Write>(
+        &self,
+        before: &Before,
+        asked: &Drafting,
+        told: &LayoutDraft,
+        now: Moment,
+        notes: &mut Notes<'_, E>,
+    ) -> Result<(), Fault> {
+        let known = Known {
+            kind: Kind::Targets,
+            files: [before.begun(), before.held()],
+        };
+        let owners = rule_of(self.rt, known, told.owners.as_str(), notes)?;
+        let steps = steps_of(self.rt, known, told, notes)?;
+        self.draft_by(before, asked, &owners, &steps, now, notes)
+    }
+
+    // Drafts the layout of these steps, and refers the target to it. Where that is refused, the layout that was there stays.
+    fn draft_by<E: Write>(
+        &self,
+        before: &Before,
+        asked: &Drafting,
+        owners: &RuleRead,
+        steps: &[StepRead<'_>],
+        now: Moment,
+        notes: &mut Notes<'_, E>,
+    ) -> Result<(), Fault> {
+        let begun = layout_in(self.alloc(), self.folder, self.target, notes)?;
+        self.put_layout(asked, steps, now, notes)?;
+        match self.refer_first(before, owners, steps, notes) {
+            Ok(()) => Ok(()),
+            Err(fault) => {
+                self.put_back(begun.as_deref(), notes)?;
+                Err(fault)
+            }
+        }
+    }
+
+    // Puts the layout back that was there, if any was.
+    fn put_back<E: Write>(
+        &self,
+        begun: Option<&[u8]>,
+        notes: &mut Notes<'_, E>,
+    ) -> Result<(), Fault> {
+        let name = layout_name(self.alloc(), self.target)?;
+        match begun {
+            Some(bytes) => self.folder.put_named(name.as_str(), bytes, notes),
+            None => {
+                let place = self.folder.place(name.as_str())?;
+                self.folder.remove(place.as_str(), notes)
+            }
+        }
+    }
+
     // Drafts the layout.
     fn put_layout<E: Write>(
         &self,
@@ -230,17 +315,38 @@ impl Chain<'_> {
         now: Moment,
         notes: &mut Notes<'_, E>,
     ) -> Result<(), Fault> {
+        let draft = self.layout(asked, steps, now, notes)?;
+        self.folder.make_inner("layouts", notes)?;
+        let name = layout_name(self.alloc(), self.target)?;
+        self.folder.put_named(name.as_str(), &draft, notes)
+    }
+
+    // The next layout of the target.
+    fn layout<E: Write>(
+        &self,
+        asked: &Drafting,
+        steps: &[StepRead<'_>],
+        now: Moment,
+        notes: &mut Notes<'_, E>,
+    ) -> Result<Vec<u8>, Fault> {
         let begun = layout_in(self.alloc(), self.folder, self.target, notes)?;
-        let begun = begun.as_deref();
+        see_unsigned(self.alloc(), "layout", begun.as_deref(), asked.anew, notes)?;
+        self.layout_behind(begun.as_deref(), asked, steps, now, notes)
+    }
+
+    fn layout_behind<E: Write>(
+        &self,
+        begun: Option<&[u8]>,
+        asked: &Drafting,
+        steps: &[StepRead<'_>],
+        now: Moment,
+        notes: &mut Notes<'_, E>,
+    ) -> Result<Vec<u8>, Fault> {
         let given = asked.expires.as_deref();
         let terms = terms_of(self.alloc(), given, begun, DAYS, now)?;
         let steps = lent(self.alloc(), steps)?;
         let draft = draft_layout(self.alloc(), begun, terms, &steps);
-        let draft = drafted(self.alloc(), draft, "layout", notes)?;
-        self.folder.make_inner("layouts", notes)?;
-        let path = layout_path(self.alloc(), self.target)?;
-        let name = chain_name(self.alloc(), path.as_str())?;
-        self.folder.put_named(name.as_str(), &draft, notes)
+        drafted(self.alloc(), draft, "layout", notes)
     }
 
     // Lists the layout, and refers the target to it.
@@ -254,7 +360,7 @@ impl Chain<'_> {
         let Some(last) = steps.last() else {
             return Err(no_step(self.rt));
         };
-        let product = match last.products.last() {
+        let product = match last.artifacts.products.last() {
             Some(product) => product.as_str(),
             None => self.target,
         };
@@ -270,9 +376,19 @@ impl Chain<'_> {
             product,
             step: last.name,
         };
+        self.refer_alone(before, &reference, notes)
+    }
+
+    // Lists the layout alone, and refers the target to it.
+    fn refer_alone<E: Write>(
+        &self,
+        before: &Before,
+        reference: &Reference<'_>,
+        notes: &mut Notes<'_, E>,
+    ) -> Result<(), Fault> {
         let mut added = Vec::new(self.alloc());
-        added.push(self.addition(path.as_str(), notes)?)?;
-        self.refer(before, &added, &reference, notes)
+        added.push(self.addition(reference.path, notes)?)?;
+        self.refer(before, &added, reference, notes)
     }
 
     /// A layout or a link as an addition to a listing. Its bytes go to the target files.
@@ -300,14 +416,24 @@ impl Chain<'_> {
         let Some(begun) = before.begun() else {
             return Ok(());
         };
-        let terms = kept_terms(self.alloc(), self.role, begun)?;
+        let terms = kept_terms(self.alloc(), self.role, begun, TARGETS_DAYS)?;
         let listed = TargetsChanges {
             add: added,
             remove: &[],
         };
         let draft = draft_targets(self.alloc(), before.held(), Some(begun), terms, &listed);
         let draft = drafted(self.alloc(), draft, self.role, notes)?;
-        let draft = with_reference(self.alloc(), &draft, self.target, reference);
+        self.refer_in(&draft, reference, notes)
+    }
+
+    // Puts the draft in which the target is referred so.
+    fn refer_in<E: Write>(
+        &self,
+        draft: &[u8],
+        reference: &Reference<'_>,
+        notes: &mut Notes<'_, E>,
+    ) -> Result<(), Fault> {
+        let draft = with_reference(self.alloc(), draft, self.target, reference);
         let draft = drafted(self.alloc(), draft, self.role, notes)?;
         self.folder.put_draft(self.role, &draft, notes)
     }

@@ -1,15 +1,12 @@
 //! Keys and rules, as words.
 use crate::drafting_faults::drafted;
-use canonical_json::member;
 use command_support::{Fault, Notes, Slip, read_at_most};
 use drafting::{Found, NamedKey, find_key};
-use keys_roles::{Key, key_object};
+use drafts::{KEY_FILE_LIMIT, key_in};
+use keys_roles::Key;
 use metadata::Kind;
-use std::alloc::{AllocError, Global};
+use std::alloc::Global;
 use std::io::Write;
-
-// A key file has the key object, and may have a line end.
-const MOST: usize = 256;
 
 /// A rule that was read: how many of these keys have to sign.
 #[derive(Drop)]
@@ -76,8 +73,8 @@ fn key_of<E: Write>(
     Err(Fault::Slip(Slip::Key))
 }
 
-// What stands behind the last slash.
-fn last_segment(path: &str) -> &str {
+/// What stands behind the last slash.
+pub fn last_segment(path: &str) -> &str {
     match path.rsplit_once('/') {
         Some((_, last)) => last,
         None => path,
@@ -107,7 +104,7 @@ pub fn key_in_file<E: Write>(
     path: &str,
     notes: &mut Notes<'_, E>,
 ) -> Result<Key, Fault> {
-    let bytes = read_at_most(rt, path, MOST, notes)?;
+    let bytes = read_at_most(rt, path, KEY_FILE_LIMIT, notes)?;
     match key_in(rt.alloc(), &bytes)? {
         Some(key) => Ok(key),
         None => {
@@ -115,33 +112,4 @@ pub fn key_in_file<E: Write>(
             Err(Fault::File)
         }
     }
-}
-
-// The key whose object the bytes are, with a line end or without one.
-fn key_in(alloc: Global, bytes: &[u8]) -> Result<Option<Key>, AllocError> {
-    let object = bytes.strip_suffix(b"\n").unwrap_or(bytes);
-    let Some(key) = key_said(object) else {
-        return Ok(None);
-    };
-    let spelled = key_object(alloc, &key)?;
-    Ok(if spelled.as_slice() == object {
-        Some(key)
-    } else {
-        None
-    })
-}
-
-// The key that an object says, if it is of the form of one.
-fn key_said(object: &[u8]) -> Option<Key> {
-    let public = member(member(object, "keyval")?, "public")?;
-    let digits = public.strip_prefix(b"\"")?.strip_suffix(b"\"")?;
-    let mut lms = [0; 56];
-    if hex::decode_to_slice(digits, &mut lms).is_ok() {
-        return Some(Key::Lms(lms));
-    }
-    let mut hss = [0; 60];
-    if hex::decode_to_slice(digits, &mut hss).is_ok() {
-        return Some(Key::Hss(hss));
-    }
-    None
 }

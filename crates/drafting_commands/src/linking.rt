@@ -1,32 +1,44 @@
 //! `draft link`, and links that another machine sends back.
 use crate::chains::role_of;
 use crate::drafting_faults::drafted;
+use crate::saving::see_unsigned;
 use chain_drafting::{Artifact, draft_link};
 use command_line::LinkDraft;
 use command_support::{Fault, Notes, Slip, read};
-use drafts::{Folder, Said, chain_name, kind_of, layout_said, link_path, read_said};
-use keys_roles::KeyId;
-use metadata::{Body, Document, Kind, digest_of, read_document};
-use std::alloc::Global;
+use drafts::{Folder, Said, kind_of, layout_said, link_name, read_said, signed_step};
+use metadata::{Kind, digest_of};
 use std::io::Write;
 
 /// Drafts the link of a step, with these files as its materials and products beside those that it has already: materials before the step and
-/// products behind it, in two calls. The paths are as they are typed.
+/// products behind it, in two calls. The paths are as they are typed. A link that has a signature is changed only where that is to be taken off.
 pub fn draft_step<E: Write>(
     rt: &HostRuntime,
     folder: Folder<'_>,
     told: &LinkDraft,
+    anew: bool,
     notes: &mut Notes<'_, E>,
 ) -> Result<(), Fault> {
     let step = told.step.as_str();
     let name = format!(in rt.alloc(); "links/{step}.json")?;
     let begun = folder.file(name.as_str(), notes)?;
-    let materials = artifacts_of(rt, &told.materials, notes)?;
-    let products = artifacts_of(rt, &told.products, notes)?;
-    let draft = draft_link(rt.alloc(), begun.as_deref(), step, &materials, &products);
-    let draft = drafted(rt.alloc(), draft, "link", notes)?;
+    see_unsigned(rt.alloc(), name.as_str(), begun.as_deref(), anew, notes)?;
+    let draft = link_of(rt, begun.as_deref(), told, notes)?;
     folder.make_inner("links", notes)?;
     folder.put_named(name.as_str(), &draft, notes)
+}
+
+// The next link of the step.
+fn link_of<E: Write>(
+    rt: &HostRuntime,
+    begun: Option<&[u8]>,
+    told: &LinkDraft,
+    notes: &mut Notes<'_, E>,
+) -> Result<Vec<u8>, Fault> {
+    let materials = artifacts_of(rt, &told.materials, notes)?;
+    let products = artifacts_of(rt, &told.products, notes)?;
+    let step = told.step.as_str();
+    let draft = draft_link(rt.alloc(), begun, step, &materials, &products);
+    drafted(rt.alloc(), draft, "link", notes)
 }
 
 fn artifacts_of<E: Write>(
@@ -36,13 +48,22 @@ fn artifacts_of<E: Write>(
 ) -> Result<Vec<Artifact>, Fault> {
     let mut artifacts = Vec::new(rt.alloc());
     for file in files {
-        let bytes = read(rt, file.as_str(), notes)?;
-        artifacts.push(Artifact {
-            path: String::from_str(rt.alloc(), file.as_str())?,
-            digest: digest_of(&bytes),
-        })?;
+        artifacts.push(artifact_of(rt, file.as_str(), notes)?)?;
     }
     Ok(artifacts)
+}
+
+fn artifact_of<E: Write>(
+    rt: &HostRuntime,
+    file: &str,
+    notes: &mut Notes<'_, E>,
+) -> Result<Artifact, Fault> {
+    let bytes = read(rt, file, notes)?;
+    let path = String::from_str(rt.alloc(), file)?;
+    Ok(Artifact {
+        path,
+        digest: digest_of(&bytes),
+    })
 }
 
 /// Takes a link: it stands from now on under the path that it has as a target. Answers whether the bytes are a link.
@@ -53,7 +74,7 @@ pub fn take_link<E: Write>(
     bytes: &[u8],
     notes: &mut Notes<'_, E>,
 ) -> Result<bool, Fault> {
-    let Some((step, id)) = step_of(rt.alloc(), bytes)? else {
+    let Some((step, id)) = signed_step(rt.alloc(), bytes)? else {
         return Ok(false);
     };
     let step = step.as_str();
@@ -61,32 +82,13 @@ pub fn take_link<E: Write>(
     let Some(found) = found else {
         notes.warn(
             &step,
-            &"the step of no layout here, or of more than one: say --target",
+            &"the step of no layout here, of that target's or of any, or of more than one: say --target",
         );
         return Err(Fault::Slip(Slip::Path));
     };
-    let path = link_path(rt.alloc(), found.as_str(), step, &id)?;
-    let name = chain_name(rt.alloc(), path.as_str())?;
+    let name = link_name(rt.alloc(), found.as_str(), step, &id)?;
     folder.put_named(name.as_str(), bytes, notes)?;
     Ok(true)
-}
-
-// The step of a link and the id of its signer, where the bytes are one.
-fn step_of(alloc: Global, bytes: &[u8]) -> Result<Option<(String, KeyId)>, Fault> {
-    match read_document(alloc, Kind::Link, bytes) {
-        Ok(document) => signed_step(alloc, &document),
-        Err(_) => Ok(None),
-    }
-}
-
-fn signed_step(alloc: Global, document: &Document<'_>) -> Result<Option<(String, KeyId)>, Fault> {
-    match (&document.body, document.signatures.first()) {
-        (Body::Link(link), Some(entry)) => {
-            let step = String::from_str(alloc, link.name.as_str())?;
-            Ok(Some((step, entry.keyid)))
-        }
-        _ => Ok(None),
-    }
 }
 
 // The target that is given, or the one target whose layout here has the step.
@@ -99,7 +101,7 @@ fn target_of<E: Write>(
 ) -> Result<Option<String>, Fault> {
     if let Some(target) = given {
         let is_there = role_of(rt, folder, target, notes)?.is_some();
-        return Ok(if is_there {
+        return Ok(if is_there && has_step(rt, folder, target, step, notes)? {
             Some(String::from_str(rt.alloc(), target)?)
         } else {
             None
@@ -143,14 +145,24 @@ impl Looking<'_> {
     fn look_in<E: Write>(&mut self, said: &Said, notes: &mut Notes<'_, E>) -> Result<(), Fault> {
         for file in &said.files {
             let target = file.path.as_str();
-            let layout = layout_said(self.rt.alloc(), self.folder, target, notes)?;
-            if layout
-                .as_ref()
-                .is_some_and(|layout| layout.rule(self.step).is_some())
-            {
+            if has_step(self.rt, self.folder, target, self.step, notes)? {
                 self.found.push(String::from_str(self.rt.alloc(), target)?)?;
             }
         }
         Ok(())
+    }
+}
+
+/// Whether the layout of a target is here and has the step.
+pub fn has_step<E: Write>(
+    rt: &HostRuntime,
+    folder: Folder<'_>,
+    target: &str,
+    step: &str,
+    notes: &mut Notes<'_, E>,
+) -> Result<bool, Fault> {
+    match layout_said(rt.alloc(), folder, target, notes)? {
+        Some(layout) => Ok(layout.rule(step).is_some()),
+        None => Ok(false),
     }
 }

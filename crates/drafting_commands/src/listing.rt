@@ -13,11 +13,11 @@ use drafts::Folder;
 use limits::BLOB_LIMIT;
 use metadata::{Kind, Moment, RoleName, TargetPath};
 use std::alloc::{AllocError, Global};
-use std::fs;
-use std::io::{self, Write};
+use std::io::{self, IsTerminal, Write};
+use std::{fmt, fs};
 
 // The days that a first one is valid.
-const DAYS: u64 = 90;
+pub const DAYS: u64 = 90;
 
 // A delegation that was read.
 #[derive(Drop)]
@@ -81,12 +81,12 @@ impl Next<'_> {
         let mut adding = Adding {
             rt: self.rt,
             folder: self.folder,
+            is_watched: self.rt.stderr().is_terminal(),
             added: Vec::new(self.rt.alloc()),
         };
         adding.add_all(&self.told.add, notes)?;
         let draft = self.listing(&adding.added, notes)?;
-        let draft = self.delegating(draft, read, notes)?;
-        self.folder.put_draft(self.role, &draft, notes)
+        self.put_behind(&draft, read, notes)
     }
 
     // The draft with the listings that are added and without those that are removed.
@@ -104,23 +104,33 @@ impl Next<'_> {
         drafted(self.rt.alloc(), draft, self.role, notes)
     }
 
-    // The draft with the changes of its delegations.
+    // Puts the draft with the changes of its delegations.
+    fn put_behind<E: Write>(
+        &self,
+        draft: &[u8],
+        read: &[DelegationRead<'_>],
+        notes: &mut Notes<'_, E>,
+    ) -> Result<(), Fault> {
+        if read.is_empty() && self.told.undelegate.is_empty() {
+            return self.folder.put_draft(self.role, draft, notes);
+        }
+        let next = self.delegating(draft, read, notes)?;
+        self.folder.put_draft(self.role, &next, notes)
+    }
+
     fn delegating<E: Write>(
         &self,
-        draft: Vec<u8>,
+        draft: &[u8],
         read: &[DelegationRead<'_>],
         notes: &mut Notes<'_, E>,
     ) -> Result<Vec<u8>, Fault> {
-        if read.is_empty() && self.told.undelegate.is_empty() {
-            return Ok(draft);
-        }
         let delegate = lent(self.rt, read, self.told)?;
         let changes = DelegationChanges {
             delegate: &delegate,
             undelegate: &self.told.undelegate,
         };
         let held = self.before.held();
-        let next = draft_delegations(self.rt.alloc(), held, Some(&draft), self.terms, &changes);
+        let next = draft_delegations(self.rt.alloc(), held, Some(draft), self.terms, &changes);
         drafted(self.rt.alloc(), next, self.role, notes)
     }
 }
@@ -204,11 +214,12 @@ fn lent<'a>(
     Ok(delegations)
 }
 
-// Files that are added to a listing.
+// Files that are added to a listing. On a terminal each is told as it is.
 #[derive(Drop)]
 struct Adding<'a, 'b> {
     rt: &'a HostRuntime,
     folder: Folder<'b>,
+    is_watched: bool,
     added: Vec<Addition>,
 }
 
@@ -246,14 +257,24 @@ impl Adding<'_, '_> {
             let Some((path, file)) = waiting.pop() else {
                 return Ok(());
             };
-            if is_folder(self.rt, file.as_str()) {
-                self.look_into(path.as_str(), file.as_str(), &mut waiting, notes)?;
-            } else {
-                self.add_file(path.as_str(), file.as_str(), notes)?;
-            }
+            self.add_one(path.as_str(), file.as_str(), &mut waiting, notes)?;
         }
         notes.warn(&file, &"more files and folders than a listing can have");
         Err(Fault::File)
+    }
+
+    fn add_one<E: Write>(
+        &mut self,
+        path: &str,
+        file: &str,
+        waiting: &mut Vec<(String, String)>,
+        notes: &mut Notes<'_, E>,
+    ) -> Result<(), Fault> {
+        if is_folder(self.rt, file) {
+            self.look_into(path, file, waiting, notes)
+        } else {
+            self.add_file(path, file, notes)
+        }
     }
 
     // What a folder has is to be added, too.
@@ -273,10 +294,7 @@ impl Adding<'_, '_> {
             }
         };
         for name in &names {
-            let name = name.as_str();
-            let inner = format!(in alloc; "{path}/{name}")?;
-            let file = format!(in alloc; "{folder}/{name}")?;
-            waiting.push((inner, file))?;
+            waiting.push(both_below(alloc, path, folder, name.as_str())?)?;
         }
         Ok(())
     }
@@ -300,7 +318,37 @@ impl Adding<'_, '_> {
         }
         let addition = digest_in(alloc, self.folder, path, &bytes, notes)?;
         self.added.push(addition)?;
+        if self.is_watched {
+            let count = self.added.len();
+            notes.progress(&Added { path, count });
+        }
         Ok(())
+    }
+}
+
+// The path and the place of what has this name in a folder.
+fn both_below(
+    alloc: Global,
+    path: &str,
+    folder: &str,
+    name: &str,
+) -> Result<(String, String), AllocError> {
+    let inner = format!(in alloc; "{path}/{name}")?;
+    let file = format!(in alloc; "{folder}/{name}")?;
+    Ok((inner, file))
+}
+
+// A file that was added, and how many are.
+#[derive(Clone, Copy)]
+struct Added<'a> {
+    path: &'a str,
+    count: usize,
+}
+
+impl fmt::Display for Added<'_> {
+    fn fmt<W: fmt::Write>(&self, f: &mut fmt::Formatter<W>) -> fmt::Result {
+        let Added { path, count } = self;
+        write!(f, "added {path}, {count} so far")
     }
 }
 

@@ -1,5 +1,6 @@
 //! Layouts and links are listed as they stand signed.
 use crate::chains::Chain;
+use crate::linking::has_step;
 use crate::saving::Before;
 use chain_drafting::Reference;
 use command_support::{Fault, Notes};
@@ -9,6 +10,7 @@ use drafts::{
     reference_of,
 };
 use metadata::Kind;
+use path_patterns::are_hex_digits;
 use std::alloc::{AllocError, Global};
 use std::io::Write;
 
@@ -65,17 +67,26 @@ fn relist_one<E: Write>(
     notes: &mut Notes<'_, E>,
 ) -> Result<(), Fault> {
     let added = additions(chain, names, notes)?;
-    if are_listed(said, &added) {
+    if are_listed(said, &added) && is_referred(chain, &added, notes)? {
         return Ok(());
     }
     let before = Before::of(chain.rt, chain.folder, chain.role, anew, notes)?;
-    let found = match before.begun() {
-        Some(begun) => reference_of(chain.rt.alloc(), begun, chain.target)?,
-        None => None,
+    relist_behind(chain, &before, &added, notes)
+}
+
+fn relist_behind<E: Write>(
+    chain: Chain<'_>,
+    before: &Before,
+    added: &[Addition],
+    notes: &mut Notes<'_, E>,
+) -> Result<(), Fault> {
+    let Some(begun) = before.begun() else {
+        return Ok(());
     };
-    match &found {
-        Some(found) => refer_anew(chain, &before, found, &added, notes),
-        None => Ok(()),
+    match reference_of(chain.rt.alloc(), begun, chain.target) {
+        Ok(Some(found)) => refer_anew(chain, before, &found, added, notes),
+        Ok(None) => Ok(()),
+        Err(fault) => Err(fault),
     }
 }
 
@@ -90,16 +101,59 @@ fn additions<E: Write>(
     let begun = begun.as_str().strip_prefix("layouts/").unwrap_or("");
     let mut added = Vec::new(alloc);
     for name in names {
-        let is_own = match name.as_str().strip_prefix(begun) {
-            Some(rest) => rest.starts_with('.'),
-            None => false,
-        };
-        if is_own {
+        if is_own(chain, begun, name.as_str(), notes)? {
             let path = path_of(alloc, name.as_str())?;
             added.push(chain.addition(path.as_str(), notes)?)?;
         }
     }
     Ok(added)
+}
+
+// Whether a file is the target's layout, or a link of one of its steps: `.layout.json` or `.STEP.ID.json` behind the target's own name, where
+// ID is 8 hex digits.
+fn is_own<E: Write>(
+    chain: Chain<'_>,
+    begun: &str,
+    name: &str,
+    notes: &mut Notes<'_, E>,
+) -> Result<bool, Fault> {
+    let Some(rest) = name.strip_prefix(begun) else {
+        return Ok(false);
+    };
+    if rest == ".layout.json" {
+        return Ok(true);
+    }
+    match step_in(rest) {
+        Some(step) => has_step(chain.rt, chain.folder, chain.target, step, notes),
+        None => Ok(false),
+    }
+}
+
+// The step in `.STEP.ID.json`.
+fn step_in(rest: &str) -> Option<&str> {
+    let (step, digits) = rest.strip_suffix(".json")?.rsplit_once('.')?;
+    if digits.len() == 8 && are_hex_digits(digits.as_bytes()) {
+        step.strip_prefix('.')
+    } else {
+        None
+    }
+}
+
+// Whether the role's draft refers the target to just the links that are here, where any are.
+fn is_referred<E: Write>(
+    chain: Chain<'_>,
+    added: &[Addition],
+    notes: &mut Notes<'_, E>,
+) -> Result<bool, Fault> {
+    let alloc = chain.rt.alloc();
+    let path = layout_path(alloc, chain.target)?;
+    let links = links_of(alloc, path.as_str(), added)?;
+    let bytes = chain.folder.draft_or_none(chain.role, notes)?;
+    match reference_of(alloc, &bytes, chain.target) {
+        Ok(Some(found)) => Ok(links.is_empty() || found.links == links),
+        Ok(None) => Ok(true),
+        Err(fault) => Err(fault),
+    }
 }
 
 fn are_listed(said: &Said, added: &[Addition]) -> bool {

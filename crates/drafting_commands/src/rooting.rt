@@ -24,6 +24,17 @@ pub fn draft_rules<E: Write>(
     notes: &mut Notes<'_, E>,
 ) -> Result<(), Fault> {
     let before = Before::of(rt, folder, "root", asked.anew, notes)?;
+    let read = rules_of(rt, &before, words, notes)?;
+    put_root(rt, folder, &before, asked, &read, now, notes)
+}
+
+// The roles and the rules that words say.
+fn rules_of<E: Write>(
+    rt: &HostRuntime,
+    before: &Before,
+    words: &[String],
+    notes: &mut Notes<'_, E>,
+) -> Result<Vec<(TopRole, RuleRead)>, Fault> {
     let known = Known {
         kind: Kind::Root,
         files: [before.begun(), before.held()],
@@ -32,14 +43,22 @@ pub fn draft_rules<E: Write>(
     for word in words {
         read.push(role_rule_of(rt, known, word.as_str(), notes)?)?;
     }
-    let rules = lent(rt, &read)?;
-    let terms = terms_of(
-        rt.alloc(),
-        asked.expires.as_deref(),
-        before.latest(),
-        DAYS,
-        now,
-    )?;
+    Ok(read)
+}
+
+// Puts the next root, with these rules.
+fn put_root<E: Write>(
+    rt: &HostRuntime,
+    folder: Folder<'_>,
+    before: &Before,
+    asked: &Drafting,
+    read: &[(TopRole, RuleRead)],
+    now: Moment,
+    notes: &mut Notes<'_, E>,
+) -> Result<(), Fault> {
+    let given = asked.expires.as_deref();
+    let terms = terms_of(rt.alloc(), given, before.latest(), DAYS, now)?;
+    let rules = lent(rt, read)?;
     let draft = draft_root(rt.alloc(), before.held(), before.begun(), terms, &rules);
     let draft = drafted(rt.alloc(), draft, "root", notes)?;
     folder.put_draft("root", &draft, notes)

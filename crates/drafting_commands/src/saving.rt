@@ -2,6 +2,7 @@
 use command_support::{Fault, Notes, Slip};
 use drafts::Folder;
 use metadata::read_signed;
+use std::alloc::Global;
 use std::io::Write;
 
 /// What is held of a role, and the draft that is gone on from.
@@ -22,13 +23,7 @@ impl Before {
     ) -> Result<Before, Fault> {
         let held = folder.held(role, notes)?;
         let begun = folder.draft(role, notes)?;
-        if let Some(bytes) = &begun {
-            let file = read_signed(rt.alloc(), bytes)?;
-            if !anew && !file.signatures.is_empty() {
-                notes.warn(&role, &"its draft has signatures; --anew takes them off");
-                return Err(Fault::Slip(Slip::Signed));
-            }
-        }
+        see_unsigned(rt.alloc(), role, begun.as_deref(), anew, notes)?;
         Ok(Before { held, begun })
     }
 
@@ -49,6 +44,25 @@ impl Before {
             None => lent(&self.held),
         }
     }
+}
+
+/// What is begun under this name has no signatures, or they are to be taken off.
+pub fn see_unsigned<E: Write>(
+    alloc: Global,
+    name: &str,
+    begun: Option<&[u8]>,
+    anew: bool,
+    notes: &mut Notes<'_, E>,
+) -> Result<(), Fault> {
+    let Some(bytes) = begun else {
+        return Ok(());
+    };
+    let file = read_signed(alloc, bytes)?;
+    if !anew && !file.signatures.is_empty() {
+        notes.warn(&name, &"its draft has signatures; --anew takes them off");
+        return Err(Fault::Slip(Slip::Signed));
+    }
+    Ok(())
 }
 
 fn lent(bytes: &Option<Vec<u8>>) -> Option<&[u8]> {

@@ -1,9 +1,10 @@
 //! `draft take`: what another machine sends back.
+use crate::keys::last_segment;
 use crate::linking::take_link;
 use command_support::{DOCUMENT_LIMIT, Denial, Fault, Notes, Slip, read_at_most};
 use drafts::{Folder, ListedFile, kind_of, read_said, version_in};
 use limits::BLOB_LIMIT;
-use metadata::{Kind, RoleName};
+use metadata::{Digest, Kind, RoleName};
 use signing::{JoinFault, join};
 use std::alloc::Global;
 use std::fs;
@@ -31,13 +32,24 @@ fn take<E: Write>(
     file: &str,
     notes: &mut Notes<'_, E>,
 ) -> Result<(), Fault> {
-    let (beside, role) = role_of(file);
     let bytes = read_at_most(rt, file, DOCUMENT_LIMIT, notes)?;
     if take_link(rt, folder, target, &bytes, notes)?
         || take_layout(rt, folder, file, &bytes, notes)?
     {
         return Ok(());
     }
+    take_document(rt, folder, file, &bytes, notes)
+}
+
+// Takes the document of a role.
+fn take_document<E: Write>(
+    rt: &HostRuntime,
+    folder: Folder<'_>,
+    file: &str,
+    bytes: &[u8],
+    notes: &mut Notes<'_, E>,
+) -> Result<(), Fault> {
+    let (beside, role) = role_of(file);
     let Some(role) = role else {
         return Err(different(file, notes));
     };
@@ -45,17 +57,26 @@ fn take<E: Write>(
         return Err(different(file, notes));
     }
     match folder.draft(role, notes)? {
-        Some(draft) => {
-            version_in(rt.alloc(), role, &bytes)?;
-            join_in(rt, folder, role, &draft, &bytes, file, notes)
-        }
+        Some(draft) => join_in(rt, folder, role, &draft, bytes, file, notes),
         None if kind_of(role) == Kind::Targets && role != "targets" => {
-            let said = read_said(rt.alloc(), role, &bytes)?;
-            take_files(rt, folder, beside, &said.files, notes)?;
-            folder.put_draft(role, &bytes, notes)
+            take_whole(rt, folder, role, beside, bytes, notes)
         }
         None => Err(different(file, notes)),
     }
+}
+
+// Takes a document of a delegated role as it is, with its target files.
+fn take_whole<E: Write>(
+    rt: &HostRuntime,
+    folder: Folder<'_>,
+    role: &str,
+    beside: &str,
+    bytes: &[u8],
+    notes: &mut Notes<'_, E>,
+) -> Result<(), Fault> {
+    let said = read_said(rt.alloc(), role, bytes)?;
+    take_files(rt, folder, beside, &said.files, notes)?;
+    folder.put_draft(role, bytes, notes)
 }
 
 // The folder of a file, and the role of which it is the document by its name.
@@ -83,9 +104,7 @@ fn take_layout<E: Write>(
     bytes: &[u8],
     notes: &mut Notes<'_, E>,
 ) -> Result<bool, Fault> {
-    let Some((_, last)) = file.rsplit_once('/') else {
-        return Ok(false);
-    };
+    let last = last_segment(file);
     let name = format!(in rt.alloc(); "layouts/{last}")?;
     let Some(begun) = folder.file(name.as_str(), notes)? else {
         return Ok(false);
@@ -95,7 +114,7 @@ fn take_layout<E: Write>(
     Ok(true)
 }
 
-// Joins the signatures of both.
+// Joins the signatures of both, where the bytes are a document of the role.
 fn join_in<E: Write>(
     rt: &HostRuntime,
     folder: Folder<'_>,
@@ -105,6 +124,7 @@ fn join_in<E: Write>(
     file: &str,
     notes: &mut Notes<'_, E>,
 ) -> Result<(), Fault> {
+    version_in(rt.alloc(), role, bytes)?;
     let joined = joined(draft, bytes, file, rt.alloc(), notes)?;
     folder.put_draft(role, &joined, notes)
 }
@@ -138,12 +158,24 @@ fn take_files<E: Write>(
         let digits = listing.digest.text(rt.alloc())?;
         let place = format!(in rt.alloc(); "{beside}/files/{digits}")?;
         if fs::metadata(rt, place.as_str()).is_ok() {
-            let bytes = read_at_most(rt, place.as_str(), BLOB_LIMIT, notes)?;
-            if folder.put_file(&bytes, notes)? != listing.digest {
-                notes.warn(&place, &"another file than its name says");
-                return Err(Fault::Denied(Denial::DigestMismatch, None));
-            }
+            take_file(rt, folder, place.as_str(), &listing.digest, notes)?;
         }
+    }
+    Ok(())
+}
+
+// Takes the target file of a digest.
+fn take_file<E: Write>(
+    rt: &HostRuntime,
+    folder: Folder<'_>,
+    place: &str,
+    digest: &Digest,
+    notes: &mut Notes<'_, E>,
+) -> Result<(), Fault> {
+    let bytes = read_at_most(rt, place, BLOB_LIMIT, notes)?;
+    if folder.put_file(&bytes, notes)? != *digest {
+        notes.warn(&place, &"another file than its name says");
+        return Err(Fault::Denied(Denial::DigestMismatch, None));
     }
     Ok(())
 }

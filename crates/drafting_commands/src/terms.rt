@@ -43,9 +43,9 @@ pub fn terms_of(
     }
 }
 
-/// The terms that a role's draft has.
-pub fn kept_terms(alloc: Global, role: &str, draft: &[u8]) -> Result<Terms, Fault> {
-    let seconds = last_term(alloc, Some(draft))?.unwrap_or(0);
+/// The terms that a role's draft has; one that says no term gets that of so many days, as the first of its kind.
+pub fn kept_terms(alloc: Global, role: &str, draft: &[u8], first: u64) -> Result<Terms, Fault> {
+    let seconds = last_term(alloc, Some(draft))?.unwrap_or(first.saturating_mul(DAY));
     let said = read_said(alloc, role, draft)?;
     match said.expires {
         Some(expires) => Ok(Terms { expires, seconds }),

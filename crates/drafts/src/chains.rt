@@ -4,8 +4,11 @@ use crate::roles::kind_of;
 use crate::said::{Said, read_said_of};
 use crate::vouching::{Vouching, copied};
 use command_support::{Fault, Notes};
+use drafting::{Look, look_at};
 use keys_roles::KeyId;
-use metadata::{Body, Digest, Document, Kind, LayoutReference, TargetPath, read_document};
+use metadata::{
+    Body, Digest, Document, Kind, LayoutReference, ShapeFault, TargetPath, read_signed,
+};
 use std::alloc::{AllocError, Global};
 use std::io::Write;
 
@@ -25,28 +28,47 @@ pub struct Referred {
 
 /// What refers a target to its layout in these targets metadata, if they list it with one.
 pub fn reference_of(alloc: Global, bytes: &[u8], target: &str) -> Result<Option<Referred>, Fault> {
-    match read_document(alloc, Kind::Targets, bytes) {
-        Ok(document) => referred_in(alloc, &document, target),
+    let mut referring = Referring { target };
+    match look_at(alloc, Kind::Targets, bytes, &mut referring) {
+        Ok(found) => Ok(found),
         Err(fault) => Err(Fault::from(fault)),
     }
 }
 
-fn referred_in(
-    alloc: Global,
-    document: &Document<'_>,
-    target: &str,
-) -> Result<Option<Referred>, Fault> {
+// Looks for what refers a target to its layout.
+#[derive(Clone, Copy)]
+struct Referring<'a> {
+    target: &'a str,
+}
+
+impl Look for Referring<'_> {
+    type Seen = Option<Referred>;
+
+    fn look(
+        &mut self,
+        alloc: Global,
+        document: &Document<'_>,
+    ) -> Result<Option<Referred>, AllocError> {
+        match layout_of(document, self.target) {
+            Some(layout) => Ok(Some(referred_by(alloc, document.signed, layout)?)),
+            None => Ok(None),
+        }
+    }
+}
+
+// The layout that a target is referred to, if it is to one.
+fn layout_of<'a>(document: &'a Document<'_>, target: &str) -> Option<&'a LayoutReference> {
     let Body::Targets(targets) = &document.body else {
-        return Ok(None);
+        return None;
     };
     for listing in &targets.targets {
         if listing.path.as_str() == target {
             if let Some(layout) = &listing.layout {
-                return Ok(Some(referred_by(alloc, document.signed, layout)?));
+                return Some(layout);
             }
         }
     }
-    Ok(None)
+    None
 }
 
 fn referred_by(
@@ -100,6 +122,23 @@ pub fn chain_name(alloc: Global, path: &str) -> Result<String, AllocError> {
     format!(in alloc; "layouts/{flat}")
 }
 
+/// The name of the file in the folder under which the layout of a target stands.
+pub fn layout_name(alloc: Global, target: &str) -> Result<String, AllocError> {
+    let path = layout_path(alloc, target)?;
+    chain_name(alloc, path.as_str())
+}
+
+/// The name of the file in the folder under which the link of a step by a key stands.
+pub fn link_name(
+    alloc: Global,
+    target: &str,
+    step: &str,
+    id: &KeyId,
+) -> Result<String, AllocError> {
+    let path = link_path(alloc, target, step, id)?;
+    chain_name(alloc, path.as_str())
+}
+
 /// The path of a target by the name of its file in `layouts`.
 pub fn path_of(alloc: Global, name: &str) -> Result<String, AllocError> {
     name.replace(alloc, '~', "/")
@@ -112,8 +151,7 @@ pub fn layout_in<E: Write>(
     target: &str,
     notes: &mut Notes<'_, E>,
 ) -> Result<Option<Vec<u8>>, Fault> {
-    let path = layout_path(alloc, target)?;
-    let name = chain_name(alloc, path.as_str())?;
+    let name = layout_name(alloc, target)?;
     folder.file(name.as_str(), notes)
 }
 
@@ -129,14 +167,25 @@ pub fn links_in<E: Write>(
     let mut count = 0usize;
     if let Some(rule) = layout.rule(step) {
         for id in &rule.keyids {
-            let path = link_path(alloc, target, step, id)?;
-            let name = chain_name(alloc, path.as_str())?;
-            if folder.file(name.as_str(), notes)?.is_some() {
+            if has_link(alloc, folder, target, step, id, notes)? {
                 count = count.saturating_add(1);
             }
         }
     }
     Ok(count)
+}
+
+fn has_link<E: Write>(
+    alloc: Global,
+    folder: Folder<'_>,
+    target: &str,
+    step: &str,
+    id: &KeyId,
+    notes: &mut Notes<'_, E>,
+) -> Result<bool, Fault> {
+    let name = link_name(alloc, target, step, id)?;
+    let bytes = folder.file(name.as_str(), notes)?;
+    Ok(bytes.is_some())
 }
 
 /// What the layout of a target that is on its way says, if there is one.
@@ -206,5 +255,53 @@ pub fn target_of_layout(alloc: Global, name: &str) -> Result<Option<String>, All
     match name.strip_suffix(".layout.json") {
         Some(flat) => Ok(Some(path_of(alloc, flat)?)),
         None => Ok(None),
+    }
+}
+
+/// The step of a link and the id of its signer, where the bytes are a link that is signed.
+pub fn signed_step(alloc: Global, bytes: &[u8]) -> Result<Option<(String, KeyId)>, Fault> {
+    let mut stepping = Stepping;
+    match look_at(alloc, Kind::Link, bytes, &mut stepping) {
+        Ok(found) => Ok(found),
+        Err(ShapeFault::OutOfMemory) => Err(Fault::Memory),
+        Err(_) => Ok(None),
+    }
+}
+
+/// The first check of shape that fails for what is to be a link, with whose signature it would be one.
+pub fn see_link(alloc: Global, bytes: &[u8], id: &KeyId) -> Result<(), Fault> {
+    let file = read_signed(alloc, bytes)?;
+    let entry = Digest::new(id.0).text(alloc)?;
+    let entry = entry.as_str();
+    let mut whole = Vec::new(alloc);
+    let front = format!(in alloc;
+        "{{\"signatures\":[{{\"keyid\":\"{entry}\",\"sig\":\"00\"}}],\"signed\":"
+    )?;
+    whole.extend_from_slice(front.as_bytes())?;
+    whole.extend_from_slice(file.signed)?;
+    whole.push(b'}')?;
+    let _said = read_said_of(alloc, Kind::Link, &whole)?;
+    Ok(())
+}
+
+// Looks for the step of a link, and who signed it.
+#[derive(Clone, Copy)]
+struct Stepping;
+
+impl Look for Stepping {
+    type Seen = Option<(String, KeyId)>;
+
+    fn look(
+        &mut self,
+        alloc: Global,
+        document: &Document<'_>,
+    ) -> Result<Option<(String, KeyId)>, AllocError> {
+        match (&document.body, document.signatures.first()) {
+            (Body::Link(link), Some(entry)) => {
+                let step = String::from_str(alloc, link.name.as_str())?;
+                Ok(Some((step, entry.keyid)))
+            }
+            _ => Ok(None),
+        }
     }
 }

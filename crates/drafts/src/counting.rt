@@ -3,8 +3,9 @@ use crate::folder::Folder;
 use crate::roles::kind_of;
 use crate::vouching::{Vouching, rules_for};
 use command_support::{Fault, Notes};
+use drafting::{Look, look_at};
 use keys_roles::{KeyId, RoleRule, meets};
-use metadata::{Document, SignedFile, read_document};
+use metadata::{Document, SignedFile};
 use std::alloc::{AllocError, Global};
 use std::fmt;
 use std::io::Write;
@@ -78,9 +79,24 @@ pub fn has_signatures<E: Write>(
 }
 
 fn meets_in(alloc: Global, role: &str, rules: &[Vouching], bytes: &[u8]) -> Result<bool, Fault> {
-    match read_document(alloc, kind_of(role), bytes) {
-        Ok(document) => Ok(meets_all(rules, &document)),
+    let mut meeting = Meeting { rules };
+    match look_at(alloc, kind_of(role), bytes, &mut meeting) {
+        Ok(is_met) => Ok(is_met),
         Err(fault) => Err(Fault::from(fault)),
+    }
+}
+
+// Looks whether a document meets rules.
+#[derive(Clone, Copy)]
+struct Meeting<'a> {
+    rules: &'a [Vouching],
+}
+
+impl Look for Meeting<'_> {
+    type Seen = bool;
+
+    fn look(&mut self, _alloc: Global, document: &Document<'_>) -> Result<bool, AllocError> {
+        Ok(meets_all(self.rules, document))
     }
 }
 

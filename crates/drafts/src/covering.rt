@@ -1,6 +1,8 @@
 //! Which delegations cover a path.
+use crate::said::delegated_by;
 use command_support::Fault;
-use metadata::{Body, Delegation, Document, Kind, Scope, TargetPath, read_document};
+use drafting::{Look, look_at};
+use metadata::{Body, Delegation, Document, Kind, Scope, TargetPath};
 use path_patterns::{matches_segmented, prefix_covers};
 use std::alloc::{AllocError, Global};
 
@@ -13,32 +15,37 @@ pub struct Covering {
 
 /// The roles that targets metadata delegate a path to, in their order (TUF 1.0, section 4.5, DELEGATIONS).
 pub fn covered_by(alloc: Global, bytes: &[u8], path: &TargetPath) -> Result<Vec<Covering>, Fault> {
-    match read_document(alloc, Kind::Targets, bytes) {
-        Ok(document) => covering_in(alloc, &document, path),
+    let mut looking = Looking { path };
+    match look_at(alloc, Kind::Targets, bytes, &mut looking) {
+        Ok(found) => Ok(found),
         Err(fault) => Err(Fault::from(fault)),
+    }
+}
+
+// Looks for the delegations that cover a path.
+#[derive(Clone, Copy)]
+struct Looking<'a> {
+    path: &'a TargetPath,
+}
+
+impl Look for Looking<'_> {
+    type Seen = Vec<Covering>;
+
+    fn look(
+        &mut self,
+        alloc: Global,
+        document: &Document<'_>,
+    ) -> Result<Vec<Covering>, AllocError> {
+        covering_in(alloc, delegated_by(&document.body), self.path)
     }
 }
 
 fn covering_in(
     alloc: Global,
-    document: &Document<'_>,
-    path: &TargetPath,
-) -> Result<Vec<Covering>, Fault> {
-    let mut found = Vec::new(alloc);
-    if let Body::Targets(targets) = &document.body {
-        if let Some(delegations) = &targets.delegations {
-            add_covering(alloc, &delegations.roles, path, &mut found)?;
-        }
-    }
-    Ok(found)
-}
-
-fn add_covering(
-    alloc: Global,
     delegations: &[Delegation],
     path: &TargetPath,
-    found: &mut Vec<Covering>,
-) -> Result<(), AllocError> {
+) -> Result<Vec<Covering>, AllocError> {
+    let mut found = Vec::new(alloc);
     for delegation in delegations {
         if covers(&delegation.scope, path) {
             let role = String::from_str(alloc, delegation.name.as_str())?;
@@ -48,7 +55,7 @@ fn add_covering(
             })?;
         }
     }
-    Ok(())
+    Ok(found)
 }
 
 fn covers(scope: &Scope, path: &TargetPath) -> bool {

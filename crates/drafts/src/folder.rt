@@ -242,6 +242,21 @@ impl<'a> Folder<'a> {
         }
     }
 
+    /// Whether the target file of this digest and length waits to be put.
+    pub fn has_file<E: Write>(
+        &self,
+        digest: &Digest,
+        length: u32,
+        notes: &mut Notes<'_, E>,
+    ) -> Result<bool, Fault> {
+        if self.length_of_file(digest)? != Some(u64::from(length)) {
+            return Ok(false);
+        }
+        let place = self.file_place(digest)?;
+        let bytes = read_at_most(self.rt, place.as_str(), length as usize, notes)?;
+        Ok(digest_of(&bytes) == *digest)
+    }
+
     /// The roles of the drafts, those of targets metadata in the order of their names.
     pub fn roles<E: Write>(&self, notes: &mut Notes<'_, E>) -> Result<Vec<String>, Fault> {
         let mut roles = self.roles_in("", notes)?;

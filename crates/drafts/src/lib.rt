@@ -6,13 +6,14 @@ mod changes;
 mod counting;
 mod covering;
 mod folder;
+mod key_files;
 mod roles;
 mod said;
 mod vouching;
 
 pub use chains::{
-    Referred, chain_name, layout_in, layout_path, layout_said, link_path, links_in, owners_of,
-    path_of, reference_of, target_of_layout,
+    Referred, chain_name, layout_in, layout_name, layout_path, layout_said, link_name, link_path,
+    links_in, owners_of, path_of, reference_of, see_link, signed_step, target_of_layout,
 };
 pub use changes::changes_of;
 pub use command_support::{Fault, Notes, Slip};
@@ -20,6 +21,9 @@ pub use counting::{Count, count_of, has_signatures, has_signed};
 pub use covering::{Covering, covered_by};
 pub use drafting::{name_of_key, number_in};
 pub use folder::Folder;
+pub use key_files::{KEY_FILE_LIMIT, key_in};
 pub use roles::{kind_of, offer_order, sign_order};
-pub use said::{ListedFile, Said, SaidRule, held_said, read_said, read_said_of, version_in};
+pub use said::{
+    ListedFile, Said, SaidRule, held_said, read_said, read_said_of, typed_kind, version_in,
+};
 pub use vouching::{Vouching, rules_for};

@@ -1,11 +1,12 @@
 //! What a document says, as far as drafts are about it.
 use crate::folder::Folder;
 use crate::roles::kind_of;
+use canonical_json::member;
 use command_support::{Fault, Notes};
+use drafting::{Look, look_at};
 use keys_roles::{KeyId, RoleRule};
 use metadata::{
-    Body, Delegation, Digest, Kind, Listing, Meta, Moment, Pattern, Root, Scope, Step, Targets,
-    read_document,
+    Body, Delegation, Digest, Document, Kind, Listing, Meta, Moment, Pattern, Root, Scope, Step,
 };
 use path_patterns::RoleName;
 use std::alloc::{AllocError, Global};
@@ -47,9 +48,34 @@ pub fn read_said(alloc: Global, role: &str, bytes: &[u8]) -> Result<Said, Fault>
 
 /// What a document of a kind says; of a layout the rules of its steps.
 pub fn read_said_of(alloc: Global, kind: Kind, bytes: &[u8]) -> Result<Said, Fault> {
-    match read_document(alloc, kind, bytes) {
-        Ok(document) => said_by(alloc, &document.body),
+    let mut saying = Saying;
+    match look_at(alloc, kind, bytes, &mut saying) {
+        Ok(said) => Ok(said),
         Err(fault) => Err(Fault::from(fault)),
+    }
+}
+
+// Looks at what a document says.
+#[derive(Clone, Copy)]
+struct Saying;
+
+impl Look for Saying {
+    type Seen = Said;
+
+    fn look(&mut self, alloc: Global, document: &Document<'_>) -> Result<Said, AllocError> {
+        said_by(alloc, &document.body)
+    }
+}
+
+/// The kind that a signed part says it is, where it says one of those that are read without a signature: all but a link.
+pub fn typed_kind(signed: &[u8]) -> Option<Kind> {
+    match str::from_utf8(member(signed, "_type")?).ok()? {
+        "\"root\"" => Some(Kind::Root),
+        "\"timestamp\"" => Some(Kind::Timestamp),
+        "\"snapshot\"" => Some(Kind::Snapshot),
+        "\"targets\"" => Some(Kind::Targets),
+        "\"layout\"" => Some(Kind::Layout),
+        _ => None,
     }
 }
 
@@ -73,7 +99,7 @@ pub fn held_said<E: Write>(
     Ok(Some(said))
 }
 
-fn said_by(alloc: Global, body: &Body) -> Result<Said, Fault> {
+fn said_by(alloc: Global, body: &Body) -> Result<Said, AllocError> {
     let names = names_of(alloc, body)?;
     let files = files_of(alloc, body)?;
     let rules = rules_of(alloc, body)?;
@@ -157,16 +183,20 @@ fn listed_in(alloc: Global, listings: &[Listing]) -> Result<Vec<ListedFile>, All
 fn rules_of(alloc: Global, body: &Body) -> Result<Vec<SaidRule>, AllocError> {
     match body {
         Body::Root(root) => rules_in_root(alloc, root),
-        Body::Targets(targets) => rules_in(alloc, delegated_by(targets)),
+        Body::Targets(_) => rules_in(alloc, delegated_by(body)),
         Body::Layout(layout) => rules_in_steps(alloc, &layout.steps),
         _ => Ok(Vec::new(alloc)),
     }
 }
 
-fn delegated_by(targets: &Targets) -> &[Delegation] {
-    match &targets.delegations {
-        Some(delegations) => &delegations.roles,
-        None => &[],
+/// The delegations of targets metadata.
+pub(crate) fn delegated_by(body: &Body) -> &[Delegation] {
+    match body {
+        Body::Targets(targets) => match &targets.delegations {
+            Some(delegations) => &delegations.roles,
+            None => &[],
+        },
+        _ => &[],
     }
 }
 

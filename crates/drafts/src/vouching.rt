@@ -2,8 +2,9 @@
 use crate::folder::Folder;
 use crate::roles::kind_of;
 use command_support::{Fault, Notes};
+use drafting::{Look, look_at};
 use keys_roles::{KeyTable, RoleRule};
-use metadata::{Body, Delegations, Document, Kind, Root, read_document};
+use metadata::{Body, Delegations, Document, Kind, Root};
 use std::alloc::{AllocError, Global};
 use std::io::Write;
 
@@ -58,9 +59,25 @@ fn add_of_file(
     role: &str,
     rules: &mut Vec<Vouching>,
 ) -> Result<(), Fault> {
-    match read_document(alloc, kind, bytes) {
-        Ok(document) => add_of_document(alloc, &document, role, rules),
+    let mut gathering = Gathering { role, rules };
+    match look_at(alloc, kind, bytes, &mut gathering) {
+        Ok(()) => Ok(()),
         Err(fault) => Err(Fault::from(fault)),
+    }
+}
+
+// Looks for the rules of a role, and adds them.
+#[derive(Drop)]
+struct Gathering<'a, 'b> {
+    role: &'a str,
+    rules: &'b mut Vec<Vouching>,
+}
+
+impl Look for Gathering<'_, '_> {
+    type Seen = ();
+
+    fn look(&mut self, alloc: Global, document: &Document<'_>) -> Result<(), AllocError> {
+        add_of_document(alloc, document, self.role, self.rules)
     }
 }
 
@@ -69,7 +86,7 @@ fn add_of_document(
     document: &Document<'_>,
     role: &str,
     rules: &mut Vec<Vouching>,
-) -> Result<(), Fault> {
+) -> Result<(), AllocError> {
     match &document.body {
         Body::Root(root) => {
             let vouching = copied(alloc, rule_in(root, role), &root.keys, document.signed)?;

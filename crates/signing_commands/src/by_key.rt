@@ -1,8 +1,8 @@
 //! `sign --key`: signs drafts by a key that is kept in three files.
-use crate::documents::{book_fault, has_bytes};
+use crate::books::{BookAt, BookWork, book_fault, has_bytes, worked_over};
 use crate::files::{KeyFiles, book_place};
 use crate::judging::{Judged, have_key};
-use command_support::{Fault, Notes, Slip, connected, moment, print};
+use command_support::{Fault, Notes, Slip, moment, print};
 use drafts::{
     Folder, Said, changes_of, held_said, owners_of, read_said, rules_for, sign_order,
     target_of_layout,
@@ -11,8 +11,7 @@ use keys_roles::KeyId;
 use lms::KeyPair;
 use metadata::{Moment, SignedFile, read_signed};
 use signing::{Book, SignFileFault, SignOnceFault, leaf_of, sign_file_once, sign_file_with};
-use sqlite::{Alter, Connection, FileStore};
-use sqlite_disk::Disk;
+use sqlite::Alter;
 use std::alloc::Global;
 use std::io::{IsTerminal, Write};
 
@@ -40,14 +39,30 @@ pub fn sign_in<O: Write, E: Write>(
     if !asked.yes && !rt.stdin().is_terminal() {
         return Err(unasked(rt));
     }
-    let files = KeyFiles::read(rt, asked.key, notes)?;
     let book = book_place(rt, asked.key)?;
-    if !has_bytes(rt, book.as_str()) {
+    let files = KeyFiles::read(rt, asked.key, notes)?;
+    signed_by(rt, asked, book.as_str(), &files, now, out, notes)
+}
+
+fn signed_by<O: Write, E: Write>(
+    rt: &HostRuntime,
+    asked: SigningIn<'_>,
+    book: &str,
+    files: &KeyFiles,
+    now: Moment,
+    out: &mut O,
+    notes: &mut Notes<'_, E>,
+) -> Result<(), Fault> {
+    if !has_bytes(rt, book) {
         notes.warn(&book, &"no such book");
         return Err(Fault::Slip(Slip::Book));
     }
-    let conn = connected(rt, book.as_str(), notes)?;
-    let mut signing = Signing {
+    let at = BookAt {
+        place: book,
+        name: asked.key,
+        known: false,
+    };
+    let signing = Signing {
         rt,
         asked,
         folder: Folder::new(rt, asked.folder),
@@ -55,7 +70,7 @@ pub fn sign_in<O: Write, E: Write>(
         now,
         done: 0,
     };
-    signed_in(conn, &mut signing, out, notes)
+    worked_over(rt, at, &mut Telling { signing, out }, notes)
 }
 
 // Without a terminal nobody can be asked.
@@ -68,46 +83,33 @@ fn unasked(rt: &HostRuntime) -> Fault {
     }
 }
 
-// The same over the book's connection to two files, which is closed behind it.
-fn signed_in<D: Disk + Drop, O: Write, E: Write>(
-    conn: Connection<FileStore<D>>,
-    signing: &mut Signing<'_>,
-    out: &mut O,
-    notes: &mut Notes<'_, E>,
-) -> Result<(), Fault> {
-    let (done, conn) = signed_over(conn, signing, out, notes);
-    if let Some(conn) = conn {
-        let _ = conn.close();
-    }
-    done
+// A signing whose lines are printed.
+#[derive(Drop)]
+struct Telling<'a, 'o, O: Write> {
+    signing: Signing<'a>,
+    out: &'o mut O,
 }
 
-fn signed_over<S: Alter + Drop, O: Write, E: Write>(
-    conn: Connection<S>,
-    signing: &mut Signing<'_>,
-    out: &mut O,
-    notes: &mut Notes<'_, E>,
-) -> (Result<(), Fault>, Option<Connection<S>>) {
-    match Book::open(signing.rt.alloc(), conn) {
-        Ok(book) => {
-            let mut book = book;
-            let done = signing.sign_all(&mut book, out, notes);
-            (done, Some(book.into_connection()))
-        }
-        Err(fault) => {
-            notes.tell(&signing.asked.key, &fault);
-            (Err(book_fault(fault)), None)
-        }
+impl<O: Write> BookWork for Telling<'_, '_, O> {
+    type Done = ();
+
+    fn work<S: Alter, E: Write>(
+        &mut self,
+        book: &mut Book<S>,
+        _is_new: bool,
+        notes: &mut Notes<'_, E>,
+    ) -> Result<(), Fault> {
+        self.signing.sign_all(book, self.out, notes)
     }
 }
 
 // A signing that is under way, and how many documents are signed.
-#[derive(Drop)]
+#[derive(Clone, Copy)]
 struct Signing<'a> {
     rt: &'a HostRuntime,
     asked: SigningIn<'a>,
     folder: Folder<'a>,
-    files: KeyFiles,
+    files: &'a KeyFiles,
     now: Moment,
     done: u64,
 }
@@ -124,28 +126,51 @@ impl Signing<'_> {
         notes: &mut Notes<'_, E>,
     ) -> Result<(), Fault> {
         let pair = self.files.pair(self.rt, notes)?;
+        self.sign_by(book, &pair, out, notes)
+    }
+
+    fn sign_by<S: Alter, O: Write, E: Write>(
+        &mut self,
+        book: &mut Book<S>,
+        pair: &KeyPair,
+        out: &mut O,
+        notes: &mut Notes<'_, E>,
+    ) -> Result<(), Fault> {
         if book.registered(&self.files.half.id).is_none() {
             notes.warn(&self.asked.key, &"its book does not have the key");
             return Err(Fault::Slip(Slip::Book));
         }
         let roles = self.roles(notes)?;
-        for order in 0..5u8 {
-            for role in &roles {
-                if sign_order(role.as_str()) == order {
-                    self.sign(book, &pair, role.as_str(), out, notes)?;
-                }
-            }
-            if order == 0 {
-                self.sign_layouts(book, &pair, out, notes)?;
-                self.sign_links(book, &pair, out, notes)?;
-            }
-        }
+        self.sign_each(book, pair, &roles, out, notes)?;
         if self.done == 0 {
             notes.warn(
                 &self.asked.folder,
                 &"no document that the key may sign and has not signed",
             );
             return Err(Fault::Slip(Slip::Nothing));
+        }
+        Ok(())
+    }
+
+    // Signs the documents of these roles, and layouts and links, in their order.
+    fn sign_each<S: Alter, O: Write, E: Write>(
+        &mut self,
+        book: &mut Book<S>,
+        pair: &KeyPair,
+        roles: &[String],
+        out: &mut O,
+        notes: &mut Notes<'_, E>,
+    ) -> Result<(), Fault> {
+        for order in 0..5u8 {
+            for role in roles {
+                if sign_order(role.as_str()) == order {
+                    self.sign(book, pair, role.as_str(), out, notes)?;
+                }
+            }
+            if order == 0 {
+                self.sign_layouts(book, pair, out, notes)?;
+                self.sign_links(book, pair, out, notes)?;
+            }
         }
         Ok(())
     }
@@ -160,17 +185,30 @@ impl Signing<'_> {
     ) -> Result<(), Fault> {
         for name in &self.folder.chain_files("layouts", notes)? {
             let name = name.as_str();
-            let place = format!(in self.alloc(); "layouts/{name}")?;
             if let Some(target) = target_of_layout(self.alloc(), name)? {
-                let target = target.as_str();
-                let bytes = self.bytes_at(place.as_str(), notes)?;
-                if self.is_layout_wanted(name, target, &bytes, notes)? {
-                    self.judged().judge_layout(book, target, &bytes, notes)?;
-                    self.sign_chain(book, pair, place.as_str(), &bytes, out, notes)?;
-                }
+                self.sign_layout(book, pair, name, target.as_str(), out, notes)?;
             }
         }
         Ok(())
+    }
+
+    // Signs the layout of a target, if it is wanted.
+    fn sign_layout<S: Alter, O: Write, E: Write>(
+        &mut self,
+        book: &mut Book<S>,
+        pair: &KeyPair,
+        name: &str,
+        target: &str,
+        out: &mut O,
+        notes: &mut Notes<'_, E>,
+    ) -> Result<(), Fault> {
+        let place = format!(in self.alloc(); "layouts/{name}")?;
+        let bytes = self.bytes_at(place.as_str(), notes)?;
+        if !self.is_layout_wanted(name, target, &bytes, notes)? {
+            return Ok(());
+        }
+        self.judged().judge_layout(book, target, &bytes, notes)?;
+        self.sign_chain(book, pair, place.as_str(), &bytes, out, notes)
     }
 
     fn is_layout_wanted<E: Write>(
@@ -196,15 +234,28 @@ impl Signing<'_> {
         notes: &mut Notes<'_, E>,
     ) -> Result<(), Fault> {
         for name in &self.folder.chain_files("links", notes)? {
-            let name = name.as_str();
-            let place = format!(in self.alloc(); "links/{name}")?;
-            let bytes = self.bytes_at(place.as_str(), notes)?;
-            let is_wanted = self.asked.documents.is_empty() || self.is_asked(name);
-            if is_wanted && is_unsigned(self.alloc(), &bytes)? {
-                self.sign_chain(book, pair, place.as_str(), &bytes, out, notes)?;
-            }
+            self.sign_link(book, pair, name.as_str(), out, notes)?;
         }
         Ok(())
+    }
+
+    // Signs a link, if it is wanted.
+    fn sign_link<S: Alter, O: Write, E: Write>(
+        &mut self,
+        book: &mut Book<S>,
+        pair: &KeyPair,
+        name: &str,
+        out: &mut O,
+        notes: &mut Notes<'_, E>,
+    ) -> Result<(), Fault> {
+        let place = format!(in self.alloc(); "links/{name}")?;
+        let bytes = self.bytes_at(place.as_str(), notes)?;
+        let is_wanted = self.asked.documents.is_empty() || self.is_asked(name);
+        if !is_wanted || !is_unsigned(self.alloc(), &bytes)? {
+            return Ok(());
+        }
+        self.judged().judge_link(book, name, &bytes, notes)?;
+        self.sign_chain(book, pair, place.as_str(), &bytes, out, notes)
     }
 
     // Signs a layout or a link.
@@ -301,11 +352,23 @@ impl Signing<'_> {
         notes: &mut Notes<'_, E>,
     ) -> Result<(), Fault> {
         let bytes = self.folder.draft_or_none(role, notes)?;
-        self.judged().judge(book, role, &bytes, notes)?;
-        if !self.is_agreed(role, &bytes, notes)? {
+        self.sign_bytes(book, pair, role, &bytes, out, notes)
+    }
+
+    fn sign_bytes<S: Alter, O: Write, E: Write>(
+        &mut self,
+        book: &mut Book<S>,
+        pair: &KeyPair,
+        role: &str,
+        bytes: &[u8],
+        out: &mut O,
+        notes: &mut Notes<'_, E>,
+    ) -> Result<(), Fault> {
+        self.judged().judge(book, role, bytes, notes)?;
+        if !self.is_agreed(role, bytes, notes)? {
             return Ok(());
         }
-        let signed = self.signed(book, pair, role, &bytes, notes)?;
+        let signed = self.signed(book, pair, role, bytes, notes)?;
         self.folder.put_draft(role, &signed, notes)?;
         self.done = self.done.saturating_add(1);
         self.tell(role, &signed, out, notes)
@@ -350,9 +413,18 @@ impl Signing<'_> {
             return Ok(true);
         }
         let said = read_said(self.alloc(), role, bytes)?;
-        let held = held_said(self.alloc(), self.folder, role, notes)?;
-        self.ask(role, held.as_ref(), &said, notes)?;
+        self.ask_of(role, &said, notes)?;
         Ok(is_yes(self.rt))
+    }
+
+    fn ask_of<E: Write>(
+        &self,
+        role: &str,
+        said: &Said,
+        notes: &mut Notes<'_, E>,
+    ) -> Result<(), Fault> {
+        let held = held_said(self.alloc(), self.folder, role, notes)?;
+        self.ask(role, held.as_ref(), said, notes)
     }
 
     // What the draft changes, and the question.
@@ -385,7 +457,7 @@ impl Signing<'_> {
         };
         let count = self.files.half.leaves();
         let text = format!(in self.alloc(); "signed {role} with leaf {leaf} of {count}\n")?;
-        if u64::from(leaf) * 4 >= u64::from(count) * 3 {
+        if (u64::from(leaf) + 1) * 4 >= u64::from(count) * 3 {
             notes.warn(
                 &self.asked.key,
                 &"a quarter of its leaves or fewer are left",

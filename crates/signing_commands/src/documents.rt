@@ -1,14 +1,16 @@
 //! `sign`: signs a document by a leaf that no other document gets.
+use crate::books::{BookAt, BookWork, book_fault, worked_over};
 use crate::seeds::seed_at;
-use command_support::{DOCUMENT_LIMIT, Fault, Notes, connected, moment, print, read_at_most};
+use command_support::{DOCUMENT_LIMIT, Fault, Notes, moment, print, read_at_most};
+use drafts::typed_kind;
 use keys_roles::{Key, KeyId, key_id};
 use lms::{KeyPair, Params, SigningHeight};
-use signing::{Book, BookFault, Seed, SignFileFault, sign_file_with};
-use sqlite::{Alter, Connection, FileStore};
-use sqlite_disk::Disk;
+use metadata::read_signed;
+use reasons::place_of;
+use signing::{Book, Seed, SignFileFault, sign_file_with};
+use sqlite::Alter;
 use std::alloc::Global;
-use std::fs;
-use std::io::{ErrorKind, IsTerminal, Write};
+use std::io::{IsTerminal, Write};
 
 /// What is signed, and by what: the files of the book, the seed and the document, and the parameters of the key; and whether the book
 /// has to be there and has to have the key.
@@ -52,8 +54,24 @@ pub fn sign<O: Write, E: Write>(
     let _now = moment(rt, at)?;
     let seed = seed_at(rt, asked.seed, notes)?;
     let bytes = read_at_most(rt, asked.file, DOCUMENT_LIMIT, notes)?;
+    warn_of_shape(rt.alloc(), asked.file, &bytes, notes);
     let signed = signed_by(rt, &seed, asked, &bytes, notes)?;
     print(out, &signed, notes)
+}
+
+// Warns where the document is none of the kind that it says it is: it would be denied once it is signed.
+fn warn_of_shape<E: Write>(alloc: Global, name: &str, bytes: &[u8], notes: &mut Notes<'_, E>) {
+    let Ok(file) = read_signed(alloc, bytes) else {
+        return;
+    };
+    let Some(kind) = typed_kind(file.signed) else {
+        return;
+    };
+    if let Ok(Some(place)) = place_of(alloc, kind, bytes) {
+        if let Ok(told) = format!(in alloc; "it would be denied: {place}") {
+            notes.warn(&name, &told);
+        }
+    }
 }
 
 fn signed_by<E: Write>(
@@ -63,66 +81,44 @@ fn signed_by<E: Write>(
     bytes: &[u8],
     notes: &mut Notes<'_, E>,
 ) -> Result<Vec<u8>, Fault> {
-    if asked.known && !has_bytes(rt, asked.book) {
-        notes.tell(&asked.book, &"no such book");
-        return Err(Fault::UnknownKey);
-    }
-    let conn = connected(rt, asked.book, notes)?;
-    signed_in(rt, conn, seed, asked, bytes, notes)
+    let at = BookAt {
+        place: asked.book,
+        name: asked.book,
+        known: asked.known,
+    };
+    let mut work = Appending {
+        rt,
+        seed,
+        asked,
+        bytes,
+    };
+    worked_over(rt, at, &mut work, notes)
 }
 
-/// Whether a file is there and is not empty. One of which the system does not say so is opened, and then has its own fault.
-pub fn has_bytes(rt: &HostRuntime, path: &str) -> bool {
-    match fs::metadata(rt, path) {
-        Ok(found) => 0 < found.len(),
-        Err(error) => error.kind() != ErrorKind::NotFound,
-    }
+// Puts a signature to a document.
+#[derive(Clone, Copy)]
+struct Appending<'a> {
+    rt: &'a HostRuntime,
+    seed: &'a Seed,
+    asked: Signing<'a>,
+    bytes: &'a [u8],
 }
 
-// The document with the signature, by the book in two files. It is closed behind it, so that its file alone is whole.
-fn signed_in<D: Disk + Drop, E: Write>(
-    rt: &HostRuntime,
-    conn: Connection<FileStore<D>>,
-    seed: &Seed,
-    asked: Signing<'_>,
-    bytes: &[u8],
-    notes: &mut Notes<'_, E>,
-) -> Result<Vec<u8>, Fault> {
-    let (signed, conn) = signed_over(rt, conn, seed, asked, bytes, notes);
-    if let Some(conn) = conn {
-        let _ = conn.close();
-    }
-    signed
-}
+impl BookWork for Appending<'_> {
+    type Done = Vec<u8>;
 
-// The same by the book over a connection, which is given back where a book was opened.
-fn signed_over<S: Alter + Drop, E: Write>(
-    rt: &HostRuntime,
-    conn: Connection<S>,
-    seed: &Seed,
-    asked: Signing<'_>,
-    bytes: &[u8],
-    notes: &mut Notes<'_, E>,
-) -> (Result<Vec<u8>, Fault>, Option<Connection<S>>) {
-    let is_new = conn.schema().tables.is_empty();
-    if is_new && asked.known {
-        notes.tell(&asked.book, &"no book");
-        return (Err(Fault::UnknownKey), Some(conn));
-    }
-    match Book::open(rt.alloc(), conn) {
-        Ok(book) => {
-            let mut book = book;
-            if is_new {
-                notes.warn(&asked.book, &"a new book");
-            }
-            tell_of_tree(rt, asked.params, notes);
-            let signed = signed_with(rt.alloc(), &mut book, seed, asked, bytes, notes);
-            (signed, Some(book.into_connection()))
+    fn work<S: Alter, E: Write>(
+        &mut self,
+        book: &mut Book<S>,
+        is_new: bool,
+        notes: &mut Notes<'_, E>,
+    ) -> Result<Vec<u8>, Fault> {
+        let asked = self.asked;
+        if is_new {
+            notes.warn(&asked.book, &"a new book");
         }
-        Err(fault) => {
-            notes.tell(&asked.book, &fault);
-            (Err(book_fault(fault)), None)
-        }
+        tell_of_tree(self.rt, asked.params, notes);
+        signed_with(self.rt.alloc(), book, self.seed, asked, self.bytes, notes)
     }
 }
 
@@ -174,15 +170,5 @@ fn told<E: Write>(fault: SignFileFault, asked: Signing<'_>, notes: &mut Notes<'_
             book_fault(fault)
         }
         SignFileFault::OutOfMemory => Fault::Memory,
-    }
-}
-
-/// What a fault of a book comes to.
-pub fn book_fault(fault: BookFault) -> Fault {
-    match fault {
-        BookFault::LeavesSpent => Fault::LeavesSpent,
-        BookFault::Damaged => Fault::Damaged,
-        BookFault::UnknownKey | BookFault::Database => Fault::Database,
-        BookFault::OutOfMemory => Fault::Memory,
     }
 }

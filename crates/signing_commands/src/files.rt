@@ -1,23 +1,18 @@
 //! A key as three files: `NAME.seed`, `NAME.key` with its public object, and `NAME.book`.
-use crate::documents::{book_fault, has_bytes, tell_of_tree};
+use crate::books::{BookAt, BookWork, book_fault, has_bytes, worked_over};
+use crate::documents::tell_of_tree;
 use crate::seeds::seed_at;
-use canonical_json::member;
-use command_support::{
-    Fault, Notes, OWNER_ALONE, Slip, connected, file_fault, moment, print, read_at_most,
-};
+use command_support::{Fault, Notes, OWNER_ALONE, Slip, file_fault, moment, print, read_at_most};
+use drafts::{KEY_FILE_LIMIT, key_in};
 use keys_roles::{Key, KeyId, key_id, key_object};
 use lms::{KeyPair, OtsType, Params, SigningHeight, public_of};
 use signing::{Book, Seed};
-use sqlite::{Alter, Connection, FileStore};
-use sqlite_disk::Disk;
+use sqlite::Alter;
 use std::alloc::{AllocError, Global};
 use std::fs::{self, File};
 use std::io::{self, Write};
 use std::os::unix::fs::OpenOptionsExt;
 use std::random::RandomSource;
-
-// A key file has the key object, and a line end.
-const MOST: usize = 256;
 
 // The mode of the public half, less the process's mask.
 const FOR_ALL: u32 = 0o666;
@@ -38,8 +33,8 @@ impl PublicHalf {
         notes: &mut Notes<'_, E>,
     ) -> Result<PublicHalf, Fault> {
         let place = format!(in rt.alloc(); "{name}.key")?;
-        let bytes = read_at_most(rt, place.as_str(), MOST, notes)?;
-        let Some(public) = public_in(rt.alloc(), &bytes)? else {
+        let bytes = read_at_most(rt, place.as_str(), KEY_FILE_LIMIT, notes)?;
+        let Some(Key::Lms(public)) = key_in(rt.alloc(), &bytes)? else {
             notes.tell(&place, &"no key object of the scheme lms-sha256");
             return Err(Fault::File);
         };
@@ -61,7 +56,7 @@ impl PublicHalf {
 }
 
 /// A key that was read from its files.
-#[derive(Drop)]
+#[derive(Clone, Copy)]
 pub struct KeyFiles {
     pub seed: Seed,
     pub half: PublicHalf,
@@ -99,28 +94,6 @@ impl KeyFiles {
 /// Where the book of a key stands.
 pub fn book_place(rt: &HostRuntime, name: &str) -> Result<String, AllocError> {
     format!(in rt.alloc(); "{name}.book")
-}
-
-// The public key whose object the bytes are, with a line end or without one.
-fn public_in(alloc: Global, bytes: &[u8]) -> Result<Option<[u8; 56]>, AllocError> {
-    let object = bytes.strip_suffix(b"\n").unwrap_or(bytes);
-    let Some(public) = public_said(object) else {
-        return Ok(None);
-    };
-    let spelled = key_object(alloc, &Key::Lms(public))?;
-    Ok(if spelled.as_slice() == object {
-        Some(public)
-    } else {
-        None
-    })
-}
-
-fn public_said(object: &[u8]) -> Option<[u8; 56]> {
-    let digits = member(member(object, "keyval")?, "public")?;
-    let digits = digits.strip_prefix(b"\"")?.strip_suffix(b"\"")?;
-    let mut public = [0; 56];
-    hex::decode_to_slice(digits, &mut public).ok()?;
-    Some(public)
 }
 
 // The parameters that a public key says, its type of tree and of one-time signatures (RFC 8554, section 5.3), where a signer has them.
@@ -162,17 +135,53 @@ pub fn make_key<O: Write, E: Write>(
             return Err(Fault::Slip(Slip::Exists));
         }
     }
-    let [seed_place, key_place, book_place] = &places;
-    let seed = new_seed(rt, seed_place.as_str(), notes)?;
-    tell_of_tree(rt, params, notes);
-    let conn = connected(rt, book_place.as_str(), notes)?;
-    let id = registered_in(rt, conn, &seed, params, notes)?;
-    let mut object = key_object(alloc, &Key::Lms(public_of(&seed, params)))?;
-    object.push(b'\n')?;
-    made(rt, key_place.as_str(), &object, FOR_ALL, notes)?;
+    let [seed, key, book] = &places;
+    let id = made_at(
+        rt,
+        seed.as_str(),
+        key.as_str(),
+        book.as_str(),
+        params,
+        notes,
+    )?;
     let mut line = metadata::Digest::new(id.0).text(alloc)?;
     line.push('\n')?;
     print(out, line.as_bytes(), notes)
+}
+
+// Makes the three files, and answers the key's id.
+fn made_at<E: Write>(
+    rt: &HostRuntime,
+    seed: &str,
+    key: &str,
+    book: &str,
+    params: Params,
+    notes: &mut Notes<'_, E>,
+) -> Result<KeyId, Fault> {
+    let seed = new_seed(rt, seed, notes)?;
+    registered(rt, &seed, key, book, params, notes)
+}
+
+// Makes the book and the public half of a seed's key.
+fn registered<E: Write>(
+    rt: &HostRuntime,
+    seed: &Seed,
+    key: &str,
+    book: &str,
+    params: Params,
+    notes: &mut Notes<'_, E>,
+) -> Result<KeyId, Fault> {
+    tell_of_tree(rt, params, notes);
+    let at = BookAt {
+        place: book,
+        name: "the book",
+        known: false,
+    };
+    let id = worked_over(rt, at, &mut Registering { seed, params }, notes)?;
+    let mut object = key_object(rt.alloc(), &Key::Lms(public_of(seed, params)))?;
+    object.push(b'\n')?;
+    made(rt, key, &object, FOR_ALL, notes)?;
+    Ok(id)
 }
 
 // Whether anything stands there.
@@ -224,40 +233,25 @@ fn written(rt: &HostRuntime, place: &str, bytes: &[u8], mode: u32) -> io::Result
     file.sync_all()
 }
 
-// Registers the key in a new book, which is closed behind it.
-fn registered_in<D: Disk + Drop, E: Write>(
-    rt: &HostRuntime,
-    conn: Connection<FileStore<D>>,
-    seed: &Seed,
+// Registers a key in a book.
+#[derive(Clone, Copy)]
+struct Registering<'a> {
+    seed: &'a Seed,
     params: Params,
-    notes: &mut Notes<'_, E>,
-) -> Result<KeyId, Fault> {
-    let (id, conn) = registered_over(rt, conn, seed, params, notes);
-    if let Some(conn) = conn {
-        let _ = conn.close();
-    }
-    id
 }
 
-fn registered_over<S: Alter + Drop, E: Write>(
-    rt: &HostRuntime,
-    conn: Connection<S>,
-    seed: &Seed,
-    params: Params,
-    notes: &mut Notes<'_, E>,
-) -> (Result<KeyId, Fault>, Option<Connection<S>>) {
-    match Book::open(rt.alloc(), conn) {
-        Ok(book) => {
-            let mut book = book;
-            let id = match book.register(seed, params) {
-                Ok(id) => Ok(id),
-                Err(fault) => Err(book_fault(fault)),
-            };
-            (id, Some(book.into_connection()))
-        }
-        Err(fault) => {
-            notes.tell(&"the book", &fault);
-            (Err(book_fault(fault)), None)
+impl BookWork for Registering<'_> {
+    type Done = KeyId;
+
+    fn work<S: Alter, E: Write>(
+        &mut self,
+        book: &mut Book<S>,
+        _is_new: bool,
+        _notes: &mut Notes<'_, E>,
+    ) -> Result<KeyId, Fault> {
+        match book.register(self.seed, self.params) {
+            Ok(id) => Ok(id),
+            Err(fault) => Err(book_fault(fault)),
         }
     }
 }

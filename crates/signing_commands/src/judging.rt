@@ -1,11 +1,12 @@
 //! What is looked at before a leaf is spent on a draft, in this order; the first that fails is the answer.
 use command_support::{Denial, Fault, Notes, Slip};
 use drafts::{
-    Folder, Said, Vouching, has_signatures, held_said, owners_of, read_said, read_said_of,
-    rules_for,
+    Folder, Said, Vouching, has_signatures, held_said, kind_of, owners_of, read_said, read_said_of,
+    rules_for, see_link,
 };
 use keys_roles::KeyId;
 use metadata::{Kind, Moment, SignedFile, read_signed};
+use reasons::place_of;
 use signing::{Book, keeps, leaf_of};
 use sqlite::Alter;
 use std::alloc::Global;
@@ -30,11 +31,33 @@ impl Judged<'_> {
         bytes: &[u8],
         notes: &mut Notes<'_, E>,
     ) -> Result<(), Fault> {
-        let said = read_said(self.alloc, role, bytes)?;
+        match read_said(self.alloc, role, bytes) {
+            Ok(said) => self.judge_said(book, role, &said, notes),
+            Err(fault) => {
+                self.tell_place(kind_of(role), role, bytes, notes);
+                Err(fault)
+            }
+        }
+    }
+
+    // Tells where a document is at fault that is none of its kind.
+    fn tell_place<E: Write>(&self, kind: Kind, name: &str, bytes: &[u8], notes: &mut Notes<'_, E>) {
+        if let Ok(Some(place)) = place_of(self.alloc, kind, bytes) {
+            notes.warn(&name, &place);
+        }
+    }
+
+    fn judge_said<S: Alter, E: Write>(
+        &self,
+        book: &Book<S>,
+        role: &str,
+        said: &Said,
+        notes: &mut Notes<'_, E>,
+    ) -> Result<(), Fault> {
         self.see_rule(role, notes)?;
         self.see_book(book, notes)?;
         let held = held_said(self.alloc, self.folder, role, notes)?;
-        self.see_said(role, held.as_ref(), &said, notes)
+        self.see_said(role, held.as_ref(), said, notes)
     }
 
     /// Judges a layout: its shape; whether its owners' rule has the key; whether the book knows each signature of the key; and its expiry.
@@ -45,14 +68,42 @@ impl Judged<'_> {
         bytes: &[u8],
         notes: &mut Notes<'_, E>,
     ) -> Result<(), Fault> {
-        let said = read_said_of(self.alloc, Kind::Layout, bytes)?;
-        let owners = owners_of(self.alloc, self.folder, target, notes)?;
-        if !have_key(&owners, self.id) {
-            notes.warn(&target, &"its layout's owners do not have this key");
-            return Err(Fault::Slip(Slip::Stranger));
+        match read_said_of(self.alloc, Kind::Layout, bytes) {
+            Ok(said) => {
+                self.see_owners(target, notes)?;
+                self.see_book(book, notes)?;
+                self.see_expiry(target, &said, notes)
+            }
+            Err(fault) => {
+                self.tell_place(Kind::Layout, target, bytes, notes);
+                Err(fault)
+            }
         }
-        self.see_book(book, notes)?;
-        self.see_expiry(target, &said, notes)
+    }
+
+    /// Judges a link: its shape, and whether the book knows each signature of the key.
+    pub fn judge_link<S: Alter, E: Write>(
+        &self,
+        book: &Book<S>,
+        name: &str,
+        bytes: &[u8],
+        notes: &mut Notes<'_, E>,
+    ) -> Result<(), Fault> {
+        if let Err(fault) = see_link(self.alloc, bytes, self.id) {
+            notes.warn(&name, &"it is no link");
+            return Err(fault);
+        }
+        self.see_book(book, notes)
+    }
+
+    // The owners of a target's layout have the key.
+    fn see_owners<E: Write>(&self, target: &str, notes: &mut Notes<'_, E>) -> Result<(), Fault> {
+        let owners = owners_of(self.alloc, self.folder, target, notes)?;
+        if have_key(&owners, self.id) {
+            return Ok(());
+        }
+        notes.warn(&target, &"its layout's owners do not have this key");
+        Err(Fault::Slip(Slip::Stranger))
     }
 
     fn see_expiry<E: Write>(
@@ -102,33 +153,63 @@ impl Judged<'_> {
     ) -> Result<(), Fault> {
         for role in &self.folder.held_roles(notes)? {
             let held = self.folder.held(role.as_str(), notes)?;
-            self.see_entries(book, role.as_str(), held, notes)?;
+            self.see_entries(book, role.as_str(), held.as_deref(), notes)?;
         }
+        self.see_drafts(book, notes)?;
+        self.see_chains(book, "layouts", notes)?;
+        self.see_chains(book, "links", notes)
+    }
+
+    // The same of the drafts.
+    fn see_drafts<S: Alter, E: Write>(
+        &self,
+        book: &Book<S>,
+        notes: &mut Notes<'_, E>,
+    ) -> Result<(), Fault> {
         for role in &self.folder.roles(notes)? {
             let draft = self.folder.draft(role.as_str(), notes)?;
-            self.see_entries(book, role.as_str(), draft, notes)?;
-        }
-        for name in &self.folder.chain_files("layouts", notes)? {
-            let name = name.as_str();
-            let place = format!(in self.alloc; "layouts/{name}")?;
-            let bytes = self.folder.file(place.as_str(), notes)?;
-            self.see_entries(book, name, bytes, notes)?;
+            self.see_entries(book, role.as_str(), draft.as_deref(), notes)?;
         }
         Ok(())
     }
 
-    /// The book knows each signature of the key that these bytes have.
-    pub fn see_entries<S: Alter, E: Write>(
+    // And of the layouts and links in one of the folder's two for them.
+    fn see_chains<S: Alter, E: Write>(
+        &self,
+        book: &Book<S>,
+        inner: &str,
+        notes: &mut Notes<'_, E>,
+    ) -> Result<(), Fault> {
+        for name in &self.folder.chain_files(inner, notes)? {
+            self.see_chain(book, inner, name.as_str(), notes)?;
+        }
+        Ok(())
+    }
+
+    fn see_chain<S: Alter, E: Write>(
+        &self,
+        book: &Book<S>,
+        inner: &str,
+        name: &str,
+        notes: &mut Notes<'_, E>,
+    ) -> Result<(), Fault> {
+        let place = format!(in self.alloc; "{inner}/{name}")?;
+        let bytes = self.folder.file(place.as_str(), notes)?;
+        self.see_entries(book, name, bytes.as_deref(), notes)
+    }
+
+    // The book knows each signature of the key that these bytes have.
+    fn see_entries<S: Alter, E: Write>(
         &self,
         book: &Book<S>,
         role: &str,
-        bytes: Option<Vec<u8>>,
+        bytes: Option<&[u8]>,
         notes: &mut Notes<'_, E>,
     ) -> Result<(), Fault> {
         let Some(bytes) = bytes else {
             return Ok(());
         };
-        let file = read_signed(self.alloc, &bytes)?;
+        let file = read_signed(self.alloc, bytes)?;
         if self.are_kept(book, &file) {
             return Ok(());
         }
@@ -168,7 +249,7 @@ impl Judged<'_> {
         Ok(())
     }
 
-    // Each listed file is in the folder with its length, or is listed so in what is held.
+    // Each listed file is in the folder, or is listed so in what is held.
     fn see_files<E: Write>(
         &self,
         held: Option<&Said>,
@@ -176,10 +257,12 @@ impl Judged<'_> {
         notes: &mut Notes<'_, E>,
     ) -> Result<(), Fault> {
         for file in &said.files {
-            let waits = self.folder.length_of_file(&file.digest)? == Some(u64::from(file.length));
             let is_held = held.is_some_and(|held| held.has_file(file.length, &file.digest));
-            if !waits && !is_held {
-                notes.warn(&file.path, &"its file is neither in the folder nor held");
+            if !is_held && !self.folder.has_file(&file.digest, file.length, notes)? {
+                notes.warn(
+                    &file.path,
+                    &"its file is neither in the folder nor held, or is another one",
+                );
                 return Err(Fault::Slip(Slip::File));
             }
         }

@@ -1,11 +1,10 @@
 //! How many leaves keys have left.
-use crate::documents::{book_fault, has_bytes};
+use crate::books::{BookAt, BookWork, has_bytes, worked_over};
 use crate::files::{PublicHalf, book_place};
-use command_support::{Fault, Notes, Slip, connected};
+use command_support::{Fault, Notes, Slip};
 use keys_roles::KeyId;
 use signing::Book;
-use sqlite::{Alter, Connection, FileStore};
-use sqlite_disk::Disk;
+use sqlite::Alter;
 use std::io::Write;
 
 /// Of each key of these names, by its public half and its book: its id, how many leaves are left, and of how many.
@@ -36,34 +35,30 @@ fn used_of<E: Write>(
         notes.warn(&book, &"no such book");
         return Err(Fault::Slip(Slip::Book));
     }
-    let conn = connected(rt, book.as_str(), notes)?;
-    used_in(rt, conn, id)
+    let at = BookAt {
+        place: book.as_str(),
+        name: book.as_str(),
+        known: false,
+    };
+    worked_over(rt, at, &mut Counting { id }, notes)
 }
 
-// The same over the book's connection to two files, which is closed behind it.
-fn used_in<D: Disk + Drop>(
-    rt: &HostRuntime,
-    conn: Connection<FileStore<D>>,
-    id: &KeyId,
-) -> Result<u32, Fault> {
-    let (used, conn) = used_over(rt, conn, id);
-    if let Some(conn) = conn {
-        let _ = conn.close();
-    }
-    used
+// Counts the leaves of a key.
+#[derive(Clone, Copy)]
+struct Counting<'a> {
+    id: &'a KeyId,
 }
 
-fn used_over<S: Alter + Drop>(
-    rt: &HostRuntime,
-    conn: Connection<S>,
-    id: &KeyId,
-) -> (Result<u32, Fault>, Option<Connection<S>>) {
-    match Book::open(rt.alloc(), conn) {
-        Ok(book) => {
-            let used = count_of(&book, id);
-            (Ok(used), Some(book.into_connection()))
-        }
-        Err(fault) => (Err(book_fault(fault)), None),
+impl BookWork for Counting<'_> {
+    type Done = u32;
+
+    fn work<S: Alter, E: Write>(
+        &mut self,
+        book: &mut Book<S>,
+        _is_new: bool,
+        _notes: &mut Notes<'_, E>,
+    ) -> Result<u32, Fault> {
+        Ok(count_of(book, self.id))
     }
 }
 

@@ -2,6 +2,7 @@
 //! a key.
 #![tactic(auto)]
 
+mod books;
 mod by_key;
 mod documents;
 mod files;
