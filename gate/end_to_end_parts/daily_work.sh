@@ -59,6 +59,7 @@ clients_get() {
 }
 
 an_index_lives() {
+    a_life_is_typed
     local here=$PWD now=$at
     mkdir -p "$folder/lives" && cd "$folder/lives"
     everything_once
@@ -173,4 +174,37 @@ cron_renews_the_timestamp() {
 is_not_due() {
     "$release" show --at $now --db repository.db --due 2 >"$folder/out" || fail "due behind its renewal: $(cat "$folder/out")"
     clients_get tool.tgz
+}
+
+# A whole life of a small index as somebody types it at a terminal, with names of their own choice: two of three root keys, a target with a layout of two
+# steps, a team's delegation, and all of it published. Counted with short names and an answer to each question, it is below the thousand characters of
+# five minutes at forty words a minute.
+a_life_is_typed() {
+    local here=$PWD line typed
+    mkdir -p "$folder/typed" && cd "$folder/typed"
+    cp "$repository/gate/end_to_end_parts/life.txt" .
+    echo 'echo hello' >hello.sh && echo archive >tool.tgz && echo script >tool.sh && echo format >fmt
+    while read -r line; do
+        eval "\"$release\" ${line#release } $(typed_words "$line")" >"$folder/out" 2>"$folder/err" </dev/null || fail "$line: $(cat "$folder/err")"
+        checks=$((checks + 1))
+    done <life.txt
+    is_told '  granted, 8 bytes'
+    typed=$(short_names <life.txt | wc -c)
+    typed=$((typed + 2 * $(grep -c '^release sign ' life.txt) + 2 * $(grep -c ' --key [^ ]* --key ' life.txt)))
+    [ "$typed" -lt 1000 ] || fail "$typed characters are typed"
+    cd "$here"
+}
+
+# typed_words LINE: what stands behind it here, where nobody is asked and keys are made in no time.
+typed_words() {
+    case $1 in
+        'release sign '*) echo --yes ;;
+        'release key '*) echo --ots "${ots:-4}" --height 5 ;;
+    esac
+}
+
+# The same with the names of keys shortened to one letter or two.
+short_names() {
+    sed -E 's/\b(alice|bob|carol|owner|builder|packer)\b/x/g; s/ targets snapshot timestamp / x x x /; s/(targets|snapshot|timestamp|tools)\.key/x.key/g
+        s/packer tools$/x x/; s/ x tools$/ x x/; s/--key (targets|snapshot|timestamp|tools)/--key x/g'
 }

@@ -10,16 +10,13 @@ books() {
     done
 }
 
-# spares LINE COMMAND ..: the command ends with status 1 and this line, and no book changes. But for 1 to 5, the line before it says of what.
+# spares LINE COMMAND ..: the command ends with status 1 and this line, and no book changes. The line before it says of what.
 spares() {
     local before
     before=$(books)
     ends_with 1 "$@"
     [ "$(books)" = "$before" ] || fail "a book changed: ${*:2}"
-    case $1 in
-        'denied '[1-5]' '*) ;;
-        *) names 'warning: ' ;;
-    esac
+    names 'warning: '
     checks=$((checks + 1))
 }
 
@@ -66,6 +63,8 @@ refusals_cost_no_leaf() {
     one_document_a_version
     leaves_run_out
     the_old_forms_warn
+    links_are_judged
+    several_keys_sign
     cd "$here"
 }
 
@@ -100,6 +99,7 @@ no_document_is_signed() {
     refuses_to_sign 'denied 2 NotCanonical' targets
     cp "$folder/good" d/targets.json
     slips_by_hand 'denied 3 WrongShape' targets targets 'it["targets"]["hello.txt"]["length"] = "6"'
+    names 'warning: targets: signed.targets'
     slips_by_hand 'denied 3 WrongShape' targets targets 'del it["version"]'
     slips_by_hand 'denied 3 WrongShape' root root 'it["expires"] = "2031-02-29T00:00:00Z"'
     slips_by_hand 'denied 4 WrongType' targets targets 'it["_type"] = "snapshot"'
@@ -184,7 +184,7 @@ what_is_held_is_followed() {
     slips_by_hand 'denied 22 RoleDropped' snapshot snapshot 'del it["meta"]["tools.json"]'
 }
 
-# An expiry at the moment; a snapshot and a timestamp over what lacks signatures; files that are not there, or have other lengths.
+# An expiry at the moment; a snapshot and a timestamp over what lacks signatures; files that are not there, or have other lengths or bytes.
 moments_orders_and_files() {
     local file text
     refuses_to_sign 'refused order' timestamp
@@ -196,7 +196,7 @@ moments_orders_and_files() {
     refuses_to_sign 'refused past' targets
     draft targets --expires 83d
     file=d/files/$(sha256sum other.txt | cut -c1-64)
-    for text in '' 'longer than it is'; do
+    for text in '' 'longer than it is' 'OTHER\n'; do
         printf "$text" >"$file"
         refuses_to_sign 'refused file' targets
         names 'warning: other.txt: '
@@ -255,12 +255,12 @@ links_with_leaf() {
     rm links/links/made.json
 }
 
-# Behind three quarters of the leaves a warning comes with each signature, and behind the last one there is none.
+# As soon as a quarter of the leaves is left a warning comes with each signature, and behind the last one there is none.
 leaves_run_out() {
     local few='warning: other: a quarter of its leaves or fewer are left\n'
     keeps_leaves other 0 21
     links_with_leaf 22 ''
-    keeps_leaves other 23 23
+    links_with_leaf 23 "$few"
     links_with_leaf 24 "$few"
     keeps_leaves other 25 30
     links_with_leaf 31 "$few"
@@ -296,4 +296,58 @@ the_old_forms_warn() {
     rm typed.book*
     cp typed.json f/root.json
     spares 'refused book' sign --at $now --key root --in f --yes root
+}
+
+# A document that is none of its kind is warned of by the old form, which signs what it is given.
+ill_documents_are_warned_of() {
+    by_hand f/root.json 'it["version"] = 0'
+    "$release" sign --book typed.book --seed root.seed --ots "${ots:-4}" --height 5 f/root.json >typed.json 2>"$folder/err"
+    names 'warning: f/root.json: it would be denied: signed.version'
+    rm typed.book*
+}
+
+# A link is judged as all else is: by its shape, and by whether the book knows what the key has signed here.
+links_are_judged() {
+    ill_documents_are_warned_of
+    makes_key maker
+    echo one >one
+    "$release" draft --at $now --in made link --step one --products one >/dev/null
+    cp made/links/one.json "$folder/good"
+    by_hand made/links/one.json 'it["products"]["one"] = {"sha256": "00"}'
+    spares 'denied 3 WrongShape' sign --at $now --key maker --in made --yes
+    names 'warning: one.json: it is no link'
+    cp "$folder/good" made/links/one.json
+    cp maker.book older
+    "$release" sign --at $now --key maker --in made --yes >"$folder/out"
+    is_told 'signed links/one.json with leaf 0 of 32'
+    spares 'refused signed' draft --at $now --in made link --step one --products made
+    cp maker.book newer
+    cp older maker.book
+    "$release" draft --at $now --in made link --step two --materials one >/dev/null
+    spares 'refused book' sign --at $now --key maker --in made --yes two.json
+    cp newer maker.book
+    "$release" sign --at $now --key maker --in made --yes >"$folder/out"
+    is_told 'signed links/two.json with leaf 1 of 32'
+    "$release" draft --at $now --in made --anew link --step one --products made >"$folder/out"
+    is_told '  0 of 1 have signed'
+}
+
+# Several keys are made and sign in one call each, in the order in which they are named; before the first of them signs, the files of all are there.
+several_keys_sign() {
+    "$release" key --at $at --new left right --ots 4 --height 5 >"$folder/ids"
+    same "the IDs of two keys" <(for name in left right; do head -c -1 $name.key | sha256sum | cut -c1-64; done) "$folder/ids"
+    spares 'refused exists' key --at $at --new third right --ots 4 --height 5
+    [ ! -e third.seed ] || fail "a key is made beside one that stands already"
+    "$release" draft --at $now --in pair root root=2@left.key,right.key targets=left.key snapshot=left.key timestamp=left.key >/dev/null
+    mv right.book away
+    spares 'refused book' sign --at $now --key left --key right --in pair --yes
+    mv away right.book
+    spares 'refused stranger' sign --at $now --key maker --key left --in pair --yes root
+    "$release" sign --at $now --key left --key right --in pair --yes >"$folder/out"
+    is_told 'signed root with leaf 0 of 32'
+    "$release" show --at $now --in pair >"$folder/out"
+    is_told '  2 of 2 have signed'
+    spares 'refused nothing' sign --at $now --key right --key left --in pair --yes
+    usage key --new left --seed left.seed
+    usage key --seed left.seed --ots 4 --height 5 right
 }

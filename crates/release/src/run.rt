@@ -10,7 +10,7 @@ use client_commands::{Getting, Server as Remote, get, update};
 use command_line::{Subcommand, Task, task};
 use command_support::{Fault, Notes, moment, print, read};
 use exporting::export;
-use signing_commands::{Signing, SigningIn, leaves_of, make_key, print_key, sign, sign_in};
+use signing_commands::{Signing, SigningIn, leaves_of, make_keys, print_key, sign, sign_in};
 use std::io::Write;
 
 /// Does what the words ask for. What it prints goes to `out`, why it was not done to `err`, and the exit status is
@@ -116,7 +116,7 @@ fn perform_signing<O: Write, E: Write>(
 ) -> Result<(), Fault> {
     match subcommand {
         Subcommand::Key { seed, params } => print_key(rt, seed, *params, at, out, notes),
-        Subcommand::NewKey { name, params } => make_key(rt, name, *params, at, out, notes),
+        Subcommand::NewKey { names, params } => make_keys(rt, names, *params, at, out, notes),
         Subcommand::Sign {
             book,
             seed,
@@ -128,14 +128,14 @@ fn perform_signing<O: Write, E: Write>(
             sign(rt, signing, at, out, notes)
         }
         Subcommand::SignIn {
-            key,
+            keys,
             folder,
             documents,
             yes,
             again,
         } => {
             let signing = SigningIn {
-                key,
+                keys,
                 folder,
                 documents,
                 yes: *yes,

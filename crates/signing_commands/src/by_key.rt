@@ -15,19 +15,20 @@ use sqlite::Alter;
 use std::alloc::Global;
 use std::io::{IsTerminal, Write};
 
-/// What is signed: the key, the folder, the documents that are named, whether it is done without being asked, and whether another document
-/// of a kind and version that the key has signed is.
+/// What is signed: the keys, the folder, the documents that are named, whether it is done without being asked, and whether another document
+/// of a kind and version that a key has signed is.
 #[derive(Clone, Copy)]
 pub struct SigningIn<'a> {
-    pub key: &'a str,
+    pub keys: &'a [String],
     pub folder: &'a str,
     pub documents: &'a [String],
     pub yes: bool,
     pub again: bool,
 }
 
-/// Signs the drafts that are named, or all whose rules have the key and that lack its signature, in the order root, targets metadata,
-/// snapshot, timestamp, and prints a line for each. Before a leaf is spent each is judged. No book is made.
+/// Signs by each key in turn the drafts that are named, or all whose rules have the key and that lack its signature, in the order root,
+/// targets metadata, snapshot, timestamp, and prints a line for each. Before a leaf is spent each is judged, and before the first one the
+/// files of all keys are looked for. No book is made.
 pub fn sign_in<O: Write, E: Write>(
     rt: &HostRuntime,
     asked: SigningIn<'_>,
@@ -39,34 +40,56 @@ pub fn sign_in<O: Write, E: Write>(
     if !asked.yes && !rt.stdin().is_terminal() {
         return Err(unasked(rt));
     }
-    let book = book_place(rt, asked.key)?;
-    let files = KeyFiles::read(rt, asked.key, notes)?;
-    signed_by(rt, asked, book.as_str(), &files, now, out, notes)
+    for key in asked.keys {
+        see_key(rt, key.as_str(), notes)?;
+    }
+    let mut done = 0u64;
+    for key in asked.keys {
+        done = done.saturating_add(signed_by(rt, asked, key.as_str(), now, out, notes)?);
+    }
+    if done == 0 {
+        notes.warn(
+            &asked.folder,
+            &"no document that the key may sign and has not signed",
+        );
+        return Err(Fault::Slip(Slip::Nothing));
+    }
+    Ok(())
 }
 
-fn signed_by<O: Write, E: Write>(
-    rt: &HostRuntime,
-    asked: SigningIn<'_>,
-    book: &str,
-    files: &KeyFiles,
-    now: Moment,
-    out: &mut O,
-    notes: &mut Notes<'_, E>,
-) -> Result<(), Fault> {
-    if !has_bytes(rt, book) {
+// The key's three files are there.
+fn see_key<E: Write>(rt: &HostRuntime, key: &str, notes: &mut Notes<'_, E>) -> Result<(), Fault> {
+    let _files = KeyFiles::read(rt, key, notes)?;
+    let book = book_place(rt, key)?;
+    if !has_bytes(rt, book.as_str()) {
         notes.warn(&book, &"no such book");
         return Err(Fault::Slip(Slip::Book));
     }
+    Ok(())
+}
+
+// Signs by one key: how many documents.
+fn signed_by<O: Write, E: Write>(
+    rt: &HostRuntime,
+    asked: SigningIn<'_>,
+    key: &str,
+    now: Moment,
+    out: &mut O,
+    notes: &mut Notes<'_, E>,
+) -> Result<u64, Fault> {
+    let files = KeyFiles::read(rt, key, notes)?;
+    let book = book_place(rt, key)?;
     let at = BookAt {
-        place: book,
-        name: asked.key,
+        place: book.as_str(),
+        name: key,
         known: false,
     };
     let signing = Signing {
         rt,
         asked,
+        key,
         folder: Folder::new(rt, asked.folder),
-        files,
+        files: &files,
         now,
         done: 0,
     };
@@ -91,15 +114,16 @@ struct Telling<'a, 'o, O: Write> {
 }
 
 impl<O: Write> BookWork for Telling<'_, '_, O> {
-    type Done = ();
+    type Done = u64;
 
     fn work<S: Alter, E: Write>(
         &mut self,
         book: &mut Book<S>,
         _is_new: bool,
         notes: &mut Notes<'_, E>,
-    ) -> Result<(), Fault> {
-        self.signing.sign_all(book, self.out, notes)
+    ) -> Result<u64, Fault> {
+        self.signing.sign_all(book, self.out, notes)?;
+        Ok(self.signing.done)
     }
 }
 
@@ -108,6 +132,7 @@ impl<O: Write> BookWork for Telling<'_, '_, O> {
 struct Signing<'a> {
     rt: &'a HostRuntime,
     asked: SigningIn<'a>,
+    key: &'a str,
     folder: Folder<'a>,
     files: &'a KeyFiles,
     now: Moment,
@@ -137,19 +162,11 @@ impl Signing<'_> {
         notes: &mut Notes<'_, E>,
     ) -> Result<(), Fault> {
         if book.registered(&self.files.half.id).is_none() {
-            notes.warn(&self.asked.key, &"its book does not have the key");
+            notes.warn(&self.key, &"its book does not have the key");
             return Err(Fault::Slip(Slip::Book));
         }
         let roles = self.roles(notes)?;
-        self.sign_each(book, pair, &roles, out, notes)?;
-        if self.done == 0 {
-            notes.warn(
-                &self.asked.folder,
-                &"no document that the key may sign and has not signed",
-            );
-            return Err(Fault::Slip(Slip::Nothing));
-        }
-        Ok(())
+        self.sign_each(book, pair, &roles, out, notes)
     }
 
     // Signs the documents of these roles, and layouts and links, in their order.
@@ -459,7 +476,7 @@ impl Signing<'_> {
         let text = format!(in self.alloc(); "signed {role} with leaf {leaf} of {count}\n")?;
         if (u64::from(leaf) + 1) * 4 >= u64::from(count) * 3 {
             notes.warn(
-                &self.asked.key,
+                &self.key,
                 &"a quarter of its leaves or fewer are left",
             );
         }

@@ -113,29 +113,50 @@ fn params_of(public: &[u8; 56]) -> Option<Params> {
     Some(Params { ots, height })
 }
 
-/// Makes the three files of a key, seed and book for their owner alone, and prints the key's id. Where one of them stands nothing is made.
-pub fn make_key<O: Write, E: Write>(
+/// Makes the three files of each key, seed and book for their owner alone, and prints the keys' ids, a line each. Where one of them stands
+/// nothing is made.
+pub fn make_keys<O: Write, E: Write>(
     rt: &HostRuntime,
-    name: &str,
+    names: &[String],
     params: Params,
     at: Option<u64>,
     out: &mut O,
     notes: &mut Notes<'_, E>,
 ) -> Result<(), Fault> {
     let _now = moment(rt, at)?;
-    let alloc = rt.alloc();
-    let places = [
-        format!(in alloc; "{name}.seed")?,
-        format!(in alloc; "{name}.key")?,
-        book_place(rt, name)?,
-    ];
-    for place in &places {
+    for name in names {
+        see_free(rt, name.as_str(), notes)?;
+    }
+    for name in names {
+        make_key(rt, name.as_str(), params, out, notes)?;
+    }
+    Ok(())
+}
+
+// None of the three files stands.
+fn see_free<E: Write>(rt: &HostRuntime, name: &str, notes: &mut Notes<'_, E>) -> Result<(), Fault> {
+    for ending in ["seed", "key", "book"] {
+        let place = format!(in rt.alloc(); "{name}.{ending}")?;
         if has_bytes(rt, place.as_str()) || stands(rt, place.as_str()) {
-            notes.warn(place, &"it stands already");
+            notes.warn(&place, &"it stands already");
             return Err(Fault::Slip(Slip::Exists));
         }
     }
-    let [seed, key, book] = &places;
+    Ok(())
+}
+
+// Makes the three files of a key, and prints its id.
+fn make_key<O: Write, E: Write>(
+    rt: &HostRuntime,
+    name: &str,
+    params: Params,
+    out: &mut O,
+    notes: &mut Notes<'_, E>,
+) -> Result<(), Fault> {
+    let alloc = rt.alloc();
+    let seed = format!(in alloc; "{name}.seed")?;
+    let key = format!(in alloc; "{name}.key")?;
+    let book = book_place(rt, name)?;
     let id = made_at(
         rt,
         seed.as_str(),

@@ -14,7 +14,7 @@ mod seeds;
 pub use by_key::{SigningIn, sign_in};
 pub use command_support::{Fault, Notes};
 pub use documents::{Signing, sign};
-pub use files::make_key;
+pub use files::make_keys;
 pub use key::print_key;
 pub use leaves::leaves_of;
 pub use lms::Params;

@@ -1,0 +1,95 @@
+# Layouts and links that are drafted anew, that come in, and whose names begin alike: what stands signed stays, and what is listed is what is there.
+
+# Two targets, of which the name of one begins with that of the other; each has a layout with a step of the same name.
+chains_stay_apart() {
+    local here=$PWD now=$at name
+    mkdir -p "$folder/chains" && cd "$folder/chains"
+    for name in root online owner first second; do makes_key $name; done
+    draft_alone root root=root.key targets=online.key snapshot=online.key timestamp=online.key
+    signs root
+    wants 0 'begun\n' '' init --at $now --db repository.db d/root.json
+    echo one >a && echo two >a.build
+    draft targets --add a --add a.build
+    draft layout --target a --owners owner.key build=first.key:a
+    draft layout --target a.build --owners owner.key build=second.key:a.build
+    signs owner
+    links_find_their_targets
+    what_is_signed_stays
+    a_refused_layout_leaves_the_last_one
+    references_follow
+    cd "$here"
+}
+
+# links_of TARGET: the links that its reference names, and the paths that the draft lists.
+links_of() {
+    python3 - "$1" <<'PYTHON'
+import json, sys
+it = json.load(open("d/targets.json"))["signed"]["targets"]
+print(*sorted(it[sys.argv[1]]["custom"]["layout"]["links"]))
+print(*sorted(it))
+PYTHON
+}
+
+# step ID8 KEY: the first digits of a key's ID, as the name of a link has them.
+digits_of() {
+    head -c -1 "$1.key" | sha256sum | cut -c1-8
+}
+
+# A link whose step two layouts have needs its target to be told, and one of a step that the target's layout has not is refused.
+links_find_their_targets() {
+    local name
+    for name in first second; do
+        "$release" draft --at $now --in $name link --step build --products "$([ $name = first ] && echo a || echo a.build)" >/dev/null
+        "$release" sign --at $now --key $name --in $name --yes >/dev/null
+    done
+    slips path draft --at $now --db repository.db --in d take first/links/build.json
+    "$release" draft --at $now --in other link --step pack --products a >/dev/null
+    "$release" sign --at $now --key first --in other --yes >/dev/null
+    slips path draft --at $now --db repository.db --in d take --target a other/links/pack.json
+    draft take --target a first/links/build.json
+    draft take --target a.build second/links/build.json
+    same "the links of a" <(echo "a.build.$(digits_of first).json") <(links_of a | head -n 1)
+    same "the links of a.build" <(echo "a.build.build.$(digits_of second).json") <(links_of a.build | head -n 1)
+}
+
+# A layout and a link that have signatures are drafted anew where that is said, and else stay as they are.
+what_is_signed_stays() {
+    cp -r d before
+    slips signed draft --at $now --db repository.db --in d layout --target a --owners owner.key build=first.key:a
+    slips signed draft --at $now --in first link --step build --products a.build
+    diff -r before d || fail "a refused draft of a layout changes the folder"
+    checks=$((checks + 1))
+}
+
+# A layout whose reference is refused: what was there stays, and where none was, there is none.
+a_refused_layout_leaves_the_last_one() {
+    rm -r before && cp -r d before
+    draft targets --add c=a
+    cp d/targets.json targets.json
+    ends_with 1 'refused path' draft --at $now --db repository.db --in d layout --target none --owners owner.key build=first.key:a
+    same "targets metadata behind a refused layout" targets.json d/targets.json
+    [ ! -e d/layouts/none.layout.json ] || fail "a refused layout stands"
+    same "the layout of a" before/layouts/a.layout.json d/layouts/a.layout.json
+    draft targets --remove c
+}
+
+# Behind a layout that is drafted anew the reference names the links that are there.
+references_follow() {
+    draft --anew layout --target a --owners owner.key build=first.key,second.key:a
+    is_told 'layout of a'
+    same "the links of a, drafted anew" <(echo "a.build.$(digits_of first).json") <(links_of a | head -n 1)
+    signs owner
+    slips file sign --at $now --key online --in d --yes targets.json
+    grep -qx 'warning: a.layout.json: it has changed since it was listed; draft the targets metadata again' "$folder/err" || fail "not told: $(cat "$folder/err")"
+    draft targets
+    signs online targets.json
+    draft seal
+    signs online snapshot.json
+    signs online timestamp.json
+    "$release" show --at $now --in d --db repository.db >"$folder/out"
+    is_told ready
+    is_told 'next: release publish --db repository.db --in d'
+    wants 0 '{"accepted":3,"same":0}\n' '' publish --at $now --db repository.db --in d
+    serves_target a
+    serves_target a.build
+}
