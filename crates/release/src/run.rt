@@ -10,7 +10,7 @@ use client_commands::{Getting, Server as Remote, get, update};
 use command_line::{Subcommand, Task, task};
 use command_support::{Fault, Notes, moment, print, read};
 use exporting::export;
-use signing_commands::{Signing, SigningIn, leaves_of, make_key, print_key, sign, sign_in};
+use signing_commands::{Params, Signing, SigningIn, leaves_of, make_key, print_key, sign, sign_in};
 use std::io::Write;
 
 /// Does what the words ask for. What it prints goes to `out`, why it was not done to `err`, and the exit status is
@@ -116,7 +116,7 @@ fn perform_signing<O: Write, E: Write>(
 ) -> Result<(), Fault> {
     match subcommand {
         Subcommand::Key { seed, params } => print_key(rt, seed, *params, at, out, notes),
-        Subcommand::NewKey { name, params } => make_key(rt, name, *params, at, out, notes),
+        Subcommand::NewKey { names, params } => make_keys(rt, names, *params, at, out, notes),
         Subcommand::Sign {
             book,
             seed,
@@ -127,24 +127,54 @@ fn perform_signing<O: Write, E: Write>(
             let signing = Signing::new(book, seed, *params, *known, file);
             sign(rt, signing, at, out, notes)
         }
-        Subcommand::SignIn {
+        other => sign_by_keys(rt, other, at, out, notes),
+    }
+}
+
+// Signs drafts by each of the keys in turn.
+fn sign_by_keys<O: Write, E: Write>(
+    rt: &HostRuntime,
+    subcommand: &Subcommand,
+    at: Option<u64>,
+    out: &mut O,
+    notes: &mut Notes<'_, E>,
+) -> Result<(), Fault> {
+    let Subcommand::SignIn {
+        keys,
+        folder,
+        documents,
+        yes,
+        again,
+    } = subcommand
+    else {
+        return Ok(());
+    };
+    for key in keys {
+        let signing = SigningIn {
             key,
             folder,
             documents,
-            yes,
-            again,
-        } => {
-            let signing = SigningIn {
-                key,
-                folder,
-                documents,
-                yes: *yes,
-                again: *again,
-            };
-            sign_in(rt, signing, at, out, notes)
-        }
-        _ => Ok(()),
+            yes: *yes,
+            again: *again,
+        };
+        sign_in(rt, signing, at, out, notes)?;
     }
+    Ok(())
+}
+
+// Makes each of the keys.
+fn make_keys<O: Write, E: Write>(
+    rt: &HostRuntime,
+    names: &[String],
+    params: Params,
+    at: Option<u64>,
+    out: &mut O,
+    notes: &mut Notes<'_, E>,
+) -> Result<(), Fault> {
+    for name in names {
+        make_key(rt, name, params, at, out, notes)?;
+    }
+    Ok(())
 }
 
 // Where a client fetches from.
