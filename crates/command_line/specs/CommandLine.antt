@@ -154,6 +154,11 @@ abbrev pub LacksPair : List Row → Type 0
 LacksPair rows = Lacks rows (codes "book") × Lacks rows (codes "seed") × Lacks rows (codes "ots") × Lacks rows (codes "height")
     × (false ≡ is_used rows (codes "known"))
 
+-- the names of new keys: that of `--new` first, and then the operands in order
+abbrev pub HasNames : List Row → List (String Global) → Type 0
+HasNames rows names = (first : String Global) × (others : List (String Global)) × (names ≡ first ∷ others) × HasText rows (codes "new") first
+    × MayHaveTexts rows (codes "name") most_documents others
+
 -- the width of the one-time signatures and the height of the tree
 abbrev pub HasParams : List Row → Params → Type 0
 HasParams rows p = HasNumber rows (codes "ots") 1 8 (width p.ots) × HasNumber rows (codes "height") 5 10 (height (signing_type p.height))
@@ -179,7 +184,7 @@ name_of (Export db to) = codes "export"
 name_of (Get db server within out path) = codes "get"
 name_of (Init db root) = codes "init"
 name_of (Key seed params) = codes "key"
-name_of (NewKey name params) = codes "key"
+name_of (NewKey names params) = codes "key"
 name_of (Prune place) = codes "prune"
 name_of (Publish place documents) = codes "publish"
 name_of (PublishIn place folder) = codes "publish"
@@ -187,7 +192,7 @@ name_of (Put place file) = codes "put"
 name_of (Serve db port count read_only) = codes "serve"
 name_of (Show showing) = codes "show"
 name_of (Sign book seed params known file) = codes "sign"
-name_of (SignIn key folder documents agreed again) = codes "sign"
+name_of (SignIn keys folder documents agreed again) = codes "sign"
 name_of (Update db server within) = codes "update"
 
 -- the subcommand has the options and operands that were found
@@ -199,8 +204,8 @@ HasArguments rows (Get db server within out path) = HasText rows (codes "db") db
     × MayHaveNumber rows (codes "within") 1 most_seconds within
     × HasText rows (codes "out") out × HasText rows (codes "path") path
 HasArguments rows (Init db root) = HasText rows (codes "db") db × HasText rows (codes "root") root
-HasArguments rows (Key seed params) = HasText rows (codes "seed") seed × HasParams rows params × Lacks rows (codes "new")
-HasArguments rows (NewKey name params) = HasText rows (codes "new") name × HasParamsOr rows params × Lacks rows (codes "seed")
+HasArguments rows (Key seed params) = HasText rows (codes "seed") seed × HasParams rows params × Lacks rows (codes "new") × Lacks rows (codes "name")
+HasArguments rows (NewKey names params) = HasNames rows names.items × HasParamsOr rows params × Lacks rows (codes "seed")
 HasArguments rows (Prune place) = HasPlace rows place
 HasArguments rows (Publish place documents) = HasPlace rows place × HasTexts rows (codes "document") most_documents documents.items × Lacks rows (codes "in")
 HasArguments rows (PublishIn place folder) = HasPlace rows place × HasText rows (codes "in") folder × Lacks rows (codes "document")
@@ -211,7 +216,7 @@ HasArguments rows (Show s) = HasShowing rows s
 HasArguments rows (Sign book seed params known file) = HasText rows (codes "book") book × HasText rows (codes "seed") seed × HasParams rows params
     × (known ≡ is_used rows (codes "known")) × HasTexts rows (codes "file") 1 (file ∷ []) × Lacks rows (codes "key") × Lacks rows (codes "in")
     × (false ≡ is_used rows (codes "yes")) × (false ≡ is_used rows (codes "again"))
-HasArguments rows (SignIn key folder documents agreed again) = HasText rows (codes "key") key × HasText rows (codes "in") folder
+HasArguments rows (SignIn keys folder documents agreed again) = HasTexts rows (codes "key") most_documents keys.items × HasText rows (codes "in") folder
     × MayHaveTexts rows (codes "file") most_documents documents.items × (agreed ≡ is_used rows (codes "yes")) × (again ≡ is_used rows (codes "again"))
     × LacksPair rows
 HasArguments rows (Update db server within) = HasText rows (codes "db") db × HasServer rows server

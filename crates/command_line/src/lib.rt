@@ -3,7 +3,7 @@
 
 ghost use Rattle.std.specs.Prelude.{◌≡◌, ◌⊎◌, ◌∷◌, [], Err, IfOk, codes, map, string_bytes};
 ghost use Rattle.clap.specs.Words.{found_of, kind_of, rows_of, subcommand_rows_of};
-ghost use Rattle.command_line.specs.CommandLine.{AsksForHelp, HasShowing, HasTexts, IsAsked, IsTask, IsTaskOf, Lacks, LacksPair, Says};
+ghost use Rattle.command_line.specs.CommandLine.{AsksForHelp, HasNames, HasShowing, HasTexts, IsAsked, IsTask, IsTaskOf, Lacks, LacksPair, Says};
 
 mod drafts;
 mod given;
@@ -20,7 +20,7 @@ use given::{
     within_of,
 };
 use limits::MOST_DOCUMENTS;
-use std::alloc::Global;
+use std::alloc::{AllocError, Global};
 use tasks::Unread;
 pub use tasks::{
     Draft, Drafting, LayoutDraft, LinkDraft, Place, Server, Showing, Subcommand, TargetsDraft,
@@ -156,14 +156,33 @@ fn key_asked(alloc: Global, given: &ArgMatches<'_>) -> Result<Subcommand, Unread
         if is_left_out(given, "seed") {
             return Err(fault(alloc, NO_KEY));
         }
+        refuse(alloc, given, "name", "--seed <S>")?;
         let seed = text_of(alloc, given, "seed")?;
         let params = params_of(alloc, given)?;
         return Ok(Subcommand::Key { seed, params });
     }
     refuse(alloc, given, "seed", "--new <NAME>")?;
-    let name = text_of(alloc, given, "new")?;
+    let names = names_of(alloc, given)?;
     let params = params_or(alloc, given)?;
-    Ok(Subcommand::NewKey { name, params })
+    Ok(Subcommand::NewKey { names, params })
+}
+
+// The names of new keys.
+fn names_of(alloc: Global, given: &ArgMatches<'_>) -> Result<Vec<String>, Unread>
+    ensures { IfOk result (λ names. HasNames (rows_of (found_of given.now)) names.items) }
+{
+    let first = text_of(alloc, given, "new")?;
+    let others = texts_or_none(alloc, given, "name", MOST_DOCUMENTS)?;
+    let names = led(first, others)?;
+    Ok(names)
+}
+
+// The texts, with another one before them.
+fn led(first: String, mut others: Vec<String>) -> Result<Vec<String>, AllocError>
+    ensures { IfOk result (λ texts. texts.items ≡ first ∷ others.items) }
+{
+    others.insert(0, first)?;
+    Ok(others)
 }
 
 fn prune_asked(alloc: Global, given: &ArgMatches<'_>) -> Result<Subcommand, Unread>
@@ -285,11 +304,11 @@ fn sign_in(alloc: Global, given: &ArgMatches<'_>) -> Result<Subcommand, Unread>
     ensures { IfOk result (IsAsked (codes "sign") (rows_of (found_of given.now))) }
 {
     refuse_pair(alloc, given)?;
-    let key = text_of(alloc, given, "key")?;
+    let keys = texts_of(alloc, given, "key", MOST_DOCUMENTS)?;
     let folder = text_of(alloc, given, "in")?;
     let documents = texts_or_none(alloc, given, "file", MOST_DOCUMENTS)?;
     Ok(Subcommand::SignIn {
-        key,
+        keys,
         folder,
         documents,
         yes: is_given(given, "yes"),
@@ -297,7 +316,7 @@ fn sign_in(alloc: Global, given: &ArgMatches<'_>) -> Result<Subcommand, Unread>
     })
 }
 
-// Beside a key by its name stands no book and no seed.
+// Beside keys by their names stands no book and no seed.
 fn refuse_pair(alloc: Global, given: &ArgMatches<'_>) -> Result<(), Unread>
     ensures { IfOk result (λ _. LacksPair (rows_of (found_of given.now))) }
 {

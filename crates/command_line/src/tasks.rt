@@ -162,9 +162,9 @@ pub enum Subcommand {
         seed: String,
         params: Params,
     },
-    /// `key --new NAME [--ots W] [--height H]`: makes the three files of a key, of width 8 and height 10 where these are not given.
+    /// `key --new NAME [NAME ..] [--ots W] [--height H]`: makes the three files of each key, of width 8 and height 10 where these are not given.
     NewKey {
-        name: String,
+        names: Vec<String>,
         params: Params,
     },
     /// `prune --db FILE` or `prune --port P`: removes the documents and target files that the snapshot does not list.
@@ -206,10 +206,10 @@ pub enum Subcommand {
         known: bool,
         file: String,
     },
-    /// `sign --key NAME --in DIR [DOC ..] [--yes] [--again]`: signs drafts, those that are named or all that the key may sign, without being
-    /// asked where it is said so, and where it is said so also another document of a kind and version that the key has signed.
+    /// `sign --key NAME .. --in DIR [DOC ..] [--yes] [--again]`: signs drafts by each key, those that are named or all that the key may sign,
+    /// without being asked where it is said so, and where it is said so also another document of a kind and version that the key has signed.
     SignIn {
-        key: String,
+        keys: Vec<String>,
         folder: String,
         documents: Vec<String>,
         yes: bool,

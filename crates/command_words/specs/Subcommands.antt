@@ -131,7 +131,7 @@ abbrev pub with_key_pair : App → App
 with_key_pair a = with_rule (with_rule (with_rule a (option_rule (codes "seed"))) ots_rule) height_rule
 
 abbrev pub key_line : App
-key_line = with_rule (with_key_pair (begun_line (codes "key"))) (option_rule (codes "new"))
+key_line = with_rule (with_rule (with_key_pair (begun_line (codes "key"))) (option_rule (codes "new"))) (operands_rule (codes "name"))
 
 abbrev pub prune_line : App
 prune_line = placed_line (codes "prune")
@@ -152,12 +152,12 @@ shown_line = with_rule (with_rule (with_rule (begun_line (codes "show")) (option
 abbrev pub show_line : App
 show_line = with_rule (with_rule (with_rule (with_rule shown_line (many_rule (codes "key"))) (flag_rule (codes "json"))) (option_rule (codes "html"))) (operands_rule (codes "path"))
 
--- `sign` by a book and a seed, and by a key's three files over a folder of drafts
+-- `sign` by a book and a seed, and by the three files of each key over a folder of drafts
 abbrev pub by_book_line : App
 by_book_line = with_rule (with_key_pair (with_rule (begun_line (codes "sign")) (option_rule (codes "book")))) (flag_rule (codes "known"))
 
 abbrev pub sign_line : App
-sign_line = with_rule (with_rule (with_rule (with_rule (with_rule by_book_line (option_rule (codes "key"))) (option_rule (codes "in")))
+sign_line = with_rule (with_rule (with_rule (with_rule (with_rule by_book_line (many_rule (codes "key"))) (option_rule (codes "in")))
     (flag_rule (codes "yes"))) (flag_rule (codes "again"))) (operands_rule (codes "file"))
 
 abbrev pub update_line : App

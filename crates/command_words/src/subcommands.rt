@@ -171,16 +171,19 @@ pub fn init<'a>(alloc: Global) -> Result<Command<'a>, AllocError>
     )
 }
 
-/// `key [--at SECONDS] [--verbose] --seed S --ots W --height H` or `key [--at SECONDS] [--verbose] --new NAME [--ots W] [--height H]`
+/// `key [--at SECONDS] [--verbose] --seed S --ots W --height H` or `key [--at SECONDS] [--verbose] --new NAME [NAME ..] [--ots W]
+/// [--height H]`
 pub fn key<'a>(alloc: Global) -> Result<Command<'a>, AllocError>
     ensures line { IfOk result (λ c. app_of c ≡ key_line) }
     ensures local { IfOk result (λ c. (out-Command c).has_globals ≡ false) }
 {
-    let about = "Print the public key object of a seed, or make a key";
+    let about = "Print the public key object of a seed, or make keys";
     let command = begun(alloc, "key", about, texts::KEY)?;
     let command = with_key(alloc, command)?;
     let help = "Make NAME.seed, NAME.key and NAME.book, and print the key's ID";
-    with(command, option(alloc, "new", "NAME", help))
+    let command = with(command, option(alloc, "new", "NAME", help))?;
+    let help = "Another key to make, of the same width and height";
+    with(command, operands(alloc, "name", "NAME", help))
 }
 
 /// `prune [--at SECONDS] [--verbose] --db FILE` or `prune [--verbose] --port P`
@@ -257,15 +260,16 @@ fn shown<'a>(alloc: Global) -> Result<Command<'a>, AllocError>
     with(command, due(alloc))
 }
 
-/// `sign [--at SECONDS] [--verbose] --book B --seed S --ots W --height H [--known] DOC` or `sign [--at SECONDS] [--verbose] --key K --in DIR
-/// [DOC ..] [--yes] [--again]`
+/// `sign [--at SECONDS] [--verbose] --book B --seed S --ots W --height H [--known] DOC` or `sign [--at SECONDS] [--verbose] --key K .. --in
+/// DIR [DOC ..] [--yes] [--again]`
 pub fn sign<'a>(alloc: Global) -> Result<Command<'a>, AllocError>
     ensures line { IfOk result (λ c. app_of c ≡ sign_line) }
     ensures local { IfOk result (λ c. (out-Command c).has_globals ≡ false) }
 {
     let command = by_book(alloc)?;
-    let help = "The key: NAME of NAME.seed, NAME.key and NAME.book, in place of --seed and --book";
-    let command = with(command, option(alloc, "key", "NAME", help))?;
+    let help =
+        "A key: NAME of NAME.seed, NAME.key and NAME.book, in place of --seed and --book. Of several each signs in turn";
+    let command = with(command, many(alloc, "key", "NAME", help))?;
     let command = with(command, option(alloc, "in", "DIR", DRAFTS))?;
     let command = with(command, flag(alloc, "yes", "Sign without being asked"))?;
     let help = "Sign another document of a kind and version that this key has signed";
