@@ -81,6 +81,8 @@ references_follow() {
     signs owner
     slips file sign --at $now --key online --in d --yes targets.json
     grep -qx 'warning: a.layout.json: it has changed since it was listed; draft the targets metadata again' "$folder/err" || fail "not told: $(cat "$folder/err")"
+    "$release" show --at $now --in d >"$folder/out"
+    is_told 'next: release draft --in d targets --role targets'
     draft targets
     signs online targets.json
     draft seal

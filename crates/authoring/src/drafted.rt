@@ -3,7 +3,8 @@ use canonical_json::member;
 use command_support::{Fault, Notes};
 use drafts::{
     Folder, Said, SaidRule, Vouching, changes_of, has_signed, held_said, layout_in, links_in,
-    name_of_key, owners_of, read_said, read_said_of, rules_for, sign_order, target_of_layout,
+    listed_otherwise, name_of_key, owners_of, read_said, read_said_of, rules_for, sign_order,
+    target_of_layout,
 };
 use keys_roles::KeyId;
 use metadata::{Kind, Moment, SignedFile, read_signed};
@@ -81,10 +82,30 @@ impl Looking<'_> {
         self.is_sealed |= role == "timestamp";
         let bytes = self.folder.draft_or_none(role, notes)?;
         let said = read_said(self.alloc, role, &bytes)?;
+        self.see_listed(role, &said, notes)?;
         let held = held_said(self.alloc, self.folder, role, notes)?;
         let rules = rules_for(self.alloc, self.folder, role, notes)?;
         let rules = self.signers_in(&rules, &bytes)?;
         self.put_draft(role, held.as_ref(), &said, rules)
+    }
+
+    // Targets metadata that list a layout or a link otherwise than it stands by now are drafted again before they are signed.
+    fn see_listed<E: Write>(
+        &mut self,
+        role: &str,
+        said: &Said,
+        notes: &mut Notes<'_, E>,
+    ) -> Result<(), Fault> {
+        if listed_otherwise(self.alloc, self.folder, said, notes)?.is_none() {
+            return Ok(());
+        }
+        self.are_met = false;
+        let folder = self.folder.path();
+        let line = format!(in self.alloc;
+            "next: release draft --in {folder} targets --role {role}"
+        )?;
+        self.shown.next.push(line)?;
+        Ok(())
     }
 
     fn put_draft(

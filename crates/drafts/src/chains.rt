@@ -7,7 +7,7 @@ use command_support::{Fault, Notes};
 use drafting::{Look, look_at};
 use keys_roles::KeyId;
 use metadata::{
-    Body, Digest, Document, Kind, LayoutReference, ShapeFault, TargetPath, read_signed,
+    Body, Digest, Document, Kind, LayoutReference, ShapeFault, TargetPath, digest_of, read_signed,
 };
 use std::alloc::{AllocError, Global};
 use std::io::Write;
@@ -255,6 +255,42 @@ pub fn target_of_layout(alloc: Global, name: &str) -> Result<Option<String>, All
     match name.strip_suffix(".layout.json") {
         Some(flat) => Ok(Some(path_of(alloc, flat)?)),
         None => Ok(None),
+    }
+}
+
+/// The path of a layout or a link that these targets metadata list otherwise than it stands in the folder by now, where one is: it has been
+/// signed since, or another one has come.
+pub fn listed_otherwise<E: Write>(
+    alloc: Global,
+    folder: Folder<'_>,
+    said: &Said,
+    notes: &mut Notes<'_, E>,
+) -> Result<Option<String>, Fault> {
+    for name in &folder.chain_files("layouts", notes)? {
+        let path = path_of(alloc, name.as_str())?;
+        if !is_listed_so(alloc, folder, said, name.as_str(), path.as_str(), notes)? {
+            return Ok(Some(path));
+        }
+    }
+    Ok(None)
+}
+
+// Whether a file in `layouts` has the digest that is listed under its path, where one is.
+fn is_listed_so<E: Write>(
+    alloc: Global,
+    folder: Folder<'_>,
+    said: &Said,
+    name: &str,
+    path: &str,
+    notes: &mut Notes<'_, E>,
+) -> Result<bool, Fault> {
+    let Some(file) = said.listed(path) else {
+        return Ok(true);
+    };
+    let place = format!(in alloc; "layouts/{name}")?;
+    match folder.file(place.as_str(), notes)? {
+        Some(bytes) => Ok(digest_of(&bytes) == file.digest),
+        None => Ok(true),
     }
 }
 

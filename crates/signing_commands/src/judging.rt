@@ -1,11 +1,11 @@
 //! What is looked at before a leaf is spent on a draft, in this order; the first that fails is the answer.
 use command_support::{Denial, Fault, Notes, Slip};
 use drafts::{
-    Folder, Said, Vouching, has_signatures, held_said, kind_of, owners_of, path_of, read_said,
-    read_said_of, rules_for, see_link,
+    Folder, Said, Vouching, has_signatures, held_said, kind_of, listed_otherwise, owners_of,
+    read_said, read_said_of, rules_for, see_link,
 };
 use keys_roles::KeyId;
-use metadata::{Kind, Moment, SignedFile, digest_of, read_signed};
+use metadata::{Kind, Moment, SignedFile, read_signed};
 use reasons::place_of;
 use signing::{Book, keeps, leaf_of};
 use sqlite::Alter;
@@ -266,28 +266,14 @@ impl Judged<'_> {
                 return Err(Fault::Slip(Slip::File));
             }
         }
-        for name in &self.folder.chain_files("layouts", notes)? {
-            self.see_listed(name.as_str(), said, notes)?;
-        }
-        Ok(())
+        self.see_listed(said, notes)
     }
 
-    // A layout or a link that is listed is listed as it stands here: it may have been signed since.
-    fn see_listed<E: Write>(
-        &self,
-        name: &str,
-        said: &Said,
-        notes: &mut Notes<'_, E>,
-    ) -> Result<(), Fault> {
-        let path = path_of(self.alloc, name)?;
-        let Some(file) = said.listed(path.as_str()) else {
+    // Layouts and links are listed as they stand here: they may have been signed since.
+    fn see_listed<E: Write>(&self, said: &Said, notes: &mut Notes<'_, E>) -> Result<(), Fault> {
+        let Some(path) = listed_otherwise(self.alloc, self.folder, said, notes)? else {
             return Ok(());
         };
-        let place = format!(in self.alloc; "layouts/{name}")?;
-        let bytes = self.folder.file(place.as_str(), notes)?;
-        if bytes.is_none_or(|bytes| digest_of(&bytes) == file.digest) {
-            return Ok(());
-        }
         notes.warn(
             &path,
             &"it has changed since it was listed; draft the targets metadata again",
