@@ -13,7 +13,8 @@ mod vouching;
 
 pub use chains::{
     Referred, chain_name, layout_in, layout_name, layout_path, layout_said, link_name, link_path,
-    links_in, listed_otherwise, owners_of, path_of, reference_of, see_link, signed_step, target_of_layout,
+    links_in, listed_otherwise, owners_of, path_of, reference_of, see_link, signed_step,
+    target_of_layout,
 };
 pub use changes::changes_of;
 pub use command_support::{Fault, Notes, Slip};

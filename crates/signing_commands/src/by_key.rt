@@ -475,10 +475,7 @@ impl Signing<'_> {
         let count = self.files.half.leaves();
         let text = format!(in self.alloc(); "signed {role} with leaf {leaf} of {count}\n")?;
         if (u64::from(leaf) + 1) * 4 >= u64::from(count) * 3 {
-            notes.warn(
-                &self.key,
-                &"a quarter of its leaves or fewer are left",
-            );
+            notes.warn(&self.key, &"a quarter of its leaves or fewer are left");
         }
         print(out, text.as_bytes(), notes)
     }
