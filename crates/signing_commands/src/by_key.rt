@@ -69,10 +69,10 @@ fn see_key<E: Write>(rt: &HostRuntime, key: &str, notes: &mut Notes<'_, E>) -> R
 }
 
 // Signs by one key: how many documents.
-fn signed_by<O: Write, E: Write>(
-    rt: &HostRuntime,
-    asked: SigningIn<'_>,
-    key: &str,
+fn signed_by<'a, O: Write, E: Write>(
+    rt: &'a HostRuntime,
+    asked: SigningIn<'a>,
+    key: &'a str,
     now: Moment,
     out: &mut O,
     notes: &mut Notes<'_, E>,
