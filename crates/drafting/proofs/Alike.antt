@@ -1,7 +1,6 @@
 -- Values with the same members but for some names.
-use Rattle.std.proofs.Common.{◌≡◌, ◌≢◌, ℕ, List, [], ◌∷◌, ◌++◌, codes, get_or, refl, sym, ap, ◌∙◌, subst, arith, pos}
-use Rattle.std.specs.List.{AllByRecursion}
-use Rattle.canonical_json.specs.Json.{Json, integer, text, HasMember}
+use Rattle.std.proofs.Common.{◌≡◌, ◌≢◌, ℕ, List, [], ◌∷◌, ◌++◌, codes, get_or, refl, ap, arith, pos}
+use Rattle.canonical_json.specs.Json.{Json, integer, text}
 use Rattle.metadata.specs.Dates.{IsDateTime}
 use Rattle.drafting.specs.Members.{IsNoneOf, AlikeBut, Puts}
 use Rattle.drafting.specs.Drafts.{Follows}

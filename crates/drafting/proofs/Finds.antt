@@ -1,7 +1,7 @@
 -- Rows of a key table that a word finds.
-use Rattle.std.proofs.Common.{◌≡◌, ◌⊎◌, inl, inr, ℕ, zero, suc, ◌+◌, ◌<◌, ◌≤◌, List, [], ◌∷◌, ◌++◌, length, take, drop, get_or, map, refl, sym, ap, ◌∙◌, subst, arith}
+use Rattle.std.proofs.Common.{◌≡◌, ◌⊎◌, ℕ, zero, suc, ◌+◌, ◌<◌, ◌≤◌, List, [], ◌∷◌, ◌++◌, length, take, drop, get_or, refl, sym, ap, ◌∙◌, subst, arith}
 use Rattle.std.specs.List.{AllByRecursion}
-use Rattle.std.proofs.lemmas.List.{map-append, append_assoc}
+use Rattle.std.proofs.lemmas.List.{map-append}
 use Rattle.canonical_json.specs.Json.{Json, HasMember, text}
 use Rattle.keys_roles.specs.Plain as plain
 use Rattle.keys_roles.specs.Views.{id_text, key_view, rows_view}

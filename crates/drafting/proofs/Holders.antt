@@ -1,10 +1,10 @@
 -- Which ids the rules of roles have, row by row.
-use Rattle.std.proofs.Common.{◌≡◌, ◌⊎◌, inl, inr, ℕ, zero, suc, ◌<◌, List, [], ◌∷◌, ◌++◌, length, get_or, codes, string_bytes, refl, sym, ap, ◌∙◌, subst, arith}
+use Rattle.std.proofs.Common.{◌≡◌, ◌⊎◌, inl, inr, ℕ, zero, suc, ◌<◌, List, [], ◌∷◌, length, get_or, codes, string_bytes, refl, sym, subst, arith}
 use Rattle.std.specs.List.{remove}
 use Rattle.canonical_json.specs.Json.{Json, object, Members, member, HasMember, IsAmong}
-use Rattle.canonical_json.specs.View.{view, members_view}
+use Rattle.canonical_json.specs.View.{members_view}
 use Rattle.drafting.specs.Members.{AlikeBut, Keeps, Puts, PutsAll, IsObjectAt}
-use Rattle.drafting.specs.Roots.{HasId, IsListed, IsNamed, PutsTable}
+use Rattle.drafting.specs.Roots.{HasId, IsListed, IsNamed}
 use Rattle.drafting.specs.steps.Rules.{PutsOne}
 use Rattle.drafting.proofs.Rows.{Row, shown}
 

@@ -9,4 +9,6 @@ pub mod Parts
 pub mod Results
 pub mod Holders
 pub mod RootParts
+pub mod RoleRows
+pub mod DelegationParts
 pub mod Finds

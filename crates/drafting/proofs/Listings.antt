@@ -1,9 +1,9 @@
 -- Listings that are taken away and added one after the other.
-use Rattle.std.proofs.Common.{◌≡◌, ◌≢◌, ◌⊎◌, inl, inr, ℕ, suc, ◌+◌, pos, Bool, true, false, List, [], ◌∷◌, ◌++◌, codes, length, map, bytes_eq, get_or, refl, sym, ap, ◌∙◌, subst, arith}
+use Rattle.std.proofs.Common.{◌≡◌, ◌≢◌, inl, inr, ℕ, suc, pos, Bool, true, false, List, [], ◌∷◌, ◌++◌, codes, map, bytes_eq, get_or, refl, sym, ap, ◌∙◌, subst, arith}
 use Rattle.std.specs.List.{AllByRecursion}
 use Rattle.std.proofs.lemmas.Slice.Eq.{bytes_eq-Decides}
-use Rattle.canonical_json.specs.Json.{Json, integer, object, Members, no_members, HasMember}
-use Rattle.drafting.specs.Members.{IsNoneOf, AlikeBut, Drops, HasNone, IsLast, IsObjectAt, Puts}
+use Rattle.canonical_json.specs.Json.{Json, integer, object, Members, HasMember}
+use Rattle.drafting.specs.Members.{IsNoneOf, AlikeBut, Drops, HasNone, IsObjectAt, Puts}
 use Rattle.drafting.specs.Targets.{Said, IsListing, Adds, AddsAll, IsThere, RemovesAll, IsUnlisted, hashes}
 use Rattle.drafting.specs.steps.Rows.{PutsListing}
 use Rattle.drafting.proofs.Alike.{alike_self}
@@ -138,9 +138,15 @@ apart_from p m a drop [] all = tt
 apart_from p m a drop (q ∷ paths) all =
     ((λ same. drop.none all.0.0 (subst (λ (n : List ℕ). HasMember a n all.0.0) same all.0.1)), apart_from p m a drop paths all.1)
 
+distinct_from : (p : List ℕ) (m a : Json) → Drops p m a → (paths : List (List ℕ)) → AllByRecursion (IsThere a) paths → AllByRecursion (λ q. p ≢ q) paths
+distinct_from p m a drop [] all = tt
+distinct_from p m a drop (q ∷ paths) all =
+    ((λ same. drop.none all.0.0 (subst (λ (n : List ℕ). HasMember a n all.0.0) (sym same) all.0.1)), distinct_from p m a drop paths all.1)
+
 pub removes_more : (p : List ℕ) (paths : List (List ℕ)) (m a c : Json) → IsThere m p → Drops p m a → RemovesAll paths a c → RemovesAll (p ∷ paths) m c
 removes_more p paths m a c there drop rest = record {
   listed = (there, listed_back p m a drop paths rest.listed);
+  distinct = (distinct_from p m a drop paths rest.listed, rest.distinct);
   gone = ((λ x h. drop.none x (rest.others.no_more p x (apart_from p m a drop paths rest.listed) h)), rest.gone);
   others = record {
     kept = λ name x other h. rest.others.kept name x other.1 (drop.others.kept name x (other.0, tt) h);
@@ -149,17 +155,19 @@ removes_more p paths m a c there drop rest = record {
 }
 
 pub removes_none : (m : Json) → RemovesAll [] m m
-removes_none m = record { listed = tt; gone = tt; others = alike_self [] m }
+removes_none m = record { listed = tt; distinct = tt; gone = tt; others = alike_self [] m }
 
 pub unlisted_here : (p : List ℕ) (paths : List (List ℕ)) (m : Json) → HasNone m p → IsUnlisted (p ∷ paths) m 0
-unlisted_here p paths m none = record { front = []; path = p; back = paths; is = refl; at = refl; unlisted = λ x h other. none x h }
+unlisted_here p paths m none = record { front = []; path = p; back = paths; is = refl; at = refl; listed = tt; distinct = tt; unlisted = λ x h other. none x h }
 
-pub unlisted_more : (p : List ℕ) (paths : List (List ℕ)) (m a : Json) (i : ℕ) → Drops p m a → IsUnlisted paths a i → IsUnlisted (p ∷ paths) m (suc i)
-unlisted_more p paths m a i drop u = record {
+pub unlisted_more : (p : List ℕ) (paths : List (List ℕ)) (m a : Json) (i : ℕ) → IsThere m p → Drops p m a → IsUnlisted paths a i → IsUnlisted (p ∷ paths) m (suc i)
+unlisted_more p paths m a i there drop u = record {
   front = p ∷ u.front;
   path = u.path;
   back = u.back;
   is = ap (λ (ps : List (List ℕ)). p ∷ ps) u.is;
   at = ap (λ (n : ℕ). suc n) u.at;
+  listed = (there, listed_back p m a drop u.front u.listed);
+  distinct = (distinct_from p m a drop u.front u.listed, u.distinct);
   unlisted = λ x h other. u.unlisted x (drop.others.kept u.path x (other.0, tt) h) other.1;
 }

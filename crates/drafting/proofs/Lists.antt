@@ -1,8 +1,8 @@
 -- Rows that are put in one after the other, the last of a name deciding.
-use Rattle.std.proofs.Common.{◌≡◌, ◌≢◌, ℕ, List, [], ◌∷◌, ◌++◌, map, refl, sym, ap, ◌∙◌, subst}
+use Rattle.std.proofs.Common.{◌≡◌, ◌≢◌, ℕ, List, [], ◌∷◌, ◌++◌, map, sym, subst}
 use Rattle.std.specs.List.{AllByRecursion}
 use Rattle.canonical_json.specs.Json.{Json, HasMember}
-use Rattle.drafting.specs.Members.{IsNoneOf, AlikeBut, IsLast, Puts, PutsAll}
+use Rattle.drafting.specs.Members.{IsNoneOf, Puts, PutsAll}
 use Rattle.drafting.proofs.Alike.{alike_self}
 
 others_named : (rows : List (List ℕ × Json)) (name : List ℕ) → AllByRecursion (λ r. r.0 ≢ name) rows → IsNoneOf (map (λ r. r.0) rows) name

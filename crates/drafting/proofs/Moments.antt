@@ -1,5 +1,5 @@
 -- What a calendar and a clock show at a moment, and the texts that have it.
-use Rattle.std.proofs.Common.{◌≡◌, ℕ, ℤ, pos, negsuc, ◌*◌, ◌+◌, ◌<◌, ◌≤◌, ◌+ℤ◌, ◌*ℤ◌, ◌<ℤ◌, ◌≤ℤ◌, inl, List, [], ◌∷◌, ◌++◌, arith, rules, refl, sym, ap, ap₂, ◌∙◌, unsigned_abs, append_assoc, true, false, subst}
+use Rattle.std.proofs.Common.{◌≡◌, ℕ, ℤ, pos, negsuc, ◌*◌, ◌≤◌, ◌+ℤ◌, ◌*ℤ◌, ◌<ℤ◌, ◌≤ℤ◌, inl, List, [], ◌∷◌, ◌++◌, arith, rules, refl, sym, ap, ap₂, ◌∙◌, unsigned_abs, append_assoc, true, false, subst}
 use Rattle.std.proofs.lemmas.Int.{by_lt_z}
 use lib.Signed.{lt_z}
 use lib.Dec.{T}

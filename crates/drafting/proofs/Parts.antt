@@ -1,5 +1,5 @@
 -- The signed part of a draft, from the steps of one.
-use Rattle.std.proofs.Common.{◌≡◌, ℕ, pos, List, [], ◌∷◌, Option, codes, get_or, ap, subst, arith}
+use Rattle.std.proofs.Common.{◌≡◌, ℕ, List, [], ◌∷◌, Option, codes, get_or, ap, subst, arith}
 use Rattle.canonical_json.specs.Json.{Json, HasMember}
 use Rattle.metadata.specs.declared.documents.Kind.{Kind}
 use Rattle.metadata.specs.declared.documents.Kind.TheVariants as kinds

@@ -1,5 +1,5 @@
 -- Why there is no draft, from the steps of one.
-use Rattle.std.proofs.Common.{◌≡◌, ◌⊎◌, inl, inr, ℕ, List, Option, Some, sym, subst}
+use Rattle.std.proofs.Common.{◌≡◌, ◌⊎◌, inl, inr, Option, Some, sym, subst}
 use Rattle.canonical_json.specs.Json.{Json}
 use Rattle.denials.specs.declared.denial.Denial.{Denial}
 use Rattle.metadata.specs.Parts.{last_number}

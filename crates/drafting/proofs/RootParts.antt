@@ -1,5 +1,5 @@
 -- The rules of a draft of a root, step by step.
-use Rattle.std.proofs.Common.{◌≡◌, ◌≢◌, ◌⊎◌, inl, inr, ℕ, true, List, [], ◌∷◌, Option, codes, get_or, ap, arith}
+use Rattle.std.proofs.Common.{◌≡◌, ◌≢◌, inl, inr, ℕ, true, List, [], ◌∷◌, Option, codes, get_or, ap, arith}
 use Rattle.canonical_json.specs.Json.{Json, boolean, HasMember}
 use Rattle.metadata.specs.declared.documents.Kind.TheVariants as kinds
 use Rattle.drafting.specs.Members.{IsNoneOf, AlikeBut, IsObjectAt, Puts, PutsAll}
@@ -10,15 +10,15 @@ use Rattle.drafting.specs.declared.terms.Terms.{Terms}
 use Rattle.drafting.proofs.Alike.{other_head}
 use Rattle.drafting.proofs.Parts.{drafts_on}
 
-differ : (a b : List ℕ) → (get_or a 0 0 ≡ get_or b 0 0 → ⊥) → a ≢ b
+pub differ : (a b : List ℕ) → (get_or a 0 0 ≡ get_or b 0 0 → ⊥) → a ≢ b
 differ a b apart same = apart (ap (λ (l : List ℕ). get_or l 0 0) same)
 
-object_alike : (names : List (List ℕ)) (a b : Json) (name : List ℕ) (m : Json) → AlikeBut names a b → IsNoneOf names name → IsObjectAt b name m → IsObjectAt a name m
+pub object_alike : (names : List (List ℕ)) (a b : Json) (name : List ℕ) (m : Json) → AlikeBut names a b → IsNoneOf names name → IsObjectAt b name m → IsObjectAt a name m
 object_alike names a b name m alike other (inl h) = inl (alike.no_more name m other h)
 object_alike names a b name m alike other (inr (e, inl none)) = inr (e, inl (λ y h. none y (alike.kept name y other h)))
 object_alike names a b name m alike other (inr (e, inr (y, h, apart))) = inr (e, inr (y, alike.no_more name y other h, apart))
 
-roles_keys : codes "roles" ≢ codes "keys"
+pub roles_keys : codes "roles" ≢ codes "keys"
 roles_keys = differ (codes "roles") (codes "keys") (λ (e : 114 ≡ 107). omega (arith, e))
 
 roles_names : codes "roles" ≢ codes "names"
@@ -76,7 +76,7 @@ rules_put rules a b c d e f old roles was first puts keys names put last = recor
 stays : (version : ℕ) (terms : Terms) (b c : Json) (name : List ℕ) (x : Json) → IsNoneOf (codes "version" ∷ codes "expires" ∷ codes "term" ∷ []) name → Follows version terms [] b c → HasMember b name x → HasMember c name x
 stays version terms b c name x other f h = f.others.kept name x other h
 
-table_stays : (version : ℕ) (terms : Terms) (a b c : Json) (name : List ℕ) (rows : List (List ℕ × Json)) (roles : Json) → IsNoneOf (codes "version" ∷ codes "expires" ∷ codes "term" ∷ []) name
+pub table_stays : (version : ℕ) (terms : Terms) (a b c : Json) (name : List ℕ) (rows : List (List ℕ × Json)) (roles : Json) → IsNoneOf (codes "version" ∷ codes "expires" ∷ codes "term" ∷ []) name
     → Follows version terms [] b c → PutsTable name rows roles a b → PutsTable name rows roles a c
 table_stays version terms a b c name rows roles other f t = record { old = t.old; new = t.new; was = t.was; has = f.others.kept name t.new other t.has; table = t.table }
 
@@ -86,7 +86,7 @@ other_roles = other_head (codes "roles") (λ (e : 118 ≡ 114). omega (arith, e)
 other_keys : IsNoneOf (codes "version" ∷ codes "expires" ∷ codes "term" ∷ []) (codes "keys")
 other_keys = other_head (codes "keys") (λ (e : 118 ≡ 107). omega (arith, e)) (λ (e : 101 ≡ 107). omega (arith, e)) (λ (e : 116 ≡ 107). omega (arith, e))
 
-other_names : IsNoneOf (codes "version" ∷ codes "expires" ∷ codes "term" ∷ []) (codes "names")
+pub other_names : IsNoneOf (codes "version" ∷ codes "expires" ∷ codes "term" ∷ []) (codes "names")
 other_names = other_head (codes "names") (λ (e : 118 ≡ 110). omega (arith, e)) (λ (e : 101 ≡ 110). omega (arith, e)) (λ (e : 116 ≡ 110). omega (arith, e))
 
 other_last : IsNoneOf (codes "version" ∷ codes "expires" ∷ codes "term" ∷ []) (codes "consistent_snapshot")

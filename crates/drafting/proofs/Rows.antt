@@ -1,13 +1,12 @@
 -- Members of an object, as the code's rows of names and values, which are put in and taken out.
-use Rattle.std.proofs.Common.{◌≡◌, ◌≢◌, ◌⊎◌, inl, inr, ℕ, zero, suc, ◌<◌, List, [], ◌∷◌, ◌++◌, length, take, drop, get_or, string_bytes, String, Vec, rules, refl, sym, ap, ◌∙◌, subst, arith}
+use Rattle.std.proofs.Common.{◌≡◌, ◌≢◌, ◌⊎◌, inl, inr, ℕ, zero, suc, ◌<◌, List, [], ◌∷◌, length, get_or, string_bytes, String, Vec, rules, refl, sym, ap, ◌∙◌, subst, arith}
 use Rattle.std.specs.List.{insert, remove}
 use Rattle.std.specs.declared.alloc.Global.{Global}
-use Rattle.canonical_json.specs.Json.{Json, object, Members, no_members, HasMember, IsAmong}
-use Rattle.canonical_json.specs.View.{view, members_view}
-use Rattle.canonical_json.specs.declared.Value.{Value, Object, the_lemmas}
-use Rattle.drafting.specs.Members.{IsNoneOf, AlikeBut, Drops, HasNone, IsObjectAt, Puts}
+use Rattle.canonical_json.specs.Json.{Json, array, object, text, Items, Members, HasMember, IsAmong}
+use Rattle.canonical_json.specs.View.{view, items_view, members_view}
+use Rattle.canonical_json.specs.declared.Value.{Value, List as listed, Object, the_lemmas}
+use Rattle.drafting.specs.Members.{AlikeBut, Drops, HasNone, IsListAt, IsObjectAt, Puts}
 use Rattle.drafting.specs.Targets.{IsThere}
-use Rattle.drafting.proofs.Alike.{alike_self}
 
 abbrev pub Row : Type 0
 Row = String Global × Value
@@ -140,10 +139,33 @@ object_at ms seen rows i name r same at is (inr none) =
 pub no_object : (ms seen rows : List Row) (name : List ℕ) → seen ≡ ms → HasNone (shown seen) name → rows ≡ [] → IsObjectAt (shown ms) name (shown rows)
 no_object ms seen rows name same none is = inr (ap (λ (l : List Row). shown l) is, inl (none_in ms seen name same none))
 
+-- the list that is taken out, or none
+pub list_at : (ms seen : List Row) (vs : List Value) (i : ℕ) (name : List ℕ) (r : Row) → seen ≡ ms → IsAt seen i name → r ≡ get_or ms i r
+    → (view r.1 ≡ array (items_view vs)) ⊎ ((vs ≡ []) × ((xs : Items) → view r.1 ≡ array xs → ⊥)) → IsListAt (shown ms) name (items_view vs)
+list_at ms seen vs i name r same at is (inl list_is) =
+    let h = subst (λ (l : List Row). IsAt l i name) same at in
+    inl (subst (λ (x : Json). HasMember (shown ms) name x) list_is (found_at ms i name r h.0 h.1 is))
+list_at ms seen vs i name r same at is (inr none) =
+    let h = subst (λ (l : List Row). IsAt l i name) same at in
+    inr (ap (λ (l : List Value). items_view l) none.0, inr (view r.1, found_at ms i name r h.0 h.1 is, none.1))
+
+pub no_list : (ms seen : List Row) (vs : List Value) (name : List ℕ) → seen ≡ ms → HasNone (shown seen) name → vs ≡ [] → IsListAt (shown ms) name (items_view vs)
+no_list ms seen vs name same none is = inr (ap (λ (l : List Value). items_view l) is, inl (none_in ms seen name same none))
+
 pub taken_out : (a : Json) (ms seen : List Row) (name : List ℕ) → seen ≡ ms → HasNone (shown seen) name → AlikeBut (name ∷ []) a (shown ms) → Drops name a (shown ms)
 taken_out a ms seen name same none alike = record { none = none_in ms seen name same none; others = alike }
 
 -- ---- the object that a value of the code is
 
+pub list_view : (v : Vec Value Global) → view (listed v) ≡ array (items_view v.items)
+list_view v = search (rules, the_lemmas)
+
 pub object_view : (v : Vec (String Global × Value) Global) → view (Object v) ≡ shown v.items
 object_view v = search (rules, the_lemmas)
+
+-- ---- a text that is not the first row's
+
+pub text_later : (name t : List ℕ) (m : Row) (ms : List Row) → (string_bytes m.0 ≡ name → view m.1 ≡ text t → ⊥) → IsAmong name (text t) (members_view (m ∷ ms))
+    → IsAmong name (text t) (members_view ms)
+text_later name t m ms none (inl h) = absurd (none h.0 h.1)
+text_later name t m ms none (inr h) = h

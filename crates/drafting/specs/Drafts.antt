@@ -1,11 +1,10 @@
 -- What a draft is, beside the document that it follows and the one that it goes on from (TUF 1.0, sections 4.2 to 4.6; `term` and
 -- `names` are further members of the signed part, which decide nothing).
-use Rattle.std.specs.Prelude.{◌≡◌, ◌⊎◌, ℕ, suc, ◌≤◌, pos, List, [], ◌∷◌, ◌++◌, codes, Option, Some, None}
+use Rattle.std.specs.Prelude.{◌≡◌, ◌⊎◌, ℕ, suc, ◌≤◌, pos, List, [], ◌∷◌, codes, Option, Some, None}
 use Rattle.canonical_json.specs.Json.{Json, integer, text, array, object, no_items, no_members, member, HasMember}
 use Rattle.canonical_json.specs.Spelling.{spelling, IsCanonical}
 use Rattle.canonical_json.specs.Faults.{write_fault}
 use Rattle.canonical_json.specs.declared.WriteFault.{WriteFault}
-use Rattle.canonical_json.specs.declared.WriteFault.TheVariants as write_faults
 use Rattle.denials.specs.Numbers as no
 use Rattle.denials.specs.Orders.{Plain}
 use Rattle.denials.specs.Views.{denial_view}

@@ -1,7 +1,7 @@
 -- Words on the members of a value beside those of another.
-use Rattle.std.specs.Prelude.{◌≡◌, ◌≢◌, ◌⊎◌, ℕ, List, [], ◌∷◌, ◌++◌, map}
-use Rattle.std.specs.List.{AllByRecursion}
-use Rattle.canonical_json.specs.Json.{Json, object, Members, no_members, HasMember}
+use Rattle.std.specs.Prelude.{◌≡◌, ◌≢◌, ◌⊎◌, ℕ, List, [], ◌∷◌, ◌++◌, bytes_eq, filter, map, not}
+use Rattle.std.specs.List.{AllByRecursion, list_any}
+use Rattle.canonical_json.specs.Json.{Json, array, object, Items, no_items, Members, no_members, HasMember}
 
 -- the name is none of these
 abbrev pub IsNoneOf : List (List ℕ) → List ℕ → Type 0
@@ -32,6 +32,11 @@ abbrev pub IsObjectAt : Json → List ℕ → Json → Type 0
 IsObjectAt v name m = HasMember v name m
     ⊎ ((m ≡ object no_members) × (HasNone v name ⊎ ((x : Json) × HasMember v name x × ((ms : Members) → x ≡ object ms → ⊥))))
 
+-- the list that stands under the name, and an empty one where no list does
+abbrev pub IsListAt : Json → List ℕ → Items → Type 0
+IsListAt v name vs = HasMember v name (array vs)
+    ⊎ ((vs ≡ no_items) × (HasNone v name ⊎ ((x : Json) × HasMember v name x × ((xs : Items) → x ≡ array xs → ⊥))))
+
 -- the last of the rows with this name says this of it
 pub record IsLast {A : Type 0} (rows : List (List ℕ × A)) (name : List ℕ) (said : A) : Type 0 where
   pub front : List (List ℕ × A)
@@ -48,3 +53,11 @@ pub record PutsAll (rows : List (List ℕ × Json)) (a b : Json) : Type 0 where
 pub record Keeps (P : List ℕ → Type 0) (a b : Json) : Type 0 where
   pub kept : (name : List ℕ) (x : Json) → P name → HasMember a name x → HasMember b name x
   pub only : (name : List ℕ) (x : Json) → HasMember b name x → HasMember a name x × P name
+
+-- values in their order, each with a name
+abbrev pub Rows : Type 0
+Rows = List (List ℕ × Json)
+
+-- those that have none of these names
+abbrev pub without : List (List ℕ) → Rows → Rows
+without names rows = filter (λ r. not (list_any (bytes_eq r.0) names)) rows

@@ -3,6 +3,7 @@ use Rattle.std.specs.Prelude.{◌≡◌, ℕ, pos, List, [], ◌∷◌, ◌++◌
 use Rattle.std.specs.List.{AllByRecursion}
 use Rattle.hex.specs.Hex.{encode_lower}
 use Rattle.canonical_json.specs.Json.{Json, integer, text, object, Members, no_members, member, HasMember}
+use Rattle.keys_roles.specs.Rules.{AreDistinct}
 use Rattle.metadata.specs.declared.documents.Kind.TheVariants as kinds
 use Rattle.drafting.specs.Members.{IsNoneOf, AlikeBut, HasNone, IsLast, IsObjectAt}
 use Rattle.drafting.specs.Drafts.{File, Drafts, IsBase}
@@ -43,19 +44,22 @@ pub record AddsAll (rows : List (List ℕ × Said)) (before after : Json) : Type
 abbrev pub IsThere : Json → List ℕ → Type 0
 IsThere v name = (x : Json) × HasMember v name x
 
--- each of these paths was listed and is no more, and every other listing is as it was
+-- each of these paths was listed and is no more, none stands twice, and every other listing is as it was
 pub record RemovesAll (paths : List (List ℕ)) (before after : Json) : Type 0 where
   pub listed : AllByRecursion (IsThere before) paths
+  pub distinct : AreDistinct paths
   pub gone : AllByRecursion (HasNone after) paths
   pub others : AlikeBut paths before after
 
--- the path at this place is not listed, or stands before already
+-- the path at this place is the first that is not listed, or stands before already
 pub record IsUnlisted (paths : List (List ℕ)) (before : Json) (place : ℕ) : Type 0 where
   pub front : List (List ℕ)
   pub path : List ℕ
   pub back : List (List ℕ)
   pub is : paths ≡ front ++ path ∷ back
   pub at : length front ≡ place
+  pub listed : AllByRecursion (IsThere before) front
+  pub distinct : AreDistinct front
   pub unlisted : (x : Json) → HasMember before path x → IsNoneOf front path → ⊥
 
 -- what changes of targets metadata: the paths that are taken away, and then those that are added

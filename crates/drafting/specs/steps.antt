@@ -3,4 +3,5 @@ pub mod Refused
 pub mod Unwritten
 pub mod Rows
 pub mod Rules
+pub mod Delegated
 pub mod Found

@@ -1,11 +1,26 @@
 //! Drafts of the delegations of targets metadata (TUF 1.0, section 4.5, DELEGATIONS).
+ghost use Rattle.std.specs.Prelude.{◌≡◌, ◌⊎◌, ℕ, codes, option_map, IfOk, IfErr, OnOk};
+ghost use Rattle.canonical_json.specs.Json.{Json, object};
+ghost use Rattle.canonical_json.specs.View.{members_view};
+ghost use Rattle.metadata.specs.declared.documents.Kind.TheVariants as kinds;
+ghost use Rattle.drafting.specs.Delegations.{AreIn, DraftsDelegations, IsNotDelegated, by_role, key_rows, name_rows};
+ghost use Rattle.drafting.specs.Drafts.{IsDraft, IsUndrafted};
+ghost use Rattle.drafting.specs.Members.{IsObjectAt, PutsAll, Rows};
+ghost use Rattle.drafting.specs.Targets.{IsUnlisted};
+ghost use Rattle.drafting.specs.steps.Delegated.{PutsDelegations, PutsOrDrops, all_view, delegation_changes_view};
+ghost use Rattle.drafting.specs.steps.Rows.{rows_view, texts_view};
+ghost use Rattle.drafting.specs.steps.Rules.{PutsOne};
+
 use crate::base::{base_members, next_version};
+use crate::delegations::{put_each, take_rows, values_of};
 use crate::faults::DraftFault;
 use crate::finishing::finish;
 use crate::head::put_head;
-use crate::members::{is_there, object_value, put, take_object, take_out, text_value};
+use crate::members::{object_value, put, take_object, take_out};
 use crate::named::keep_named;
-use crate::rules::{Rule, id_text, key_value, rule_value};
+use crate::rules::Rule;
+use crate::tables::{add_rule_keys, add_rule_names};
+use crate::targets::remove_all;
 use crate::terms::Terms;
 use canonical_json::Value;
 use metadata::Kind;
@@ -29,168 +44,130 @@ pub struct DelegationChanges<'a> {
     pub undelegate: &'a [String],
 }
 
-/// The next targets metadata: with these changes of its delegations. Their keys are those that the rules name, and `names` says what they
-/// are called. No clause says what it is: the draft is a document of its kind, or there is none.
+/// The next targets metadata: with these changes of its delegations, and else with what was there. Each delegation is put in its place,
+/// one after the other, and the others stay in their order. The keys are those that the delegations then have, with their names in
+/// `names`: a further member, which is signed over and decides nothing. Where nothing is delegated any more, neither member is there.
+/// `Unlisted(i)`: nothing is delegated to the role at the place i of those to which nothing is to be, or it stands among them before.
 ///
-/// `held` and `begun` are the files that the draft follows and goes on from, as `draft_timestamp` says it. `Unlisted(i)`: nothing is
-/// delegated to the role at the place i of those to which nothing is to be.
+/// `held` and `begun` are the files that the draft follows and goes on from, as `draft_timestamp` says it.
 pub fn draft_delegations(
     alloc: Global,
     held: Option<&[u8]>,
     begun: Option<&[u8]>,
     terms: Terms,
     changes: &DelegationChanges<'_>,
-) -> Result<Vec<u8>, DraftFault> {
+) -> Result<Vec<u8>, DraftFault>
+    ensures draft { IfOk result (λ out. (part : Json) × DraftsDelegations (option_map (λ f. f.now) held.entry) (option_map (λ f. f.now) begun.entry) terms (delegation_changes_view changes.now) part
+        × IsDraft kinds.Targets part out.items) }
+    ensures fault { IfErr result (IsUndrafted kinds.Targets (option_map (λ f. f.now) held.entry) (option_map (λ f. f.now) begun.entry) terms
+        (DraftsDelegations (option_map (λ f. f.now) held.entry) (option_map (λ f. f.now) begun.entry) terms (delegation_changes_view changes.now))
+        (IsNotDelegated (option_map (λ f. f.now) held.entry) (option_map (λ f. f.now) begun.entry) (delegation_changes_view changes.now))) }
+{
     let version = next_version(alloc, Kind::Targets, held)?;
     let mut members = base_members(alloc, Kind::Targets, held, begun)?;
-    let mut inner = take_object(alloc, &mut members, "delegations");
-    let mut list = list_in(alloc, &mut inner)?;
-    take_all(&mut list, changes.undelegate)?;
-    for delegation in changes.delegate {
-        put_in(alloc, &mut list, delegation)?;
-    }
-    put_all(alloc, &mut members, inner, list, changes)?;
+    put_delegations(alloc, &mut members, changes)?;
     put_head(alloc, &mut members, version, terms)?;
     finish(alloc, Kind::Targets, members)
 }
 
-// The delegations of the member `roles`, each with the name of its role.
-fn list_in(
+// Makes the changes in `delegations` and `names`.
+fn put_delegations(
     alloc: Global,
-    inner: &mut Vec<(String, Value)>,
-) -> Result<Vec<(String, Value)>, AllocError> {
-    let mut found = Vec::new(alloc);
-    for member in inner.iter_mut() {
-        if member.0.as_str() == "roles" {
-            if let Value::List(list) = &mut member.1 {
-                found = std::mem::replace(list, Vec::new(alloc));
-            }
-        }
+    members: &mut Vec<(String, Value)>,
+    changes: &DelegationChanges<'_>,
+) -> Result<(), DraftFault>
+    ensures ok { OnOk result (PutsDelegations (delegation_changes_view changes.now) (object (members_view members.old.items)) (object (members_view members.new.items))) }
+    ensures err { IfErr result (λ e. (e ≡ DraftFault.OutOfMemory) ⊎ ((old : Json) × (rows : Rows) × (i : ℕ) × IsObjectAt (object (members_view members.old.items)) (codes "delegations") old
+        × AreIn old rows × IsUnlisted (texts_view changes.now.undelegate.now) (by_role rows) i × (e ≡ DraftFault.Unlisted i))) }
+{
+    let mut inner = take_object(alloc, members, "delegations");
+    let mut list = take_rows(alloc, &mut inner)?;
+    match remove_all(&mut list, changes.undelegate) {
+        Ok(()) => {}
+        Err(fault) => return Err(fault),
     }
-    let mut named = Vec::new(alloc);
-    for delegation in found {
-        let name = String::from_str(alloc, name_in(&delegation))?;
-        named.push((name, delegation))?;
-    }
-    Ok(named)
-}
-
-// The role of a delegation.
-fn name_in(delegation: &Value) -> &str {
-    if let Value::Object(members) = delegation {
-        for member in members {
-            if member.0.as_str() == "name" {
-                if let Value::Text(text) = &member.1 {
-                    return text.as_str();
-                }
-            }
-        }
-    }
-    ""
-}
-
-// Takes the delegations to these roles out.
-fn take_all(list: &mut Vec<(String, Value)>, roles: &[String]) -> Result<(), DraftFault> {
-    for (index, role) in roles.iter().enumerate() {
-        if !is_there(list, role.as_str()) {
-            return Err(DraftFault::Unlisted(index));
-        }
-        take_out(list, role.as_str());
-    }
+    put_each(alloc, &mut list, changes.delegate)?;
+    put_or_drop(alloc, members, inner, list, changes.delegate)?;
     Ok(())
 }
 
-// The place of the delegation to a role, or behind the last.
-fn place_of(list: &[(String, Value)], role: &str) -> usize {
-    for (at, delegation) in list.iter().enumerate() {
-        if delegation.0.as_str() == role {
-            return at;
-        }
-    }
-    list.len()
-}
-
-// Puts a delegation in its place.
-fn put_in(
-    alloc: Global,
-    list: &mut Vec<(String, Value)>,
-    said: &Delegated<'_>,
-) -> Result<(), AllocError> {
-    let own = place_of(list, said.name);
-    take_out(list, said.name);
-    let place = match said.before {
-        Some(role) => place_of(list, role),
-        None => own,
-    };
-    let name = String::from_str(alloc, said.name)?;
-    let value = delegation_value(alloc, said)?;
-    let place = place.min(list.len());
-    list.insert(place, (name, value))?;
-    Ok(())
-}
-
-fn delegation_value(alloc: Global, said: &Delegated<'_>) -> Result<Value, AllocError> {
-    let mut patterns = Vec::new(alloc);
-    for pattern in said.patterns {
-        let value = text_value(alloc, pattern.as_str())?;
-        patterns.push(value)?;
-    }
-    let mut members = match rule_value(alloc, &said.rule)? {
-        Value::Object(members) => members,
-        _ => Vec::new(alloc),
-    };
-    put(alloc, &mut members, "name", text_value(alloc, said.name)?)?;
-    put(alloc, &mut members, "paths", Value::List(patterns))?;
-    let terminating = Value::Bool(said.terminating);
-    put(alloc, &mut members, "terminating", terminating)?;
-    Ok(object_value(members))
-}
-
-// Puts the delegations with the keys that they name; where there are none any more, neither.
-fn put_all(
+// Puts the delegations, the keys that they have and the names of these, with what else `delegations` has; where there are none, nothing.
+fn put_or_drop(
     alloc: Global,
     members: &mut Vec<(String, Value)>,
     inner: Vec<(String, Value)>,
     list: Vec<(String, Value)>,
-    changes: &DelegationChanges<'_>,
-) -> Result<(), AllocError> {
-    let mut inner = inner;
-    let mut keys = take_object(alloc, &mut inner, "keys");
-    let mut names = take_object(alloc, members, "names");
-    for delegation in changes.delegate {
-        add_keys(alloc, &mut keys, &mut names, &delegation.rule)?;
-    }
-    keep_named(&mut keys, &list);
-    keep_named(&mut names, &list);
+    delegated: &[Delegated<'_>],
+) -> Result<(), AllocError>
+    ensures { OnOk result (PutsOrDrops (all_view delegated.now) (rows_view list.items) (object (members_view inner.items)) (object (members_view members.old.items)) (object (members_view members.new.items))) }
+{
     if list.is_empty() {
+        take_out(members, "delegations");
+        take_out(members, "names");
         return Ok(());
     }
-    let list = values_of(alloc, list)?;
-    put(alloc, &mut inner, "keys", object_value(keys))?;
-    put(alloc, &mut inner, "roles", Value::List(list))?;
-    put(alloc, members, "delegations", object_value(inner))?;
+    let mut inner = inner;
+    put_keys(alloc, &mut inner, delegated, list.as_slice())?;
+    put_names(alloc, members, delegated, list.as_slice())?;
+    let values = values_of(alloc, list)?;
+    put(alloc, &mut inner, "roles", Value::List(values))?;
+    put(alloc, members, "delegations", object_value(inner))
+}
+
+// Puts the keys that are said into `keys`, and takes out those that no delegation has.
+fn put_keys(
+    alloc: Global,
+    inner: &mut Vec<(String, Value)>,
+    delegated: &[Delegated<'_>],
+    list: &[(String, Value)],
+) -> Result<(), AllocError>
+    ensures { OnOk result (PutsOne (codes "keys") (key_rows (all_view delegated.now)) (object (members_view list.now)) (object (members_view inner.old.items)) (object (members_view inner.new.items))) }
+{
+    let mut keys = take_object(alloc, inner, "keys");
+    add_keys(alloc, &mut keys, delegated)?;
+    keep_named(&mut keys, list);
+    put(alloc, inner, "keys", object_value(keys))
+}
+
+// Puts the names of these keys into `names`, and takes out those of keys that no delegation has.
+fn put_names(
+    alloc: Global,
+    members: &mut Vec<(String, Value)>,
+    delegated: &[Delegated<'_>],
+    list: &[(String, Value)],
+) -> Result<(), AllocError>
+    ensures { OnOk result (PutsOne (codes "names") (name_rows (all_view delegated.now)) (object (members_view list.now)) (object (members_view members.old.items)) (object (members_view members.new.items))) }
+{
+    let mut names = take_object(alloc, members, "names");
+    add_names(alloc, &mut names, delegated)?;
+    keep_named(&mut names, list);
     put(alloc, members, "names", object_value(names))
 }
 
+// Puts the keys of all that is said.
 fn add_keys(
     alloc: Global,
-    keys: &mut Vec<(String, Value)>,
-    names: &mut Vec<(String, Value)>,
-    rule: &Rule<'_>,
-) -> Result<(), AllocError> {
-    for named in rule.keys {
-        let id = id_text(alloc, &named.key)?;
-        put(alloc, keys, id.as_str(), key_value(alloc, &named.key)?)?;
-        let name = text_value(alloc, named.name.as_str())?;
-        put(alloc, names, id.as_str(), name)?;
+    table: &mut Vec<(String, Value)>,
+    delegated: &[Delegated<'_>],
+) -> Result<(), AllocError>
+    ensures { OnOk result (PutsAll (key_rows (all_view delegated.now)) (object (members_view table.old.items)) (object (members_view table.new.items))) }
+{
+    for said in delegated {
+        add_rule_keys(alloc, table, said.rule.keys)?;
     }
     Ok(())
 }
 
-fn values_of(alloc: Global, list: Vec<(String, Value)>) -> Result<Vec<Value>, AllocError> {
-    let mut values = Vec::new(alloc);
-    for (_, value) in list {
-        values.push(value)?;
+// Puts the names of the keys of all that is said.
+fn add_names(
+    alloc: Global,
+    table: &mut Vec<(String, Value)>,
+    delegated: &[Delegated<'_>],
+) -> Result<(), AllocError>
+    ensures { OnOk result (PutsAll (name_rows (all_view delegated.now)) (object (members_view table.old.items)) (object (members_view table.new.items))) }
+{
+    for said in delegated {
+        add_rule_names(alloc, table, said.rule.keys)?;
     }
-    Ok(values)
+    Ok(())
 }

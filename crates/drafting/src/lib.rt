@@ -8,6 +8,7 @@
 mod base;
 mod dates;
 mod delegating;
+mod delegations;
 mod faults;
 mod finding;
 mod finishing;

@@ -1,11 +1,12 @@
 //! Members of objects that are changed.
 ghost use Rattle.std.specs.Prelude.{◌≡◌, ◌⊎◌, ◌<◌, ◌≤◌, ◌∷◌, [], List, length, pos, slice_index_or, string_bytes, vec_len, IfOk, OnOk, MatchOption, String, true, false};
 ghost use Rattle.std.specs.declared.alloc.Global.{Global};
-ghost use Rattle.canonical_json.specs.Json.{Json, Members, boolean, integer, text, object, HasMember};
-ghost use Rattle.canonical_json.specs.View.{view, members_view};
+ghost use Rattle.canonical_json.specs.Json.{Json, Items, Members, array, boolean, integer, text, object, HasMember};
+ghost use Rattle.canonical_json.specs.View.{view, items_view, members_view};
 ghost use Rattle.canonical_json.specs.declared.Value.{Value};
-ghost use Rattle.drafting.specs.Members.{AlikeBut, Drops, HasNone, IsObjectAt, Puts};
+ghost use Rattle.drafting.specs.Members.{AlikeBut, Drops, HasNone, IsListAt, IsObjectAt, Puts, without};
 ghost use Rattle.drafting.specs.Targets.{IsThere};
+ghost use Rattle.drafting.specs.steps.Rows.{rows_view};
 
 use canonical_json::Value;
 use std::alloc::{AllocError, Global};
@@ -36,7 +37,8 @@ pub fn is_there(members: &[(String, Value)], name: &str) -> bool
 
 /// Takes each member of the name out.
 pub(crate) fn take_out(members: &mut Vec<(String, Value)>, name: &str)
-    ensures { Drops name.now (object (members_view members.old.items)) (object (members_view members.new.items)) }
+    ensures dropped { Drops name.now (object (members_view members.old.items)) (object (members_view members.new.items)) }
+    ensures rest { rows_view members.new.items ≡ without (name.now ∷ []) (rows_view members.old.items) }
 {
     'members: while let Some(at) = place_of(members, name) {
         members.remove(at);
@@ -93,6 +95,28 @@ fn into_members(alloc: Global, value: Value) -> Vec<(String, Value)>
 {
     match value {
         Value::Object(members) => members,
+        _ => Vec::new(alloc),
+    }
+}
+
+/// Takes the list out that stands under the name: it has no items where no list does.
+pub(crate) fn take_list(alloc: Global, members: &mut Vec<(String, Value)>, name: &str) -> Vec<Value>
+    ensures list { IsListAt (object (members_view members.old.items)) name.now (items_view result.items) }
+    ensures others { AlikeBut (name.now ∷ []) (object (members_view members.old.items)) (object (members_view members.new.items)) }
+{
+    let Some(at) = place_of(members, name) else {
+        return Vec::new(alloc);
+    };
+    let (_name, value) = members.remove(at);
+    into_items(alloc, value)
+}
+
+// The items of the list that the value is: none where it is no list.
+fn into_items(alloc: Global, value: Value) -> Vec<Value>
+    ensures { (view value ≡ array (items_view result.items)) ⊎ ((result.items ≡ []) × ((vs : Items) → view value ≡ array vs → ⊥)) }
+{
+    match value {
+        Value::List(items) => items,
         _ => Vec::new(alloc),
     }
 }

@@ -1,12 +1,12 @@
 //! Drafts of targets metadata (TUF 1.0, section 4.5).
-ghost use Rattle.std.specs.Prelude.{◌≡◌, ◌⊎◌, ℕ, true, false, codes, option_map, IfOk, IfErr, OnOk};
+ghost use Rattle.std.specs.Prelude.{◌≡◌, ◌⊎◌, ◌∷◌, [], ℕ, true, false, codes, option_map, IfOk, IfErr, OnOk};
 ghost use Rattle.canonical_json.specs.Json.{Json, object};
 ghost use Rattle.canonical_json.specs.View.{view, members_view};
 ghost use Rattle.metadata.specs.declared.documents.Kind.TheVariants as kinds;
 ghost use Rattle.drafting.specs.Drafts.{IsDraft, IsUndrafted};
-ghost use Rattle.drafting.specs.Members.{Drops, HasNone, IsObjectAt};
+ghost use Rattle.drafting.specs.Members.{Drops, HasNone, IsObjectAt, without};
 ghost use Rattle.drafting.specs.Targets.{AddsAll, DraftsTargets, IsListing, IsNoTarget, IsThere, IsUnlisted, RemovesAll, hashes};
-ghost use Rattle.drafting.specs.steps.Rows.{PutsListing, PutsTargets, addition_view, additions_view, changes_view, texts_view};
+ghost use Rattle.drafting.specs.steps.Rows.{PutsListing, PutsTargets, addition_view, additions_view, changes_view, rows_view, texts_view};
 
 use crate::base::{base_members, next_version};
 use crate::faults::DraftFault;
@@ -75,8 +75,12 @@ fn put_targets(
     Ok(())
 }
 
-// Takes the listings of these paths out.
-fn remove_all(targets: &mut Vec<(String, Value)>, paths: &[String]) -> Result<(), DraftFault>
+/// Takes the members of these names out.
+pub(crate) fn remove_all(
+    targets: &mut Vec<(String, Value)>,
+    paths: &[String],
+) -> Result<(), DraftFault>
+    ensures rest { OnOk result (rows_view targets.new.items ≡ without (texts_view paths.now) (rows_view targets.old.items)) }
     ensures ok { OnOk result (RemovesAll (texts_view paths.now) (object (members_view targets.old.items)) (object (members_view targets.new.items))) }
     ensures err { IfErr result (λ e. (i : ℕ) × IsUnlisted (texts_view paths.now) (object (members_view targets.old.items)) i × (e ≡ DraftFault.Unlisted i)) }
 {
@@ -96,6 +100,7 @@ fn remove_all(targets: &mut Vec<(String, Value)>, paths: &[String]) -> Result<()
 
 // Takes the listing of the path out, and tells whether there was one.
 fn take_listing(targets: &mut Vec<(String, Value)>, path: &str) -> bool
+    ensures rest { rows_view targets.new.items ≡ without (path.now ∷ []) (rows_view targets.old.items) }
     ensures dropped { Drops path.now (object (members_view targets.old.items)) (object (members_view targets.new.items)) }
     ensures there { result ≡ true → IsThere (object (members_view targets.old.items)) path.now }
     ensures none { result ≡ false → HasNone (object (members_view targets.old.items)) path.now }

@@ -1,5 +1,5 @@
 //! Members that are a text.
-ghost use Rattle.std.specs.Prelude.{◌≡◌, ◌↔◌, IsTrue, IfSome, string_bytes};
+ghost use Rattle.std.specs.Prelude.{◌≡◌, ◌↔◌, ℕ, List, IsTrue, MatchOption, string_bytes};
 ghost use Rattle.canonical_json.specs.Json.{HasMember, object, text};
 ghost use Rattle.canonical_json.specs.View.{view, members_view};
 
@@ -30,7 +30,8 @@ fn says(member: &(String, Value), name: &str, said: &str) -> bool
 
 /// The text that a member of this name is.
 pub(crate) fn text_at<'a>(members: &'a [(String, Value)], name: &str) -> Option<&'a str>
-    ensures { IfSome result (λ t. HasMember (object (members_view members.now)) name.now (text t.now)) }
+    ensures { MatchOption result ((t : List ℕ) → HasMember (object (members_view members.now)) name.now (text t) → ⊥)
+        (λ t. HasMember (object (members_view members.now)) name.now (text t.now)) }
 {
     let mut rest = members;
     'members: while let Some((member, later)) = rest.split_first() {
@@ -44,7 +45,8 @@ pub(crate) fn text_at<'a>(members: &'a [(String, Value)], name: &str) -> Option<
 
 // The text that the member is, if it has this name.
 fn text_if<'a>(member: &'a (String, Value), name: &str) -> Option<&'a str>
-    ensures { IfSome result (λ t. (string_bytes member.now.0 ≡ name.now) × (view member.now.1 ≡ text t.now)) }
+    ensures { MatchOption result ((t : List ℕ) → string_bytes member.now.0 ≡ name.now → view member.now.1 ≡ text t → ⊥)
+        (λ t. (string_bytes member.now.0 ≡ name.now) × (view member.now.1 ≡ text t.now)) }
 {
     if member.0.as_str() == name {
         text_of(&member.1)

@@ -2,7 +2,9 @@
 use Rattle.std.specs.Prelude.{ℕ, List, [], ◌∷◌, codes, map, String, string_bytes}
 use Rattle.std.specs.declared.alloc.Global.{Global}
 use Rattle.canonical_json.specs.Json.{Json}
-use Rattle.drafting.specs.Members.{AlikeBut, IsObjectAt, Puts}
+use Rattle.canonical_json.specs.View.{view}
+use Rattle.canonical_json.specs.declared.Value.{Value}
+use Rattle.drafting.specs.Members.{AlikeBut, IsObjectAt, Puts, Rows}
 use Rattle.drafting.specs.Snapshots.{ListsRoles}
 use Rattle.drafting.specs.Targets.{Said, Changes, ChangesTargets, IsListing}
 use Rattle.drafting.specs.declared.targets.Addition.{Addition}
@@ -10,6 +12,9 @@ use Rattle.drafting.specs.declared.targets.TargetsChanges.{TargetsChanges}
 
 abbrev pub roles_view : List (String Global × ℕ) → List (List ℕ × ℕ)
 roles_view roles = map (λ r. (string_bytes r.0, r.1)) roles
+
+abbrev pub rows_view : List (String Global × Value) → Rows
+rows_view rows = map (λ r. (string_bytes r.0, view r.1)) rows
 
 abbrev pub texts_view : List (String Global) → List (List ℕ)
 texts_view texts = map string_bytes texts

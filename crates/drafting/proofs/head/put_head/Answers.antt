@@ -1,4 +1,4 @@
-use Rattle.std.proofs.Common.{◌≤◌, ℤ, pos, to_z, w64, codes, string_bytes, subst, arith}
+use Rattle.std.proofs.Common.{ℤ, w64, codes, string_bytes, subst, arith}
 use Rattle.std.proofs.lemmas.Int.{to_z_pos}
 use Rattle.canonical_json.specs.Json.{Json, integer}
 use Rattle.drafting.specs.Members.{Puts}

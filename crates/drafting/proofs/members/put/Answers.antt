@@ -7,4 +7,4 @@ use Rattle.drafting.proofs.members.put.Goals as goal
 pub returns : goal.returns
 returns c =
     subst (λ (l : List Row). Puts c.args.name.now (view c.args.value) (shown c.args.members.now.items) (shown l)) (sym c.in_ok-insert.ensures.items)
-    (put_in (shown c.args.members.now.items) c.take_out.new.members.items c.place_for-at.result c.args.name.now (c.in_ok-name.name, c.args.value) c.in_ok-name.ensures.ok c.take_out.ensures)
+    (put_in (shown c.args.members.now.items) c.take_out.new.members.items c.place_for-at.result c.args.name.now (c.in_ok-name.name, c.args.value) c.in_ok-name.ensures.ok c.take_out.ensures.dropped)

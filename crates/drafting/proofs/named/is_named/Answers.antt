@@ -1,4 +1,4 @@
-use Rattle.std.proofs.Common.{◌≡◌, List, [], ◌∷◌, true, false, string_bytes, rules, refl, sym, ◌∙◌, subst}
+use Rattle.std.proofs.Common.{◌≡◌, List, ◌∷◌, true, false, string_bytes, rules, sym, ◌∙◌, subst}
 use Rattle.canonical_json.specs.View.{view, members_view}
 use Rattle.drafting.specs.Roots.{IsNamed}
 use Rattle.drafting.proofs.Holders.{named_later, named_more}

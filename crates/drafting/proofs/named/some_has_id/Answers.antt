@@ -1,4 +1,4 @@
-use Rattle.std.proofs.Common.{◌≡◌, List, [], ◌∷◌, true, false, string_bytes, rules, refl, sym, ◌∙◌, subst}
+use Rattle.std.proofs.Common.{◌≡◌, List, ◌∷◌, true, false, string_bytes, rules, refl, sym, ◌∙◌, subst}
 use Rattle.canonical_json.specs.View.{view, members_view}
 use Rattle.drafting.specs.Roots.{HasId}
 use Rattle.drafting.proofs.Holders.{has_first, has_later, has_more}

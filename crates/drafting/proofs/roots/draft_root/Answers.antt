@@ -1,6 +1,6 @@
 use Rattle.std.proofs.Common.{ℕ, List, Option, option_map, Bor}
 use Rattle.metadata.specs.declared.documents.Kind.TheVariants as kinds
-use Rattle.drafting.specs.Drafts.{File, IsDraft, IsUndrafted}
+use Rattle.drafting.specs.Drafts.{File}
 use Rattle.drafting.specs.Roots.{DraftsRoot, IsRuleless}
 use Rattle.drafting.specs.steps.Rules.{rules_view}
 use Rattle.drafting.proofs.RootParts.{root_part}

@@ -1,4 +1,4 @@
-use Rattle.std.proofs.Common.{◌≡◌, ◌+◌, ℕ, List, [], ◌∷◌, drop, sym, subst}
+use Rattle.std.proofs.Common.{◌≡◌, ◌+◌, ℕ, List, [], drop, sym, subst}
 use Rattle.std.proofs.lemmas.List.{drop_all}
 use Rattle.canonical_json.specs.Json.{Json}
 use Rattle.canonical_json.specs.View.{view}

@@ -1,5 +1,5 @@
-use Rattle.std.proofs.Common.{List, inr, codes, true, subst}
-use Rattle.canonical_json.specs.Json.{Json, boolean}
+use Rattle.std.proofs.Common.{List, inr, codes, subst}
+use Rattle.canonical_json.specs.Json.{Json}
 use Rattle.drafting.specs.Members.{HasNone, Puts}
 use Rattle.drafting.specs.Roots.{key_rows, name_rows, role_name}
 use Rattle.drafting.specs.steps.Rules.{PutsOne, rules_view}

@@ -1,6 +1,6 @@
 use Rattle.std.proofs.Common.{ℕ, List, Option, option_map, Bor}
 use Rattle.metadata.specs.declared.documents.Kind.TheVariants as kinds
-use Rattle.drafting.specs.Drafts.{File, IsDraft, IsUndrafted, nothing_else}
+use Rattle.drafting.specs.Drafts.{File, nothing_else}
 use Rattle.drafting.specs.Snapshots.{DraftsSnapshot}
 use Rattle.drafting.specs.steps.Rows.{roles_view}
 use Rattle.drafting.proofs.Parts.{snapshot_part}

@@ -1,4 +1,4 @@
-use Rattle.std.proofs.Common.{◌≡◌, ◌+◌, ℕ, List, [], ◌∷◌, drop, sym, subst}
+use Rattle.std.proofs.Common.{◌≡◌, ◌+◌, List, [], drop, sym, subst}
 use Rattle.std.proofs.lemmas.List.{drop_all}
 use Rattle.drafting.specs.Members.{PutsAll}
 use Rattle.drafting.specs.Roots.{key_rows}

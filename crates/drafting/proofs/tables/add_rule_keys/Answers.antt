@@ -1,5 +1,5 @@
-use Rattle.std.proofs.Common.{◌≡◌, ℕ, List, [], ◌∷◌, ◌++◌, string_bytes, rules, ap, sym, ◌∙◌, subst}
-use Rattle.canonical_json.specs.Json.{Json, text}
+use Rattle.std.proofs.Common.{◌≡◌, ℕ, List, [], ◌∷◌, ◌++◌, rules, sym, ◌∙◌, subst}
+use Rattle.canonical_json.specs.Json.{Json}
 use Rattle.canonical_json.specs.View.{view}
 use Rattle.keys_roles.specs.Keys.{id_of, key_object}
 use Rattle.keys_roles.specs.Views.{key_view}

@@ -1,6 +1,6 @@
 use Rattle.std.proofs.Common.{ℕ, List, Option, option_map, Bor}
 use Rattle.metadata.specs.declared.documents.Kind.TheVariants as kinds
-use Rattle.drafting.specs.Drafts.{File, IsDraft, IsUndrafted, nothing_else}
+use Rattle.drafting.specs.Drafts.{File}
 use Rattle.drafting.specs.Targets.{DraftsTargets, IsNoTarget}
 use Rattle.drafting.specs.steps.Rows.{changes_view}
 use Rattle.drafting.proofs.Parts.{targets_part}

@@ -1,6 +1,6 @@
 use Rattle.std.proofs.Common.{ℕ, List, Option, option_map, Bor}
 use Rattle.metadata.specs.declared.documents.Kind.TheVariants as kinds
-use Rattle.drafting.specs.Drafts.{File, IsDraft, IsUndrafted, nothing_else}
+use Rattle.drafting.specs.Drafts.{File, nothing_else}
 use Rattle.drafting.specs.Timestamps.{DraftsTimestamp}
 use Rattle.drafting.proofs.Parts.{timestamp_part}
 use Rattle.drafting.proofs.Refusals.{unfinished}
