@@ -1,4 +1,4 @@
 use Rattle.command_words.proofs.subcommands.init.Goals as goal
 
 pub returns : goal.returns
-returns c = c.with.ensures _ _ c.stored-command.ensures c.operand.ensures.rule
+returns c = c.with.ensures _ c.begun-command.ensures

@@ -1,4 +1,0 @@
-use Rattle.command_words.proofs.subcommands.by_book.Goals as goal
-
-pub returns : goal.returns
-returns c = c.with.ensures _ _ (c.with_key-command.ensures _ (c.with-command.ensures _ _ c.begun-command.ensures c.option.ensures.rule)) c.flag.ensures.rule

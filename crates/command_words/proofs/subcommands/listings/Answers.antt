@@ -1,4 +1,0 @@
-use Rattle.command_words.proofs.subcommands.listings.Goals as goal
-
-pub returns : goal.returns
-returns c a made = c.with.ensures _ _ (c.with-command-2.ensures _ _ (c.with-command.ensures _ _ made c.option.ensures.rule) c.many.ensures.rule) c.many-2.ensures.rule
