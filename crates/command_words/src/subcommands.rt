@@ -52,18 +52,86 @@ const WITHIN: Word<'static> = Word::Number(
     86400,
 );
 
+// The arguments of `canon`.
+const CANON: &[Word<'static>] = &[Word::Operand("file", "FILE", "The file to read")];
+
 /// `canon [--at SECONDS] [--verbose] FILE`
 pub fn canon<'a>(alloc: Global) -> Result<Command<'a>, AllocError>
     ensures { Makes canon_line result }
 {
     let about = "Print the canonical form of any JSON";
     let command = begun(alloc, "canon", about, texts::CANON);
-    with(
-        alloc,
-        command,
-        &[Word::Operand("file", "FILE", "The file to read")],
-    )
+    with(alloc, command, CANON)
 }
+
+// The arguments of `draft`.
+const DRAFT: &[Word<'static>] = &[
+    Word::Option(
+        "db",
+        "FILE",
+        "The database file of the repository, or of a client, that the draft follows",
+    ),
+    Word::Required("in", "DIR", DRAFTS),
+    Word::Option(
+        "expires",
+        "TERM",
+        "When the document expires: 90d, 12h, or a moment as 2030-01-01T00:00:00Z",
+    ),
+    Word::Flag(
+        "anew",
+        "Draft anew what has signatures, which are taken off",
+    ),
+    Word::Option(
+        "role",
+        "R",
+        "The role of the targets metadata, targets where it is not given",
+    ),
+    Word::Many(
+        "add",
+        "PATH[=FILE]",
+        "List a target; of a folder all that it has",
+    ),
+    Word::Many("remove", "PATH", "List a target no more"),
+    Word::Many(
+        "delegate",
+        "NAME=RULE:PATTERN[,..]",
+        "Delegate what the patterns match to a role",
+    ),
+    Word::Flag(
+        "terminating",
+        "Nothing behind these delegations is searched for what they cover",
+    ),
+    Word::Option(
+        "before",
+        "NAME",
+        "Put these delegations before that of another role",
+    ),
+    Word::Many("undelegate", "NAME", "Delegate to a role no more"),
+    Word::Option(
+        "target",
+        "PATH",
+        "The target that the layout is for, or that a link is taken for",
+    ),
+    Word::Option("owners", "RULE", "Whose signatures a layout needs"),
+    Word::Option(
+        "rules",
+        "FILE",
+        "A file of other artifact rules, a line each: STEP materials or STEP products, and the rule's words",
+    ),
+    Word::Option("step", "NAME", "The step that a link is of"),
+    Word::Many("materials", "FILE", "A file that the step begins with"),
+    Word::Many("products", "FILE", "A file that the step leaves"),
+    Word::Operand(
+        "kind",
+        "KIND",
+        "root, targets, layout, link, seal (snapshot and timestamp) or take (what another machine sends back)",
+    ),
+    Word::Operands(
+        "word",
+        "WORD",
+        "Of root ROLE=RULE, where a rule is [N@]KEY[,KEY..] and a key a file, a name or digits of its ID; of layout STEP=RULE:PRODUCT[,..]; of take files",
+    ),
+];
 
 /// `draft [--at SECONDS] [--verbose] [--db FILE] --in DIR [--expires TERM] [--anew] KIND ..`
 pub fn draft<'a>(alloc: Global) -> Result<Command<'a>, AllocError>
@@ -71,78 +139,18 @@ pub fn draft<'a>(alloc: Global) -> Result<Command<'a>, AllocError>
 {
     let about = "Draft the next document into a folder; no leaf is spent";
     let command = begun(alloc, "draft", about, texts::DRAFT);
-    with(
-        alloc,
-        command,
-        &[
-            Word::Option(
-                "db",
-                "FILE",
-                "The database file of the repository, or of a client, that the draft follows",
-            ),
-            Word::Required("in", "DIR", DRAFTS),
-            Word::Option(
-                "expires",
-                "TERM",
-                "When the document expires: 90d, 12h, or a moment as 2030-01-01T00:00:00Z",
-            ),
-            Word::Flag(
-                "anew",
-                "Draft anew what has signatures, which are taken off",
-            ),
-            Word::Option(
-                "role",
-                "R",
-                "The role of the targets metadata, targets where it is not given",
-            ),
-            Word::Many(
-                "add",
-                "PATH[=FILE]",
-                "List a target; of a folder all that it has",
-            ),
-            Word::Many("remove", "PATH", "List a target no more"),
-            Word::Many(
-                "delegate",
-                "NAME=RULE:PATTERN[,..]",
-                "Delegate what the patterns match to a role",
-            ),
-            Word::Flag(
-                "terminating",
-                "Nothing behind these delegations is searched for what they cover",
-            ),
-            Word::Option(
-                "before",
-                "NAME",
-                "Put these delegations before that of another role",
-            ),
-            Word::Many("undelegate", "NAME", "Delegate to a role no more"),
-            Word::Option(
-                "target",
-                "PATH",
-                "The target that the layout is for, or that a link is taken for",
-            ),
-            Word::Option("owners", "RULE", "Whose signatures a layout needs"),
-            Word::Option(
-                "rules",
-                "FILE",
-                "A file of other artifact rules, a line each: STEP materials or STEP products, and the rule's words",
-            ),
-            Word::Option("step", "NAME", "The step that a link is of"),
-            Word::Many("materials", "FILE", "A file that the step begins with"),
-            Word::Many("products", "FILE", "A file that the step leaves"),
-            Word::Operand(
-                "kind",
-                "KIND",
-                "root, targets, layout, link, seal (snapshot and timestamp) or take (what another machine sends back)",
-            ),
-            Word::Operands(
-                "word",
-                "WORD",
-                "Of root ROLE=RULE, where a rule is [N@]KEY[,KEY..] and a key a file, a name or digits of its ID; of layout STEP=RULE:PRODUCT[,..]; of take files",
-            ),
-        ],
-    )
+    with(alloc, command, DRAFT)
 }
+
+// The arguments of `export`.
+const EXPORT: &[Word<'static>] = &[
+    DB,
+    Word::Required(
+        "to",
+        "FOLDER",
+        "The folder that is written into, made where there is none",
+    ),
+];
 
 /// `export [--at SECONDS] [--verbose] --db FILE --to FOLDER`
 pub fn export<'a>(alloc: Global) -> Result<Command<'a>, AllocError>
@@ -150,19 +158,22 @@ pub fn export<'a>(alloc: Global) -> Result<Command<'a>, AllocError>
 {
     let about = "Write the repository into a folder, as files that any web server can send";
     let command = begun(alloc, "export", about, texts::EXPORT);
-    with(
-        alloc,
-        command,
-        &[
-            DB,
-            Word::Required(
-                "to",
-                "FOLDER",
-                "The folder that is written into, made where there is none",
-            ),
-        ],
-    )
+    with(alloc, command, EXPORT)
 }
+
+// The arguments of `get`.
+const GET: &[Word<'static>] = &[
+    DB,
+    PORT_OR_MIRROR,
+    MIRROR,
+    WITHIN,
+    Word::Required(
+        "out",
+        "OUT",
+        "The file that is written, in place of one that stands there",
+    ),
+    Word::Operand("path", "PATH", "The path of the target"),
+];
 
 /// `get [--at SECONDS] [--verbose] --db FILE (--port P | --mirror URL ..) [--within SECONDS] --out OUT PATH`
 pub fn get<'a>(alloc: Global) -> Result<Command<'a>, AllocError>
@@ -170,23 +181,14 @@ pub fn get<'a>(alloc: Global) -> Result<Command<'a>, AllocError>
 {
     let about = "Fetch a target, as a client";
     let command = begun(alloc, "get", about, texts::GET);
-    with(
-        alloc,
-        command,
-        &[
-            DB,
-            PORT_OR_MIRROR,
-            MIRROR,
-            WITHIN,
-            Word::Required(
-                "out",
-                "OUT",
-                "The file that is written, in place of one that stands there",
-            ),
-            Word::Operand("path", "PATH", "The path of the target"),
-        ],
-    )
+    with(alloc, command, GET)
 }
+
+// The arguments of `init`.
+const INIT: &[Word<'static>] = &[
+    DB,
+    Word::Operand("root", "ROOT", "The file of the root metadata"),
+];
 
 /// `init [--at SECONDS] [--verbose] --db FILE ROOT`
 pub fn init<'a>(alloc: Global) -> Result<Command<'a>, AllocError>
@@ -194,15 +196,25 @@ pub fn init<'a>(alloc: Global) -> Result<Command<'a>, AllocError>
 {
     let about = "Begin the trust with a first root";
     let command = begun(alloc, "init", about, texts::INIT);
-    with(
-        alloc,
-        command,
-        &[
-            DB,
-            Word::Operand("root", "ROOT", "The file of the root metadata"),
-        ],
-    )
+    with(alloc, command, INIT)
 }
+
+// The arguments of `key`.
+const KEY: &[Word<'static>] = &[
+    SEED,
+    OTS,
+    HEIGHT,
+    Word::Option(
+        "new",
+        "NAME",
+        "Make NAME.seed, NAME.key and NAME.book, and print the key's ID",
+    ),
+    Word::Operands(
+        "name",
+        "NAME",
+        "Another key to make, of the same width and height",
+    ),
+];
 
 /// `key [--at SECONDS] [--verbose] --seed S --ots W --height H` or `key [--at SECONDS] [--verbose] --new NAME [NAME ..] [--ots W]
 /// [--height H]`
@@ -211,25 +223,7 @@ pub fn key<'a>(alloc: Global) -> Result<Command<'a>, AllocError>
 {
     let about = "Print the public key object of a seed, or make keys";
     let command = begun(alloc, "key", about, texts::KEY);
-    with(
-        alloc,
-        command,
-        &[
-            SEED,
-            OTS,
-            HEIGHT,
-            Word::Option(
-                "new",
-                "NAME",
-                "Make NAME.seed, NAME.key and NAME.book, and print the key's ID",
-            ),
-            Word::Operands(
-                "name",
-                "NAME",
-                "Another key to make, of the same width and height",
-            ),
-        ],
-    )
+    with(alloc, command, KEY)
 }
 
 /// `prune [--at SECONDS] [--verbose] --db FILE` or `prune [--verbose] --port P`
@@ -241,27 +235,33 @@ pub fn prune<'a>(alloc: Global) -> Result<Command<'a>, AllocError>
     with(alloc, command, &[DB_OR_PORT, PORT_OR_DB])
 }
 
+// The arguments of `publish`.
+const PUBLISH: &[Word<'static>] = &[
+    DB_OR_PORT,
+    PORT_OR_DB,
+    DRAFTS_IN,
+    Word::Operands(
+        "document",
+        "ROLE:FILE",
+        "A document's role and file: root, timestamp, snapshot, targets or a delegated role",
+    ),
+];
+
 /// `publish [--at SECONDS] [--verbose] --db FILE (ROLE:FILE .. | --in DIR)` or `publish [--verbose] --port P (ROLE:FILE .. | --in DIR)`
 pub fn publish<'a>(alloc: Global) -> Result<Command<'a>, AllocError>
     ensures { Makes publish_line result }
 {
     let about = "Take documents in the order given, or those of a folder of drafts, all or none";
     let command = begun(alloc, "publish", about, texts::PUBLISH);
-    with(
-        alloc,
-        command,
-        &[
-            DB_OR_PORT,
-            PORT_OR_DB,
-            DRAFTS_IN,
-            Word::Operands(
-                "document",
-                "ROLE:FILE",
-                "A document's role and file: root, timestamp, snapshot, targets or a delegated role",
-            ),
-        ],
-    )
+    with(alloc, command, PUBLISH)
 }
+
+// The arguments of `put`.
+const PUT: &[Word<'static>] = &[
+    DB_OR_PORT,
+    PORT_OR_DB,
+    Word::Operand("file", "FILE", "The file to store"),
+];
 
 /// `put [--at SECONDS] [--verbose] --db FILE FILE` or `put [--verbose] --port P FILE`
 pub fn put<'a>(alloc: Global) -> Result<Command<'a>, AllocError>
@@ -269,16 +269,19 @@ pub fn put<'a>(alloc: Global) -> Result<Command<'a>, AllocError>
 {
     let about = "Store a target file under its SHA-256";
     let command = begun(alloc, "put", about, texts::PUT);
-    with(
-        alloc,
-        command,
-        &[
-            DB_OR_PORT,
-            PORT_OR_DB,
-            Word::Operand("file", "FILE", "The file to store"),
-        ],
-    )
+    with(alloc, command, PUT)
 }
+
+// The arguments of `serve`.
+const SERVE: &[Word<'static>] = &[
+    DB,
+    Word::RequiredNumber("port", "P", "The port to listen on", 1, 65535),
+    Word::Number("count", "N", "End after so many connections", 1, 4294967295),
+    Word::Flag(
+        "read-only",
+        "Serve documents and target files alone: POST /batch, PUT /blobs and POST /prune are not there",
+    ),
+];
 
 /// `serve [--at SECONDS] [--verbose] --db FILE --port P [--count N] [--read-only]`
 pub fn serve<'a>(alloc: Global) -> Result<Command<'a>, AllocError>
@@ -286,20 +289,37 @@ pub fn serve<'a>(alloc: Global) -> Result<Command<'a>, AllocError>
 {
     let about = "Answer HTTP requests on 127.0.0.1";
     let command = begun(alloc, "serve", about, texts::SERVE);
-    with(
-        alloc,
-        command,
-        &[
-            DB,
-            Word::RequiredNumber("port", "P", "The port to listen on", 1, 65535),
-            Word::Number("count", "N", "End after so many connections", 1, 4294967295),
-            Word::Flag(
-                "read-only",
-                "Serve documents and target files alone: POST /batch, PUT /blobs and POST /prune are not there",
-            ),
-        ],
-    )
+    with(alloc, command, SERVE)
 }
+
+// The arguments of `show`.
+const SHOW: &[Word<'static>] = &[
+    Word::Option(
+        "db",
+        "FILE",
+        "The database file of a repository or of a client",
+    ),
+    DRAFTS_IN,
+    Word::Number(
+        "due",
+        "DAYS",
+        "End with status 1 where something expires within so many days",
+        0,
+        3650,
+    ),
+    Word::Many(
+        "key",
+        "NAME",
+        "A key whose leaves are counted: NAME of NAME.key and NAME.book",
+    ),
+    Word::Flag("json", "Print the same facts as JSON"),
+    Word::Option("html", "FILE", "Write a page that stands alone, too"),
+    Word::Operands(
+        "path",
+        "PATH",
+        "A target: who lists it, and what a search visits",
+    ),
+];
 
 /// `show [--at SECONDS] [--verbose] [--db FILE] [--in DIR] [--due DAYS] [--key NAME ..] [--json] [--html FILE] [PATH]`, of which `--db` or
 /// `--in` has to be there
@@ -308,38 +328,40 @@ pub fn show<'a>(alloc: Global) -> Result<Command<'a>, AllocError>
 {
     let about = "Show what is held, or drafts and what is to be done next";
     let command = begun(alloc, "show", about, texts::SHOW);
-    with(
-        alloc,
-        command,
-        &[
-            Word::Option(
-                "db",
-                "FILE",
-                "The database file of a repository or of a client",
-            ),
-            DRAFTS_IN,
-            Word::Number(
-                "due",
-                "DAYS",
-                "End with status 1 where something expires within so many days",
-                0,
-                3650,
-            ),
-            Word::Many(
-                "key",
-                "NAME",
-                "A key whose leaves are counted: NAME of NAME.key and NAME.book",
-            ),
-            Word::Flag("json", "Print the same facts as JSON"),
-            Word::Option("html", "FILE", "Write a page that stands alone, too"),
-            Word::Operands(
-                "path",
-                "PATH",
-                "A target: who lists it, and what a search visits",
-            ),
-        ],
-    )
+    with(alloc, command, SHOW)
 }
+
+// The arguments of `sign`.
+const SIGN: &[Word<'static>] = &[
+    Word::Option(
+        "book",
+        "B",
+        "The database file of the leaves that are spent, made where there is none",
+    ),
+    SEED,
+    OTS,
+    HEIGHT,
+    Word::Flag(
+        "known",
+        "Refuse a book that is not there, and a key that it does not have, before a leaf is spent",
+    ),
+    Word::Many(
+        "key",
+        "NAME",
+        "A key: NAME of NAME.seed, NAME.key and NAME.book, in place of --seed and --book. Of several each signs in turn",
+    ),
+    DRAFTS_IN,
+    Word::Flag("yes", "Sign without being asked"),
+    Word::Flag(
+        "again",
+        "Sign another document of a kind and version that this key has signed",
+    ),
+    Word::Operands(
+        "file",
+        "DOC",
+        "The document to sign; with --in its name there, or all that the key may sign",
+    ),
+];
 
 /// `sign [--at SECONDS] [--verbose] --book B --seed S --ots W --height H [--known] DOC` or `sign [--at SECONDS] [--verbose] --key K .. --in
 /// DIR [DOC ..] [--yes] [--again]`
@@ -348,40 +370,7 @@ pub fn sign<'a>(alloc: Global) -> Result<Command<'a>, AllocError>
 {
     let about = "Sign documents by leaves that no other document gets";
     let command = begun(alloc, "sign", about, texts::SIGN);
-    with(
-        alloc,
-        command,
-        &[
-            Word::Option(
-                "book",
-                "B",
-                "The database file of the leaves that are spent, made where there is none",
-            ),
-            SEED,
-            OTS,
-            HEIGHT,
-            Word::Flag(
-                "known",
-                "Refuse a book that is not there, and a key that it does not have, before a leaf is spent",
-            ),
-            Word::Many(
-                "key",
-                "NAME",
-                "A key: NAME of NAME.seed, NAME.key and NAME.book, in place of --seed and --book. Of several each signs in turn",
-            ),
-            DRAFTS_IN,
-            Word::Flag("yes", "Sign without being asked"),
-            Word::Flag(
-                "again",
-                "Sign another document of a kind and version that this key has signed",
-            ),
-            Word::Operands(
-                "file",
-                "DOC",
-                "The document to sign; with --in its name there, or all that the key may sign",
-            ),
-        ],
-    )
+    with(alloc, command, SIGN)
 }
 
 /// `update [--at SECONDS] [--verbose] --db FILE (--port P | --mirror URL ..) [--within SECONDS]`
