@@ -1,9 +1,9 @@
 //! The words of the command line of `release`, as `clap` is told of them: subcommands, options and operands, and what help says of them.
 #![tactic(auto)]
 
-ghost use Rattle.std.specs.Prelude.{◌≡◌, IfOk, codes, false};
-ghost use Rattle.clap.specs.Words.{app_of, new_app};
-ghost use Rattle.clap.specs.declared.builder.command.Command.TheViews.{out-Command};
+ghost use Rattle.std.specs.Prelude.{◌≡◌, IfOk, codes};
+ghost use Rattle.clap.specs.Words.{App, app_of, new_app};
+ghost use Rattle.command_words.specs.Made.{Makes};
 ghost use Rattle.command_words.specs.Subcommands.{needs_subcommand, release_line, with_command, with_version};
 
 mod options;
@@ -22,36 +22,40 @@ pub fn release<'a>(alloc: Global) -> Result<Command<'a>, AllocError>
     ensures { IfOk result (λ c. app_of c ≡ release_line) }
 {
     let command = begun(alloc);
-    let command = with(command, canon(alloc)?)?;
-    let command = with(command, draft(alloc)?)?;
-    let command = with(command, export(alloc)?)?;
-    let command = with(command, get(alloc)?)?;
-    let command = with(command, init(alloc)?)?;
-    let command = with(command, key(alloc)?)?;
-    let command = with(command, prune(alloc)?)?;
-    let command = with(command, publish(alloc)?)?;
-    let command = with(command, put(alloc)?)?;
-    let command = with(command, serve(alloc)?)?;
-    let command = with(command, show(alloc)?)?;
-    let command = with(command, sign(alloc)?)?;
-    with(command, update(alloc)?)
+    let command = with(command, canon(alloc));
+    let command = with(command, draft(alloc));
+    let command = with(command, export(alloc));
+    let command = with(command, get(alloc));
+    let command = with(command, init(alloc));
+    let command = with(command, key(alloc));
+    let command = with(command, prune(alloc));
+    let command = with(command, publish(alloc));
+    let command = with(command, put(alloc));
+    let command = with(command, serve(alloc));
+    let command = with(command, show(alloc));
+    let command = with(command, sign(alloc));
+    with(command, update(alloc))
 }
 
 // The program, before its subcommands.
-fn begun<'a>(alloc: Global) -> Command<'a>
-    ensures { app_of result ≡ needs_subcommand (with_version (new_app (codes "release"))) }
+fn begun<'a>(alloc: Global) -> Result<Command<'a>, AllocError>
+    ensures { Makes (needs_subcommand (with_version (new_app (codes "release")))) result }
 {
-    Command::new(alloc, "release")
-        .about("A release repository after The Update Framework 1.0")
-        .version(texts::VERSION)
-        .after_help(texts::PROGRAM)
-        .subcommand_required(true)
+    Ok(
+        Command::new(alloc, "release")
+            .about("A release repository after The Update Framework 1.0")
+            .version(texts::VERSION)
+            .after_help(texts::PROGRAM)
+            .subcommand_required(true),
+    )
 }
 
-// The command with one more subcommand.
-fn with<'a>(command: Command<'a>, subcommand: Command<'a>) -> Result<Command<'a>, AllocError>
-    requires local { (out-Command subcommand).has_globals ≡ false }
-    ensures line { IfOk result (λ c. app_of c ≡ with_command (app_of command.entry) (app_of subcommand.entry)) }
+// The command with one more subcommand, if there was memory for both.
+fn with<'a>(
+    command: Result<Command<'a>, AllocError>,
+    subcommand: Result<Command<'a>, AllocError>,
+) -> Result<Command<'a>, AllocError>
+    ensures { (a b : App) → Makes a command.entry → Makes b subcommand.entry → Makes (with_command a b) result }
 {
-    command.subcommand(subcommand)
+    command?.subcommand(subcommand?)
 }

@@ -1,16 +1,128 @@
 //! The options and operands of the subcommands, as `clap` is told of them.
-ghost use Rattle.std.specs.Prelude.{◌≡◌, Some, codes, false, true};
-ghost use Rattle.clap.specs.Words.{rule_of};
+ghost use Rattle.std.specs.Prelude.{◌≡◌, Some, false};
+ghost use Rattle.clap.specs.Words.{App, Rule, rule_of, with_rule};
 ghost use Rattle.clap.specs.declared.builder.value_parser.ValueParser.TheVariants.{Unsigned};
-ghost use Rattle.command_words.specs.Subcommands.{count_rule, db_rule, due_rule, flag_rule, folder_rule, height_rule, many_rule, moment_rule, operand_rule, operands_rule, option_rule, ots_rule, out_rule, port_option_rule, port_rule, required_rule, verbose_rule, within_rule};
+ghost use Rattle.command_words.specs.Made.{Makes, rule_word, with_words};
+ghost use Rattle.command_words.specs.Subcommands.{flag_rule, many_rule, operand_rule, operands_rule, option_rule, required_rule, verbose_rule};
 
 use clap::builder::ValueParser;
-use clap::{Arg, ArgAction};
+use clap::{Arg, ArgAction, Command};
 use limits::MOST_DOCUMENTS;
-use std::alloc::Global;
+use std::alloc::{AllocError, Global};
 
-/// `--NAME VALUE`
-pub(crate) fn option<'a>(alloc: Global, name: &'a str, value: &'a str, help: &'a str) -> Arg<'a>
+/// An argument of a subcommand: its name, the name of its value, and what help says of it.
+#[derive(Clone, Copy)]
+pub(crate) enum Word<'a> {
+    /// `--NAME VALUE`
+    Option(&'a str, &'a str, &'a str),
+    /// `--NAME VALUE`, which has to be there.
+    Required(&'a str, &'a str, &'a str),
+    /// `--NAME VALUE`, where the value is a number between these bounds.
+    Number(&'a str, &'a str, &'a str, u64, u64),
+    /// The same, which has to be there.
+    RequiredNumber(&'a str, &'a str, &'a str, u64, u64),
+    /// `--NAME VALUE ..`, as often as it is given.
+    Many(&'a str, &'a str, &'a str),
+    /// `--NAME`, which takes no value.
+    Flag(&'a str, &'a str),
+    /// An operand, which has to be there.
+    Operand(&'a str, &'a str, &'a str),
+    /// Operands, as many as documents of a batch, or none.
+    Operands(&'a str, &'a str, &'a str),
+    /// `--verbose`, `-v`
+    Verbose,
+}
+
+/// `--at SECONDS`
+pub(crate) const AT: Word<'static> = Word::Number(
+    "at",
+    "SECONDS",
+    "The moment, in seconds since 1970-01-01T00:00:00Z, in place of the clock's",
+    0,
+    253402300799,
+);
+
+/// `--db FILE`
+pub(crate) const DB: Word<'static> = Word::Required(
+    "db",
+    "FILE",
+    "The database file of the repository, made where there is none",
+);
+
+/// `--seed S`
+pub(crate) const SEED: Word<'static> = Word::Option(
+    "seed",
+    "S",
+    "The seed file: 96 hex digits of lower case, I and SEED, and a line feed",
+);
+
+/// `--ots W`
+pub(crate) const OTS: Word<'static> = Word::Number(
+    "ots",
+    "W",
+    "The width of the one-time signatures: 1, 2, 4 or 8 (of a new key 8 where it is not given)",
+    1,
+    8,
+);
+
+/// `--height H`
+pub(crate) const HEIGHT: Word<'static> = Word::Number(
+    "height",
+    "H",
+    "The height of the tree: 5 for 32 signatures, 10 for 1,024 (of a new key 10 where it is not given)",
+    5,
+    10,
+);
+
+/// The command with more arguments, if there was memory for it so far.
+pub(crate) fn with<'a>(
+    alloc: Global,
+    command: Result<Command<'a>, AllocError>,
+    words: &[Word<'a>],
+) -> Result<Command<'a>, AllocError>
+    ensures { (a : App) → Makes a command.entry → Makes (with_words a words.now) result }
+{
+    let mut command = command;
+    for word in words {
+        command = with_one(command, arg_of(alloc, *word));
+    }
+    command
+}
+
+// The command with one more argument.
+fn with_one<'a>(
+    command: Result<Command<'a>, AllocError>,
+    arg: Arg<'a>,
+) -> Result<Command<'a>, AllocError>
+    requires local { arg.global ≡ false }
+    ensures { (a : App) (r : Rule) → Makes a command.entry → rule_of arg.entry ≡ r → Makes (with_rule a r) result }
+{
+    command?.arg(arg)
+}
+
+// The argument, as `clap` has it.
+fn arg_of<'a>(alloc: Global, word: Word<'a>) -> Arg<'a>
+    ensures rule { rule_of result ≡ rule_word word.entry }
+    ensures local { result.global ≡ false }
+{
+    match word {
+        Word::Option(name, value, help) => option(alloc, name, value, help),
+        Word::Required(name, value, help) => required(alloc, name, value, help),
+        Word::Number(name, value, help, least, most) => {
+            within(option(alloc, name, value, help), least, most)
+        }
+        Word::RequiredNumber(name, value, help, least, most) => {
+            within(required(alloc, name, value, help), least, most)
+        }
+        Word::Many(name, value, help) => many(alloc, name, value, help),
+        Word::Flag(name, help) => flag(alloc, name, help),
+        Word::Operand(name, value, help) => operand(alloc, name, value, help),
+        Word::Operands(name, value, help) => operands(alloc, name, value, help),
+        Word::Verbose => verbose(alloc),
+    }
+}
+
+fn option<'a>(alloc: Global, name: &'a str, value: &'a str, help: &'a str) -> Arg<'a>
     ensures rule { rule_of result ≡ option_rule name.entry.now }
     ensures local { result.global ≡ false }
 {
@@ -21,16 +133,21 @@ pub(crate) fn option<'a>(alloc: Global, name: &'a str, value: &'a str, help: &'a
         .action(ArgAction::Set)
 }
 
-/// `--NAME VALUE`, which has to be there.
-pub(crate) fn required<'a>(alloc: Global, name: &'a str, value: &'a str, help: &'a str) -> Arg<'a>
+fn required<'a>(alloc: Global, name: &'a str, value: &'a str, help: &'a str) -> Arg<'a>
     ensures rule { rule_of result ≡ required_rule (option_rule name.entry.now) }
     ensures local { result.global ≡ false }
 {
     option(alloc, name, value, help).required(true)
 }
 
-/// `--NAME`, which takes no value.
-pub(crate) fn flag<'a>(alloc: Global, name: &'a str, help: &'a str) -> Arg<'a>
+fn many<'a>(alloc: Global, name: &'a str, value: &'a str, help: &'a str) -> Arg<'a>
+    ensures rule { rule_of result ≡ many_rule name.entry.now }
+    ensures local { result.global ≡ false }
+{
+    option(alloc, name, value, help).action(ArgAction::Append)
+}
+
+fn flag<'a>(alloc: Global, name: &'a str, help: &'a str) -> Arg<'a>
     ensures rule { rule_of result ≡ flag_rule name.entry.now }
     ensures local { result.global ≡ false }
 {
@@ -40,15 +157,6 @@ pub(crate) fn flag<'a>(alloc: Global, name: &'a str, help: &'a str) -> Arg<'a>
         .action(ArgAction::Count)
 }
 
-/// `--NAME VALUE ..`, as often as it is given.
-pub(crate) fn many<'a>(alloc: Global, name: &'a str, value: &'a str, help: &'a str) -> Arg<'a>
-    ensures rule { rule_of result ≡ many_rule name.entry.now }
-    ensures local { result.global ≡ false }
-{
-    option(alloc, name, value, help).action(ArgAction::Append)
-}
-
-// The argument, whose value is a number within these bounds.
 fn within<'a>(arg: Arg<'a>, least: u64, most: u64) -> Arg<'a>
     ensures rule { rule_of result ≡ record (rule_of arg.entry) { parser = Some (Unsigned least most) } }
     ensures local { result.global ≡ arg.entry.global }
@@ -56,119 +164,7 @@ fn within<'a>(arg: Arg<'a>, least: u64, most: u64) -> Arg<'a>
     arg.value_parser(ValueParser::unsigned(least, most))
 }
 
-/// `--at SECONDS`
-pub(crate) fn at<'a>(alloc: Global) -> Arg<'a>
-    ensures rule { rule_of result ≡ moment_rule }
-    ensures local { result.global ≡ false }
-{
-    let help = "The moment, in seconds since 1970-01-01T00:00:00Z, in place of the clock's";
-    within(option(alloc, "at", "SECONDS", help), 0, 253402300799)
-}
-
-/// `--verbose`, `-v`
-pub(crate) fn verbose<'a>(alloc: Global) -> Arg<'a>
-    ensures rule { rule_of result ≡ verbose_rule }
-    ensures local { result.global ≡ false }
-{
-    Arg::new(alloc, "verbose")
-        .long("verbose")
-        .short('v')
-        .help("Tell what is done, and what faults are about, on standard error")
-        .action(ArgAction::Count)
-}
-
-/// `--db FILE`
-pub(crate) fn db<'a>(alloc: Global) -> Arg<'a>
-    ensures rule { rule_of result ≡ db_rule }
-    ensures local { result.global ≡ false }
-{
-    let help = "The database file of the repository, made where there is none";
-    required(alloc, "db", "FILE", help)
-}
-
-/// `--db FILE`, where a port may stand in its place.
-pub(crate) fn db_or_port<'a>(alloc: Global) -> Arg<'a>
-    ensures rule { rule_of result ≡ option_rule (codes "db") }
-    ensures local { result.global ≡ false }
-{
-    let help = "The database file of the repository, made where there is none; or --port";
-    option(alloc, "db", "FILE", help)
-}
-
-/// `--ots W`
-pub(crate) fn ots<'a>(alloc: Global) -> Arg<'a>
-    ensures rule { rule_of result ≡ ots_rule }
-    ensures local { result.global ≡ false }
-{
-    let help =
-        "The width of the one-time signatures: 1, 2, 4 or 8 (of a new key 8 where it is not given)";
-    within(option(alloc, "ots", "W", help), 1, 8)
-}
-
-/// `--height H`
-pub(crate) fn height<'a>(alloc: Global) -> Arg<'a>
-    ensures rule { rule_of result ≡ height_rule }
-    ensures local { result.global ≡ false }
-{
-    let help =
-        "The height of the tree: 5 for 32 signatures, 10 for 1,024 (of a new key 10 where it is not given)";
-    within(option(alloc, "height", "H", help), 5, 10)
-}
-
-/// `--port P`
-pub(crate) fn port<'a>(alloc: Global, help: &'a str) -> Arg<'a>
-    ensures rule { rule_of result ≡ port_rule }
-    ensures local { result.global ≡ false }
-{
-    within(required(alloc, "port", "P", help), 1, 65535)
-}
-
-/// `--port P`, where something else may stand in its place.
-pub(crate) fn port_option<'a>(alloc: Global, help: &'a str) -> Arg<'a>
-    ensures rule { rule_of result ≡ port_option_rule }
-    ensures local { result.global ≡ false }
-{
-    within(option(alloc, "port", "P", help), 1, 65535)
-}
-
-/// `--out OUT`
-pub(crate) fn out<'a>(alloc: Global) -> Arg<'a>
-    ensures rule { rule_of result ≡ out_rule }
-    ensures local { result.global ≡ false }
-{
-    let help = "The file that is written, in place of one that stands there";
-    required(alloc, "out", "OUT", help)
-}
-
-/// `--to FOLDER`
-pub(crate) fn folder<'a>(alloc: Global) -> Arg<'a>
-    ensures rule { rule_of result ≡ folder_rule }
-    ensures local { result.global ≡ false }
-{
-    let help = "The folder that is written into, made where there is none";
-    required(alloc, "to", "FOLDER", help)
-}
-
-/// `--count N`
-pub(crate) fn count<'a>(alloc: Global) -> Arg<'a>
-    ensures rule { rule_of result ≡ count_rule }
-    ensures local { result.global ≡ false }
-{
-    let help = "End after so many connections";
-    within(option(alloc, "count", "N", help), 1, 4294967295)
-}
-
-/// `--within SECONDS`
-pub(crate) fn deadline<'a>(alloc: Global) -> Arg<'a>
-    ensures rule { rule_of result ≡ within_rule }
-    ensures local { result.global ≡ false }
-{
-    let help = "Give up after so many seconds in all, 600 where it is not given";
-    within(option(alloc, "within", "SECONDS", help), 1, 86400)
-}
-
-/// An operand, which has to be there.
-pub(crate) fn operand<'a>(alloc: Global, id: &'a str, name: &'a str, help: &'a str) -> Arg<'a>
+fn operand<'a>(alloc: Global, id: &'a str, name: &'a str, help: &'a str) -> Arg<'a>
     ensures rule { rule_of result ≡ operand_rule id.entry.now }
     ensures local { result.global ≡ false }
 {
@@ -179,8 +175,7 @@ pub(crate) fn operand<'a>(alloc: Global, id: &'a str, name: &'a str, help: &'a s
         .action(ArgAction::Set)
 }
 
-/// Operands, as many as documents of a batch, or none.
-pub(crate) fn operands<'a>(alloc: Global, id: &'a str, name: &'a str, help: &'a str) -> Arg<'a>
+fn operands<'a>(alloc: Global, id: &'a str, name: &'a str, help: &'a str) -> Arg<'a>
     ensures rule { rule_of result ≡ operands_rule id.entry.now }
     ensures local { result.global ≡ false }
 {
@@ -191,11 +186,13 @@ pub(crate) fn operands<'a>(alloc: Global, id: &'a str, name: &'a str, help: &'a 
         .num_args(1..=MOST_DOCUMENTS)
 }
 
-/// `--due DAYS`
-pub(crate) fn due<'a>(alloc: Global) -> Arg<'a>
-    ensures rule { rule_of result ≡ due_rule }
+fn verbose<'a>(alloc: Global) -> Arg<'a>
+    ensures rule { rule_of result ≡ verbose_rule }
     ensures local { result.global ≡ false }
 {
-    let help = "End with status 1 where something expires within so many days";
-    within(option(alloc, "due", "DAYS", help), 0, 3650)
+    Arg::new(alloc, "verbose")
+        .long("verbose")
+        .short('v')
+        .help("Tell what is done, and what faults are about, on standard error")
+        .action(ArgAction::Count)
 }

@@ -1,0 +1,4 @@
+use Rattle.command_words.proofs.subcommands.init.Goals as goal
+
+pub returns : goal.returns
+returns c = c.with.ensures _ c.begun-command.ensures

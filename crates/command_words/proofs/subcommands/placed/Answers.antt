@@ -1,9 +1,0 @@
-use Rattle.std.proofs.Common.{ap₂, ◌∙◌}
-use Rattle.std.proofs.lemmas.Result.{IfOk-weaker}
-use Rattle.clap.specs.Words.{with_rule}
-use Rattle.command_words.proofs.subcommands.placed.Goals as goal
-
-pub returns-clause-line : goal.returns-clause-line
-returns-clause-line c =
-    let one = c.in_ok-command-2.ensures.line ∙ ap₂ with_rule c.in_ok-command.ensures.line c.db_or_port.ensures.rule in
-    IfOk-weaker c.with-2.result _ _ (λ r added. added ∙ ap₂ with_rule one c.port_option.ensures.rule) c.with-2.ensures.line
