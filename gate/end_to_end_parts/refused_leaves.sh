@@ -349,5 +349,5 @@ several_keys_sign() {
     is_told '  2 of 2 have signed'
     spares 'refused nothing' sign --at $now --key right --key left --in pair --yes
     usage key --new left --seed left.seed
-    usage key --seed left.seed --ots 4 --height 5 right
+    says "'name' cannot be used with '--seed" key --seed left.seed --ots 4 --height 5 right
 }
