@@ -22,7 +22,8 @@ use showing::show_folder;
 use std::io::Write;
 
 /// Drafts the next document of a kind into a folder, over what a database holds where one is given, and prints what the folder then has. No
-/// leaf is spent.
+/// leaf is spent. Layouts and links are listed as they stand signed before it, so that where that is refused nothing is drafted, and behind
+/// it.
 pub fn draft<O: Write, E: Write>(
     rt: &HostRuntime,
     asked: &Drafting,
@@ -36,6 +37,7 @@ pub fn draft<O: Write, E: Write>(
     if let Some(db) = &asked.db {
         follow(rt, db, folder, now, notes)?;
     }
+    relist(rt, folder, asked.anew, notes)?;
     match &asked.kind {
         Draft::Root { rules } => draft_rules(rt, folder, asked, rules, now, notes)?,
         Draft::Targets(told) => draft_listing(rt, folder, asked, told, now, notes)?,
