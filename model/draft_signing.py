@@ -34,7 +34,7 @@ class Draft:
             self.kind = self.role if self.role in ORDER else "targets"
 
     def is_named(self, named):
-        return not named or self.file in named or self.role in named
+        return self.file in named or self.role in named
 
 
 def drafts_of(folder):
@@ -97,11 +97,11 @@ def has_rule(folder, draft, key):
 
 
 def is_chosen(folder, draft, key, named):
-    """Those that are named; else those whose rules have the key and that lack its entry, of a link any entry."""
-    if named:
-        return draft.is_named(named)
+    """Those that are named; else those whose rules have the key and that lack its entry. A link is signed once."""
     entries = entries_of(folder[draft.name])
-    return has_rule(folder, draft, key) and (not entries if draft.kind == "link" else key.id not in entries)
+    if draft.kind == "link" and entries:
+        return False
+    return draft.is_named(named) if named else has_rule(folder, draft, key) and key.id not in entries
 
 
 def judge_shape(folder, draft, key):
