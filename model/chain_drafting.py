@@ -190,6 +190,14 @@ class Drafts:
         self.drafted_again(document, before, anew)
         self.list_all(anew)
 
+    def draft_targets(self, role, added, given, now, anew=False):
+        """Targets metadata as `draft targets` makes them, behind which all layouts and links are listed."""
+        begun = self.documents.get(role)
+        if begun and begun.entries and not anew:
+            raise Refused("signed")
+        self.documents[role] = File(drafting.next_targets(None, begun and begun.signed, added, [], given, now))
+        self.list_all(anew)
+
     def with_step(self, name):
         return [target for target in self.layouts if name in self.steps(target)]
 

@@ -295,6 +295,17 @@ def draft_again(folder, random, now):
     return draft_layout(folder, random, random.choice(listed_here(folder)), now)
 
 
+def draft_targets(folder, random, now):
+    """Targets metadata that list one more file. What another role's metadata list of layouts changes with them, where these have no signature."""
+    role, path = random.choice(("targets", "dev")), random.choice(("x", "y/z"))
+    given, anew, text = random.choice(TERMS), anew_words(random), random.randbytes(3)
+    place = folder.session.folder / "added"
+    place.write_bytes(text)
+    words = [*anew, "targets", *(["--role", role] if role != "targets" else []), "--add", f"{path}={place}", *term_words(given)]
+    added = [(path, len(text), digest(text))]
+    return folder.run("targets", lambda model: model.draft_targets(role, added, given, now, bool(anew)), words, now)
+
+
 def compare_takes(session, random, count):
     """What other machines send back, one behind the other, over drafts of several documents and layouts."""
     for _ in range(count):
@@ -303,7 +314,7 @@ def compare_takes(session, random, count):
         now = BEGIN
         is_on = all(draft_layout(folder, random, target, now) for target in listed_here(folder) if random.random() < 0.7)
         for step in range(random.randint(1, 8)):
-            call = random.choice((take_document, take_layout, take_link, take_link, take_link, draft_again))
+            call = random.choice((take_document, take_layout, take_link, take_link, take_link, draft_again, draft_targets))
             is_on = is_on and call(folder, random, now + step * 1000)
             if is_on and random.random() < 0.1:
                 folder.sign(random)
