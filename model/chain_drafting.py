@@ -4,8 +4,10 @@ A layout stands in the folder of drafts as the target `TARGET.layout.json`, a li
 links that are there, and where none is there those that the first keys of each step would make.
 """
 import copy
+import re
 
 import canonical_json
+import drafting
 from document_parts import MAXIMUM_SIGNATURES, key_object
 from drafting import DAY, Refused
 from signed_documents import date, digest
@@ -76,6 +78,11 @@ def link_path(target, step, keyid):
     return f"{target}.{step}.{keyid[:8]}.json"
 
 
+def link_form(target, steps):
+    """The paths of the links of these steps."""
+    return re.compile(f"{re.escape(target)}\\.(?:{'|'.join(map(re.escape, steps))})\\.[0-9a-f]{{8}}\\.json")
+
+
 def file_name(path):
     """Where a layout or a link stands in the folder of drafts."""
     return path.replace("/", "~")
@@ -102,83 +109,116 @@ class File:
 
 
 class Drafts:
-    """A folder of drafts: documents by their roles, layouts by their targets, and links by their targets and paths."""
+    """A folder of drafts: documents by their roles, layouts by their targets, and links by their paths."""
 
     def __init__(self, documents):
         self.documents = documents
         self.layouts = {}
         self.links = {}
 
+    def chain_files(self):
+        """What stands in `layouts/`, by the paths that it has as targets."""
+        return {**{layout_path(target): layout for target, layout in self.layouts.items()}, **self.links}
+
     def files(self):
         """All that stands in the folder, but for target files and what is held."""
         found = {f"{role}.json": file.bytes() for role, file in self.documents.items()}
-        for target, layout in self.layouts.items():
-            found["layouts/" + file_name(layout_path(target))] = layout.bytes()
-            found.update({"layouts/" + file_name(path): link.bytes() for path, link in self.links[target].items()})
+        found.update({"layouts/" + file_name(path): file.bytes() for path, file in self.chain_files().items()})
         return found
 
-    def lister(self, target):
-        """The targets metadata that list the target."""
-        for role, document in self.documents.items():
-            if document.signed["_type"] == "targets" and target in document.signed["targets"]:
-                return document
-        raise Refused("path")
+    def listers(self, target):
+        """The drafted targets metadata that list the target."""
+        return [it for it in self.documents.values() if it.signed["_type"] == "targets" and target in it.signed["targets"]]
 
-    def list_all(self):
-        """Lists all layouts and links as they stand signed. Documents whose signed part changes by it must have no signature."""
+    def lister(self, target):
+        found = self.listers(target)
+        if not found:
+            raise Refused("path")
+        return found[0]
+
+    def steps(self, target):
+        return [step["name"] for step in self.layouts[target].signed["steps"]]
+
+    def links_of(self, target):
+        """A file is a link of the target if its path is that of a link of a step that the target's layout has."""
+        form = link_form(target, self.steps(target))
+        return {path: link for path, link in self.links.items() if form.fullmatch(path)}
+
+    def list_all(self, anew=False):
+        """Lists all layouts and links as they stand signed. What has signatures changes only where it is drafted anew, and has none then."""
         for target in self.layouts:
-            document = self.lister(target)
-            before = copy.deepcopy(document.signed)
-            self.list(target, document.signed["targets"])
-            if document.signed != before and document.entries:
-                document.signed = before
-                raise Refused("signed")
+            for document in self.listers(target):
+                before = copy.deepcopy(document.signed)
+                self.list(target, document.signed["targets"])
+                self.drafted_again(document, before, anew)
+
+    def drafted_again(self, document, before, anew):
+        """Behind a listing that changes something. Targets metadata without a term get that of a first one."""
+        if document.signed == before:
+            return
+        if document.entries and not anew:
+            raise Refused("signed")
+        document.entries = []
+        document.signed.setdefault("term", drafting.FIRST_DAYS["targets"] * DAY)
 
     def list(self, target, listed):
-        links = self.links[target]
+        """The reference names the links that are there; where there are none it stays as it was."""
+        links = self.links_of(target)
         for path, file in {layout_path(target): self.layouts[target], **links}.items():
             said = file.bytes()
             listed.setdefault(path, {}).update(length=len(said), hashes={"sha256": digest(said)})
-        reference = listed[target]["custom"]["layout"]
-        reference["links"] = sorted(links) or self.first_links(target)
+        if links:
+            listed[target]["custom"]["layout"]["links"] = sorted(links)
 
     def first_links(self, target):
         steps = self.layouts[target].signed["steps"]
         return [link_path(target, step["name"], keyid) for step in steps for keyid in step["pubkeys"][:step["threshold"]]]
 
-    def draft_layout(self, target, steps, owners, threshold, called, given, now):
+    def draft_layout(self, target, steps, owners, threshold, called, given, now, anew=False):
         """The layout, and what refers the target to it: the product is the last one of the last step."""
         document = self.lister(target)
         begun = self.layouts.get(target)
+        if begun and begun.entries and not anew:
+            raise Refused("signed")
+        before = copy.deepcopy(document.signed)
         self.layouts[target] = File(next_layout(begun and begun.signed, steps, called, given, now))
-        self.links.setdefault(target, {})
         document.signed["targets"][target].setdefault("custom", {})["layout"] = {
             "keyids": [key.id for key in owners], "keys": {key.id: key_object(key.public.hex()) for key in owners}, "threshold": threshold,
-            "path": layout_path(target), "links": [], "product": steps[-1].made[-1], "step": steps[-1].name,
+            "path": layout_path(target), "links": self.first_links(target), "product": steps[-1].made[-1], "step": steps[-1].name,
         }
-        self.list_all()
+        self.list(target, document.signed["targets"])
+        self.drafted_again(document, before, anew)
+        self.list_all(anew)
+
+    def draft_targets(self, role, added, given, now, anew=False):
+        """Targets metadata as `draft targets` makes them, behind which all layouts and links are listed."""
+        begun = self.documents.get(role)
+        if begun and begun.entries and not anew:
+            raise Refused("signed")
+        self.documents[role] = File(drafting.next_targets(None, begun and begun.signed, added, [], given, now))
+        self.list_all(anew)
 
     def with_step(self, name):
-        return [target for target, layout in self.layouts.items() if name in [step["name"] for step in layout.signed["steps"]]]
+        return [target for target in self.layouts if name in self.steps(target)]
 
-    def take_link(self, target, link):
-        """A link of one signature comes in for the target that is given, or for the one whose layout has its step."""
+    def take_link(self, target, link, anew=False):
+        """A link of one signature comes in for the target that is given, whose layout has to have its step, or for the one whose layout has it."""
         name, keyid = link.signed["name"], link.entries[0]["keyid"]
         found = [it for it in self.with_step(name) if target in (None, it)]
         if len(found) != 1:
             raise Refused("path")
-        self.links[found[0]][link_path(found[0], name, keyid)] = link
-        self.list_all()
+        self.links[link_path(found[0], name, keyid)] = link
+        self.list_all(anew)
 
-    def take_layout(self, name, file):
+    def take_layout(self, name, file, anew=False):
         """The signatures of a layout join those of the one that is here under this name."""
         for target, layout in self.layouts.items():
             if file_name(layout_path(target)) == name:
                 self.layouts[target] = layout.joined(file)
-                return self.list_all()
+                return self.list_all(anew)
         raise Refused("different")
 
-    def take_document(self, role, file):
+    def take_document(self, role, file, anew=False):
         """Over the signed part of a draft the signatures join; targets metadata of another role, of which there is no draft, come in."""
         if role in self.documents:
             self.documents[role] = self.documents[role].joined(file)
@@ -186,4 +226,4 @@ class Drafts:
             self.documents[role] = file
         else:
             raise Refused("different")
-        self.list_all()
+        self.list_all(anew)

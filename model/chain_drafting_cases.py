@@ -14,8 +14,8 @@ from drafting_cases import CALLED, TERMS, name_of, random_rules, rule_words, ter
 from signed_documents import BEGIN, digest
 from test_keys import LMS_KEYS as KEYS
 
-TARGETS = ("a", "a-build", "dir/b", "dir/deep/b")
-STEPS = ("build", "test", "pack", "0-_")
+TARGETS = ("a", "a.build", "a-build", "dir/b", "dir/b.build", "dir/deep/b")
+STEPS = ("build", "test", "pack", "0-_", "layout")
 MADE = ("a", "out/b.o", "c")
 PATTERNS = ("out/*", "?", "*.tgz")
 RULES = (
@@ -60,13 +60,27 @@ class Folder:
         return {str(place.relative_to(self.path)): place.read_bytes() for place in places}
 
     def run(self, label, make_draft, words, now):
-        """Runs `draft`, and compares its end and all files that it leaves. Answers whether it was done: what is refused ends a case."""
-        wanted = ended_by(make_draft)
+        """Runs `draft`, and compares its end and all files that it leaves. What is refused leaves the folder as it was."""
+        before, stood = copy.deepcopy(self.model), self.all_files()
+        wanted = ended_by(lambda: make_draft(self.model))
         status, _, told = self.session.run("draft", "--at", str(now), "--in", str(self.path), *words)
         if wanted is None:
             return self.session.check(f"{label}: drafts", *without_same((0, self.model.files()), (status, self.files())), " ".join(words))
-        self.session.check(f"{label}: refused", (1, [wanted]), (status, told.decode().splitlines()[-1:]), " ".join(words))
-        return False
+        self.model = before
+        is_refused = self.session.check(f"{label}: refused", (1, [wanted]), (status, told.decode().splitlines()[-1:]), " ".join(words))
+        both = without_same((wanted, stood), (wanted, self.all_files()))
+        return is_refused and self.session.check(f"{label}: what a refused draft leaves", *both, " ".join(words))
+
+    def all_files(self):
+        return {str(place.relative_to(self.path)): place.read_bytes() for place in sorted(self.path.rglob("*")) if place.is_file()}
+
+    def sign(self, random):
+        """Some documents and layouts get a signature, as on another machine."""
+        for file in (*self.model.documents.values(), *self.model.layouts.values()):
+            if random.random() < 0.3 and not file.entries:
+                file.entries = signed_by(file.signed, [random.choice(SIGNERS)]).entries
+        for name, text in self.model.files().items():
+            (self.path / name).write_bytes(text)
 
     def send(self, name, file):
         place = self.sent / name
@@ -122,16 +136,21 @@ def rule_file(session, steps):
     return ["--rules", str(place)]
 
 
+def anew_words(random, share=0.5):
+    return ["--anew"] if random.random() < share else []
+
+
 def draft_layout(folder, random, target, now):
-    """A layout of random steps; a target that is not listed is refused."""
+    """A layout of random steps; a target that is not listed is refused, and what has signatures without `--anew`."""
     session = folder.session
     steps = [random_step(random, name, SIGNERS) for name in random.sample(STEPS, random.randint(1, 3))]
     (_, owners, threshold), = random_rules(random, ["owners"])
     given = random.choice(TERMS)
     (rule,) = rule_words(session.folder, [("owners", owners, threshold)])
-    words = ["layout", "--target", target, "--owners", rule.partition("=")[2], *rule_file(session, steps), *term_words(given)]
+    anew = anew_words(random)
+    words = [*anew, "layout", "--target", target, "--owners", rule.partition("=")[2], *rule_file(session, steps), *term_words(given)]
     words += [step_word(session.folder, step) for step in steps]
-    return folder.run("layout", lambda: folder.model.draft_layout(target, steps, owners, threshold, CALLED, given, now), words, now)
+    return folder.run("layout", lambda model: model.draft_layout(target, steps, owners, threshold, CALLED, given, now, bool(anew)), words, now)
 
 
 def listed_targets(random):
@@ -142,31 +161,38 @@ def listed_targets(random):
         if paths:
             signed = make.targets(1, BEGIN + 10**6, {path: (len(path), digest(path.encode())) for path in paths})
             signed["targets"][paths[0]]["custom"] = {"kept": [1, None]}
-            yield role, {**signed, "kept": "z", "term": 10**6}
+            yield role, {**signed, "kept": "z", **({"term": 10**6} if random.random() < 0.5 else {})}
 
 
 def compare_layouts(session, random, count):
-    """Layouts one behind the other: several targets, each layout drafted again before it has links, with usual rules and with those of a file."""
+    """Layouts one behind the other: several targets, each layout drafted again, at times once it is signed, with usual rules and with those of a file."""
     for _ in range(count):
         folder = Folder(session, listed_targets(random))
-        for step in range(random.randint(1, 5)):
-            if not draft_layout(folder, random, random.choice(TARGETS), BEGIN + step * 1000):
+        for step in range(random.randint(1, 6)):
+            if not draft_layout(folder, random, random.choice([*TARGETS, *listed_here(folder)]), BEGIN + step * 1000):
                 break
+            if random.random() < 0.3:
+                folder.sign(random)
 
 
 def compare_links(session, random, count):
-    """Links in several calls: materials and products whose files change between them, and files that are none or have no path of a target."""
+    """Links in several calls: materials and products whose files change between them, files that are none or have no path of a target, and links that
+    are signed between two calls."""
     for _ in range(count):
         folder = Folder(session)
         begun = {}
-        for _ in range(random.randint(1, 4)):
-            name = random.choice(STEPS[:2])
+        for _ in range(random.randint(1, 5)):
             with inside(session.folder):
-                materials, products = artifacts(random), artifacts(random)
-                words = ["link", "--step", name]
-                words += [word for option, said in (("--materials", materials), ("--products", products)) for path, _ in said for word in (option, path)]
-                if not compare_link(folder, begun, name, materials, products, words):
+                if not compare_link(folder, random, begun):
                     break
+            if begun and random.random() < 0.3:
+                sign_link(folder, random, begun)
+
+
+def sign_link(folder, random, begun):
+    name = random.choice(list(begun))
+    begun[name] = signed_by(begun[name].signed, [random.choice(SIGNERS)])
+    (folder.path / f"links/{name}.json").write_bytes(begun[name].bytes())
 
 
 def artifacts(random):
@@ -183,24 +209,29 @@ def artifacts(random):
     return said
 
 
-def compare_link(folder, begun, name, materials, products, words):
+def compare_link(folder, random, begun):
     """A path that is none of a target is denied. A file that is both a material and a product is read once the words are, so as it is then."""
-    said = {path: digest(read(path)) for path, _ in materials + products}
-    materials, products = ([(path, said[path]) for path, _ in side] for side in (materials, products))
-    is_denied = any(path.startswith(("/", "./")) for path in said)
-
-    def drafted():
-        if is_denied:
-            raise Denied("denied 3 WrongShape")
-        begun[name] = chain_drafting.next_link(begun.get(name), name, materials, products)
-
-    wanted = ended_by(drafted)
+    name, anew = random.choice(STEPS[:2]), anew_words(random)
+    sides = artifacts(random), artifacts(random)
+    words = [*anew, "link", "--step", name]
+    words += [word for option, side in zip(("--materials", "--products"), sides) for path, _ in side for word in (option, path)]
+    said = {path: digest(read(path)) for side in sides for path, _ in side}
+    materials, products = ([(path, said[path]) for path, _ in side] for side in sides)
+    wanted = ended_by(lambda: draft_link(begun, name, materials, products, bool(anew)))
     status, _, told = folder.session.run("draft", "--in", str(folder.path), *words)
     if wanted is not None:
         folder.session.check("link: refused", (1, [wanted]), (status, told.decode().splitlines()[-1:]), " ".join(words))
-        return False
-    files = {f"links/{step}.json": drafting.file_of(signed) for step, signed in begun.items()}
-    return folder.session.check("link: drafts", (0, files), (status, folder.files()), " ".join(words))
+    files = {f"links/{step}.json": link.bytes() for step, link in begun.items()}
+    return folder.session.check("link: drafts", (0 if wanted is None else 1, files), (status, folder.files()), " ".join(words))
+
+
+def draft_link(begun, name, materials, products, anew):
+    old = begun.get(name)
+    if old and old.entries and not anew:
+        raise Refused("signed")
+    if any(path.startswith(("/", "./")) for path, _ in materials + products):
+        raise Denied("denied 3 WrongShape")
+    begun[name] = File(chain_drafting.next_link(old and old.signed, name, materials, products))
 
 
 def read(path):
@@ -218,8 +249,9 @@ def take_document(folder, random, now):
     file = signed_by(signed, random.sample(SIGNERS, random.randint(0, 3)))
     if random.random() < 0.1:
         file.entries += make.empty_signatures(random.randint(10, 16 - len(file.entries)))
-    words = ["take", folder.send(f"{role}.json", file)]
-    return folder.run("take: a document", lambda: folder.model.take_document(role, file), words, now)
+    anew = anew_words(random, 0.2)
+    words = [*anew, "take", folder.send(f"{role}.json", file)]
+    return folder.run("take: a document", lambda model: model.take_document(role, file, bool(anew)), words, now)
 
 
 def further_document(random, role):
@@ -238,18 +270,40 @@ def take_layout(folder, random, now):
     if random.random() < 0.1:
         signed["z"] = 0
     file = signed_by(signed, random.sample(SIGNERS, random.randint(0, 3)))
-    name = chain_drafting.file_name(chain_drafting.layout_path(target))
-    return folder.run("take: a layout", lambda: folder.model.take_layout(name, file), ["take", folder.send(name, file)], now)
+    name, anew = chain_drafting.file_name(chain_drafting.layout_path(target)), anew_words(random)
+    place = folder.send(name, file)
+    with inside(folder.sent):
+        words = [*anew, "take", random.choice((name, place))]
+        return folder.run("take: a layout", lambda model: model.take_layout(name, file, bool(anew)), words, now)
 
 
 def take_link(folder, random, now):
-    """A link by any key, for the target that is given or for the one whose layout has its step; at times for a target that is not listed."""
-    name = random.choice(STEPS)
-    target = random.choice((None, "none", *folder.model.with_step(name)))
+    """A link by any key, for the target that is given or for the one whose layout has its step; at times for a target whose layout has not, or that
+    has none."""
+    name, anew = random.choice(STEPS), anew_words(random)
+    target = random.choice((None, None, "none", *folder.model.layouts, *folder.model.with_step(name)))
     said = {path: digest(random.randbytes(3)) for path in random.sample(FILES, random.randint(0, 2))}
     file = signed_by(make.link(name, {}, said), [random.choice(SIGNERS)])
-    words = ["take", *(["--target", target] if target else []), folder.send("link.json", file)]
-    return folder.run("take: a link", lambda: folder.model.take_link(target, file), words, now)
+    place = folder.send("link.json", file)
+    with inside(folder.sent):
+        words = [*anew, "take", *(["--target", target] if target else []), random.choice(("link.json", place))]
+        return folder.run("take: a link", lambda model: model.take_link(target, file, bool(anew)), words, now)
+
+
+def draft_again(folder, random, now):
+    """A layout that is drafted behind links, some of whose steps it has no more."""
+    return draft_layout(folder, random, random.choice(listed_here(folder)), now)
+
+
+def draft_targets(folder, random, now):
+    """Targets metadata that list one more file. What another role's metadata list of layouts changes with them, where these have no signature."""
+    role, path = random.choice(("targets", "dev")), random.choice(("x", "y/z"))
+    given, anew, text = random.choice(TERMS), anew_words(random), random.randbytes(3)
+    place = folder.session.folder / "added"
+    place.write_bytes(text)
+    words = [*anew, "targets", *(["--role", role] if role != "targets" else []), "--add", f"{path}={place}", *term_words(given)]
+    added = [(path, len(text), digest(text))]
+    return folder.run("targets", lambda model: model.draft_targets(role, added, given, now, bool(anew)), words, now)
 
 
 def compare_takes(session, random, count):
@@ -259,10 +313,14 @@ def compare_takes(session, random, count):
         folder = Folder(session, [*documents, *listed_targets(random)])
         now = BEGIN
         is_on = all(draft_layout(folder, random, target, now) for target in listed_here(folder) if random.random() < 0.7)
-        for _ in range(random.randint(1, 6)):
-            take = random.choice((take_document, take_layout, take_link, take_link))
-            is_on = is_on and take(folder, random, now)
+        for step in range(random.randint(1, 8)):
+            call = random.choice((take_document, take_layout, take_link, take_link, take_link, draft_again, draft_targets))
+            is_on = is_on and call(folder, random, now + step * 1000)
+            if is_on and random.random() < 0.1:
+                folder.sign(random)
 
 
 def listed_here(folder):
-    return [path for document in folder.model.documents.values() for path in document.signed.get("targets", ())]
+    """The targets that are listed, but for layouts and links."""
+    listed = [path for document in folder.model.documents.values() for path in document.signed.get("targets", ())]
+    return [path for path in listed if path in TARGETS]

@@ -5,7 +5,7 @@ import shutil
 
 import canonical_json
 import drafting
-from signed_documents import BEGIN, date, digest
+from signed_documents import BEGIN, date, digest, signature_entry
 from test_keys import LMS_KEYS as KEYS
 
 PATHS = ("a", "b.txt", "dir/c", "dir/deep/d", "e-1_2", "f.tar.gz")
@@ -29,6 +29,7 @@ class Folder:
         os.makedirs(self.path / "held")
         self.held = {}
         self.begun = {}
+        self.signed = set()
         for key in KEYS:
             (session.folder / f"{name_of(key)}.key").write_bytes(canonical_json.write(drafting.key_object(key.public.hex())) + b"\n")
 
@@ -38,12 +39,14 @@ class Folder:
 
     def draft(self, label, kinds, wanted, words, now):
         """Runs `draft`, and compares its end and the documents that it leaves. `wanted` has the documents, or the word of what refuses."""
+        stood = {kind: self.read(kind) for kind in kinds}
         ended = self.session.run("draft", "--at", str(now), "--in", str(self.path), *words)
-        if isinstance(wanted, str):
-            found = ended[0], ended[2].decode().splitlines()[-1:]
-            end = (2, found[1]) if wanted == "usage" else (1, [f"refused {wanted}"])
-            return self.session.check(f"{label}: refused", end, found, " ".join(words))
         found = {kind: self.read(kind) for kind in kinds}
+        if isinstance(wanted, str):
+            said = ended[2].decode().splitlines()[-1:]
+            end = (2, said) if wanted == "usage" else (1, [f"refused {wanted}"])
+            return self.session.check(f"{label}: refused", (*end, stood), (ended[0], said, found), " ".join(words))
+        self.signed -= set(kinds)
         files = {kind: drafting.file_of(wanted[kind]) if wanted.get(kind) else None for kind in kinds}
         self.begun.update({kind: wanted[kind] for kind in kinds if wanted.get(kind)})
         return self.session.check(f"{label}: drafts", (0, files), (ended[0], found), " ".join(words))
@@ -52,8 +55,26 @@ class Folder:
         place = self.path / f"{kind}.json"
         return place.read_bytes() if place.exists() else None
 
+    def sign(self, kind, key):
+        """The draft has a signature, as of another machine."""
+        signed = self.begun[kind]
+        entries = [signature_entry(key, canonical_json.write(signed))]
+        (self.path / f"{kind}.json").write_bytes(canonical_json.write({"signatures": entries, "signed": signed}))
+        self.signed.add(kind)
+
+    def signed_between(self, random, kind, wanted, words):
+        """At times the draft is signed before it is drafted again: then that is refused, but for `--anew`."""
+        if kind in self.begun and kind not in self.signed and random.random() < 0.3:
+            self.sign(kind, random.choice(KEYS[:6]))
+        if kind not in self.signed:
+            return wanted, words
+        if isinstance(wanted, str) or random.random() < 0.5:
+            return wanted, ["--anew", *words]
+        return "signed", words
+
     def publish(self, kind):
         """What was drafted is held."""
+        self.signed.discard(kind)
         self.hold(kind, self.begun.pop(kind))
         os.remove(self.path / f"{kind}.json")
 
@@ -93,7 +114,8 @@ def compare_roots(session, random, count):
             roles = drafting.TOP_ROLES if not (held or begun) and random.random() < 0.8 else random.sample(drafting.TOP_ROLES, random.randint(0, 4))
             rules, given = list(random_rules(random, roles)), random.choice(TERMS)
             wanted = answered(lambda: {"root": drafting.next_root(held, begun, rules, CALLED, given, now)})
-            folder.draft("root", ["root"], wanted, ["root", *rule_words(session.folder, rules), *term_words(given)], now)
+            words = ["root", *rule_words(session.folder, rules), *term_words(given)]
+            folder.draft("root", ["root"], *folder.signed_between(random, "root", wanted, words), now)
             if folder.begun.get("root") and random.random() < 0.5:
                 folder.publish("root")
 
@@ -120,7 +142,7 @@ def compare_targets(session, random, count):
             words = ["targets", *([] if role == "targets" else ["--role", role]), *term_words(given)]
             words += [word for path, _, _, place in added for word in ("--add", f"{path}={place}")]
             words += [word for path in removed for word in ("--remove", path)]
-            folder.draft("targets", [role], wanted, words, now)
+            folder.draft("targets", [role], *folder.signed_between(random, role, wanted, words), now)
             if folder.begun.get(role) and random.random() < 0.5:
                 folder.publish(role)
 
@@ -140,10 +162,12 @@ def compare_seals(session, random, count):
         if random.random() < 0.8:
             expires = date(now + random.choice((0, 1, 86399, 86400, 86401, 10**6)))
             meta = {"targets.json": {"version": random.randint(1, 9)}, "dev.json": {"version": 2}}
-            folder.hold("snapshot", {"_type": "snapshot", "spec_version": "1.0.31", "version": random.randint(1, 99), "expires": expires, "meta": meta, "more": {}})
+            said = {"_type": "snapshot", "spec_version": "1.0.31", "version": random.randint(1, 99), "expires": expires}
+            folder.hold("snapshot", {**said, "meta": meta, "more": {}})
         if random.random() < 0.8:
             meta = {"snapshot.json": {"version": 1, "length": 5}}
-            folder.hold("timestamp", {"_type": "timestamp", "spec_version": "1.0.31", "version": random.randint(1, 99), "expires": date(now), "meta": meta, "term": random.choice((5, 86400))})
+            said = {"_type": "timestamp", "spec_version": "1.0.31", "version": random.randint(1, 99), "expires": date(now)}
+            folder.hold("timestamp", {**said, "meta": meta, "term": random.choice((5, 86400))})
         given = random.choice(TERMS)
         if "snapshot" not in folder.held:
             continue

@@ -10,6 +10,7 @@ import delegation_rows
 import delegation_scenes
 import delegation_shapes
 import document_shapes
+import draft_signing_cases
 import drafting_cases
 import following
 import histories
@@ -94,12 +95,14 @@ def of_databases_and_words(chosen):
     yield "signing by hand", signing_cases.compare_by_hand
     yield "signing: order of faults", signing_cases.compare_faults
     yield "signing: several keys over one book", signing_cases.compare_histories, 2 * chosen.histories
+    yield "drafts: keys that are made", signing_cases.compare_new_keys, 1 + chosen.histories // 10
     yield "drafts: roots", drafting_cases.compare_roots, chosen.histories
     yield "drafts: targets metadata", drafting_cases.compare_targets, chosen.histories
     yield "drafts: seals", drafting_cases.compare_seals, 4 * chosen.histories
     yield "drafts: layouts", chain_drafting_cases.compare_layouts, chosen.histories
     yield "drafts: links", chain_drafting_cases.compare_links, chosen.histories
     yield "drafts: what is taken", chain_drafting_cases.compare_takes, chosen.histories
+    yield "drafts: what is signed", draft_signing_cases.compare_signing, chosen.histories
     yield "random histories", histories.compare_histories, chosen.histories
 
 

@@ -5,7 +5,7 @@ import sqlite3
 import canonical_json
 import leaf_book
 from command_line import fault
-from test_keys import LMS_KEYS as KEYS, Key
+from test_keys import LMS_KEYS as KEYS, Key, KeyOfSeed
 
 LARGE = Key(b"a key that signs 1,024 files", 1, 10)
 
@@ -71,6 +71,56 @@ def kept(book):
 def compare_keys(session, _random):
     for key in (*KEYS, LARGE):
         session.check("key", leaf_book.key_line(key), session.run("key", *words_of(session, key)), key.id.encode())
+
+
+NEW_NAMES = ("left", "right", "third", "of.two")
+ENDINGS = (".seed", ".key", ".book")
+
+
+def compare_new_keys(session, random, count):
+    """`key --new` of several names: none is made where one file of any of them stands."""
+    for number in range(count):
+        folder = session.folder / f"new keys {number}"
+        folder.mkdir()
+        names = random.sample(NEW_NAMES, random.randint(1, 3))
+        for _ in range(random.choice((0, 0, 1, 2))):
+            (folder / (random.choice(NEW_NAMES) + random.choice(ENDINGS))).write_bytes(b"")
+        stood = files_in(folder)
+        is_refused = any(name + ending in stood for name in names for ending in ENDINGS)
+        words = ["key", "--new", *(str(folder / name) for name in names), "--ots", "1", "--height", "5"]
+        status, printed, told = session.run(*words)
+        if is_refused:
+            found = status, printed, told.decode().splitlines()[-1:], files_in(folder)
+            session.check("key --new: refused", (1, b"", ["refused exists"], stood), found, " ".join(words))
+        else:
+            compare_made(session, folder, names, stood, (status, printed))
+
+
+def files_in(folder):
+    """All files with their bytes, but for the logs beside books."""
+    return {place.name: place.read_bytes() for place in folder.iterdir() if not place.name.endswith(("-wal", "-shm"))}
+
+
+def compare_made(session, folder, names, stood, found):
+    """Each key is that of its seed, its book has it and no leaf, and seed and book are for their owner alone. What stood there stays."""
+    keys = [KeyOfSeed((folder / f"{name}.seed").read_text(), 1, 5) for name in names]
+    session.check("key --new: the IDs", (0, "".join(f"{key.id}\n" for key in keys).encode()), found)
+    there = files_in(folder)
+    made = {name + ending for name in names for ending in ENDINGS}
+    session.check("key --new: what stood stays", stood, {name: there[name] for name in there if name not in made})
+    for name, key in zip(names, keys):
+        modes = [(folder / (name + ending)).stat().st_mode & 0o777 for ending in (".seed", ".book")]
+        session.check("key --new: the public half", leaf_book.key_line(key)[1], there[f"{name}.key"])
+        session.check("key --new: modes", [0o600, 0o600], modes)
+        session.check("key --new: the book", ([(key.id, 1, 5)], set()), (signers_of(folder / f"{name}.book"), kept(folder / f"{name}.book")))
+
+
+def signers_of(book):
+    connection = sqlite3.connect(book)
+    try:
+        return connection.execute("SELECT key, ots, height FROM signer").fetchall()
+    finally:
+        connection.close()
 
 
 def compare_by_hand(session, _random):

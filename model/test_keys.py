@@ -18,10 +18,13 @@ RANDOMIZER = 0xFFFD
 
 class Key:
     def __init__(self, name, width, height):
+        self.begin(sha256(b"identifier of ", name)[:16], sha256(b"seed of ", name), width, height)
+
+    def begin(self, identifier, seed, width, height):
         self.width = width
         self.height = height
-        self.identifier = sha256(b"identifier of ", name)[:16]
-        self.seed = sha256(b"seed of ", name)
+        self.identifier = identifier
+        self.seed = seed
         self.one_time_type = ONE_TIME_TYPE_OF_WIDTH[width]
         self.tree_type = TREE_TYPE_OF_HEIGHT[height]
         self.elements = lms.ONE_TIME_TYPES[self.one_time_type][1]
@@ -70,6 +73,14 @@ class Key:
             self.signatures[name] = self.sign_with(self.next_leaf, message)
             self.next_leaf = (self.next_leaf + 1) % (1 << self.height)
         return self.signatures[name]
+
+
+class KeyOfSeed(Key):
+    """The key of what a seed file says: 16 bytes and 32 in hex digits."""
+
+    def __init__(self, text, width, height):
+        said = bytes.fromhex(text)
+        self.begin(said[:16], said[16:], width, height)
 
 
 def width_of(number):

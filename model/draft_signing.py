@@ -1,0 +1,239 @@
+"""Drafts that keys of three files sign: what `sign --key` looks at before a leaf is spent, as a function of a folder of drafts, of books and of a moment.
+
+A folder is what stands under its names: `ROLE.json`, `layouts/NAME`, `links/STEP.json`, `files/DIGEST` and `held/ROLE.json`, each with its bytes.
+"""
+import canonical_json
+import chain_drafting
+from denials import Denied, deny_unless
+from documents import is_live, meets, read_document, read_envelope
+from drafting import Refused
+from leaf_book import with_entry
+from signed_documents import digest
+
+ORDER = {"root": 0, "snapshot": 3, "timestamp": 4}
+OF_CHAINS = 1
+OF_TARGETS = 2
+
+
+class Spent(Exception):
+    """All leaves of the key are spent."""
+
+
+class Draft:
+    """A document of the folder: its name there, its place in the order of signing, its kind, and what it is called where it is signed."""
+
+    def __init__(self, name):
+        self.name = name
+        self.folder, _, self.file = name.rpartition("/")
+        self.role = self.file.removesuffix(".json")
+        if self.folder:
+            self.order, self.told = OF_CHAINS, name
+            self.kind = "layout" if self.file.endswith(".layout.json") else "link"
+        else:
+            self.order, self.told = ORDER.get(self.role, OF_TARGETS), self.role
+            self.kind = self.role if self.role in ORDER else "targets"
+
+    def is_named(self, named):
+        return self.file in named or self.role in named
+
+
+def drafts_of(folder):
+    """All that may be signed. The links of `layouts/` are signed elsewhere."""
+    found = [Draft(name) for name in folder if not name.startswith(("files/", "held/"))]
+    return sorted((it for it in found if it.folder != "layouts" or it.kind == "layout"), key=lambda it: (it.order, it.name))
+
+
+def entries_of(text):
+    """The ids of those who signed, and none where the bytes are no document."""
+    try:
+        return {keyid: signature for keyid, signature in read_envelope(text)[0]}
+    except Denied:
+        return {}
+
+
+def document_at(folder, kind, name):
+    """The document under this name, or None where there is none that can be read."""
+    try:
+        return read_document(kind, folder[name]) if name in folder else None
+    except Denied:
+        return None
+
+
+def in_use(folder, kind, role):
+    """What is drafted, else what is held."""
+    return document_at(folder, kind, f"{role}.json") or document_at(folder, kind, f"held/{role}.json")
+
+
+def targets_roles(folder):
+    """The roles of all targets metadata that are drafted or held."""
+    roles = {Draft(name.removeprefix("held/")).role for name in folder if "/" not in name.removeprefix("held/")}
+    return sorted(roles - set(ORDER))
+
+
+def targets_in_use(folder):
+    return [document for document in (in_use(folder, "targets", role) for role in targets_roles(folder)) if document]
+
+
+def rules_of_root(folder, draft):
+    """A root follows the rule of the one that is held and its own."""
+    roots = [document_at(folder, "root", name) for name in ("root.json", "held/root.json")]
+    if draft.role == "root":
+        return [root.rules["root"] for root in roots if root]
+    return [next(root.rules[draft.role] for root in roots if root)] if any(roots) else []
+
+
+def rules_of(folder, draft):
+    """Whose signatures the document asks for: those of the root, of delegations, or of what refers a target to its layout."""
+    if draft.kind == "layout":
+        references = [it for document in targets_in_use(folder) for it in document.references.values()]
+        return [it.owners for it in references if chain_drafting.file_name(it.path) == draft.file]
+    if draft.role in ("root", "targets", "snapshot", "timestamp"):
+        return rules_of_root(folder, draft)
+    return [it.rule for document in targets_in_use(folder) for it in document.delegations if it.role == draft.role]
+
+
+def has_rule(folder, draft, key):
+    return draft.kind == "link" or any(key.id in rule.keyids for rule in rules_of(folder, draft))
+
+
+def is_chosen(folder, draft, key, named):
+    """Those that are named; else those whose rules have the key and that lack its entry. A link is signed once."""
+    entries = entries_of(folder[draft.name])
+    if draft.kind == "link" and entries:
+        return False
+    return draft.is_named(named) if named else has_rule(folder, draft, key) and key.id not in entries
+
+
+def judge_shape(folder, draft, key):
+    """Of a link with the signature that is to come."""
+    text = folder[draft.name]
+    if draft.kind == "link":
+        signatures, _, signed = read_envelope(text)
+        text = with_entry(signatures, key, b"", signed)
+    return read_document(draft.kind, text)
+
+
+def judge_book(folder, key, book):
+    """The book has the key, and knows each signature of the key in the folder: by its leaf, for what it stands over."""
+    if not book.is_made or key.id not in book.leaves:
+        raise Refused("book")
+    for name, text in folder.items():
+        signature = None if name.startswith("files/") else entries_of(text).get(key.id)
+        if signature is not None and book.leaves[key.id].get(read_envelope(text)[2]) != int.from_bytes(signature[:4], "big"):
+            raise Refused("book")
+
+
+def judge_against_held(folder, draft, document):
+    held = document_at(folder, draft.kind, f"held/{draft.role}.json")
+    if held is None:
+        return
+    if draft.kind == "root":
+        deny_unless(document.version == held.version + 1, "RootVersion")
+    if draft.kind == "timestamp":
+        deny_unless(document.version > held.version, "TimestampRollback")
+        deny_unless(document.snapshot.version >= held.snapshot.version, "NamedSnapshotRollback")
+    if draft.kind == "snapshot":
+        kept = [role for role in held.roles if role in document.roles]
+        deny_unless(all(document.roles[role].version >= held.roles[role].version for role in kept), "SnapshotRollback")
+        deny_unless(len(kept) == len(held.roles), "RoleDropped")
+
+
+def has_enough(folder, name):
+    """Whether the rules of a draft are met."""
+    draft = Draft(name)
+    document = document_at(folder, draft.kind, name)
+    rules = rules_of(folder, draft)
+    if draft.role == "root":
+        return document is not None and all(meets(rule, document) for rule in rules)
+    return document is not None and any(meets(rule, document) for rule in rules)
+
+
+def judge_order(folder, draft):
+    """A snapshot is over drafted targets metadata, a timestamp over a drafted snapshot."""
+    under = {"snapshot": OF_TARGETS, "timestamp": ORDER["snapshot"]}.get(draft.kind)
+    for name in folder:
+        if "/" not in name and Draft(name).order == under and not has_enough(folder, name):
+            raise Refused("order")
+
+
+def held_files(folder):
+    """The files that what is held lists, by their digests and lengths."""
+    documents = [document_at(folder, "targets", f"held/{role}.json") for role in targets_roles(folder)]
+    return {(said, length) for document in documents if document for length, said in document.listings.values()}
+
+
+def judge_files(folder, draft, document):
+    """Each file that is listed is held, or waits in the folder with its length and its bytes; layouts and links are listed as they stand by now."""
+    chains = {name.removeprefix("layouts/"): text for name, text in folder.items() if name.startswith("layouts/")}
+    held = held_files(folder)
+    for path, (length, said) in document.listings.items() if draft.kind == "targets" else ():
+        standing = chains.get(chain_drafting.file_name(path), folder.get(f"files/{said}"))
+        if standing is None and (said, length) in held:
+            continue
+        if standing is None or (len(standing), digest(standing)) != (length, said):
+            raise Refused("file")
+
+
+def judge_other(key, book, document):
+    """The key has signed no other document of this kind and version."""
+    for message in book.leaves[key.id]:
+        signed, _ = canonical_json.read(message)
+        is_like = (signed.get("_type"), signed.get("version")) == (document.kind, document.version)
+        if is_like and message != document.signed_bytes:
+            raise Refused("other")
+
+
+def judge(folder, draft, key, book, again, now):
+    """The checks in their order, each of which comes before a leaf is spent."""
+    document = judge_shape(folder, draft, key)
+    if not has_rule(folder, draft, key):
+        raise Refused("stranger")
+    judge_book(folder, key, book)
+    if draft.kind == "link":
+        return
+    if draft.kind != "layout":
+        judge_against_held(folder, draft, document)
+    if not is_live(document, now):
+        raise Refused("past")
+    judge_order(folder, draft)
+    judge_files(folder, draft, document)
+    if draft.kind != "layout" and not again:
+        judge_other(key, book, document)
+
+
+def sign_one(folder, draft, key, book):
+    """The document with the key's entry last, and what is told."""
+    signatures, _, signed = read_envelope(folder[draft.name])
+    with_entry(signatures, key, key.sign_with(0, b""), signed)
+    leaf = book.reserve(key, signed)
+    if leaf is None:
+        raise Spent
+    folder[draft.name] = with_entry(signatures, key, key.sign_with(leaf, signed), signed)
+    return f"signed {draft.told} with leaf {leaf} of {1 << key.height}"
+
+
+def sign_by(folder, key, book, named, again, now, printed):
+    """Each draft is judged behind the signature of the one before it: a timestamp is over the snapshot that the same key has just signed."""
+    for draft in [it for it in drafts_of(folder) if is_chosen(folder, it, key, named)]:
+        judge(folder, draft, key, book, again, now)
+        printed.append(sign_one(folder, draft, key, book))
+
+
+def sign(folder, signers, named, again, now):
+    """Each of the signers, a key with its book, signs in turn; one that has nothing to sign is passed over, where another one has.
+    The status, the lines that are printed, and the line that tells why it ended."""
+    printed = []
+    try:
+        if not all(book.is_made for _, book in signers):
+            raise Refused("book")
+        for key, book in signers:
+            sign_by(folder, key, book, named, again, now, printed)
+        if not printed:
+            raise Refused("nothing")
+    except Refused as refused:
+        return 1, printed, f"refused {refused}"
+    except Denied as denied:
+        return 1, printed, f"denied {denied.number} {denied.name}"
+    except Spent:
+        return 1, printed, "leaves spent"
+    return 0, printed, None
