@@ -68,6 +68,9 @@ class Folder:
             return self.session.check(f"{label}: drafts", *without_same((0, self.model.files()), (status, self.files())), " ".join(words))
         self.model = before
         is_refused = self.session.check(f"{label}: refused", (1, [wanted]), (status, told.decode().splitlines()[-1:]), " ".join(words))
+        if label.startswith("take") and wanted == "refused signed":
+            # What comes in stays there, though it is listed nowhere: that ends a case.
+            return False
         both = without_same((wanted, stood), (wanted, self.all_files()))
         return is_refused and self.session.check(f"{label}: what a refused draft leaves", *both, " ".join(words))
 

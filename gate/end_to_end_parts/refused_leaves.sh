@@ -10,13 +10,16 @@ books() {
     done
 }
 
-# spares LINE COMMAND ..: the command ends with status 1 and this line, and no book changes. The line before it says of what.
+# spares LINE COMMAND ..: the command ends with status 1 and this line, and no book changes. The line before it says of what, but where it is told by 1 or 2.
 spares() {
     local before
     before=$(books)
     ends_with 1 "$@"
     [ "$(books)" = "$before" ] || fail "a book changed: ${*:2}"
-    names 'warning: '
+    case $1 in
+        'denied '[12]' '*) ;;
+        *) names 'warning: ' ;;
+    esac
     checks=$((checks + 1))
 }
 
