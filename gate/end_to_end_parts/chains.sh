@@ -85,6 +85,7 @@ references_follow() {
     is_told 'next: release draft --in d targets --role targets'
     draft targets
     signs online targets.json
+    a_draft_that_cannot_list_is_none
     draft seal
     signs online snapshot.json
     signs online timestamp.json
@@ -94,4 +95,16 @@ references_follow() {
     wants 0 '{"accepted":3,"same":0}\n' '' publish --at $now --db repository.db --in d
     serves_target a
     serves_target a.build
+}
+
+# What is to be listed again has signatures: nothing is drafted, whatever was asked for.
+a_draft_that_cannot_list_is_none() {
+    cp d/layouts/a.layout.json layout.json
+    by_hand d/layouts/a.layout.json 'it["expires"] = "2030-12-01T00:00:00Z"'
+    rm -r before && cp -r d before
+    slips signed draft --at $now --db repository.db --in d root
+    slips signed draft --at $now --db repository.db --in d targets --role tools
+    diff -r before d || fail "a refused draft changes the folder"
+    cp layout.json d/layouts/a.layout.json
+    checks=$((checks + 1))
 }
