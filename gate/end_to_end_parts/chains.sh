@@ -20,13 +20,12 @@ chains_stay_apart() {
     cd "$here"
 }
 
-# links_of TARGET: the links that its reference names, and the paths that the draft lists.
+# links_of TARGET: the links that its reference names.
 links_of() {
     python3 - "$1" <<'PYTHON'
 import json, sys
 it = json.load(open("d/targets.json"))["signed"]["targets"]
 print(*sorted(it[sys.argv[1]]["custom"]["layout"]["links"]))
-print(*sorted(it))
 PYTHON
 }
 
@@ -48,8 +47,8 @@ links_find_their_targets() {
     slips path draft --at $now --db repository.db --in d take --target a other/links/pack.json
     draft take --target a first/links/build.json
     draft take --target a.build second/links/build.json
-    same "the links of a" <(echo "a.build.$(digits_of first).json") <(links_of a | head -n 1)
-    same "the links of a.build" <(echo "a.build.build.$(digits_of second).json") <(links_of a.build | head -n 1)
+    same "the links of a" <(echo "a.build.$(digits_of first).json") <(links_of a)
+    same "the links of a.build" <(echo "a.build.build.$(digits_of second).json") <(links_of a.build)
 }
 
 # A layout and a link that have signatures are drafted anew where that is said, and else stay as they are.
@@ -77,7 +76,7 @@ a_refused_layout_leaves_the_last_one() {
 references_follow() {
     draft --anew layout --target a --owners owner.key build=first.key,second.key:a
     is_told 'layout of a'
-    same "the links of a, drafted anew" <(echo "a.build.$(digits_of first).json") <(links_of a | head -n 1)
+    same "the links of a, drafted anew" <(echo "a.build.$(digits_of first).json") <(links_of a)
     signs owner
     slips file sign --at $now --key online --in d --yes targets.json
     grep -qx 'warning: a.layout.json: it has changed since it was listed; draft the targets metadata again' "$folder/err" || fail "not told: $(cat "$folder/err")"
@@ -97,14 +96,14 @@ references_follow() {
     serves_target a.build
 }
 
-# What is to be listed again has signatures: nothing is drafted, whatever was asked for.
+# What is to be listed again has signatures: nothing is drafted, whatever was asked for. A layout as it stands may wait among the target files, where nothing lists it.
 a_draft_that_cannot_list_is_none() {
     cp d/layouts/a.layout.json layout.json
     by_hand d/layouts/a.layout.json 'it["expires"] = "2030-12-01T00:00:00Z"'
     rm -r before && cp -r d before
     slips signed draft --at $now --db repository.db --in d root
     slips signed draft --at $now --db repository.db --in d targets --role tools
-    diff -r before d || fail "a refused draft changes the folder"
+    diff -r -x files before d || fail "a refused draft changes the folder"
     cp layout.json d/layouts/a.layout.json
     checks=$((checks + 1))
 }

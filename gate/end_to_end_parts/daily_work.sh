@@ -29,7 +29,7 @@ goes_on() {
             signs "$step"
         fi
     done
-    told_next 'publish --in d'
+    told_next 'publish --db repository.db --in d'
     grep -qx ready "$folder/told" || fail "not ready: $(cat "$folder/told")"
     "$release" publish --at $now --db repository.db --in d >"$folder/out" 2>"$folder/err" || fail "publish: $(cat "$folder/err")"
     [ ! -s "$folder/err" ] || fail "publish tells: $(cat "$folder/err")"

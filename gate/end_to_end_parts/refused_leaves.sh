@@ -314,25 +314,26 @@ links_are_judged() {
     ill_documents_are_warned_of
     makes_key maker
     echo one >one
-    "$release" draft --at $now --in made link --step one --products one >/dev/null
-    cp made/links/one.json "$folder/good"
-    by_hand made/links/one.json 'it["products"]["one"] = {"sha256": "00"}'
-    spares 'denied 3 WrongShape' sign --at $now --key maker --in made --yes
+    "$release" draft --at $now --in bench link --step one --products one >/dev/null
+    cp bench/links/one.json "$folder/good"
+    by_hand bench/links/one.json 'it["products"]["one"] = {"sha256": "00"}'
+    spares 'denied 3 WrongShape' sign --at $now --key maker --in bench --yes
     names 'warning: one.json: it is no link'
-    cp "$folder/good" made/links/one.json
+    cp "$folder/good" bench/links/one.json
     cp maker.book older
-    "$release" sign --at $now --key maker --in made --yes >"$folder/out"
+    "$release" sign --at $now --key maker --in bench --yes >"$folder/out"
     is_told 'signed links/one.json with leaf 0 of 32'
-    spares 'refused signed' draft --at $now --in made link --step one --products made
+    spares 'refused signed' draft --at $now --in bench link --step one --products made
     cp maker.book newer
     cp older maker.book
-    "$release" draft --at $now --in made link --step two --materials one >/dev/null
-    spares 'refused book' sign --at $now --key maker --in made --yes two.json
+    "$release" draft --at $now --in bench link --step two --materials one >/dev/null
+    spares 'refused book' sign --at $now --key maker --in bench --yes two.json
     cp newer maker.book
-    "$release" sign --at $now --key maker --in made --yes >"$folder/out"
+    "$release" sign --at $now --key maker --in bench --yes >"$folder/out"
     is_told 'signed links/two.json with leaf 1 of 32'
-    "$release" draft --at $now --in made --anew link --step one --products made >"$folder/out"
-    is_told '  0 of 1 have signed'
+    "$release" draft --at $now --in bench --anew link --step one --products made >"$folder/out"
+    [ "$(head -c 16 bench/links/one.json)" = '{"signatures":[]' ] || fail "a link that is drafted anew has signatures"
+    checks=$((checks + 1))
 }
 
 # Several keys are made and sign in one call each, in the order in which they are named; before the first of them signs, the files of all are there.

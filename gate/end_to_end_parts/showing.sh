@@ -35,7 +35,7 @@ a_folder_is_shown() {
 # The same folder when it is signed and sealed.
 a_ready_folder_is_shown() {
     "$release" show --at $now --in d --db repository.db --json --html drafts.html >"$folder/out"
-    it_holds 'it["answer"] == "ready" and it["next"] == ["next: release publish --in d"]'
+    it_holds 'it["answer"] == "ready" and it["next"] == ["next: release publish --db repository.db --in d"]'
     it_holds '[s["links"] for s in it["layouts"][0]["steps"]] == [1, 1]'
     it_holds 'it["drafts"][0]["rules"] == [{"signed": ["targets"], "threshold": 1, "unsigned": []}]'
     grep -q '<p id="answer" class="granted">ready</p>' drafts.html || fail "the page does not say that it is ready"
