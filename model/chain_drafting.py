@@ -152,6 +152,11 @@ class Drafts:
                 self.list(target, document.signed["targets"])
                 self.drafted_again(document, before, anew)
 
+    def see_listable(self, anew):
+        """What has signatures lists layouts and links as they stand, before anything else is looked at."""
+        if not anew:
+            copy.deepcopy(self).list_all()
+
     def drafted_again(self, document, before, anew):
         """Behind a listing that changes something. Targets metadata without a term get that of a first one."""
         if document.signed == before:

@@ -62,7 +62,7 @@ class Folder:
     def run(self, label, make_draft, words, now):
         """Runs `draft`, and compares its end and all files that it leaves. What is refused leaves the folder as it was."""
         before, stood = copy.deepcopy(self.model), self.all_files()
-        wanted = ended_by(lambda: make_draft(self.model))
+        wanted = ended_by(lambda: self.model.see_listable("--anew" in words) or make_draft(self.model))
         status, _, told = self.session.run("draft", "--at", str(now), "--in", str(self.path), *words)
         if wanted is None:
             return self.session.check(f"{label}: drafts", *without_same((0, self.model.files()), (status, self.files())), " ".join(words))

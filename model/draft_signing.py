@@ -149,10 +149,11 @@ def has_enough(folder, name):
 
 
 def judge_order(folder, draft):
-    """A snapshot is over drafted targets metadata, a timestamp over a drafted snapshot."""
-    under = {"snapshot": OF_TARGETS, "timestamp": ORDER["snapshot"]}.get(draft.kind)
+    """A snapshot and a timestamp come behind all else that is drafted, and the timestamp behind the snapshot: a later change would cost them a leaf."""
+    if draft.kind not in ("snapshot", "timestamp"):
+        return
     for name in folder:
-        if "/" not in name and Draft(name).order == under and not has_enough(folder, name):
+        if "/" not in name and Draft(name).order < draft.order and not has_enough(folder, name):
             raise Refused("order")
 
 
@@ -214,6 +215,8 @@ def sign_one(folder, draft, key, book):
 
 def sign_by(folder, key, book, named, again, now, printed):
     """Each draft is judged behind the signature of the one before it: a timestamp is over the snapshot that the same key has just signed."""
+    if key.id not in book.leaves:
+        raise Refused("book")
     for draft in [it for it in drafts_of(folder) if is_chosen(folder, it, key, named)]:
         judge(folder, draft, key, book, again, now)
         printed.append(sign_one(folder, draft, key, book))
