@@ -1,11 +1,16 @@
 """The commands `key` and `sign`: seeds of all widths, files by hand and at random, over one book each time."""
 import os
+import re
 import sqlite3
 
 import canonical_json
 import leaf_book
 from command_line import fault
+from denials import Denied
+from documents import read_document, read_envelope
 from test_keys import LMS_KEYS as KEYS, Key, KeyOfSeed
+
+WARNED = re.compile(rb"^warning: [^\n]*: it would be denied: [^\n]*\n", re.MULTILINE)
 
 LARGE = Key(b"a key that signs 1,024 files", 1, 10)
 
@@ -123,6 +128,25 @@ def signers_of(book):
         connection.close()
 
 
+def is_ill(text):
+    """Whether the file is no metadata of the kind that it says it is."""
+    try:
+        kind = read_envelope(text)[1]["_type"]
+    except Denied:
+        return False
+    try:
+        return kind in ("root", "timestamp", "snapshot", "targets") and not read_document(kind, text)
+    except Denied:
+        return True
+
+
+def apart(found):
+    """The end of a command, and whether it warned of a document that would be denied."""
+    status, printed, told = found
+    rest, count = WARNED.subn(b"", told)
+    return (status, printed, rest), count == 1
+
+
 def compare_by_hand(session, _random):
     for number, key in enumerate(KEYS[:8]):
         path = session.folder / f"book {number}"
@@ -132,13 +156,13 @@ def compare_by_hand(session, _random):
             file.write_bytes(text)
             words = ["sign", "--book", str(path), *words_of(session, key), str(file)]
             if not book.leaves:
-                session.check("sign: unknown", leaf_book.sign(book, key, text, known=True), session.run(*words, "--known"), text)
+                session.check("sign: unknown", (leaf_book.sign(book, key, text, known=True), is_ill(text)), apart(session.run(*words, "--known")), text)
                 session.check("sign: no book is made", book.is_made, path.exists(), text)
             wanted = leaf_book.sign(book, key, text)
-            session.check("sign", wanted, session.run(*words), text)
+            session.check("sign", (wanted, is_ill(text)), apart(session.run(*words)), text)
             if wanted[0] == 0:
                 file.write_bytes(wanted[1])
-                session.check("sign again", leaf_book.sign(book, key, text, known=True), session.run(*words, "--known"), text)
+                session.check("sign again", (leaf_book.sign(book, key, text, known=True), is_ill(text)), apart(session.run(*words, "--known")), text)
         session.check("sign: rows of the book", book.rows(), kept(path))
 
 
