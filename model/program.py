@@ -3,6 +3,7 @@ import os
 import re
 import select
 import shutil
+import signal
 import socket
 import sqlite3
 import subprocess
@@ -321,9 +322,9 @@ class World:
         return ["--db", str(self.database), "--at", str(now)]
 
     def through_port(self, now, count, ask):
-        """`ask` makes so many commands of one server; then the rows."""
+        """`ask` makes so many commands of one server; then the rows. What `publish` warns of it asks the server for, in connections of its own."""
         before = self.state
-        server, port = self.session.start_server(self.database, now, count)
+        server, port = self.session.start_server(self.database, now, 1000 * count)
         if server is None:
             return self.session.check("start of the server", b"listening", port, now=now, state=before)
         self.port = port
@@ -331,8 +332,9 @@ class World:
             ask()
         finally:
             self.port = None
+            server.terminate()
             ended = end_server(server)
-        self.session.check("end of the server", (0, b"", b""), ended, now=now)
+        self.session.check("end of the server", (-signal.SIGTERM, b"", b""), ended, now=now)
         return self.check_rows("commands through a port", before)
 
     def command(self, name, now, text, label=""):
