@@ -12,7 +12,9 @@ mod visits;
 
 use command_line::{Draft, Drafting};
 use command_support::{Fault, Notes, moment};
-use drafting_commands::{draft_chain, draft_listing, draft_rules, draft_step, relist, take_all};
+use drafting_commands::{
+    draft_chain, draft_listing, draft_rules, draft_step, relist, see_listable, take_all,
+};
 use drafts::Folder;
 use following::follow;
 pub use publishing::{Batch, complete_batch_in, empty, waiting_files};
@@ -22,8 +24,7 @@ use showing::show_folder;
 use std::io::Write;
 
 /// Drafts the next document of a kind into a folder, over what a database holds where one is given, and prints what the folder then has. No
-/// leaf is spent. Layouts and links are listed as they stand signed before it, so that where that is refused nothing is drafted, and behind
-/// it.
+/// leaf is spent. Layouts and links are listed as they stand signed behind it; where that is refused as the folder stands, nothing is drafted.
 pub fn draft<O: Write, E: Write>(
     rt: &HostRuntime,
     asked: &Drafting,
@@ -37,7 +38,9 @@ pub fn draft<O: Write, E: Write>(
     if let Some(db) = &asked.db {
         follow(rt, db, folder, now, notes)?;
     }
-    relist(rt, folder, asked.anew, notes)?;
+    if !asked.anew {
+        see_listable(rt, folder, notes)?;
+    }
     match &asked.kind {
         Draft::Root { rules } => draft_rules(rt, folder, asked, rules, now, notes)?,
         Draft::Targets(told) => draft_listing(rt, folder, asked, told, now, notes)?,

@@ -1,7 +1,7 @@
 //! `draft layout`: the layout of a target, and what refers the target to it.
 use crate::drafting_faults::{drafted, usage};
 use crate::keys::{Known, RuleRead, rule_of};
-use crate::listing::{DAYS as TARGETS_DAYS, digest_in};
+use crate::listing::{DAYS as TARGETS_DAYS, addition_of, digest_in};
 use crate::saving::{Before, see_unsigned};
 use crate::terms::{kept_terms, terms_of};
 use chain_drafting::{Reference, StepDraft, draft_layout, with_reference};
@@ -397,12 +397,23 @@ impl Chain<'_> {
         path: &str,
         notes: &mut Notes<'_, E>,
     ) -> Result<Addition, Fault> {
-        let name = chain_name(self.alloc(), path)?;
-        let bytes = match self.folder.file(name.as_str(), notes)? {
-            Some(bytes) => bytes,
-            None => Vec::new(self.alloc()),
-        };
+        let bytes = self.bytes_of(path, notes)?;
         digest_in(self.alloc(), self.folder, path, &bytes, notes)
+    }
+
+    /// The same, and nothing goes anywhere.
+    pub fn seen<E: Write>(&self, path: &str, notes: &mut Notes<'_, E>) -> Result<Addition, Fault> {
+        let bytes = self.bytes_of(path, notes)?;
+        addition_of(self.alloc(), path, &bytes)
+    }
+
+    // The bytes of a layout or a link, by the path that it has as a target.
+    fn bytes_of<E: Write>(&self, path: &str, notes: &mut Notes<'_, E>) -> Result<Vec<u8>, Fault> {
+        let name = chain_name(self.alloc(), path)?;
+        match self.folder.file(name.as_str(), notes)? {
+            Some(bytes) => Ok(bytes),
+            None => Ok(Vec::new(self.alloc())),
+        }
     }
 
     /// Lists these files and refers the target to its layout so. The terms are those of the draft.

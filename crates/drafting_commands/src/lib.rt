@@ -17,7 +17,7 @@ pub use command_support::{Fault, Notes};
 pub use drafting_faults::{drafted, usage};
 pub use linking::draft_step;
 pub use listing::draft_listing;
-pub use relisting::relist;
+pub use relisting::{relist, see_listable};
 pub use rooting::draft_rules;
 pub use saving::Before;
 pub use taking::take_all;

@@ -11,7 +11,7 @@ use drafting::{
 };
 use drafts::Folder;
 use limits::BLOB_LIMIT;
-use metadata::{Kind, Moment, RoleName, TargetPath};
+use metadata::{Kind, Moment, RoleName, TargetPath, digest_of};
 use std::alloc::{AllocError, Global};
 use std::io::{self, IsTerminal, Write};
 use std::{fmt, fs};
@@ -360,10 +360,7 @@ pub fn digest_in<E: Write>(
     bytes: &[u8],
     notes: &mut Notes<'_, E>,
 ) -> Result<Addition, Fault> {
-    let length = match u32::try_from(bytes.len()) {
-        Ok(length) => length,
-        Err(_) => return Err(Fault::Denied(Denial::BlobLength, None)),
-    };
+    let length = length_of(bytes)?;
     let digest = folder.put_file(bytes, notes)?;
     let path = String::from_str(alloc, path)?;
     Ok(Addition {
@@ -371,6 +368,24 @@ pub fn digest_in<E: Write>(
         length,
         digest,
     })
+}
+
+/// The same, and its bytes go nowhere.
+pub fn addition_of(alloc: Global, path: &str, bytes: &[u8]) -> Result<Addition, Fault> {
+    let length = length_of(bytes)?;
+    let path = String::from_str(alloc, path)?;
+    Ok(Addition {
+        path,
+        length,
+        digest: digest_of(bytes),
+    })
+}
+
+fn length_of(bytes: &[u8]) -> Result<u32, Fault> {
+    match u32::try_from(bytes.len()) {
+        Ok(length) => Ok(length),
+        Err(_) => Err(Fault::Denied(Denial::BlobLength, None)),
+    }
 }
 
 // More files and folders than these are not looked at: a listing has room for fewer.

@@ -1,7 +1,7 @@
 //! Layouts and links are listed as they stand signed.
 use crate::chains::Chain;
 use crate::linking::has_step;
-use crate::saving::Before;
+use crate::saving::{Before, see_unsigned};
 use chain_drafting::Reference;
 use command_support::{Fault, Notes};
 use drafting::{Addition, NamedKey, Rule};
@@ -32,6 +32,60 @@ pub fn relist<E: Write>(
         }
     }
     Ok(())
+}
+
+/// What `relist` would change as the folder stands has no signatures. Nothing is written.
+pub fn see_listable<E: Write>(
+    rt: &HostRuntime,
+    folder: Folder<'_>,
+    notes: &mut Notes<'_, E>,
+) -> Result<(), Fault> {
+    let names = folder.chain_files("layouts", notes)?;
+    if names.is_empty() {
+        return Ok(());
+    }
+    for role in &folder.roles(notes)? {
+        if kind_of(role.as_str()) == Kind::Targets {
+            see_listable_in(rt, folder, role.as_str(), &names, notes)?;
+        }
+    }
+    Ok(())
+}
+
+fn see_listable_in<E: Write>(
+    rt: &HostRuntime,
+    folder: Folder<'_>,
+    role: &str,
+    names: &[String],
+    notes: &mut Notes<'_, E>,
+) -> Result<(), Fault> {
+    let bytes = folder.draft_or_none(role, notes)?;
+    let said = read_said(rt.alloc(), role, &bytes)?;
+    for file in &said.files {
+        if file.has_layout {
+            let chain = Chain {
+                rt,
+                folder,
+                role,
+                target: file.path.as_str(),
+            };
+            if !is_listed(chain, &said, names, notes)? {
+                see_unsigned(rt.alloc(), role, Some(&bytes), false, notes)?;
+            }
+        }
+    }
+    Ok(())
+}
+
+// Whether the layout and the links of a target are listed as they stand.
+fn is_listed<E: Write>(
+    chain: Chain<'_>,
+    said: &Said,
+    names: &[String],
+    notes: &mut Notes<'_, E>,
+) -> Result<bool, Fault> {
+    let added = additions(chain, names, notes)?;
+    Ok(are_listed(said, &added) && is_referred(chain, &added, notes)?)
 }
 
 fn relist_in<E: Write>(
@@ -83,6 +137,9 @@ fn relist_behind<E: Write>(
     let Some(begun) = before.begun() else {
         return Ok(());
     };
+    for one in added {
+        let _put = chain.addition(one.path.as_str(), notes)?;
+    }
     match reference_of(chain.rt.alloc(), begun, chain.target) {
         Ok(Some(found)) => refer_anew(chain, before, &found, added, notes),
         Ok(None) => Ok(()),
@@ -103,7 +160,7 @@ fn additions<E: Write>(
     for name in names {
         if is_own(chain, begun, name.as_str(), notes)? {
             let path = path_of(alloc, name.as_str())?;
-            added.push(chain.addition(path.as_str(), notes)?)?;
+            added.push(chain.seen(path.as_str(), notes)?)?;
         }
     }
     Ok(added)
