@@ -5,6 +5,7 @@ import canonical_json
 import loose_json
 import repository
 from denials import Denied
+from documents import is_document, read_document
 from names import is_role_name
 
 DONE, DENIED, USAGE, FAULT = 0, 1, 2, 3
@@ -65,6 +66,25 @@ def publish(state, arguments, files, now):
     except Denied as denied:
         return denied_line(denied), state
     return (DONE, b'{"accepted":%d,"same":%d}\n' % (accepted, same), b""), after
+
+
+def warning_before_publish(before, arguments, files, database):
+    """What `publish --db` warns of whatever becomes of the batch: its last root has other rules than the trusted one for the timestamp or the
+    snapshot, and no timestamp stands behind it."""
+    offers = [argument.partition(":")[::2] for argument in arguments]
+    if not before.timestamp or not all(is_role_name(role) and file in files for role, file in offers):
+        return b""
+    places = [place for place, (role, _) in enumerate(offers) if role == "root"]
+    if not places or any(role == "timestamp" for role, _ in offers[places[-1] :]):
+        return b""
+    text = files[offers[places[-1]][1]]
+    if not is_document("root", text):
+        return b""
+    root = read_document("root", text)
+    if all(before.rule(role).same_as(root.rules[role]) for role in ("timestamp", "snapshot")):
+        return b""
+    why = "the root has other keys for the timestamp or the snapshot, and no timestamp stands behind it: every target will be denied"
+    return f"warning: {database}: {why}\n".encode()
 
 
 def warnings_of_publish(before, after, arguments, files, database):

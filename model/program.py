@@ -366,8 +366,11 @@ class World:
                 argument = f"{role}:{file}"
             words.append(argument)
         wanted, after = command_line.publish(self.state, words, files, now)
-        if wanted[0] == command_line.DONE and not self.port:
-            wanted = (*wanted[:2], command_line.warnings_of_publish(self.state, after, words, files, self.database))
+        if not self.port:
+            said = command_line.warning_before_publish(self.state, words, files, self.database) + wanted[2]
+            if wanted[0] == command_line.DONE:
+                said += command_line.warnings_of_publish(self.state, after, words, files, self.database)
+            wanted = (*wanted[:2], said)
         head = ["publish", *self.place(now), "--"]
         return self.compare_command(f"publish {label}", now, head + words, wanted, after, str(arguments))
 

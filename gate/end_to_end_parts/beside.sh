@@ -1,9 +1,10 @@
-# The other programs: 'example' and 'verdicts', and the scripts that run beside all else.
+# The example, the program 'verdicts', and the scripts that run beside all else.
 
 the_example_is_made() {
-    "$maker" "$folder/example" >"$folder/digests"
-    diff -r "$example" "$folder/example" || fail "the example is not what the program makes"
-    same "digests of the example" crates/example/stdout "$folder/digests"
+    python3 gate/example.py "$folder/example" >"$folder/digests"
+    diff -r "$example" "$folder/example" || fail "the example is not what 'gate/example.py' makes"
+    (cd "$example" && sha256sum --check --quiet "$folder/digests") || fail "the digests of the example"
+    checks=$((checks + 1))
 }
 
 # The program `verdicts` over inputs and outputs that it does not reach the end of.

@@ -342,6 +342,8 @@ several_keys_sign() {
     same "the IDs of two keys" <(for name in left right; do head -c -1 $name.key | sha256sum | cut -c1-64; done) "$folder/ids"
     spares 'refused exists' key --at $at --new third right --ots 4 --height 5
     [ ! -e third.seed ] || fail "a key is made beside one that stands already"
+    spares 'refused exists' key --at $at --new third other third --ots 4 --height 5
+    [ ! -e third.seed ] || fail "a key is made of a name that stands twice"
     "$release" draft --at $now --in pair root root=2@left.key,right.key targets=left.key snapshot=left.key timestamp=left.key >/dev/null
     mv right.book away
     spares 'refused book' sign --at $now --key left --key right --in pair --yes

@@ -10,11 +10,10 @@ mod standing;
 mod tree;
 mod visits;
 
+use chain_commands::{draft_chain, draft_step, relist, see_listable, take_all};
 use command_line::{Draft, Drafting};
 use command_support::{Fault, Notes, moment};
-use drafting_commands::{
-    draft_chain, draft_listing, draft_rules, draft_step, relist, see_listable, take_all,
-};
+use drafting_commands::{draft_listing, draft_rules};
 use drafts::Folder;
 use following::follow;
 pub use publishing::{Batch, complete_batch_in, empty, waiting_files};

@@ -25,7 +25,7 @@ pub const MOST_MIRRORS: usize = 16;
 pub const MOST_TIMES: usize = 4096;
 
 /// What the words of a command line ask for.
-#[derive(Debug, Drop)]
+#[derive(Drop)]
 pub struct Task {
     /// The moment that was handed in, in seconds since 1970-01-01T00:00:00Z.
     pub at: Option<u64>,
@@ -35,7 +35,7 @@ pub struct Task {
 }
 
 /// Where a repository is.
-#[derive(Debug, Drop)]
+#[derive(Drop)]
 pub enum Place {
     /// In a database file.
     Database(String),
@@ -44,7 +44,7 @@ pub enum Place {
 }
 
 /// Where a client fetches from.
-#[derive(Debug, Drop)]
+#[derive(Drop)]
 pub enum Server {
     /// A port of 127.0.0.1.
     Port(u16),
@@ -54,7 +54,7 @@ pub enum Server {
 
 /// What is drafted: the database that the draft follows, if one is given, the folder of the drafts, when the document expires, and whether
 /// signatures are taken off.
-#[derive(Debug, Drop)]
+#[derive(Drop)]
 pub struct Drafting {
     pub db: Option<String>,
     pub folder: String,
@@ -64,7 +64,7 @@ pub struct Drafting {
 }
 
 /// The kind of a draft, with what it is told.
-#[derive(Debug, Drop)]
+#[derive(Drop)]
 pub enum Draft {
     /// The next root, with these rules, each `ROLE=RULE`.
     Root {
@@ -87,7 +87,7 @@ pub enum Draft {
 
 /// What is told of a layout: the target that it is for, the rule of its owners, a file of other artifact rules, and its steps as
 /// `STEP=RULE:PRODUCT[,..]`.
-#[derive(Debug, Drop)]
+#[derive(Drop)]
 pub struct LayoutDraft {
     pub target: String,
     pub owners: String,
@@ -96,7 +96,7 @@ pub struct LayoutDraft {
 }
 
 /// What is told of a link: its step, and the files of its materials and products.
-#[derive(Debug, Drop)]
+#[derive(Drop)]
 pub struct LinkDraft {
     pub step: String,
     pub materials: Vec<String>,
@@ -105,7 +105,7 @@ pub struct LinkDraft {
 
 /// What is shown: what a database holds, a folder of drafts, or both; and how: so many days ahead, with these keys' leaves, as JSON, as a
 /// page in a file, and of one path, if one is given.
-#[derive(Debug, Drop)]
+#[derive(Drop)]
 pub struct Showing {
     pub db: Option<String>,
     pub folder: Option<String>,
@@ -118,7 +118,7 @@ pub struct Showing {
 
 /// What is told of targets metadata: its role, targets as `PATH[=FILE]`, paths, delegations as `NAME=RULE:PATTERN[,..]`, before which role
 /// these stand and whether they are terminating, and names of roles.
-#[derive(Debug, Drop)]
+#[derive(Drop)]
 pub struct TargetsDraft {
     pub role: Option<String>,
     pub add: Vec<String>,
@@ -130,7 +130,7 @@ pub struct TargetsDraft {
 }
 
 /// A subcommand with its options and operands.
-#[derive(Debug, Drop)]
+#[derive(Drop)]
 pub enum Subcommand {
     /// `canon FILE`: prints the canonical form of any JSON.
     Canon {

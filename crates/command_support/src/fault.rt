@@ -10,7 +10,7 @@ use std::alloc::{AllocError, AllocFailed};
 use std::{fmt, io};
 
 /// What a slip of the hand over drafts is refused for, before a leaf is spent. Its text is one word.
-#[derive(Debug, Clone, Copy, PartialEq, Eq)]
+#[derive(Clone, Copy, PartialEq, Eq)]
 pub enum Slip {
     /// Behind what is published fewer targets would be granted, for want of documents.
     Bare,
@@ -65,7 +65,7 @@ impl Slip {
 }
 
 /// Why a command was not done. Its text is what standard error gets.
-#[derive(Debug, Drop)]
+#[derive(Drop)]
 pub enum Fault {
     /// The fault text of the command line, with its line end.
     Usage(String),

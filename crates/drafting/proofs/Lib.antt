@@ -1,5 +1,6 @@
 pub mod Alike
 pub mod Rows
+pub mod Without
 pub mod Files
 pub mod Lists
 pub mod Listings
@@ -9,6 +10,3 @@ pub mod Parts
 pub mod Results
 pub mod Holders
 pub mod RootParts
-pub mod RoleRows
-pub mod DelegationParts
-pub mod Finds

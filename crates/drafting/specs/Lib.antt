@@ -4,6 +4,4 @@ pub mod Timestamps
 pub mod Snapshots
 pub mod Targets
 pub mod Roots
-pub mod Delegations
-pub mod Finding
 pub mod steps

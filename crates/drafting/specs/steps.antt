@@ -3,5 +3,3 @@ pub mod Refused
 pub mod Unwritten
 pub mod Rows
 pub mod Rules
-pub mod Delegated
-pub mod Found

@@ -47,11 +47,7 @@ fn version_in(alloc: Global, kind: Kind, file: &[u8]) -> Result<u32, ShapeFault>
 }
 
 /// The version of the document that follows the one that is held.
-pub(crate) fn next_version(
-    alloc: Global,
-    kind: Kind,
-    held: Option<&[u8]>,
-) -> Result<u32, DraftFault>
+pub fn next_version(alloc: Global, kind: Kind, held: Option<&[u8]>) -> Result<u32, DraftFault>
     ensures ok { IfOk result (λ version. IsNext kind (option_map (λ f. f.now) held.entry) version) }
     ensures err { IfErr result (λ e. (e ≡ DraftFault.OutOfMemory)
         ⊎ (((e ≡ DraftFault.Spent) × IsHeldAnd (option_map (λ f. f.now) held.entry) (λ f. HasVersion kind f last_number))

@@ -89,7 +89,7 @@ pub(crate) fn denial_of(fault: ShapeFault) -> Option<Denial>
 }
 
 /// What is held is refused so.
-pub(crate) fn held_fault(fault: ShapeFault) -> DraftFault
+pub fn held_fault(fault: ShapeFault) -> DraftFault
     ensures { (kind : Kind) (file : List ℕ) → (fault ≡ ShapeFault.OutOfMemory) ⊎ IsShapeFault kind file fault
         → (result ≡ DraftFault.OutOfMemory) ⊎ ((d : Denial) × (result ≡ DraftFault.Held d) × IsDenied kind file d) }
 {

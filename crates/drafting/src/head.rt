@@ -15,7 +15,7 @@ use std::alloc::Global;
 const MOST: u64 = 9_223_372_036_854_775_807;
 
 /// Puts the version, and what the terms say.
-pub(crate) fn put_head(
+pub fn put_head(
     alloc: Global,
     members: &mut Vec<(String, Value)>,
     version: u32,

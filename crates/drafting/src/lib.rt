@@ -7,10 +7,7 @@
 
 mod base;
 mod dates;
-mod delegating;
-mod delegations;
 mod faults;
-mod finding;
 mod finishing;
 mod head;
 mod looking;
@@ -26,23 +23,25 @@ mod terms;
 mod texts;
 mod timestamps;
 
-pub use base::{base_members, part_members};
+pub use base::{base_members, next_version, part_members};
 pub use dates::date_text;
-pub use delegating::{Delegated, DelegationChanges, draft_delegations};
 pub use denials::Denial;
-pub use faults::{DraftFault, TopRole, begun_fault};
-pub use finding::{Found, find_key};
+pub use faults::{DraftFault, TopRole, begun_fault, held_fault};
 pub use finishing::{file_of, finish, written};
+pub use head::put_head;
 pub use looking::{Look, look_at};
 pub use members::{
-    integer_value, is_there, number_value, object_value, put, string_value, take_object, text_value,
+    integer_value, is_there, number_value, object_value, put, string_value, take_list, take_object,
+    take_out, text_value,
 };
 pub use metadata::Moment;
+pub use named::keep_named;
 pub use names::{name_of_key, number_in, text_in};
 pub use roots::draft_root;
 pub use rules::{NamedKey, Rule, ids_value};
 pub use snapshots::draft_snapshot;
 pub use tables::{add_rule_keys, add_rule_names};
-pub use targets::{Addition, TargetsChanges, draft_targets, hashes_value};
+pub use targets::{Addition, TargetsChanges, draft_targets, hashes_value, remove_all};
 pub use terms::Terms;
+pub use texts::{some_text, text_at};
 pub use timestamps::draft_timestamp;

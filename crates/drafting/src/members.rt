@@ -36,7 +36,7 @@ pub fn is_there(members: &[(String, Value)], name: &str) -> bool
 }
 
 /// Takes each member of the name out.
-pub(crate) fn take_out(members: &mut Vec<(String, Value)>, name: &str)
+pub fn take_out(members: &mut Vec<(String, Value)>, name: &str)
     ensures dropped { Drops name.now (object (members_view members.old.items)) (object (members_view members.new.items)) }
     ensures rest { rows_view members.new.items ≡ without (name.now ∷ []) (rows_view members.old.items) }
 {
@@ -100,7 +100,7 @@ fn into_members(alloc: Global, value: Value) -> Vec<(String, Value)>
 }
 
 /// Takes the list out that stands under the name: it has no items where no list does.
-pub(crate) fn take_list(alloc: Global, members: &mut Vec<(String, Value)>, name: &str) -> Vec<Value>
+pub fn take_list(alloc: Global, members: &mut Vec<(String, Value)>, name: &str) -> Vec<Value>
     ensures list { IsListAt (object (members_view members.old.items)) name.now (items_view result.items) }
     ensures others { AlikeBut (name.now ∷ []) (object (members_view members.old.items)) (object (members_view members.new.items)) }
 {

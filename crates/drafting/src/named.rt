@@ -11,7 +11,7 @@ use canonical_json::Value;
 use metadata::text_of;
 
 /// Takes out the members whose names no rule of the roles has.
-pub(crate) fn keep_named(table: &mut Vec<(String, Value)>, roles: &[(String, Value)])
+pub fn keep_named(table: &mut Vec<(String, Value)>, roles: &[(String, Value)])
     ensures { Keeps (IsNamed (object (members_view roles.now))) (object (members_view table.old.items)) (object (members_view table.new.items)) }
 {
     'table: while let Some(at) = unnamed_place(table, roles) {

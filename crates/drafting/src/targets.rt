@@ -76,10 +76,7 @@ fn put_targets(
 }
 
 /// Takes the members of these names out.
-pub(crate) fn remove_all(
-    targets: &mut Vec<(String, Value)>,
-    paths: &[String],
-) -> Result<(), DraftFault>
+pub fn remove_all(targets: &mut Vec<(String, Value)>, paths: &[String]) -> Result<(), DraftFault>
     ensures rest { OnOk result (rows_view targets.new.items ≡ without (texts_view paths.now) (rows_view targets.old.items)) }
     ensures ok { OnOk result (RemovesAll (texts_view paths.now) (object (members_view targets.old.items)) (object (members_view targets.new.items))) }
     ensures err { IfErr result (λ e. (i : ℕ) × IsUnlisted (texts_view paths.now) (object (members_view targets.old.items)) i × (e ≡ DraftFault.Unlisted i)) }

@@ -8,7 +8,7 @@ use canonical_json::Value;
 use metadata::text_of;
 
 /// Whether one of the members has this name and is this text.
-pub(crate) fn some_text(members: &[(String, Value)], name: &str, said: &str) -> bool
+pub fn some_text(members: &[(String, Value)], name: &str, said: &str) -> bool
     ensures { IsTrue result ↔ (HasMember (object (members_view members.now)) name.now (text said.now)) }
 {
     let mut rest = members;
@@ -29,7 +29,7 @@ fn says(member: &(String, Value), name: &str, said: &str) -> bool
 }
 
 /// The text that a member of this name is.
-pub(crate) fn text_at<'a>(members: &'a [(String, Value)], name: &str) -> Option<&'a str>
+pub fn text_at<'a>(members: &'a [(String, Value)], name: &str) -> Option<&'a str>
     ensures { MatchOption result ((t : List ℕ) → HasMember (object (members_view members.now)) name.now (text t) → ⊥)
         (λ t. HasMember (object (members_view members.now)) name.now (text t.now)) }
 {

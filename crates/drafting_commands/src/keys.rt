@@ -1,8 +1,9 @@
 //! Keys and rules, as words.
 use crate::drafting_faults::drafted;
 use command_support::{Fault, Notes, Slip, read_at_most};
-use drafting::{Found, NamedKey, find_key};
+use drafting::NamedKey;
 use drafts::{KEY_FILE_LIMIT, key_in};
+use key_finding::{Found, find_key};
 use keys_roles::Key;
 use metadata::Kind;
 use std::alloc::Global;

@@ -1,24 +1,17 @@
-//! What `draft` does over a folder alone: the next root and targets metadata, layouts and links, and what another machine sends back.
+//! What `draft root` and `draft targets` do over a folder alone, and what the other drafts have in common with them.
 #![tactic(auto)]
 
-mod chains;
 mod drafting_faults;
 mod keys;
-mod linking;
 mod listing;
-mod relisting;
 mod rooting;
 mod saving;
-mod taking;
 mod terms;
 
-pub use chains::draft_chain;
 pub use command_support::{Fault, Notes};
 pub use drafting_faults::{drafted, usage};
-pub use linking::draft_step;
-pub use listing::draft_listing;
-pub use relisting::{relist, see_listable};
+pub use keys::{Known, RuleRead, last_segment, rule_of};
+pub use listing::{DAYS, addition_of, digest_in, draft_listing};
 pub use rooting::draft_rules;
-pub use saving::Before;
-pub use taking::take_all;
-pub use terms::terms_of;
+pub use saving::{Before, see_unsigned};
+pub use terms::{kept_terms, terms_of};

@@ -5,10 +5,8 @@ use crate::saving::Before;
 use crate::terms::terms_of;
 use command_line::{Drafting, TargetsDraft};
 use command_support::{Denial, Fault, Notes, file_fault, read_at_most};
-use drafting::{
-    Addition, Delegated, DelegationChanges, Rule, TargetsChanges, Terms, draft_delegations,
-    draft_targets,
-};
+use delegation_drafting::{Delegated, DelegationChanges, draft_delegations};
+use drafting::{Addition, Rule, TargetsChanges, Terms, draft_targets};
 use drafts::Folder;
 use limits::BLOB_LIMIT;
 use metadata::{Kind, Moment, RoleName, TargetPath, digest_of};

@@ -1,13 +1,10 @@
-//! Folders of drafts: documents that are on their way, what they follow, the target files that wait to be put, and what is said of them.
+//! What the documents of a folder of drafts say, which rules they have to meet, and who has signed.
 #![tactic(auto)]
 
 mod chains;
 mod changes;
 mod counting;
 mod covering;
-mod folder;
-mod key_files;
-mod roles;
 mod said;
 mod vouching;
 
@@ -20,10 +17,8 @@ pub use changes::changes_of;
 pub use command_support::{Fault, Notes, Slip};
 pub use counting::{Count, count_of, has_signatures, has_signed};
 pub use covering::{Covering, covered_by};
+pub use draft_folders::{Folder, KEY_FILE_LIMIT, key_in, kind_of, offer_order, sign_order};
 pub use drafting::{name_of_key, number_in};
-pub use folder::Folder;
-pub use key_files::{KEY_FILE_LIMIT, key_in};
-pub use roles::{kind_of, offer_order, sign_order};
 pub use said::{
     ListedFile, Said, SaidRule, held_said, read_said, read_said_of, typed_kind, version_in,
 };

@@ -1,8 +1,7 @@
 //! What a document says, as far as drafts are about it.
-use crate::folder::Folder;
-use crate::roles::kind_of;
 use canonical_json::member;
 use command_support::{Fault, Notes};
+use draft_folders::{Folder, kind_of};
 use drafting::{Look, look_at};
 use keys_roles::{KeyId, RoleRule};
 use metadata::{

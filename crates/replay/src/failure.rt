@@ -50,7 +50,7 @@ impl<T: Drop> From<AllocFailed<T>> for Failure {
 }
 
 /// Why a line is not answered.
-#[derive(Debug, Clone, Copy, PartialEq, Eq)]
+#[derive(Clone, Copy, PartialEq, Eq)]
 pub enum LineFault {
     NotUnderstood,
     OutOfMemory,

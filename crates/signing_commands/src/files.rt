@@ -124,11 +124,25 @@ pub fn make_keys<O: Write, E: Write>(
     notes: &mut Notes<'_, E>,
 ) -> Result<(), Fault> {
     let _now = moment(rt, at)?;
-    for name in names {
+    for (place, name) in names.iter().enumerate() {
         see_free(rt, name.as_str(), notes)?;
+        see_once(&names[..place], name, notes)?;
     }
     for name in names {
         make_key(rt, name.as_str(), params, out, notes)?;
+    }
+    Ok(())
+}
+
+// None of the names before is this one.
+fn see_once<E: Write>(
+    names: &[String],
+    name: &String,
+    notes: &mut Notes<'_, E>,
+) -> Result<(), Fault> {
+    if names.contains(name) {
+        notes.warn(name, &"it is named twice");
+        return Err(Fault::Slip(Slip::Exists));
     }
     Ok(())
 }

@@ -58,7 +58,7 @@ pub enum Case {
 }
 
 /// How a path is covered.
-#[derive(Debug, Clone, Copy, PartialEq, Eq)]
+#[derive(Clone, Copy, PartialEq, Eq)]
 pub enum Covering {
     /// By a pattern whose wildcards stand for no slash.
     Segmented,
@@ -69,7 +69,7 @@ pub enum Covering {
 }
 
 /// Why a line is not taken apart.
-#[derive(Debug, Clone, Copy, PartialEq, Eq)]
+#[derive(Clone, Copy, PartialEq, Eq)]
 pub enum CaseFault {
     NotUnderstood,
     OutOfMemory,

@@ -4,7 +4,7 @@ ghost use Rattle.verdicts.specs.Failure.{status_of};
 use std::{fmt, io};
 
 /// Why the verdicts end before the input does.
-#[derive(Debug, Clone, Copy, PartialEq, Eq)]
+#[derive(Clone, Copy, PartialEq, Eq)]
 pub enum Failure {
     /// The line of this number, from 1, is no case.
     NotUnderstood(u64),

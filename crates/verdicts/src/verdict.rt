@@ -16,7 +16,7 @@ use std::alloc::{AllocError, Global};
 use std::fmt;
 
 /// What a case comes to.
-#[derive(Debug, Drop)]
+#[derive(Drop)]
 pub enum Verdict {
     Canonical,
     NotCanonical,

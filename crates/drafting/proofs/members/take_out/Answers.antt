@@ -1,7 +1,7 @@
 use Rattle.std.proofs.Common.{◌∷◌, []}
 use Rattle.drafting.specs.Members.{without}
 use Rattle.drafting.specs.steps.Rows.{rows_view}
-use Rattle.drafting.proofs.RoleRows.{without_all, without_one}
+use Rattle.drafting.proofs.Without.{without_all, without_one}
 use Rattle.drafting.proofs.Rows.{removed_one, shown, taken_out}
 use Rattle.drafting.proofs.members.take_out.Goals as goal
 

@@ -4,7 +4,7 @@ use Rattle.drafting.specs.Members.{Drops, HasNone, Rows, without}
 use Rattle.drafting.specs.Targets.{IsThere, IsUnlisted, RemovesAll}
 use Rattle.drafting.specs.steps.Rows.{rows_view, texts_view}
 use Rattle.drafting.proofs.Listings.{removes_more, removes_none, unlisted_here, unlisted_more}
-use Rattle.drafting.proofs.RoleRows.{without_more, without_none}
+use Rattle.drafting.proofs.Without.{without_more, without_none}
 use Rattle.drafting.proofs.Results.{no_rows}
 use Rattle.drafting.proofs.Rows.{shown}
 use Rattle.drafting.proofs.targets.remove_all.Goals as goal

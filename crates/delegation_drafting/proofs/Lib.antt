@@ -1,0 +1,2 @@
+pub mod RoleRows
+pub mod DelegationParts

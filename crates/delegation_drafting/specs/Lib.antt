@@ -1,0 +1,2 @@
+pub mod Delegations
+pub mod steps
