@@ -162,7 +162,7 @@ fn looked(alloc: Global, mut conn: Connection<Disks>, change: &str) -> Look {
     }
 }
 
-fn look(alloc: Global, files: Files<Fuse<Memory>>, change: &str) -> Look {
+fn look_into(alloc: Global, files: Files<Fuse<Memory>>, change: &str) -> Look {
     match connected(alloc, files) {
         Ok(conn) => looked(alloc, conn, change),
         Err(files) => Look { rows: None, files },
@@ -212,7 +212,7 @@ fn rows_after(alloc: Global, files: Option<Files<Fuse<Memory>>>, now: Moment) ->
             is_open: true,
             files: Some(files),
             ..
-        } => look(alloc, files, "").rows,
+        } => look_into(alloc, files, "").rows,
         _ => None,
     }
 }
@@ -251,7 +251,13 @@ fn wanted<'a>(
     let mut wanted = Vec::new(alloc);
     for count in 0..steps.len().saturating_add(1) {
         let files = new_files(alloc, u64::MAX, u64::MAX);
-        let left = run(alloc, files, &steps[..count.min(steps.len())], documents, now);
+        let left = run(
+            alloc,
+            files,
+            &steps[..count.min(steps.len())],
+            documents,
+            now,
+        );
         wanted.push(rows_after(alloc, left.files, now))?;
     }
     Ok(wanted)
@@ -314,7 +320,7 @@ fn stops_at_each_call(
 fn first_schema<'a>(alloc: Global, documents: &'a [Document<'a>], now: Moment) -> Option<Look> {
     let files = new_files(alloc, u64::MAX, u64::MAX);
     let left = run(alloc, files, &TOGETHER[..3], documents, now);
-    Some(look(alloc, left.files?, BACK))
+    Some(look_into(alloc, left.files?, BACK))
 }
 
 // A copy of a file, which stops after so many calls.
@@ -345,6 +351,7 @@ fn copies(
 
 // What an opening of schema 1 that stops leaves: whether the store was open, whether a crash then finds schema 2 whole, and whether schema 1 or 2;
 // and whether the next open brings it to schema 2.
+#[derive(Clone, Copy)]
 struct Migrated {
     is_open: bool,
     is_second: bool,
@@ -359,7 +366,7 @@ const LOST: Migrated = Migrated {
     is_brought: false,
 };
 
-fn migrated(
+fn migrate(
     alloc: Global,
     files: Option<Files<Fuse<Memory>>>,
     first: &Option<String>,
@@ -375,7 +382,7 @@ fn migrated(
     };
     files.log.crash();
     files.db.crash();
-    let found = look(alloc, files, "");
+    let found = look_into(alloc, files, "");
     let is_second = are_same(&found.rows, second);
     Migrated {
         is_open: left.is_open,
@@ -400,13 +407,19 @@ fn stops_at_each_call_of_a_migration(
         (Offer::Targets(role), TARGETS.as_bytes()),
     ];
     let before = first_schema(alloc, &documents, now).expect(rt, "schema 1");
-    let calm = run(alloc, new_files(alloc, u64::MAX, u64::MAX), &TOGETHER[..3], &documents, now);
+    let calm = run(
+        alloc,
+        new_files(alloc, u64::MAX, u64::MAX),
+        &TOGETHER[..3],
+        &documents,
+        now,
+    );
     let second = rows_after(alloc, calm.files, now);
     assert!(rt; before.rows.is_some() && second.is_some());
     assert!(rt; !are_same(&before.rows, &second));
     for calls in 0..2_000u64 {
         let files = copies(alloc, &before.files, stops_log, calls);
-        let left = migrated(alloc, files, &before.rows, &second, now);
+        let left = migrate(alloc, files, &before.rows, &second, now);
         assert!(rt; left.is_one && left.is_brought, "{calls} calls");
         if left.is_open {
             assert!(rt; left.is_second, "{calls} calls");
