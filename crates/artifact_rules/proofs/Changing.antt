@@ -1,6 +1,6 @@
 -- When an artifact is on both sides of a link with two digests.
 use Rattle.std.proofs.Common.{◌≡◌, ℕ, List, Some, Bool, true, false, not, MatchBool, sym, ◌∙◌}
-use Rattle.metadata.specs.Links.{HasDigest, Link}
+use Rattle.document_parts.specs.Links.{HasDigest, Link}
 use Rattle.artifact_rules.specs.steps.Taking.{IsChanged}
 
 some_once : {A : Type 0} (a b : A) → Some a ≡ Some b → a ≡ b

@@ -1,8 +1,8 @@
 -- The fault of one rule is that of the list.
 use Rattle.std.proofs.Common.{◌≡◌, ℕ, ◌<◌, ◌≤◌, List, length, map, Some, slice_get, sym, subst}
-use Rattle.metadata.specs.Links.{Artifacts, Link, side_of}
-use Rattle.metadata.specs.Rules.{Side, ArtifactRule}
-use Rattle.metadata.specs.Sorted.{AreInOrder}
+use Rattle.document_parts.specs.Links.{Artifacts, Link, side_of}
+use Rattle.document_parts.specs.Rules.{Side, ArtifactRule}
+use Rattle.document_parts.specs.Sorted.{AreInOrder}
 use Rattle.artifact_rules.specs.Faults.{IsRuleFault}
 use Rattle.artifact_rules.specs.Rules.{FailsAt, RulesForbid, RulesRequire}
 use Rattle.artifact_rules.specs.declared.faults.RuleFault.{RuleFault}

@@ -7,9 +7,9 @@ use Rattle.std.proofs.lemmas.Cmp.{nat_list_cmp_total, tied_itself}
 use Rattle.std.proofs.lemmas.List.{length-map}
 use Rattle.std.proofs.lemmas.Map.Keys.{Less-from_sorted}
 use Rattle.std.proofs.lemmas.Option.{get_or_from_slice_get, slice_get-map, slice_get_within}
-use Rattle.metadata.specs.Links.{Artifacts, Link, side_of}
-use Rattle.metadata.specs.Rules.{Side, ArtifactRule, create, delete, modify, allow, disallow, require, matching}
-use Rattle.metadata.specs.Sorted.{AreInOrder, compared}
+use Rattle.document_parts.specs.Links.{Artifacts, Link, side_of}
+use Rattle.document_parts.specs.Rules.{Side, ArtifactRule, create, delete, modify, allow, disallow, require, matching}
+use Rattle.document_parts.specs.Sorted.{AreInOrder, compared}
 use Rattle.artifact_rules.specs.Rules.{Fails, FailsAt, LeavesForbidden, Reaches, RulesForbid, RulesRequire}
 use Rattle.artifact_rules.specs.steps.Judging.{IsForbidden, IsPassed}
 use Rattle.artifact_rules.specs.steps.Queue.{FirstLeft, IsQueue, IsTaken, NoneLeft, Queue}

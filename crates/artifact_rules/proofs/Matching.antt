@@ -4,8 +4,8 @@ use Rattle.std.specs.Prelude.{IsTrue, ◌↔◌}
 use Rattle.std.proofs.lemmas.Bool.{true≢false}
 use Rattle.path_patterns.specs.Matching.{MatchesFlat}
 use Rattle.metadata.specs.File.{look_up}
-use Rattle.metadata.specs.Links.{Artifacts, HasDigest, Link, side_of}
-use Rattle.metadata.specs.Rules.{Match}
+use Rattle.document_parts.specs.Links.{Artifacts, HasDigest, Link, side_of}
+use Rattle.document_parts.specs.Rules.{Match}
 use Rattle.artifact_rules.specs.Rules.{TakesMatch, link_of, path_in}
 use Rattle.artifact_rules.specs.steps.Taking.{Concerns, TakesWith}
 

@@ -1,13 +1,13 @@
 -- The artifacts of a side are in order.
 use Rattle.std.proofs.Common.{◌≡◌, ℕ, List, [], ◌∷◌, map, refl, sym, ap, subst}
 use Rattle.path_patterns.specs.declared.Digest.{Digest}
-use Rattle.metadata.specs.Links.{side_of}
-use Rattle.metadata.specs.RuleViews.{artifacts_view, link_view, side_view}
-use Rattle.metadata.specs.Sorted.{AreInOrder}
-use Rattle.metadata.specs.declared.links.Artifacts.{Artifacts}
-use Rattle.metadata.specs.declared.links.Link.{Link}
-use Rattle.metadata.specs.declared.rules.Side.{Side}
-use Rattle.metadata.specs.declared.rules.Side.TheVariants.{Materials, Products}
+use Rattle.document_parts.specs.Links.{side_of}
+use Rattle.document_parts.specs.RuleViews.{artifacts_view, link_view, side_view}
+use Rattle.document_parts.specs.Sorted.{AreInOrder}
+use Rattle.document_parts.specs.declared.links.Artifacts.{Artifacts}
+use Rattle.document_parts.specs.declared.links.Link.{Link}
+use Rattle.document_parts.specs.declared.rules.Side.{Side}
+use Rattle.document_parts.specs.declared.rules.Side.TheVariants.{Materials, Products}
 
 names : (rows : List (List ℕ × Digest)) → map (λ (e : List ℕ × List ℕ). e.0) (map (λ (r : List ℕ × Digest). (r.0, r.1.0)) rows) ≡ map (λ (r : List ℕ × Digest). r.0) rows
 names [] = refl

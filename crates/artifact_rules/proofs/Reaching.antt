@@ -7,10 +7,10 @@ use Rattle.std.proofs.lemmas.Cmp.{nat_list_cmp_total, tied_itself}
 use Rattle.std.proofs.lemmas.Option.{get_or_from_slice_get, slice_get_within}
 use Rattle.std.proofs.lemmas.Slice.Eq.{bytes_eq-Decides}
 use Rattle.metadata.specs.File.{look_up}
-use Rattle.metadata.specs.Links.{Artifacts, Link, Lists, side_of}
-use Rattle.metadata.specs.Rules.{Side, ArtifactRule}
-use Rattle.metadata.specs.Sorted.{AreInOrder, compared}
-use Rattle.metadata.proofs.Halving.{hit_name, look_up_view, miss_name, searched}
+use Rattle.document_parts.specs.Links.{Artifacts, Link, Lists, side_of}
+use Rattle.document_parts.specs.Rules.{Side, ArtifactRule}
+use Rattle.document_parts.specs.Sorted.{AreInOrder, compared}
+use Rattle.document_parts.proofs.Halving.{hit_name, look_up_view, miss_name, searched}
 use Rattle.artifact_rules.specs.Rules.{Reaches, Takes}
 use Rattle.artifact_rules.specs.steps.Queue.{IsQueue, IsTaken, Queue}
 use Rattle.artifact_rules.proofs.Places.{some_once}

@@ -1,7 +1,7 @@
 -- Which fault stands for which.
 use Rattle.std.specs.Prelude.{List}
-use Rattle.metadata.specs.Links.{Link}
-use Rattle.metadata.specs.Rules.{Side, ArtifactRule}
+use Rattle.document_parts.specs.Links.{Link}
+use Rattle.document_parts.specs.Rules.{Side, ArtifactRule}
 use Rattle.artifact_rules.specs.Rules.{RulesForbid, RulesRequire}
 use Rattle.artifact_rules.specs.declared.faults.RuleFault.{RuleFault}
 use Rattle.artifact_rules.specs.declared.faults.RuleFault.TheVariants.{Disallowed, Required, OutOfMemory}

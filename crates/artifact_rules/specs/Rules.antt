@@ -3,9 +3,9 @@
 use Rattle.std.specs.Prelude.{◌≡◌, ◌≢◌, ℕ, ◌<◌, List, ◌∷◌, ◌++◌, find, Option, Some, None, slice_get, bytes_eq}
 use Rattle.std.specs.declared.cmp.Ordering.TheVariants.{Greater}
 use Rattle.path_patterns.specs.Matching.{MatchesFlat}
-use Rattle.metadata.specs.Links.{Artifacts, HasDigest, Link, Lists, side_of}
-use Rattle.metadata.specs.Rules.{Side, Match, ArtifactRule, create, delete, modify, allow, disallow, require, matching}
-use Rattle.metadata.specs.Sorted.{compared}
+use Rattle.document_parts.specs.Links.{Artifacts, HasDigest, Link, Lists, side_of}
+use Rattle.document_parts.specs.Rules.{Side, Match, ArtifactRule, create, delete, modify, allow, disallow, require, matching}
+use Rattle.document_parts.specs.Sorted.{compared}
 
 -- the link of a step: the first of its name
 abbrev pub link_of : List Link → List ℕ → Option Link

@@ -1,6 +1,6 @@
 //! Whether a list of rules holds.
 ghost use Rattle.std.specs.Prelude.{map, IfErr, OnOk};
-ghost use Rattle.metadata.specs.RuleViews.{link_view, rule_view, side_view};
+ghost use Rattle.document_parts.specs.RuleViews.{link_view, rule_view, side_view};
 ghost use Rattle.artifact_rules.specs.Faults.{IsRuleFault};
 ghost use Rattle.artifact_rules.specs.Rules.{RulesHold};
 ghost use Rattle.artifact_rules.specs.Views.{links_view};

@@ -1,7 +1,7 @@
 //! How far each path of a side gets.
 ghost use Rattle.std.specs.Prelude.{◌≡◌, ◌<◌, ◌≤◌, ℕ, length, map, IfOk, MatchBool, MatchOption};
-ghost use Rattle.metadata.specs.Links.{side_of};
-ghost use Rattle.metadata.specs.RuleViews.{artifacts_view, link_view, rule_view, side_view};
+ghost use Rattle.document_parts.specs.Links.{side_of};
+ghost use Rattle.document_parts.specs.RuleViews.{artifacts_view, link_view, rule_view, side_view};
 ghost use Rattle.artifact_rules.specs.Views.{links_view};
 ghost use Rattle.artifact_rules.specs.steps.Queue.{FirstLeft, IsAsked, IsQueue, IsTaken, NoneLeft, queue_view};
 

@@ -2,10 +2,10 @@
 ghost use Rattle.std.specs.Prelude.{◌≡◌, ◌∷◌, ℕ, List, [], Option, MatchBool, MatchOption, map, option_map, find, bytes_eq};
 ghost use Rattle.path_patterns.specs.Matching.{MatchesFlat};
 ghost use Rattle.metadata.specs.File.{look_up};
-ghost use Rattle.metadata.specs.Links as links;
-ghost use Rattle.metadata.specs.Links.{HasDigest, Lists, side_of};
-ghost use Rattle.metadata.specs.RuleViews.{artifacts_view, link_view, match_view, rule_view, side_view};
-ghost use Rattle.metadata.specs.declared.links.Link.{Link as LinkHeld};
+ghost use Rattle.document_parts.specs.Links as links;
+ghost use Rattle.document_parts.specs.Links.{HasDigest, Lists, side_of};
+ghost use Rattle.document_parts.specs.RuleViews.{artifacts_view, link_view, match_view, rule_view, side_view};
+ghost use Rattle.document_parts.specs.declared.links.Link.{Link as LinkHeld};
 ghost use Rattle.artifact_rules.specs.Rules.{Takes, TakesMatch, link_of, path_in};
 ghost use Rattle.artifact_rules.specs.Views.{links_view};
 ghost use Rattle.artifact_rules.specs.steps.Taking.{Concerns, IsChanged, IsCreated, IsDeleted, TakesWith};

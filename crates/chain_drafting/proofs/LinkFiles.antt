@@ -2,13 +2,13 @@
 use Rattle.std.proofs.Common.{◌≡◌, ◌⊎◌, inl, inr, ℕ, ◌≤◌, List, length, codes, refl, sym, ◌∙◌, subst, arith}
 use Rattle.canonical_json.specs.Json.{Json, text, array, object, no_items, no_members, member}
 use Rattle.canonical_json.specs.Spelling.{IsCanonical}
-use Rattle.metadata.specs.Bodies.{AreArtifacts, IsTextOf}
-use Rattle.metadata.specs.Links.{Artifacts}
-use Rattle.metadata.specs.Members.{IsText}
+use Rattle.document_parts.specs.Bodies.{AreArtifacts, IsTextOf}
+use Rattle.document_parts.specs.Links.{Artifacts}
+use Rattle.document_parts.specs.Members.{IsText}
 use Rattle.metadata.specs.Shape.{IsEnvelopeFault, IsShapeFault, kind_name, max_file}
-use Rattle.metadata.specs.declared.documents.Kind.TheVariants as kinds
-use Rattle.metadata.specs.declared.documents.ShapeFault.{ShapeFault}
-use Rattle.metadata.specs.declared.documents.ShapeFault.TheVariants.{TooLong, NotCanonical, WrongShape, WrongType, BadKeyId, OutOfMemory}
+use Rattle.document_parts.specs.declared.documents.Kind.TheVariants as kinds
+use Rattle.document_parts.specs.declared.documents.ShapeFault.{ShapeFault}
+use Rattle.document_parts.specs.declared.documents.ShapeFault.TheVariants.{TooLong, NotCanonical, WrongShape, WrongType, BadKeyId, OutOfMemory}
 use Rattle.path_patterns.specs.Grammar.{IsName}
 use Rattle.drafting.specs.Drafts.{File, unsigned_file}
 use Rattle.chain_drafting.specs.Links.{IsLinkPart, IsUnsignedLink}

@@ -2,9 +2,9 @@
 use Rattle.std.specs.Prelude.{◌≡◌, ℕ, pos, List, [], ◌∷◌, ◌++◌, codes, map, flat_map, Option, Some, None}
 use Rattle.canonical_json.specs.Json.{Json, integer, text, array, object, no_items, no_members, member}
 use Rattle.canonical_json.specs.View.{items_of}
-use Rattle.metadata.specs.Dates.{IsDateTime}
+use Rattle.document_parts.specs.Dates.{IsDateTime}
 use Rattle.metadata.specs.Shape.{kind_name}
-use Rattle.metadata.specs.declared.documents.Kind.TheVariants as kinds
+use Rattle.document_parts.specs.declared.documents.Kind.TheVariants as kinds
 use Rattle.drafting.specs.Drafts.{File, HasPart}
 use Rattle.drafting.specs.Members.{PutsAll}
 use Rattle.drafting.specs.Roots.{Rule, ids_of, keys_of, names_of}

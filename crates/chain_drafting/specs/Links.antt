@@ -3,10 +3,10 @@ use Rattle.std.specs.Prelude.{◌≡◌, ℕ, List, [], ◌∷◌, codes, map, O
 use Rattle.canonical_json.specs.Json.{Json, text, HasMember}
 use Rattle.canonical_json.specs.Spelling.{IsCanonical}
 use Rattle.keys_roles.specs.Plain.{Signature}
-use Rattle.metadata.specs.Bodies.{IsLink}
-use Rattle.metadata.specs.Links.{Link}
+use Rattle.document_parts.specs.Bodies.{IsLink}
+use Rattle.document_parts.specs.Links.{Link}
 use Rattle.metadata.specs.Shape.{kind_name, IsSignedBy, IsSignedFile}
-use Rattle.metadata.specs.declared.documents.Kind.TheVariants as kinds
+use Rattle.document_parts.specs.declared.documents.Kind.TheVariants as kinds
 use Rattle.drafting.specs.Drafts.{File}
 use Rattle.drafting.specs.Members.{Puts, PutsAll}
 use Rattle.drafting.specs.Targets.{hashes}

@@ -2,7 +2,7 @@
 use Rattle.std.specs.Prelude.{◌≡◌, ℕ, pos, List, codes}
 use Rattle.canonical_json.specs.Json.{Json, integer, text, array, object, no_members, member}
 use Rattle.canonical_json.specs.View.{items_of}
-use Rattle.metadata.specs.declared.documents.Kind.TheVariants as kinds
+use Rattle.document_parts.specs.declared.documents.Kind.TheVariants as kinds
 use Rattle.drafting.specs.Drafts.{File, HasPart}
 use Rattle.drafting.specs.Members.{HasNone, IsObjectAt, Puts, PutsAll}
 use Rattle.drafting.specs.Roots.{Rule, ids_of, keys_of}

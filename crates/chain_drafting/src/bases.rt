@@ -6,7 +6,7 @@ ghost use Rattle.canonical_json.specs.View.{members_view};
 ghost use Rattle.denials.specs.declared.denial.Denial.{Denial};
 ghost use Rattle.keys_roles.specs.Plain.{Signature};
 ghost use Rattle.metadata.specs.Shape.{IsSignedBy};
-ghost use Rattle.metadata.specs.declared.documents.Kind.TheVariants as kinds;
+ghost use Rattle.document_parts.specs.declared.documents.Kind.TheVariants as kinds;
 ghost use Rattle.drafting.specs.Drafts.{HasPart, IsDenied, IsHeldAnd};
 ghost use Rattle.chain_drafting.specs.Layouts.{IsLayoutBase};
 ghost use Rattle.chain_drafting.specs.Links.{IsLinkBase};

@@ -2,7 +2,7 @@
 ghost use Rattle.std.specs.Prelude.{◌≡◌, ◌⊎◌, codes, option_map, None, IfOk, IfErr, OnOk};
 ghost use Rattle.canonical_json.specs.Json.{Json, object, array, no_items};
 ghost use Rattle.canonical_json.specs.View.{members_view};
-ghost use Rattle.metadata.specs.declared.documents.Kind.TheVariants as kinds;
+ghost use Rattle.document_parts.specs.declared.documents.Kind.TheVariants as kinds;
 ghost use Rattle.drafting.specs.Drafts.{IsDraft, IsTooLate, IsUndrafted, nothing_else};
 ghost use Rattle.drafting.specs.Members.{Puts, PutsAll};
 ghost use Rattle.chain_drafting.specs.Layouts.{DraftsLayout, chain};

@@ -3,7 +3,7 @@ ghost use Rattle.std.specs.Prelude.{◌≡◌, ◌⊎◌, codes, option_map, IfO
 ghost use Rattle.canonical_json.specs.Json.{Json, object, text};
 ghost use Rattle.canonical_json.specs.View.{members_view};
 ghost use Rattle.denials.specs.declared.denial.Denial.{Denial};
-ghost use Rattle.metadata.specs.declared.documents.Kind.TheVariants as kinds;
+ghost use Rattle.document_parts.specs.declared.documents.Kind.TheVariants as kinds;
 ghost use Rattle.drafting.specs.Drafts.{IsDenied, IsHeldAnd};
 ghost use Rattle.drafting.specs.Members.{Puts, PutsAll};
 ghost use Rattle.chain_drafting.specs.Links.{DraftsLink, IsUnsignedLink, Joins, Records, artifact_rows};

@@ -3,7 +3,7 @@ ghost use Rattle.std.specs.Prelude.{◌≡◌, ◌⊎◌, ◌++◌, ◌∷◌, [
 ghost use Rattle.canonical_json.specs.Json.{Json, object, no_members};
 ghost use Rattle.canonical_json.specs.View.{view, members_view};
 ghost use Rattle.denials.specs.declared.denial.Denial.{Denial};
-ghost use Rattle.metadata.specs.declared.documents.Kind.TheVariants as kinds;
+ghost use Rattle.document_parts.specs.declared.documents.Kind.TheVariants as kinds;
 ghost use Rattle.drafting.specs.Drafts.{IsDenied, IsDraft, IsUnfit};
 ghost use Rattle.drafting.specs.Members.{HasNone, IsObjectAt, PutsAll};
 ghost use Rattle.drafting.specs.Roots.{keys_of};

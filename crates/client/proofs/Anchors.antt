@@ -1,6 +1,6 @@
 -- A client that trusts a server's first root alone is behind it.
 use Rattle.std.proofs.Common.{◌≡◌, inl, List, [], ◌∷◌, ◌++◌, Option, Some, None, Ok, refl, sym, ap, ◌∙◌}
-use Rattle.metadata.specs.Documents.{Profile, Root}
+use Rattle.document_parts.specs.Documents.{Profile, Root}
 use Rattle.metadata.specs.File.{Bytes, File, IsFileOf, root_form}
 use Rattle.metadata.specs.Shaped.{reads}
 use Rattle.denials.specs.Orders.{pass, given}

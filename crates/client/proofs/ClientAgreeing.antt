@@ -1,7 +1,7 @@
 -- A client behind a server agrees with it, over an honest source.
 use Rattle.std.proofs.Common.{◌≡◌, ◌≢◌, ◌⊎◌, inl, inr, ℕ, ◌≤◌, List, [], ◌∷◌, ◌++◌, length, Some, Result, Ok, Err, refl, sym, ap, ◌∙◌, subst, arith}
 use Rattle.path_patterns.specs.Grammar.{IsTargetPath}
-use Rattle.metadata.specs.Documents.{MetaFile, Profile, Root, Snapshot, Targets}
+use Rattle.document_parts.specs.Documents.{MetaFile, Profile, Root, Snapshot, Targets}
 use Rattle.metadata.specs.File.{Bytes, File, Name}
 use Rattle.denials.specs.Orders as orders
 use Rattle.delegations.specs.Rows.{Rows, entry_of, row_at}

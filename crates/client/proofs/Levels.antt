@@ -15,10 +15,10 @@ use Rattle.keys_roles.proofs.Elements.{each_more, fewer, for_each, of_each}
 use Rattle.keys_roles.specs.Plain.{look_up}
 use Rattle.keys_roles.specs.Rules.{AreDistinct}
 use Rattle.keys_roles.specs.steps.Counting.{IsIn}
-use Rattle.metadata.specs.Bodies.{IsListable}
-use Rattle.metadata.specs.Documents.{LayoutReference, MetaFile, Root, Snapshot, Targets}
+use Rattle.document_parts.specs.Bodies.{IsListable}
+use Rattle.document_parts.specs.Documents.{LayoutReference, MetaFile, Root, Snapshot, Targets}
 use Rattle.metadata.specs.File.{Bytes, File, Name, Names, IsFileOf, snapshot_form, targets_form}
-use Rattle.metadata.specs.Parts.{last_number}
+use Rattle.document_parts.specs.Parts.{last_number}
 use Rattle.denials.specs.Orders.{BlobMissing, Denial, Denied, Judged, RoleMissing, Same, Stop, holds, pass}
 use Rattle.delegations.proofs.ByHalves.{rest_rises}
 use Rattle.delegations.proofs.KeyOrder.{sorts_bytes}

@@ -2,7 +2,7 @@
 use Rattle.std.proofs.Common.{◌≡◌, ⊎_elim, ℕ, ◌<◌, Option, Some, Ok, Err, sym, subst, arith}
 use Rattle.std.proofs.lemmas.Bool.{cases_lt}
 use Rattle.keys_roles.specs.Plain.{look_up}
-use Rattle.metadata.specs.Documents.{MetaFile, Targets}
+use Rattle.document_parts.specs.Documents.{MetaFile, Targets}
 use Rattle.metadata.specs.File.{File}
 use Rattle.denials.specs.Numbers as no
 use Rattle.denials.specs.Orders.{Denied, Plain, Denial, Stop, pass, decide, holds, fails, given, need_or}

@@ -4,9 +4,9 @@ use Rattle.std.specs.Prelude.{codes, IfSome, IfNone}
 use Rattle.std.proofs.lemmas.List.{append-nil}
 use Rattle.std.proofs.Math.Seq.{append_snoc}
 use Rattle.limits.specs.Limits.{most_held}
-use Rattle.metadata.specs.Documents.{Profile, Root}
+use Rattle.document_parts.specs.Documents.{Profile, Root}
 use Rattle.metadata.specs.File.{Bytes, File, IsFileOf, root_form}
-use Rattle.metadata.specs.Parts.{last_number}
+use Rattle.document_parts.specs.Parts.{last_number}
 use Rattle.metadata.specs.Shape.{max_file}
 use Rattle.denials.specs.Orders.{Judged, Denied, Same}
 use Rattle.machine.specs.State.{FollowsRoot, IsHeldUnder, IsRootChain, IsState, IsTrusted, State, Trusted, dotted, first, kept_root, metadata_of, nothing_trusted, then}

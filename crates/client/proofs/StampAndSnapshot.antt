@@ -6,9 +6,9 @@ use Rattle.std.specs.List.{AllByRecursion}
 use Rattle.std.proofs.lemmas.Bool.{cases_lt, eq-eqb}
 use Rattle.path_patterns.specs.Grammar.{IsTargetPath}
 use Rattle.keys_roles.specs.Plain.{look_up}
-use Rattle.metadata.specs.Documents.{MetaFile, Root, Snapshot, Timestamp}
+use Rattle.document_parts.specs.Documents.{MetaFile, Root, Snapshot, Timestamp}
 use Rattle.metadata.specs.File.{Bytes, File, Name, IsFileOf, snapshot_form, timestamp_form}
-use Rattle.metadata.specs.Parts.{last_number}
+use Rattle.document_parts.specs.Parts.{last_number}
 use Rattle.metadata.specs.Shaped.{reads}
 use Rattle.denials.specs.Numbers as no
 use Rattle.denials.specs.Orders.{Denial, Denied, Judged, Plain, Same, ◌>>◌, check, decide, fails, give, given, holds, need, pass, same, same_if, stopped}

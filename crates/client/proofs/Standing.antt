@@ -10,10 +10,10 @@ use Rattle.sha2.specs.Sha256.{sha256}
 use Rattle.path_patterns.specs.Grammar.{IsName}
 use Rattle.keys_roles.specs.Plain.{look_up}
 use Rattle.keys_roles.specs.steps.Counting.{IsIn}
-use Rattle.metadata.specs.Bodies.{IsListable}
-use Rattle.metadata.specs.Documents.{MetaFile, Root, Snapshot, Targets, Timestamp}
+use Rattle.document_parts.specs.Bodies.{IsListable}
+use Rattle.document_parts.specs.Documents.{MetaFile, Root, Snapshot, Targets, Timestamp}
 use Rattle.metadata.specs.File.{Bytes, File, Name, IsFileOf, targets_form}
-use Rattle.metadata.specs.Parts.{last_number}
+use Rattle.document_parts.specs.Parts.{last_number}
 use Rattle.denials.specs.Orders.{given, holds, pass}
 use Rattle.delegations.specs.Rows.{HasHash, HasLength, Place, Rows, has_hash, has_length, named_row, row_at, same_place, value_at, with_row}
 use Rattle.machine.proofs.LinesGive.{needed}

@@ -1,6 +1,6 @@
 -- Agreement: a client behind a server gets a target exactly where the server grants it.
 use Rattle.std.specs.Prelude.{◌≡◌, ◌≢◌, ◌≤◌, ℕ, List, [], ◌∷◌, length, codes, Some, None, Result, Ok, Err, IfOk}
-use Rattle.metadata.specs.Documents.{Profile}
+use Rattle.document_parts.specs.Documents.{Profile}
 use Rattle.metadata.specs.File.{Bytes}
 use Rattle.denials.specs.Orders as orders
 use Rattle.path_patterns.specs.Grammar.{IsTargetPath}

@@ -1,7 +1,7 @@
 -- When a client's state is behind a server's, so that an update and a fetch bring it all that the server grants.
 use Rattle.std.specs.Prelude.{◌≡◌, ◌≢◌, ◌⊎◌, ℕ, ◌<◌, ◌≤◌, List, [], ◌∷◌, ◌++◌, length, Some, None, Ok, IfSome, IsSomeAnd}
 use Rattle.std.specs.List.{AllByRecursion}
-use Rattle.metadata.specs.Documents.{Profile, Timestamp, Snapshot, Targets, MetaFile}
+use Rattle.document_parts.specs.Documents.{Profile, Timestamp, Snapshot, Targets, MetaFile}
 use Rattle.metadata.specs.File.{Bytes, Name, File}
 use Rattle.delegations.specs.Rows.{entry_of, row_at}
 use Rattle.machine.specs.State.{Trusted, State, NamesSnapshot, blob_at}

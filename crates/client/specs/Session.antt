@@ -1,6 +1,6 @@
 -- What an update and a fetch do, beside what the source answers. Sources are values of any type, and `gives` says what one answers.
 use Rattle.std.specs.Prelude.{◌≡◌, ℕ, suc, ◌+◌, ◌<◌, ◌≤◌, Bool, true, false, [], ◌∷◌, ◌++◌, length, Option, Some, None, Result, Ok, Err, IsTrue, ⊤}
-use Rattle.metadata.specs.Documents.{Root}
+use Rattle.document_parts.specs.Documents.{Root}
 use Rattle.metadata.specs.File.{Bytes, Names, File, has_name}
 use Rattle.denials.specs.Numbers as no
 use Rattle.denials.specs.Orders as orders

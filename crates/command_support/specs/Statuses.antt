@@ -6,8 +6,8 @@ use Rattle.command_support.specs.declared.fault.Fault.TheVariants.{Usage, Help, 
 use Rattle.command_line.specs.declared.tasks.Usage.{Usage as Usages}
 use Rattle.command_line.specs.declared.tasks.Usage.TheVariants as usages
 use Rattle.canon.specs.declared.CanonFault.{CanonFault}
-use Rattle.metadata.specs.declared.documents.ShapeFault.{ShapeFault}
-use Rattle.metadata.specs.declared.documents.ShapeFault.TheVariants as shapes
+use Rattle.document_parts.specs.declared.documents.ShapeFault.{ShapeFault}
+use Rattle.document_parts.specs.declared.documents.ShapeFault.TheVariants as shapes
 use Rattle.canon.specs.declared.CanonFault.TheVariants as canon_faults
 
 -- help is no fault: it is printed as asked

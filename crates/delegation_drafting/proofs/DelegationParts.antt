@@ -4,7 +4,7 @@ use Rattle.std.specs.List.{AllByRecursion}
 use Rattle.canonical_json.specs.Json.{Json, array, HasMember}
 use Rattle.canonical_json.specs.View.{items_of, items_view, view}
 use Rattle.canonical_json.specs.declared.Value.{Value}
-use Rattle.metadata.specs.declared.documents.Kind.TheVariants as kinds
+use Rattle.document_parts.specs.declared.documents.Kind.TheVariants as kinds
 use Rattle.delegation_drafting.specs.Delegations.{AreIn, Changes, Delegated, DraftsDelegations, IsTo, PutsEach, Stands, StandsOrGoes, by_role, delegation_names, key_rows, name_rows}
 use Rattle.drafting.specs.Drafts.{File, Follows, IsBase, IsNext}
 use Rattle.drafting.specs.Members.{IsNoneOf, AlikeBut, Drops, IsListAt, IsObjectAt, Puts, Rows, without}

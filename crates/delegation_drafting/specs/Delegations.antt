@@ -4,7 +4,7 @@ use Rattle.std.specs.List.{AllByRecursion}
 use Rattle.canonical_json.specs.Json.{Json, boolean, integer, text, array, object, Items, Members, no_members, member, HasMember}
 use Rattle.canonical_json.specs.View.{items_of}
 use Rattle.keys_roles.specs.Rules.{AreDistinct}
-use Rattle.metadata.specs.declared.documents.Kind.TheVariants as kinds
+use Rattle.document_parts.specs.declared.documents.Kind.TheVariants as kinds
 use Rattle.drafting.specs.Members.{AlikeBut, HasNone, IsListAt, IsObjectAt, Rows, without}
 use Rattle.drafting.specs.Drafts.{File, Drafts, IsBase}
 use Rattle.drafting.specs.Roots.{Rule, PutsTable, ids_of, keys_of, names_of}

@@ -2,7 +2,7 @@
 ghost use Rattle.std.specs.Prelude.{◌≡◌, ◌⊎◌, ℕ, codes, option_map, IfOk, IfErr, OnOk};
 ghost use Rattle.canonical_json.specs.Json.{Json, object};
 ghost use Rattle.canonical_json.specs.View.{members_view};
-ghost use Rattle.metadata.specs.declared.documents.Kind.TheVariants as kinds;
+ghost use Rattle.document_parts.specs.declared.documents.Kind.TheVariants as kinds;
 ghost use Rattle.delegation_drafting.specs.Delegations.{AreIn, DraftsDelegations, IsNotDelegated, by_role, key_rows, name_rows};
 ghost use Rattle.drafting.specs.Drafts.{IsDraft, IsUndrafted};
 ghost use Rattle.drafting.specs.Members.{IsObjectAt, PutsAll, Rows};

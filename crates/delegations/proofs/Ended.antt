@@ -1,7 +1,7 @@
 -- How a search ended: the visits that it passed by, and what ended it. And the chains by which it visited.
 use Rattle.std.proofs.Common.{◌≡◌, ℕ, zero, suc, ◌+◌, ◌<◌, cond, List, [], ◌∷◌, ◌++◌, map, length, take, Option, Some, None, Ok, Err, refl, sym, ap, ◌∙◌, subst, inl, inr, arith, nat_lt}
 use Rattle.std.specs.List.{AllByRecursion}
-use Rattle.metadata.specs.Documents.{Targets, Listing}
+use Rattle.document_parts.specs.Documents.{Targets, Listing}
 use Rattle.metadata.specs.File.{Bytes, File}
 use Rattle.denials.specs.Numbers as no
 use Rattle.denials.specs.Orders.{Judged, Stop, Denied, Plain, pass, decide, given, stopped, denied}

@@ -2,7 +2,7 @@
 use Rattle.std.proofs.Common.{◌≡◌, suc, ◌+◌, Bool, true, false, cond, [], ◌∷◌, length, Some, refl, ap, ◌∙◌, arith}
 use Rattle.std.proofs.lemmas.List.{length-map}
 use Rattle.std.specs.Prelude.{IfSome}
-use Rattle.metadata.specs.Documents.{Targets}
+use Rattle.document_parts.specs.Documents.{Targets}
 use Rattle.metadata.specs.File.{File}
 use Rattle.delegations.specs.Rows.{Place, same_place, place_before, value_at, with_row, with_rows, Rows, AllFiles}
 use Rattle.delegations.specs.Views.{row_views, rows_view}

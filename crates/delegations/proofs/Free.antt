@@ -7,8 +7,8 @@ use Rattle.keys_roles.specs.Rules.{AreDistinct}
 use Rattle.keys_roles.specs.Verdicts.{Pair, Verdict, is_known, pairs, unknown}
 use Rattle.keys_roles.specs.steps.Counting.{IsIn}
 use Rattle.keys_roles.proofs.Elements.{contains_in, of_each}
-use Rattle.metadata.specs.Covers.{covers}
-use Rattle.metadata.specs.Documents.{Targets, MetaFile, Delegation, Delegations}
+use Rattle.document_parts.specs.Covers.{covers}
+use Rattle.document_parts.specs.Documents.{Targets, MetaFile, Delegation, Delegations}
 use Rattle.metadata.specs.File.{Bytes, Name, Names, File}
 use Rattle.delegations.specs.Delegation.{Edge, Hops, chain_end, hops_in, leads, visits}
 use Rattle.delegations.specs.Rows.{named_row}

@@ -10,9 +10,9 @@ use Rattle.keys_roles.specs.Rules.{AreDistinct}
 use Rattle.keys_roles.specs.Verdicts.{Pair, Verdict, AreVerdicts, is_known, pairs}
 use Rattle.keys_roles.specs.steps.Counting.{IsIn}
 use Rattle.keys_roles.proofs.Elements.{contains_in, in_contains, of_each, each_more, in_more, in_last, distinct_more, in_front, in_back, in_map}
-use Rattle.metadata.specs.Documents.{Targets, MetaFile, Delegation, Delegations}
+use Rattle.document_parts.specs.Documents.{Targets, MetaFile, Delegation, Delegations}
 use Rattle.metadata.specs.File.{Name, Names, File}
-use Rattle.metadata.specs.Sorted.{compared, AreInOrder}
+use Rattle.document_parts.specs.Sorted.{compared, AreInOrder}
 use Rattle.delegations.specs.Delegation.{Edge}
 use Rattle.delegations.specs.Rows.{Place, named_row}
 use Rattle.delegations.specs.Search.{Shelf, doc, edge_of}

@@ -7,7 +7,7 @@ use Rattle.std.proofs.lemmas.Bool.{or_cases, or_left, or_right, ltb-true, ltb-fa
 use Rattle.std.proofs.lemmas.List.{take-append-le, take_all}
 use Rattle.std.proofs.lemmas.Slice.Eq.{bytes_eq-Decides}
 use Rattle.keys_roles.specs.Plain.{look_up}
-use Rattle.metadata.specs.Documents.{Targets, MetaFile}
+use Rattle.document_parts.specs.Documents.{Targets, MetaFile}
 use Rattle.metadata.specs.File.{Name, Names, File, has_name}
 use Rattle.delegations.specs.Delegation.{Edge, Hops, hops, hop_at, unmet, leads, chain_end}
 use Rattle.delegations.specs.Search.{Shelf, Good, MeetsEdge, Vouched, whole}

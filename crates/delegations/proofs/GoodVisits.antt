@@ -6,7 +6,7 @@ use Rattle.std.proofs.lemmas.Slice.Eq.{bytes_eq-Decides}
 use Rattle.std.specs.Prelude.{◌&&◌, nat_eq, bytes_eq, option_map, option_and_then, unwrap_or}
 use Rattle.sha2.specs.Sha256.{sha256}
 use Rattle.keys_roles.specs.Plain.{look_up}
-use Rattle.metadata.specs.Documents.{Targets, MetaFile}
+use Rattle.document_parts.specs.Documents.{Targets, MetaFile}
 use Rattle.metadata.specs.File.{Bytes, Name, File}
 use Rattle.denials.specs.Numbers as no
 use Rattle.denials.specs.Orders.{Denial, Plain, RoleMissing, pass, holds, given, need_or, check}

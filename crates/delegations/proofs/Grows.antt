@@ -3,8 +3,8 @@ use Rattle.std.proofs.Common.{◌≡◌, ℕ, zero, suc, ◌+◌, Bool, cond, Li
 use Rattle.std.specs.List.{AllByRecursion}
 use Rattle.std.proofs.lemmas.Bool.{lt-ltb, le-ltb}
 use Rattle.keys_roles.specs.Plain.{look_up}
-use Rattle.metadata.specs.Covers.{covers}
-use Rattle.metadata.specs.Documents.{Targets, MetaFile, Listing, Delegation}
+use Rattle.document_parts.specs.Covers.{covers}
+use Rattle.document_parts.specs.Documents.{Targets, MetaFile, Listing, Delegation}
 use Rattle.metadata.specs.File.{Bytes, Name, Names, File}
 use Rattle.denials.specs.Numbers as no
 use Rattle.denials.specs.Orders.{Denial, Judged, Stop, Denied, Plain, RoleMissing, pass, decide, given, stopped, need_or}

@@ -10,7 +10,7 @@ use Rattle.keys_roles.specs.Verdicts.{Pair, Verdict, AreVerdicts, is_known, pair
 use Rattle.keys_roles.specs.steps.Counting.{IsIn}
 use Rattle.keys_roles.proofs.Elements.{in_contains, of_each, for_each, each_more, fewer, in_either}
 use Rattle.keys_roles.proofs.Knowing.{known_in}
-use Rattle.metadata.specs.Documents.{Targets, MetaFile}
+use Rattle.document_parts.specs.Documents.{Targets, MetaFile}
 use Rattle.metadata.specs.File.{Name, Names, File}
 use Rattle.delegations.specs.Rows.{Place, named_row, row_at, same_place, value_at}
 use Rattle.delegations.specs.Search.{Shelf, doc}

@@ -1,6 +1,6 @@
 -- How a walk that judges as it goes, and makes so many visits at most, answers the search over the list of its visits.
 use Rattle.std.proofs.Common.{◌≡◌, ℕ, zero, suc, List, [], ◌∷◌, ◌++◌, Some, None, Ok, Err, arith, append_assoc, length-append}
-use Rattle.metadata.specs.Documents.{Targets, Listing}
+use Rattle.document_parts.specs.Documents.{Targets, Listing}
 use Rattle.metadata.specs.File.{Bytes, File}
 use Rattle.denials.specs.Orders.{Judged, Stop, Denied, Plain, pass, decide, given, stopped}
 use Rattle.delegations.specs.Delegation.{Edge}

@@ -2,8 +2,8 @@
 use Rattle.std.proofs.Common.{◌≡◌, ℕ, zero, suc, ◌+◌, ◌<◌, Bool, true, false, cond, List, [], ◌∷◌, ◌++◌, length, map, take, Option, Some, None, Ok, Err, refl, sym, ap, ◌∙◌, subst, slice_get, filter_map, option_map, bytes_eq}
 use Rattle.std.specs.List.{AllByRecursion}
 use Rattle.keys_roles.specs.Plain.{Table, look_up}
-use Rattle.metadata.specs.Covers.{covers}
-use Rattle.metadata.specs.Documents.{Targets, MetaFile, Delegation, Delegations}
+use Rattle.document_parts.specs.Covers.{covers}
+use Rattle.document_parts.specs.Documents.{Targets, MetaFile, Delegation, Delegations}
 use Rattle.metadata.specs.File.{Bytes, Name, Names, File, has_name}
 use Rattle.denials.specs.Numbers as no
 use Rattle.denials.specs.Orders.{Denial, Judged, Stop, Denied, Plain, RoleMissing, pass, decide, fails, given, stopped, need_or, check}

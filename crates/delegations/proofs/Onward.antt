@@ -4,8 +4,8 @@ use Rattle.std.specs.Prelude.{option_and_then}
 use Rattle.std.specs.List.{AllByRecursion}
 use Rattle.std.proofs.lemmas.Slice.Eq.{bytes_eq-Decides}
 use Rattle.keys_roles.specs.Plain.{look_up}
-use Rattle.metadata.specs.Covers.{covers}
-use Rattle.metadata.specs.Documents.{Targets, Listing, MetaFile, Delegation}
+use Rattle.document_parts.specs.Covers.{covers}
+use Rattle.document_parts.specs.Documents.{Targets, Listing, MetaFile, Delegation}
 use Rattle.metadata.specs.File.{Bytes, Name, Names, File, has_name}
 use Rattle.denials.specs.Orders.{Judged, Denied, Plain, Denial}
 use Rattle.denials.specs.Numbers as no

@@ -6,7 +6,7 @@ use Rattle.std.specs.Cmp.Lexicographic.{slice_cmp}
 use Rattle.std.specs.declared.cmp.Ordering.{Ordering}
 use Rattle.std.proofs.lemmas.Bool.Decides.{nat_tests}
 use Rattle.std.proofs.lemmas.Cmp.{same_from_slice_cmp}
-use Rattle.metadata.specs.Documents.{Targets}
+use Rattle.document_parts.specs.Documents.{Targets}
 use Rattle.metadata.specs.File.{File, Name}
 use Rattle.delegations.specs.Delegation.{before}
 use Rattle.delegations.specs.Rows.{Place, Rises, same_place, place_before, value_at, with_row, with_rows, Rows, row_at}

@@ -2,7 +2,7 @@
 use Rattle.std.proofs.Common.{◌≡◌, ℕ, zero, suc, ◌≤◌, IsSomeAnd, List, [], ◌∷◌, ◌++◌, length, take, Some, Ok, refl, sym, ap, ◌∙◌, subst, nat_lt}
 use Rattle.std.proofs.lemmas.Bool.{ltb-true, ltb-false}
 use Rattle.std.proofs.lemmas.List.{take_all}
-use Rattle.metadata.specs.Documents.{Targets, Listing}
+use Rattle.document_parts.specs.Documents.{Targets, Listing}
 use Rattle.metadata.specs.File.{Bytes, File}
 use Rattle.delegations.specs.Delegation.{Edge, chain_end}
 use Rattle.delegations.specs.Search.{Shelf, Found, Good, IsSoundly, doc, visit, listing_of, search}

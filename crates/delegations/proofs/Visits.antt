@@ -1,7 +1,7 @@
 -- How a visit ends.
 use Rattle.std.proofs.Common.{◌≡◌, ◌↔◌, ℕ, ◌<◌, IsTrue, Bool, true, false, Option, Some, None, Ok, Err, subst}
 use Rattle.keys_roles.specs.Plain.{look_up}
-use Rattle.metadata.specs.Documents.{Targets, MetaFile}
+use Rattle.document_parts.specs.Documents.{Targets, MetaFile}
 use Rattle.metadata.specs.File.{File}
 use Rattle.denials.specs.Numbers as no
 use Rattle.denials.specs.Orders.{pass, decide, holds, fails, given, stopped, Denial, Denied, Plain, RoleMissing, need_or}

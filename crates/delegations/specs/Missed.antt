@@ -2,7 +2,7 @@
 -- delegated roles one after the other.)
 use Rattle.std.specs.Prelude.{◌≡◌, ℕ, Some, None, Err}
 use Rattle.keys_roles.specs.Plain.{look_up}
-use Rattle.metadata.specs.Documents.{Targets, MetaFile}
+use Rattle.document_parts.specs.Documents.{Targets, MetaFile}
 use Rattle.metadata.specs.File.{Bytes, Name, File}
 use Rattle.denials.specs.Orders.{Stop}
 use Rattle.delegations.specs.Delegation.{Edge}

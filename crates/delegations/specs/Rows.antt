@@ -3,7 +3,7 @@ use Rattle.std.specs.Prelude.{◌≡◌, ℕ, Bool, true, cond, ◌&&◌, ◌||�
 use Rattle.std.specs.List.{AllByRecursion}
 use Rattle.sha2.specs.Sha256.{sha256}
 use Rattle.keys_roles.specs.Plain.{look_up}
-use Rattle.metadata.specs.Documents.{Snapshot, Targets, MetaFile}
+use Rattle.document_parts.specs.Documents.{Snapshot, Targets, MetaFile}
 use Rattle.metadata.specs.File.{Bytes, Name, File}
 use Rattle.delegations.specs.Delegation.{before}
 

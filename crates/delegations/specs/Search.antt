@@ -2,11 +2,11 @@
 use Rattle.std.specs.Prelude.{◌≡◌, ℕ, ◌<◌, ◌≤◌, IsSomeAnd, Bool, true, false, cond, List, [], ◌∷◌, map, length, take, Option, Some, None, option_map, option_and_then, codes, nat_lt, find, bytes_eq}
 use Rattle.std.specs.List.{filter_map}
 use Rattle.keys_roles.specs.Plain.{Table, look_up}
-use Rattle.metadata.specs.Documents.{Root, Snapshot, Targets, MetaFile, Delegation, Delegations, Listing}
+use Rattle.document_parts.specs.Documents.{Root, Snapshot, Targets, MetaFile, Delegation, Delegations, Listing}
 use Rattle.metadata.specs.File.{Bytes, Name, File}
 use Rattle.denials.specs.Numbers as no
 use Rattle.denials.specs.Orders.{Order, RoleMissing, ◌>>=◌, ◌>>◌, give, denied, check, need, need_or}
-use Rattle.metadata.specs.Covers.{covers}
+use Rattle.document_parts.specs.Covers.{covers}
 use Rattle.keys_roles.specs.Rules.{Meets}
 use Rattle.delegations.specs.Delegation.{Edge, Hops, Graph, chain_end, visits}
 use Rattle.delegations.specs.Rows.{Rows, row_at, HasLength, HasHash, named_row}

@@ -6,7 +6,7 @@ use Rattle.keys_roles.specs.Views.{rule_view, verdict_views}
 use Rattle.metadata.specs.FileViews.{targets_file}
 use Rattle.denials.specs.Numbers as no
 use Rattle.denials.specs.Orders.{Denial, Plain, RoleMissing, Denied, Judged}
-use Rattle.metadata.specs.Views.{snapshot_view, listing_view}
+use Rattle.document_parts.specs.Views.{snapshot_view, listing_view}
 use Rattle.delegations.specs.Delegation as graph
 use Rattle.delegations.specs.Search as plain
 use Rattle.delegations.specs.Search.{top_name}

@@ -6,7 +6,7 @@ ghost use Rattle.keys_roles.specs.Views as keys;
 ghost use Rattle.keys_roles.specs.Views.{verdict_views};
 ghost use Rattle.metadata.specs.File.{Names};
 ghost use Rattle.metadata.specs.FileViews.{targets_file};
-ghost use Rattle.metadata.specs.Views.{delegation_view};
+ghost use Rattle.document_parts.specs.Views.{delegation_view};
 ghost use Rattle.delegations.specs.Delegation as graph;
 ghost use Rattle.delegations.specs.Search as plain;
 ghost use Rattle.delegations.specs.Search.{doc, edge_of};

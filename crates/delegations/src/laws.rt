@@ -1,6 +1,6 @@
 // What is true of the definitions of a search.
 ghost use Rattle.std.specs.Prelude.{◌≡◌, ◌↔◌, ℕ, List, [], ◌∷◌, Ok, Err, Some, take, IsTrue, Contains, AllPairs};
-ghost use Rattle.metadata.specs.Documents.{Targets};
+ghost use Rattle.document_parts.specs.Documents.{Targets};
 ghost use Rattle.metadata.specs.File.{Bytes, Name, File};
 ghost use Rattle.delegations.specs.Delegation.{Edge, Graph, before, chain_end, all_index_lists, chains, visits};
 ghost use Rattle.denials.specs.Orders.{Judged, Denied, RoleMissing};

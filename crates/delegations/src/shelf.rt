@@ -1,6 +1,6 @@
 //! What a search reads, and what it answers.
 ghost use Rattle.std.specs.Prelude.{◌≡◌};
-ghost use Rattle.metadata.specs.Views.{root_view, snapshot_view};
+ghost use Rattle.document_parts.specs.Views.{root_view, snapshot_view};
 ghost use Rattle.delegations.specs.Search.{top_of};
 ghost use Rattle.delegations.specs.Views.{edge_view, held_rows, row_views, rows_view, shelf_view};
 

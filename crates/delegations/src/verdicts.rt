@@ -3,7 +3,7 @@ ghost use Rattle.std.specs.Prelude.{◌≡◌, ◌≤◌, [], Some, None, IfOk, 
 ghost use Rattle.keys_roles.specs.Verdicts.{AreVerdicts};
 ghost use Rattle.keys_roles.specs.Plain.{look_up};
 ghost use Rattle.keys_roles.specs.Views.{verdict_views};
-ghost use Rattle.metadata.specs.Documents as plain;
+ghost use Rattle.document_parts.specs.Documents as plain;
 ghost use Rattle.metadata.specs.File as files;
 ghost use Rattle.metadata.specs.FileViews.{targets_file};
 ghost use Rattle.delegations.specs.Rows.{AllFiles, row_at, same_place, value_at};

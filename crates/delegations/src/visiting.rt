@@ -4,7 +4,7 @@ ghost use Rattle.keys_roles.specs.Rules.{Meets};
 ghost use Rattle.keys_roles.specs.Verdicts.{AreVerdicts, pairs, unknown};
 ghost use Rattle.keys_roles.specs.Views.{verdict_views};
 ghost use Rattle.metadata.specs.FileViews.{targets_file};
-ghost use Rattle.metadata.specs.Views.{meta_view};
+ghost use Rattle.document_parts.specs.Views.{meta_view};
 ghost use Rattle.delegations.specs.Search.{visit};
 ghost use Rattle.delegations.specs.Rows.{HasLength, HasHash};
 ghost use Rattle.delegations.specs.Verdicts.{AreTrue, lacking};

@@ -1,7 +1,7 @@
 -- Values with the same members but for some names.
 use Rattle.std.proofs.Common.{◌≡◌, ◌≢◌, ℕ, List, [], ◌∷◌, ◌++◌, codes, get_or, refl, ap, arith, pos}
 use Rattle.canonical_json.specs.Json.{Json, integer, text}
-use Rattle.metadata.specs.Dates.{IsDateTime}
+use Rattle.document_parts.specs.Dates.{IsDateTime}
 use Rattle.drafting.specs.Members.{IsNoneOf, AlikeBut, Puts}
 use Rattle.drafting.specs.Drafts.{Follows}
 use Rattle.drafting.specs.declared.terms.Terms.{Terms}

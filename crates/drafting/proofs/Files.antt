@@ -5,11 +5,11 @@ use Rattle.canonical_json.specs.Spelling.{spelling, IsCanonical}
 use Rattle.canonical_json.specs.Faults.{write_fault}
 use Rattle.denials.specs.declared.denial.Denial.{Denial}
 use Rattle.keys_roles.specs.Plain.{Signature}
-use Rattle.metadata.specs.Documents.{Document}
-use Rattle.metadata.specs.Members.{ItemsAre}
-use Rattle.metadata.specs.Parts.{IsEntry}
+use Rattle.document_parts.specs.Documents.{Document}
+use Rattle.document_parts.specs.Members.{ItemsAre}
+use Rattle.document_parts.specs.Parts.{IsEntry}
 use Rattle.metadata.specs.Shape.{kind_name, IsSignedFile, IsDocument}
-use Rattle.metadata.specs.declared.documents.Kind.{Kind}
+use Rattle.document_parts.specs.declared.documents.Kind.{Kind}
 use Rattle.drafting.specs.Drafts.{File, IsDenied, IsDraft, IsUnfit, unsigned_file}
 use Rattle.drafting.specs.declared.faults.DraftFault.{DraftFault}
 use Rattle.drafting.specs.declared.faults.DraftFault.TheVariants.{Unfit, OutOfMemory}

@@ -7,7 +7,7 @@ use Rattle.jiff.specs.Types.{Date, DateTime}
 use Rattle.jiff.specs.Words.{epoch_day, civil_nanos, IsTimestampNanos}
 use Rattle.jiff.proofs.Family.{epoch_day-lt, epoch_day_injective, days_from_civil-day, days_from_civil-max, civil_nanos-parts, time_nanos_bound}
 use Rattle.jiff.proofs.SpanFacts.{signed_arith}
-use Rattle.metadata.specs.Dates.{IsDateTime, IsShown, two_digits, four_digits}
+use Rattle.document_parts.specs.Dates.{IsDateTime, IsShown, two_digits, four_digits}
 
 -- a day of the years before 9999 lies before its December
 early_enough : (d : Date) (year : ℕ) → d.year ≡ pos year → year ≤ 9998 → epoch_day d <ℤ pos 2932867

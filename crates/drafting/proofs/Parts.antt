@@ -1,8 +1,8 @@
 -- The signed part of a draft, from the steps of one.
 use Rattle.std.proofs.Common.{◌≡◌, ℕ, List, [], ◌∷◌, Option, codes, get_or, ap, subst, arith}
 use Rattle.canonical_json.specs.Json.{Json, HasMember}
-use Rattle.metadata.specs.declared.documents.Kind.{Kind}
-use Rattle.metadata.specs.declared.documents.Kind.TheVariants as kinds
+use Rattle.document_parts.specs.declared.documents.Kind.{Kind}
+use Rattle.document_parts.specs.declared.documents.Kind.TheVariants as kinds
 use Rattle.drafting.specs.Members.{AlikeBut, Puts}
 use Rattle.drafting.specs.Drafts.{File, Drafts, Follows, IsBase, IsNext}
 use Rattle.drafting.specs.Timestamps.{DraftsTimestamp, snapshot_entry}

@@ -2,8 +2,8 @@
 use Rattle.std.proofs.Common.{◌≡◌, ◌⊎◌, inl, inr, Option, Some, sym, subst}
 use Rattle.canonical_json.specs.Json.{Json}
 use Rattle.denials.specs.declared.denial.Denial.{Denial}
-use Rattle.metadata.specs.Parts.{last_number}
-use Rattle.metadata.specs.declared.documents.Kind.{Kind}
+use Rattle.document_parts.specs.Parts.{last_number}
+use Rattle.document_parts.specs.declared.documents.Kind.{Kind}
 use Rattle.drafting.specs.Drafts.{File, HasVersion, IsDenied, IsHeldAnd, IsTooLate, IsUndrafted, IsUnfit}
 use Rattle.drafting.specs.declared.terms.Terms.{Terms}
 use Rattle.drafting.specs.declared.faults.DraftFault.{DraftFault}

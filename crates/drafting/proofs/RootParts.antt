@@ -1,7 +1,7 @@
 -- The rules of a draft of a root, step by step.
 use Rattle.std.proofs.Common.{◌≡◌, ◌≢◌, inl, inr, ℕ, true, List, [], ◌∷◌, Option, codes, get_or, ap, arith}
 use Rattle.canonical_json.specs.Json.{Json, boolean, HasMember}
-use Rattle.metadata.specs.declared.documents.Kind.TheVariants as kinds
+use Rattle.document_parts.specs.declared.documents.Kind.TheVariants as kinds
 use Rattle.drafting.specs.Members.{IsNoneOf, AlikeBut, IsObjectAt, Puts, PutsAll}
 use Rattle.drafting.specs.Drafts.{File, Follows, IsBase, IsNext}
 use Rattle.drafting.specs.Roots.{DraftsRoot, PutsTable, Rules, key_rows, name_rows, root_names, rule_rows}

@@ -9,13 +9,13 @@ use Rattle.denials.specs.Numbers as no
 use Rattle.denials.specs.Orders.{Plain}
 use Rattle.denials.specs.Views.{denial_view}
 use Rattle.denials.specs.declared.denial.Denial.{Denial}
-use Rattle.metadata.specs.Dates.{IsDateTime}
-use Rattle.metadata.specs.Documents.{Body, root, timestamp, snapshot, targets, layout, link, Document}
+use Rattle.document_parts.specs.Dates.{IsDateTime}
+use Rattle.document_parts.specs.Documents.{Body, root, timestamp, snapshot, targets, layout, link, Document}
 use Rattle.metadata.specs.File.{IsDeniedShape}
-use Rattle.metadata.specs.Members.{Has, IsText}
-use Rattle.metadata.specs.Parts.{last_number}
+use Rattle.document_parts.specs.Members.{Has, IsText}
+use Rattle.document_parts.specs.Parts.{last_number}
 use Rattle.metadata.specs.Shape.{kind_name, IsSignedFile, IsDocument}
-use Rattle.metadata.specs.declared.documents.Kind.{Kind}
+use Rattle.document_parts.specs.declared.documents.Kind.{Kind}
 use Rattle.drafting.specs.Members.{AlikeBut}
 use Rattle.drafting.specs.declared.terms.Terms.{Terms}
 use Rattle.drafting.specs.declared.faults.DraftFault.{DraftFault}

@@ -4,7 +4,7 @@ use Rattle.canonical_json.specs.Json.{Json, boolean, integer, text, array, objec
 use Rattle.canonical_json.specs.View.{items_of}
 use Rattle.keys_roles.specs.Plain.{Key}
 use Rattle.keys_roles.specs.Keys.{id_of, key_object}
-use Rattle.metadata.specs.declared.documents.Kind.TheVariants as kinds
+use Rattle.document_parts.specs.declared.documents.Kind.TheVariants as kinds
 use Rattle.drafting.specs.Members.{HasNone, IsObjectAt, Keeps, PutsAll}
 use Rattle.drafting.specs.Drafts.{File, Drafts, IsBase}
 use Rattle.drafting.specs.declared.terms.Terms.{Terms}

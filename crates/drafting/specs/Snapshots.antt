@@ -1,7 +1,7 @@
 -- Drafts of snapshot metadata (TUF 1.0, section 4.4).
 use Rattle.std.specs.Prelude.{ℕ, List, [], ◌∷◌, ◌++◌, codes, map, Option}
 use Rattle.canonical_json.specs.Json.{Json, HasMember}
-use Rattle.metadata.specs.declared.documents.Kind.TheVariants as kinds
+use Rattle.document_parts.specs.declared.documents.Kind.TheVariants as kinds
 use Rattle.drafting.specs.Members.{IsObjectAt, PutsAll}
 use Rattle.drafting.specs.Drafts.{File, Drafts}
 use Rattle.drafting.specs.Timestamps.{entry}

@@ -4,7 +4,7 @@ use Rattle.std.specs.List.{AllByRecursion}
 use Rattle.hex.specs.Hex.{encode_lower}
 use Rattle.canonical_json.specs.Json.{Json, integer, text, object, Members, no_members, member, HasMember}
 use Rattle.keys_roles.specs.Rules.{AreDistinct}
-use Rattle.metadata.specs.declared.documents.Kind.TheVariants as kinds
+use Rattle.document_parts.specs.declared.documents.Kind.TheVariants as kinds
 use Rattle.drafting.specs.Members.{IsNoneOf, AlikeBut, HasNone, IsLast, IsObjectAt}
 use Rattle.drafting.specs.Drafts.{File, Drafts, IsBase}
 use Rattle.drafting.specs.declared.terms.Terms.{Terms}

@@ -1,7 +1,7 @@
 -- Drafts of timestamp metadata (TUF 1.0, section 4.6).
 use Rattle.std.specs.Prelude.{ℕ, pos, [], ◌∷◌, codes, Option}
 use Rattle.canonical_json.specs.Json.{Json, integer, object, no_members, member, HasMember}
-use Rattle.metadata.specs.declared.documents.Kind.TheVariants as kinds
+use Rattle.document_parts.specs.declared.documents.Kind.TheVariants as kinds
 use Rattle.drafting.specs.Drafts.{File, Drafts}
 use Rattle.drafting.specs.declared.terms.Terms.{Terms}
 

@@ -4,10 +4,10 @@ ghost use Rattle.canonical_json.specs.Json.{object};
 ghost use Rattle.canonical_json.specs.Spelling.{IsCanonical};
 ghost use Rattle.canonical_json.specs.View.{members_view};
 ghost use Rattle.denials.specs.declared.denial.Denial.{Denial};
-ghost use Rattle.metadata.specs.Parts.{last_number};
+ghost use Rattle.document_parts.specs.Parts.{last_number};
 ghost use Rattle.metadata.specs.Shape.{kind_name, IsDocument, IsShapeFault};
-ghost use Rattle.metadata.specs.Views.{body_view, document_view};
-ghost use Rattle.metadata.specs.declared.documents.Kind.{Kind};
+ghost use Rattle.document_parts.specs.Views.{body_view, document_view};
+ghost use Rattle.document_parts.specs.declared.documents.Kind.{Kind};
 ghost use Rattle.drafting.specs.Drafts.{HasPart, HasVersion, IsBase, IsDenied, IsHeldAnd, IsNext, empty_part, version_of as version_said};
 
 use crate::faults::{DraftFault, begun_fault, held_fault};

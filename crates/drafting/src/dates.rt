@@ -1,6 +1,6 @@
 //! Texts of moments.
 ghost use Rattle.std.specs.Prelude.{◌≡◌, ◌⊎◌, ◌+◌, ◌/◌, ◌%◌, List, ℕ, [], ◌∷◌, ◌++◌, string_bytes, IfOk, IfErr, IfNone, IfSome, OnOk};
-ghost use Rattle.metadata.specs.Dates.{IsDateTime, IsShown, two_digits, four_digits};
+ghost use Rattle.document_parts.specs.Dates.{IsDateTime, IsShown, two_digits, four_digits};
 
 use crate::faults::DraftFault;
 use jiff::Timestamp;

@@ -1,7 +1,7 @@
 //! Why there is no draft.
 ghost use Rattle.std.specs.Prelude.{◌≡◌, ◌⊎◌, ℕ, List};
 ghost use Rattle.metadata.specs.Shape.{IsShapeFault};
-ghost use Rattle.metadata.specs.declared.documents.Kind.{Kind};
+ghost use Rattle.document_parts.specs.declared.documents.Kind.{Kind};
 ghost use Rattle.denials.specs.Orders.{Plain};
 ghost use Rattle.denials.specs.Views.{denial_view};
 ghost use Rattle.metadata.specs.File.{fault_number};

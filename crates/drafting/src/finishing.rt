@@ -4,7 +4,7 @@ ghost use Rattle.canonical_json.specs.Json.{object};
 ghost use Rattle.canonical_json.specs.Spelling.{spelling, IsCanonical};
 ghost use Rattle.canonical_json.specs.View.{view, members_view};
 ghost use Rattle.denials.specs.declared.denial.Denial.{Denial};
-ghost use Rattle.metadata.specs.Documents.{Document};
+ghost use Rattle.document_parts.specs.Documents.{Document};
 ghost use Rattle.metadata.specs.Shape.{IsDocument};
 ghost use Rattle.drafting.specs.Drafts.{IsDenied, IsDraft, IsUnfit, unsigned_file};
 ghost use Rattle.drafting.specs.steps.Unwritten.{IsUnwritten};

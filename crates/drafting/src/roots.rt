@@ -2,7 +2,7 @@
 ghost use Rattle.std.specs.Prelude.{◌≡◌, ◌⊎◌, codes, option_map, IfOk, IfErr, OnOk};
 ghost use Rattle.canonical_json.specs.Json.{Json, object};
 ghost use Rattle.canonical_json.specs.View.{members_view};
-ghost use Rattle.metadata.specs.declared.documents.Kind.TheVariants as kinds;
+ghost use Rattle.document_parts.specs.declared.documents.Kind.TheVariants as kinds;
 ghost use Rattle.drafting.specs.declared.faults.TopRole.{TopRole};
 ghost use Rattle.drafting.specs.Drafts.{IsDraft, IsUndrafted};
 ghost use Rattle.drafting.specs.Members.{HasNone, IsObjectAt, PutsAll};

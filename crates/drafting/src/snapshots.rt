@@ -2,7 +2,7 @@
 ghost use Rattle.std.specs.Prelude.{◌≡◌, option_map, IfOk, IfErr, OnOk};
 ghost use Rattle.canonical_json.specs.Json.{Json, object};
 ghost use Rattle.canonical_json.specs.View.{view, members_view};
-ghost use Rattle.metadata.specs.declared.documents.Kind.TheVariants as kinds;
+ghost use Rattle.document_parts.specs.declared.documents.Kind.TheVariants as kinds;
 ghost use Rattle.drafting.specs.Drafts.{IsDraft, IsUndrafted, nothing_else};
 ghost use Rattle.drafting.specs.Members.{Puts, PutsAll};
 ghost use Rattle.drafting.specs.Snapshots.{DraftsSnapshot, entries, file_name};

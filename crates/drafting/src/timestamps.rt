@@ -2,7 +2,7 @@
 ghost use Rattle.std.specs.Prelude.{◌≡◌, option_map, IfOk, IfErr};
 ghost use Rattle.canonical_json.specs.Json.{Json};
 ghost use Rattle.canonical_json.specs.View.{view};
-ghost use Rattle.metadata.specs.declared.documents.Kind.TheVariants as kinds;
+ghost use Rattle.document_parts.specs.declared.documents.Kind.TheVariants as kinds;
 ghost use Rattle.drafting.specs.Drafts.{IsDraft, IsUndrafted, nothing_else};
 ghost use Rattle.drafting.specs.Timestamps.{DraftsTimestamp, entry, snapshot_entry};
 

@@ -7,9 +7,9 @@ use Rattle.keys_roles.specs.Plain as plain
 use Rattle.keys_roles.specs.Views.{id_text, key_view, rows_view}
 use Rattle.keys_roles.specs.declared.Key.{Key}
 use Rattle.keys_roles.specs.declared.KeyId.{KeyId}
-use Rattle.metadata.specs.Documents.{Document}
+use Rattle.document_parts.specs.Documents.{Document}
 use Rattle.metadata.specs.Shape.{IsDocument}
-use Rattle.metadata.specs.declared.documents.Kind.{Kind}
+use Rattle.document_parts.specs.declared.documents.Kind.{Kind}
 use Rattle.key_finding.specs.Finding.{Answer, AreSeveral, Finds, IsCalled, IsNotCalled, IsOne}
 use Rattle.key_finding.specs.steps.Found.{FindsBy, IsFirstCalled}
 

@@ -4,9 +4,9 @@ use Rattle.std.specs.List.{AllByRecursion}
 use Rattle.canonical_json.specs.Json.{Json, text, HasMember}
 use Rattle.canonical_json.specs.Spelling.{IsCanonical}
 use Rattle.keys_roles.specs.Plain.{Key, Table}
-use Rattle.metadata.specs.Documents.{Body, Delegations, Document, root, targets}
+use Rattle.document_parts.specs.Documents.{Body, Delegations, Document, root, targets}
 use Rattle.metadata.specs.Shape.{IsDocument}
-use Rattle.metadata.specs.declared.documents.Kind.{Kind}
+use Rattle.document_parts.specs.declared.documents.Kind.{Kind}
 use Rattle.drafting.specs.Members.{IsObjectAt}
 use Rattle.drafting.specs.Drafts.{File}
 

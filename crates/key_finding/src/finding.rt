@@ -6,7 +6,7 @@ ghost use Rattle.canonical_json.specs.View.{members_view};
 ghost use Rattle.denials.specs.declared.denial.Denial.{Denial};
 ghost use Rattle.keys_roles.specs.Views.{id_text as digits_of, rows_view, table_view};
 ghost use Rattle.metadata.specs.Shape.{IsShapeFault};
-ghost use Rattle.metadata.specs.Views.{body_view, document_view};
+ghost use Rattle.document_parts.specs.Views.{body_view, document_view};
 ghost use Rattle.drafting.specs.Drafts.{IsDenied};
 ghost use Rattle.key_finding.specs.Finding.{Finds, FindsIn, IsCalled, IsFront, IsNotCalled, key_table};
 ghost use Rattle.key_finding.specs.steps.Found.{FindsBy, IsFirstCalled, found_view};

@@ -5,9 +5,9 @@ use Rattle.denials.specs.Numbers as no
 use Rattle.denials.specs.Orders.{Denied, Judged, Plain, check, pass, decide, holds, fails, given}
 use Rattle.keys_roles.specs.Plain.{RoleRule, Table}
 use Rattle.keys_roles.specs.Rules.{Meets}
-use Rattle.metadata.specs.Documents.{Layout, Step}
+use Rattle.document_parts.specs.Documents.{Layout, Step}
 use Rattle.metadata.specs.File.{Bytes, File, Name}
-use Rattle.metadata.specs.Links.{Link}
+use Rattle.document_parts.specs.Links.{Link}
 use Rattle.layouts.specs.Faults.{IsDeniedBy, IsJudged, fault_number}
 use Rattle.layouts.specs.Layouts.{AllAgree, EnoughKeys, IsLinkOf, all, layout_holds, rules_and_product}
 use Rattle.layouts.specs.steps.Gathering.{IsAgreed, IsEnough}

@@ -4,10 +4,10 @@ use Rattle.std.specs.Prelude.{IfOk, slice_get}
 use Rattle.std.specs.List.{AllByRecursion, AllZip, zip}
 use Rattle.std.proofs.lemmas.Bool.{cases_order}
 use Rattle.keys_roles.specs.Plain.{RoleRule, Table}
-use Rattle.metadata.specs.Documents.{Layout, Step}
+use Rattle.document_parts.specs.Documents.{Layout, Step}
 use Rattle.metadata.specs.File.{Bytes, File, Name}
-use Rattle.metadata.specs.Links.{Artifacts, Link}
-use Rattle.metadata.specs.Rules.{ArtifactRule, Side, disallow, require}
+use Rattle.document_parts.specs.Links.{Artifacts, Link}
+use Rattle.document_parts.specs.Rules.{ArtifactRule, Side, disallow, require}
 use Rattle.artifact_rules.specs.Rules.{FailsFirst, RulesForbid, RulesRequire}
 use Rattle.denials.specs.Orders.{Judged, Order, pass, decide, holds, fails, check}
 use Rattle.layouts.specs.Layouts.{AllAgree, Chosen, EnoughKeys, IsGood, IsLinkOf, Ruled, all, ask, by_links, forbid, hold, layout_holds, ruled, rules_and_product, step_rules}

@@ -3,7 +3,7 @@ use Rattle.std.proofs.Common.{inl, inr, List, [], ◌∷◌, refl, sym, subst, �
 use Rattle.std.specs.List.{AllByRecursion}
 use Rattle.keys_roles.specs.steps.Counting.{IsIn}
 use Rattle.keys_roles.proofs.Elements.{for_each, of_each}
-use Rattle.metadata.specs.Links.{Link}
+use Rattle.document_parts.specs.Links.{Link}
 use Rattle.layouts.specs.Layouts.{SameArtifacts}
 use Rattle.layouts.specs.steps.Gathering.{FirstAgrees, Signed}
 

@@ -3,9 +3,9 @@ use Rattle.std.proofs.Common.{◌≡◌, ◌↔◌, inl, inr, ℕ, ◌<◌, ◌�
 use Rattle.keys_roles.specs.Plain.{Table}
 use Rattle.keys_roles.specs.steps.Counting.{IsIn}
 use Rattle.keys_roles.proofs.Elements.{contains_in, in_contains, for_each, of_each, in_map}
-use Rattle.metadata.specs.Documents.{Step}
+use Rattle.document_parts.specs.Documents.{Step}
 use Rattle.metadata.specs.File.{File}
-use Rattle.metadata.specs.Links.{Link}
+use Rattle.document_parts.specs.Links.{Link}
 use Rattle.layouts.specs.Layouts.{AllAgree, EnoughKeys, HasLink, IsGoodBy, SameArtifacts}
 use Rattle.layouts.specs.steps.Gathering.{FirstAgrees, IsEnough, MakesGood, Signed, SignsAs, Some_of, distinct_of, first_of, tops_of}
 use Rattle.layouts.proofs.Counting.{are_distinct, distinct_in, in_distinct, no_more}

@@ -3,10 +3,10 @@ use Rattle.std.specs.Prelude.{◌≡◌, ℕ, ◌<◌, ◌≤◌, List, [], ◌�
 use Rattle.std.specs.List.{AllByRecursion, AllZip, zip}
 use Rattle.keys_roles.specs.Plain.{Table, RoleRule}
 use Rattle.keys_roles.specs.Rules.{AreDistinct, Counts, Meets}
-use Rattle.metadata.specs.Documents.{Layout, Step}
+use Rattle.document_parts.specs.Documents.{Layout, Step}
 use Rattle.metadata.specs.File.{Bytes, File, Name}
-use Rattle.metadata.specs.Links.{HasDigest, Link}
-use Rattle.metadata.specs.Rules.{ArtifactRule, Side, materials, products}
+use Rattle.document_parts.specs.Links.{HasDigest, Link}
+use Rattle.document_parts.specs.Rules.{ArtifactRule, Side, materials, products}
 use Rattle.artifact_rules.specs.Rules.{RulesForbid, RulesHold, RulesRequire, link_of}
 use Rattle.denials.specs.Numbers as no
 use Rattle.denials.specs.Orders.{Judged, Order, Denied, Plain, ◌>>◌, give, check}

@@ -1,8 +1,8 @@
 // Whether links say the same.
 ghost use Rattle.std.specs.Prelude.{◌≡◌, ◌↔◌, map, IsTrue};
 ghost use Rattle.std.specs.List.{AllByRecursion};
-ghost use Rattle.metadata.specs.RuleViews.{artifacts_view, link_view};
-ghost use Rattle.metadata.specs.steps.Entries.{artifact_views};
+ghost use Rattle.document_parts.specs.RuleViews.{artifacts_view, link_view};
+ghost use Rattle.layout_files.specs.steps.Spelled.{artifact_views};
 ghost use Rattle.layouts.specs.Layouts.{SameArtifacts};
 ghost use Rattle.layouts.specs.steps.Gathering.{FirstAgrees, goods_view};
 

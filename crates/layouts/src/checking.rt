@@ -3,7 +3,7 @@ ghost use Rattle.std.specs.Prelude.{map};
 ghost use Rattle.artifact_rules.specs.Views.{links_view};
 ghost use Rattle.keys_roles.specs.Views.{rule_view, table_view};
 ghost use Rattle.metadata.specs.FileViews.{layout_file};
-ghost use Rattle.metadata.specs.Views.{step_view};
+ghost use Rattle.document_parts.specs.Views.{step_view};
 ghost use Rattle.layouts.specs.Faults.{IsJudged};
 ghost use Rattle.layouts.specs.Layouts.{layout_holds, rules_and_product};
 ghost use Rattle.layouts.specs.Views.{files_view};

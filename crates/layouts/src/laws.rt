@@ -1,9 +1,9 @@
 //! Laws of layouts, in functions that do nothing.
 ghost use Rattle.std.specs.Prelude.{◌≡◌, ℕ, List};
 ghost use Rattle.keys_roles.specs.Plain.{RoleRule, Table};
-ghost use Rattle.metadata.specs.Documents.{Layout};
+ghost use Rattle.document_parts.specs.Documents.{Layout};
 ghost use Rattle.metadata.specs.File.{Bytes, File, Name};
-ghost use Rattle.metadata.specs.Links.{Link};
+ghost use Rattle.document_parts.specs.Links.{Link};
 ghost use Rattle.denials.specs.Orders.{Judged};
 ghost use Rattle.layouts.specs.Layouts.{layout_holds};
 

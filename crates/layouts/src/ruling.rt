@@ -3,8 +3,8 @@ ghost use Rattle.std.specs.Prelude.{◌≡◌, ◌↔◌, map, IsTrue, option_ma
 ghost use Rattle.std.specs.List.{zip};
 ghost use Rattle.artifact_rules.specs.Rules.{link_of};
 ghost use Rattle.artifact_rules.specs.Views.{links_view};
-ghost use Rattle.metadata.specs.RuleViews.{link_view, rule_view, side_view};
-ghost use Rattle.metadata.specs.Views.{step_view};
+ghost use Rattle.document_parts.specs.RuleViews.{link_view, rule_view, side_view};
+ghost use Rattle.document_parts.specs.Views.{step_view};
 ghost use Rattle.layouts.specs.Faults.{IsJudged};
 ghost use Rattle.layouts.specs.Layouts.{HasProduct, all, ruled, step_rules};
 

@@ -3,9 +3,9 @@ use Rattle.std.proofs.Common.{◌≡◌, ◌↔◌, ℕ, List, [], true, false, 
 use Rattle.std.specs.List.{list_any}
 use Rattle.std.specs.Prelude.{IfSome}
 use Rattle.path_patterns.specs.Tests.{matches_segmented}
-use Rattle.metadata.specs.Bodies.{HasRequired}
-use Rattle.metadata.specs.Covers.{requires_layout}
-use Rattle.metadata.specs.Documents.{LayoutReference, Listing, Profile, Root, first_profile}
+use Rattle.document_parts.specs.Bodies.{HasRequired}
+use Rattle.document_parts.specs.Covers.{requires_layout}
+use Rattle.document_parts.specs.Documents.{LayoutReference, Listing, Profile, Root, first_profile}
 use Rattle.metadata.specs.File.{Bytes, File, IsFileOf, root_form}
 use Rattle.denials.specs.Orders.{Judged, pass, decide, holds, fails, given, judges}
 use Rattle.delegations.specs.Search.{Found, Shelf, search, shelf_of}

@@ -3,7 +3,7 @@ use Rattle.std.proofs.Common.{◌≡◌, ◌≤◌, ℕ, arith, [], ◌∷◌, l
 use Rattle.std.proofs.lemmas.List.Elements.{recursion_from_All}
 use Rattle.std.specs.Prelude.{IfOk}
 use Rattle.std.specs.List.{AllByRecursion}
-use Rattle.metadata.specs.Documents.{Root, Snapshot}
+use Rattle.document_parts.specs.Documents.{Root, Snapshot}
 use Rattle.metadata.specs.File.{File, Bytes}
 use Rattle.denials.specs.Orders.{Order}
 use Rattle.delegations.specs.Rows.{Rows, AllFiles}

@@ -4,9 +4,9 @@ use Rattle.std.specs.Prelude.{All, IfSome, IfNone, codes}
 use Rattle.std.proofs.lemmas.Bool.{eq-eqb, ne_eqb}
 use Rattle.std.proofs.lemmas.List.Elements.{All-nil, All-cons, All-head, All-tail}
 use Rattle.std.proofs.Math.Seq.{append_snoc}
-use Rattle.metadata.specs.Documents.{Profile, Root}
+use Rattle.document_parts.specs.Documents.{Profile, Root}
 use Rattle.metadata.specs.File.{Bytes, File, IsFileOf, root_form}
-use Rattle.metadata.specs.Parts.{last_number}
+use Rattle.document_parts.specs.Parts.{last_number}
 use Rattle.delegations.specs.Rows.{value_at}
 use Rattle.machine.specs.Contents.{profile_number, root_rows}
 use Rattle.machine.specs.State.{FollowsRoot, IsHeldUnder, IsRootChain, IsTrusted, Trusted, dotted, first, kept_root, metadata_of, nothing_trusted, root_version, then}

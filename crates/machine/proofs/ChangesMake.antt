@@ -1,7 +1,7 @@
 -- What changes make of a state.
 use Rattle.std.proofs.Common.{◌≡◌, List, [], ◌∷◌, Bool, true, false, cond, bytes_eq, IsTrue, Option, Some, None, Ok, Err, refl, sym, ap, ◌∙◌, subst}
 use Rattle.std.specs.Prelude.{IsNone, IfNone, is_some, option_map}
-use Rattle.metadata.specs.Documents.{Root, Timestamp, Snapshot}
+use Rattle.document_parts.specs.Documents.{Root, Timestamp, Snapshot}
 use Rattle.delegations.specs.Rows.{Rows}
 use Rattle.metadata.specs.File.{Bytes, File}
 use Rattle.denials.specs.Orders.{Order, Same, ◌>>=◌, pass, decide}

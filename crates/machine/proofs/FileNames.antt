@@ -10,10 +10,10 @@ use Rattle.std.proofs.lemmas.List.{append_cancel_right, get_or_append_left}
 use Rattle.std.proofs.lemmas.List.Elements.{All-head, All-tail}
 use Rattle.std.proofs.lemmas.Str.Parse.{IsNumeralModel, numerals_by_value, tells_digits, not_in_digits}
 use Rattle.keys_roles.specs.Plain.{look_up}
-use Rattle.metadata.specs.Bodies.{IsListable}
-use Rattle.metadata.specs.Documents.{Profile, Root, Timestamp, Snapshot, Targets}
+use Rattle.document_parts.specs.Bodies.{IsListable}
+use Rattle.document_parts.specs.Documents.{Profile, Root, Timestamp, Snapshot, Targets}
 use Rattle.metadata.specs.File.{Bytes, Name, File, IsFileOf, snapshot_form}
-use Rattle.metadata.specs.Parts.{last_number}
+use Rattle.document_parts.specs.Parts.{last_number}
 use Rattle.delegations.proofs.KeyOrder.{place_one}
 use Rattle.delegations.proofs.Walk.{by_test}
 use Rattle.delegations.specs.Rows.{Place, Rows, row_at, same_place, value_at}

@@ -2,7 +2,7 @@
 use Rattle.std.proofs.Common.{◌≡◌, ◌≤◌, List, [], ◌∷◌, map, length, Option, Some, None, ap, ◌∙◌}
 use Rattle.std.specs.Prelude.{IfSome, IfNone}
 use Rattle.std.proofs.lemmas.List.{length-map}
-use Rattle.metadata.specs.Documents.{Root}
+use Rattle.document_parts.specs.Documents.{Root}
 use Rattle.metadata.specs.File.{File}
 use Rattle.machine.specs.State.{Trusted, IsHeldUnder, IsState, kept_root, nothing_trusted}
 use Rattle.limits.specs.Limits.{most_held}

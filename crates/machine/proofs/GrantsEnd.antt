@@ -2,9 +2,9 @@
 use Rattle.std.proofs.Common.{◌≡◌, ℕ, List, [], ◌∷◌, Option, Some, None, Ok, Err, refl, sym, ap, ◌∙◌, subst}
 use Rattle.std.specs.Prelude.{take, cond, nat_lt, length}
 use Rattle.metadata.specs.File.{Bytes, File, Form, Name, layout_form, link_form}
-use Rattle.metadata.specs.Documents.{Layout, LayoutReference, Listing, Root, Step}
-use Rattle.metadata.specs.Links.{Link}
-use Rattle.metadata.specs.Rules.{ArtifactRule, Side, materials, products}
+use Rattle.document_parts.specs.Documents.{Layout, LayoutReference, Listing, Root, Step}
+use Rattle.document_parts.specs.Links.{Link}
+use Rattle.document_parts.specs.Rules.{ArtifactRule, Side, materials, products}
 use Rattle.layouts.specs.Layouts.{all, layout_holds, rules_and_product, ruled, step_rules}
 use Rattle.std.specs.List.{zip}
 use Rattle.denials.specs.Numbers as no

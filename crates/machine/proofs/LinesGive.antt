@@ -1,7 +1,7 @@
 -- What an order gives, from what its lines give.
 use Rattle.std.proofs.Common.{◌≡◌, ℕ, Option, Some, None, Ok, refl}
 use Rattle.std.specs.Prelude.{IfOk}
-use Rattle.metadata.specs.Documents.{Root}
+use Rattle.document_parts.specs.Documents.{Root}
 use Rattle.metadata.specs.File.{Bytes, File, Form, IsFileOf}
 use Rattle.denials.specs.Orders.{Denial, Judged, Order, pass, decide, holds, fails, differs, same, given, stopped, ◌>>=◌, give, check, need_or, same_if}
 use Rattle.metadata.specs.Shaped.{reads, faulty, shaped}

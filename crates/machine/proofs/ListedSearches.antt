@@ -5,9 +5,9 @@ use Rattle.std.proofs.lemmas.Slice.Eq.{bytes_eq-Decides}
 use Rattle.std.specs.Prelude.{◌<◌}
 use Rattle.std.specs.List.{AllByRecursion, cons_option, filter_map}
 use Rattle.keys_roles.specs.Plain.{look_up}
-use Rattle.metadata.specs.Documents.{Delegation, Listing, MetaFile, Targets}
+use Rattle.document_parts.specs.Documents.{Delegation, Listing, MetaFile, Targets}
 use Rattle.metadata.specs.File.{Bytes, Name, File}
-use Rattle.metadata.specs.Covers.{covers}
+use Rattle.document_parts.specs.Covers.{covers}
 use Rattle.denials.specs.Numbers as no
 use Rattle.denials.specs.Orders.{Judged, Order, RoleMissing, pass, decide, ◌>>=◌, ◌>>◌, give, denied, check, need_or}
 use Rattle.delegations.specs.Delegation.{Edge, Graph, Hops, chain_end, visits}

@@ -7,7 +7,7 @@ use Rattle.std.specs.List.{AllByRecursion, list_any}
 use Rattle.keys_roles.specs.Plain.{look_up}
 use Rattle.keys_roles.specs.Rules.{AreDistinct}
 use Rattle.keys_roles.specs.Verdicts.{Pair}
-use Rattle.metadata.specs.Documents.{MetaFile, Root, Snapshot, Targets}
+use Rattle.document_parts.specs.Documents.{MetaFile, Root, Snapshot, Targets}
 use Rattle.metadata.specs.File.{Name, File}
 use Rattle.delegations.specs.Delegation.{Edge}
 use Rattle.delegations.specs.Rows.{Place, Rows, row_at, same_place}

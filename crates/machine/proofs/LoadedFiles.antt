@@ -4,8 +4,8 @@ use Rattle.std.specs.Prelude.{◌↔◌, IsTrue, IsSome}
 use Rattle.metadata.specs.File.{Bytes, File, Form, IsFileOf}
 use Rattle.metadata.specs.Shape.{IsShapeFault}
 use Rattle.metadata.specs.Shaped.{faulty, reads}
-use Rattle.metadata.specs.declared.documents.ShapeFault.{ShapeFault}
-use Rattle.metadata.specs.declared.documents.ShapeFault.TheVariants as shapes
+use Rattle.document_parts.specs.declared.documents.ShapeFault.{ShapeFault}
+use Rattle.document_parts.specs.declared.documents.ShapeFault.TheVariants as shapes
 use Rattle.denials.specs.Numbers as no
 use Rattle.denials.specs.Orders as orders
 use Rattle.denials.specs.Orders.{Order, Plain, ◌>>=◌, decide, each, given, judges, pass, stopped}

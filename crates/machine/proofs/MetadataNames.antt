@@ -2,12 +2,12 @@
 use Rattle.std.proofs.Common.{◌≡◌, ℕ, suc, ◌+◌, ◌-◌, List, [], ◌∷◌, ◌++◌, map, length, Option, Some, None, refl, ap, ◌∙◌, true, false, arith, length-append}
 use Rattle.std.specs.Prelude.{bytes_eq, codes, option_map}
 use Rattle.keys_roles.specs.Plain.{look_up}
-use Rattle.metadata.specs.Documents.{Profile, Root}
+use Rattle.document_parts.specs.Documents.{Profile, Root}
 use Rattle.metadata.specs.File.{Bytes, File}
 use Rattle.metadata.specs.FileViews.{root_file}
-use Rattle.metadata.specs.Views.{profile_view}
+use Rattle.document_parts.specs.Views.{profile_view}
 use Rattle.metadata.specs.declared.file.File.{File as KeptFile}
-use Rattle.metadata.specs.declared.documents.Root.{Root as KeptRoot}
+use Rattle.document_parts.specs.declared.documents.Root.{Root as KeptRoot}
 use Rattle.machine.specs.Views.{trusted_view, last_kept}
 use Rattle.machine.specs.declared.parts.Trusted.{Trusted as CodeTrusted}
 use Rattle.machine.specs.State.{Trusted, dotted, kept_root, root_version, root_files, metadata_of}

@@ -5,10 +5,10 @@ use Rattle.std.specs.List.{AllByRecursion, zip}
 use Rattle.keys_roles.proofs.Elements.{of_each}
 use Rattle.keys_roles.specs.steps.Counting.{IsIn}
 use Rattle.path_patterns.specs.Grammar.{IsTargetPath}
-use Rattle.metadata.specs.Documents.{Layout, LayoutReference, Listing, Root, Snapshot, Step, Timestamp}
+use Rattle.document_parts.specs.Documents.{Layout, LayoutReference, Listing, Root, Snapshot, Step, Timestamp}
 use Rattle.metadata.specs.File.{Bytes, Name, Names, File, Form, layout_form, link_form}
-use Rattle.metadata.specs.Links.{Link}
-use Rattle.metadata.specs.Rules.{ArtifactRule, Side, materials, products}
+use Rattle.document_parts.specs.Links.{Link}
+use Rattle.document_parts.specs.Rules.{ArtifactRule, Side, materials, products}
 use Rattle.layouts.specs.Layouts.{forbid, ask, all, layout_holds, rules_and_product, ruled, step_rules}
 use Rattle.denials.specs.Numbers as no
 use Rattle.denials.specs.Orders.{BlobMissing, RoleMissing, Plain, Denied, Same, Stop, Judged, Order, pass, decide, holds, fails, given, stopped, judges, ◌>>=◌, ◌>>◌, give, check, denied, each, need, need_or}

@@ -2,7 +2,7 @@
 use Rattle.std.proofs.Common.{◌≡◌, ℕ, zero, suc, List, [], ◌∷◌, ◌++◌, map, length, Option, Some, refl, sym, ap, ◌∙◌, slice_index_or, arith, ◌+◌}
 use Rattle.std.proofs.lemmas.List.{map-append}
 use Rattle.metadata.specs.File.{Bytes, File}
-use Rattle.metadata.specs.Documents.{Profile, Root, Timestamp, Snapshot, Targets}
+use Rattle.document_parts.specs.Documents.{Profile, Root, Timestamp, Snapshot, Targets}
 use Rattle.delegations.specs.Rows.{Rows, Place, with_row, with_rows, place_before}
 use Rattle.delegations.specs.Views.{row_views}
 use Rattle.delegations.specs.declared.rows.Row.{Row}

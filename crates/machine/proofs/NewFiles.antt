@@ -8,7 +8,7 @@ use Rattle.denials.specs.Orders.{pass, holds, differs, given, need}
 use Rattle.limits.specs.Limits.{blob_limit, most_held}
 use Rattle.machine.specs.Commands.{NoDrop, NoRollback, SnapshotOffer, TargetsOffer, TimestampOffer, after_snapshot, after_timestamp, live_snapshot, live_timestamp, offer, put_blob}
 use Rattle.machine.specs.State.{MeetsTop, NamesSnapshot, State, Trusted, blob_at}
-use Rattle.metadata.specs.Documents.{MetaFile, Root, Snapshot, Targets, Timestamp}
+use Rattle.document_parts.specs.Documents.{MetaFile, Root, Snapshot, Targets, Timestamp}
 use Rattle.metadata.specs.File.{Bytes, File, IsFileOf, Name, snapshot_form, targets_form, timestamp_form}
 use Rattle.metadata.specs.Shaped.{reads}
 use Rattle.sha2.specs.Sha256.{sha256}

@@ -6,7 +6,7 @@ use Rattle.std.proofs.lemmas.Bool.{and_from, eq-eqb, false_from_ne_true}
 use Rattle.std.proofs.lemmas.Slice.Eq.{bytes_eq-Decides}
 use Rattle.keys_roles.specs.Plain.{look_up}
 use Rattle.keys_roles.specs.Rules.{AreDistinct}
-use Rattle.metadata.specs.Documents.{MetaFile, Root, Snapshot, Targets, Timestamp}
+use Rattle.document_parts.specs.Documents.{MetaFile, Root, Snapshot, Targets, Timestamp}
 use Rattle.metadata.specs.File.{Bytes, File, IsFileOf, Name, snapshot_form}
 use Rattle.metadata.specs.Shaped.{reads}
 use Rattle.denials.specs.Orders.{Judged, Order, Same, pass, decide, holds, same, given}

@@ -1,7 +1,7 @@
 -- What orders say of what they gave.
 use Rattle.std.proofs.Common.{◌≡◌, ℕ, [], length, Option, Some, None, option_map, Ok, Err, refl, sym, ap, ◌∙◌, subst, arith}
 use Rattle.std.specs.Prelude.{◌<◌, IsSome, IfSome}
-use Rattle.metadata.specs.Documents.{MetaFile, Root, Snapshot, Targets, Listing}
+use Rattle.document_parts.specs.Documents.{MetaFile, Root, Snapshot, Targets, Listing}
 use Rattle.metadata.specs.File.{Bytes, Name, File, IsFileOf, document_of, root_form, targets_form}
 use Rattle.metadata.specs.Shaped.{reads, faulty}
 use Rattle.denials.specs.Numbers as no

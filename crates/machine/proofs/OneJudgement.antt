@@ -1,9 +1,9 @@
 -- Each command has one judgement, and one outcome.
 use Rattle.std.proofs.Common.{ℕ, suc, List, [], ◌∷◌, Some, None, Option, Ok, Err, refl, sym, ◌∙◌, ap}
 use Rattle.keys_roles.specs.Plain.{RoleRule, Table}
-use Rattle.metadata.specs.Documents.{Root, Timestamp, Snapshot, Targets, MetaFile, Listing, Layout, LayoutReference}
+use Rattle.document_parts.specs.Documents.{Root, Timestamp, Snapshot, Targets, MetaFile, Listing, Layout, LayoutReference}
 use Rattle.metadata.specs.File.{Bytes, Name, File, Form, link_form}
-use Rattle.metadata.specs.Links.{Link}
+use Rattle.document_parts.specs.Links.{Link}
 use Rattle.metadata.specs.Shaped.{shaped}
 use Rattle.layouts.specs.Layouts.{layout_holds}
 use Rattle.denials.specs.Orders.{Order, Judged, Denied, Same, Plain, RoleMissing, BlobMissing}

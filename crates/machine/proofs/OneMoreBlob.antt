@@ -2,7 +2,7 @@
 use Rattle.std.proofs.Common.{◌≡◌, List, [], ◌∷◌, ◌++◌, Option, Some, None, Ok, Err, true, false, refl, sym, ap, ◌∙◌, subst}
 use Rattle.std.proofs.lemmas.Bool.{true≢false}
 use Rattle.std.specs.Prelude.{is_some, option_map}
-use Rattle.metadata.specs.Documents.{Profile}
+use Rattle.document_parts.specs.Documents.{Profile}
 use Rattle.metadata.specs.File.{Bytes}
 use Rattle.denials.specs.Orders as orders
 use Rattle.denials.specs.Orders.{Order, Judged, ◌>>=◌, need_or, pass, decide, given, stopped}

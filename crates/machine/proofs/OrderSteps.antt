@@ -5,9 +5,9 @@ use Rattle.denials.specs.Orders as orders
 use Rattle.denials.specs.Orders.{Order, Judged, Stop, Plain, Same, ◌>>=◌, pass, decide, holds, fails, given, stopped, check, need, need_or}
 use Rattle.metadata.specs.Shaped.{faulty, shaped}
 use Rattle.metadata.specs.Shape.{IsShapeFault}
-use Rattle.metadata.specs.declared.documents.ShapeFault.{ShapeFault}
-use Rattle.metadata.specs.declared.documents.ShapeFault.TheVariants as shapes
-use Rattle.metadata.specs.Documents.{Root}
+use Rattle.document_parts.specs.declared.documents.ShapeFault.{ShapeFault}
+use Rattle.document_parts.specs.declared.documents.ShapeFault.TheVariants as shapes
+use Rattle.document_parts.specs.Documents.{Root}
 use Rattle.machine.specs.State.{Trusted}
 use Rattle.machine.specs.Commands.{KeepsRoles, after_root, kept, rotated, with_root, emptied}
 use Rattle.machine.specs.Answers.{Gives, gives, denies, forgoes}

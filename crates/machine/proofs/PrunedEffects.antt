@@ -4,8 +4,8 @@ use Rattle.std.proofs.lemmas.Bool.{true≢false}
 use Rattle.std.proofs.lemmas.List.{length-map}
 use Rattle.std.specs.Prelude.{IsSome, is_some, option_map}
 use Rattle.std.specs.List.{list_any}
-use Rattle.metadata.specs.Documents.{Listing, Targets}
-use Rattle.metadata.specs.Documents.{Profile}
+use Rattle.document_parts.specs.Documents.{Listing, Targets}
+use Rattle.document_parts.specs.Documents.{Profile}
 use Rattle.metadata.specs.File.{Bytes, File}
 use Rattle.contents.specs.Contents.{lengths_of}
 use Rattle.denials.specs.Orders.{holds, given, pass}

@@ -7,7 +7,7 @@ use Rattle.std.proofs.lemmas.List.Kept.{AllPairs-filter}
 use Rattle.std.proofs.lemmas.Slice.Eq.{bytes_eq-Decides}
 use Rattle.std.specs.List.{AllByRecursion, list_any}
 use Rattle.keys_roles.specs.Plain.{look_up}
-use Rattle.metadata.specs.Documents.{LayoutReference, Listing, MetaFile, Root, Snapshot, Targets, Timestamp}
+use Rattle.document_parts.specs.Documents.{LayoutReference, Listing, MetaFile, Root, Snapshot, Targets, Timestamp}
 use Rattle.metadata.specs.File.{Bytes, Name, File}
 use Rattle.denials.specs.Numbers as no
 use Rattle.denials.specs.Orders.{BlobMissing, RoleMissing, Plain, Denied, Same, Judged, Order, pass, decide, holds, given, judges, ◌>>=◌, ◌>>◌, give, check, each, need_or}

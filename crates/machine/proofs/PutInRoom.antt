@@ -5,7 +5,7 @@ use Rattle.std.specs.Prelude.{not, nat_lt, option_map}
 use Rattle.std.proofs.lemmas.Bool.{ltb-false}
 use Rattle.std.proofs.lemmas.List.Sums.{prefix_len-le-length}
 use Rattle.metadata.specs.File.{Bytes, File}
-use Rattle.metadata.specs.Documents.{Profile, Root, Timestamp, Snapshot}
+use Rattle.document_parts.specs.Documents.{Profile, Root, Timestamp, Snapshot}
 use Rattle.delegations.specs.Delegation.{before}
 use Rattle.delegations.specs.Rows.{Rows, with_row}
 use Rattle.machine.specs.State.{State, Trusted}

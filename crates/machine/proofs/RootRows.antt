@@ -4,12 +4,12 @@ use Rattle.std.specs.Prelude.{IfNone, option_map}
 use Rattle.std.proofs.Math.Seq.{append_snoc}
 use Rattle.std.proofs.lemmas.List.{append-nil, length-map}
 use Rattle.limits.specs.Limits.{most_held}
-use Rattle.metadata.specs.Documents.{Profile, Root}
+use Rattle.document_parts.specs.Documents.{Profile, Root}
 use Rattle.metadata.specs.File.{Bytes, File}
 use Rattle.metadata.specs.FileViews.{root_file}
-use Rattle.metadata.specs.Views.{profile_view}
+use Rattle.document_parts.specs.Views.{profile_view}
 use Rattle.metadata.specs.declared.file.File.{File as KeptFile}
-use Rattle.metadata.specs.declared.documents.Root.{Root as KeptRoot}
+use Rattle.document_parts.specs.declared.documents.Root.{Root as KeptRoot}
 use Rattle.machine.specs.Contents.{root_rows, without_profiles}
 use Rattle.machine.specs.State.{Trusted, IsTrusted, kept_root, nothing_trusted}
 use Rattle.machine.specs.Views.{last_kept, trusted_view}

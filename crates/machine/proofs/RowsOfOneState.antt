@@ -7,9 +7,9 @@ use Rattle.std.proofs.lemmas.List.Elements.{All-nil, All-cons, All-head, All-tai
 use Rattle.std.specs.List.{AllZip}
 use Rattle.metadata.specs.File.{Bytes, File, Form, IsFileOf, document_of}
 use Rattle.metadata.specs.Shape.{IsDocument, IsShapeFault}
-use Rattle.metadata.specs.declared.documents.ShapeFault.{ShapeFault}
-use Rattle.metadata.specs.declared.documents.ShapeFault.TheVariants.{OutOfMemory}
-use Rattle.metadata.specs.Documents.{Profile, Root, Targets}
+use Rattle.document_parts.specs.declared.documents.ShapeFault.{ShapeFault}
+use Rattle.document_parts.specs.declared.documents.ShapeFault.TheVariants.{OutOfMemory}
+use Rattle.document_parts.specs.Documents.{Profile, Root, Targets}
 use Rattle.metadata.specs.File.{root_form, timestamp_form, snapshot_form, targets_form}
 use Rattle.delegations.specs.Rows.{Place, Rows}
 use Rattle.machine.specs.State.{Trusted, State, IsRootChain, IsHeldUnder, IsShelfRow, IsState, MeetsTop, first, kept_root, then, nothing_trusted, root_version}

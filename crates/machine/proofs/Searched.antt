@@ -1,6 +1,6 @@
 -- What a search finds that has the layout that the root requires.
 use Rattle.std.proofs.Common.{ℕ, Ok, Err}
-use Rattle.metadata.specs.Documents.{Root}
+use Rattle.document_parts.specs.Documents.{Root}
 use Rattle.metadata.specs.File.{Bytes}
 use Rattle.denials.specs.Orders.{Judged, Stop, pass, decide, fails, given}
 use Rattle.delegations.specs.Search.{Found, Shelf, search}

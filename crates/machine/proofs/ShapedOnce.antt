@@ -1,13 +1,13 @@
 -- The line that reads a document is definite.
 use Rattle.std.proofs.Common.{◌≡◌, List, Ok, Err, sym, ap, ◌∙◌, subst}
 use Rattle.keys_roles.specs.Plain.{Signature}
-use Rattle.metadata.specs.Documents.{Document}
+use Rattle.document_parts.specs.Documents.{Document}
 use Rattle.metadata.specs.Shape.{IsDocument, IsShapeFault}
 use Rattle.metadata.specs.File.{Bytes, File, Form, IsFileOf, document_of, fault_number, root_form, timestamp_form, snapshot_form, targets_form, layout_form, link_form}
 use Rattle.denials.specs.Orders.{Denied, Plain, Order, ◌>>=◌}
 use Rattle.metadata.specs.Shaped.{reads, faulty, shaped}
-use Rattle.metadata.specs.declared.documents.Kind.{Kind}
-use Rattle.metadata.specs.declared.documents.ShapeFault.{ShapeFault}
+use Rattle.document_parts.specs.declared.documents.Kind.{Kind}
+use Rattle.document_parts.specs.declared.documents.ShapeFault.{ShapeFault}
 use Rattle.layouts.proofs.DefiniteOrders.{Definite, then-definite}
 
 -- a file is one document of a kind at most, or has one fault of shape, and not both

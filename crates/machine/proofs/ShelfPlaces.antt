@@ -1,7 +1,7 @@
 -- A place on the shelf for a new document: free, or taken by itself or by another.
 use Rattle.std.proofs.Common.{◌≡◌, ℕ, ◌<◌, length, Option, Some, None, Ok, Err, Result, Bool, cond, refl, ap, subst}
 use Rattle.std.specs.Prelude.{IsNone, unwrap_or, option_map}
-use Rattle.metadata.specs.Documents.{Root, Timestamp, Snapshot, Targets, MetaFile}
+use Rattle.document_parts.specs.Documents.{Root, Timestamp, Snapshot, Targets, MetaFile}
 use Rattle.metadata.specs.File.{Bytes, Name, File}
 use Rattle.denials.specs.Numbers as no
 use Rattle.denials.specs.Orders.{Order, Denied, Plain, Same, ◌>>=◌, pass, decide, holds, fails, differs, same, given}

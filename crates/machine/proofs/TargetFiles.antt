@@ -2,8 +2,8 @@
 use Rattle.std.proofs.Common.{◌≡◌, ◌↔◌, ℕ, Bool, true, false, not, is_some, IsTrue, List, ◌∷◌, ◌∙◌, Option, Some, None, Result, Ok, Err, Bor, cond, ap, refl, subst, sym}
 use Rattle.std.specs.Prelude.{option_map, IsNone, IsSome}
 use Rattle.std.specs.Option.{option_copied}
-use Rattle.metadata.specs.Covers.{requires_layout}
-use Rattle.metadata.specs.Documents.{LayoutReference, Listing, Root, Snapshot}
+use Rattle.document_parts.specs.Covers.{requires_layout}
+use Rattle.document_parts.specs.Documents.{LayoutReference, Listing, Root, Snapshot}
 use Rattle.metadata.specs.File.{Bytes, File}
 use Rattle.denials.specs.Orders as orders
 use Rattle.denials.specs.Orders.{Order, ◌>>=◌, ◌>>◌, pass, decide, holds, given, each, judges, stopped, check, give}

@@ -5,10 +5,10 @@ use Rattle.std.specs.List.{AllByRecursion}
 use Rattle.std.proofs.lemmas.List.Elements.{All-head, All-tail}
 use Rattle.canonical_json.specs.Json.{Json, Items, no_items, item, Members, no_members, member}
 use Rattle.path_patterns.specs.Grammar.{IsTargetPath}
-use Rattle.metadata.specs.Bodies.{HasLayoutReference, IsListing, IsTextOf}
-use Rattle.metadata.specs.Documents.{LayoutReference, Listing, Targets}
+use Rattle.document_parts.specs.Bodies.{HasLayoutReference, IsListing, IsTextOf}
+use Rattle.document_parts.specs.Documents.{LayoutReference, Listing, Targets}
 use Rattle.metadata.specs.File.{Bytes, File, IsFileOf, targets_form}
-use Rattle.metadata.specs.Members.{ItemsAre, MembersAre}
+use Rattle.document_parts.specs.Members.{ItemsAre, MembersAre}
 use Rattle.delegations.specs.Rows.{Place, Rows, same_place, value_at}
 use Rattle.delegations.specs.Search.{Found, Shelf, doc, listing_of, search}
 use Rattle.machine.specs.Misses.{IsProperListing}

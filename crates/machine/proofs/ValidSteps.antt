@@ -9,8 +9,8 @@ use Rattle.sha2.specs.Sha256.{sha256}
 use Rattle.keys_roles.specs.Plain.{RoleRule, Table, Signature, look_up}
 use Rattle.keys_roles.specs.Rules.{SameRule, Counts, Meets}
 use Rattle.path_patterns.specs.Grammar.{IsName}
-use Rattle.metadata.specs.Documents.{Root, Timestamp, Snapshot, Targets, MetaFile}
-use Rattle.metadata.specs.Bodies.{IsListable}
+use Rattle.document_parts.specs.Documents.{Root, Timestamp, Snapshot, Targets, MetaFile}
+use Rattle.document_parts.specs.Bodies.{IsListable}
 use Rattle.metadata.specs.File.{Bytes, Name, File, Form, IsFileOf, root_form, timestamp_form, snapshot_form, targets_form}
 use Rattle.denials.specs.Orders.{Order, Judged, Denial, Denied, Same, judges}
 use Rattle.delegations.specs.Delegation.{before}

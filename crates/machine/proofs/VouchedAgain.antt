@@ -2,7 +2,7 @@
 use Rattle.std.proofs.Common.{◌≡◌, ℕ, zero, suc, ◌<◌, true, false, cond, List, [], ◌∷◌, length, take, take_all, le_refl, Option, Some, None, refl, sym, ap, ◌∙◌, arith, slice_get}
 use Rattle.std.specs.Prelude.{◌&&◌, option_and_then}
 use Rattle.keys_roles.specs.Plain.{look_up}
-use Rattle.metadata.specs.Documents.{MetaFile, Targets}
+use Rattle.document_parts.specs.Documents.{MetaFile, Targets}
 use Rattle.metadata.specs.File.{Name, Names, File, has_name}
 use Rattle.delegations.specs.Delegation.{Edge, Graph, chain_end, hops, leads}
 use Rattle.delegations.specs.Rows.{Rows, has_hash, has_length, named_row, row_at}

@@ -1,6 +1,6 @@
 -- What a request for a target was judged by before roots had profiles (TUF 1.0, section 5.7; in-toto 1.0, section 5.2).
 use Rattle.std.specs.Prelude.{◌≡◌, ℕ, Option, Some, None, IfSome, IsNone}
-use Rattle.metadata.specs.Documents.{Listing, LayoutReference}
+use Rattle.document_parts.specs.Documents.{Listing, LayoutReference}
 use Rattle.metadata.specs.File.{Bytes}
 use Rattle.path_patterns.specs.Grammar.{IsTargetPath}
 use Rattle.denials.specs.Numbers as no

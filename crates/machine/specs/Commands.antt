@@ -3,7 +3,7 @@ use Rattle.std.specs.Prelude.{◌≡◌, ℕ, suc, ◌+◌, ◌<◌, ◌≤◌, 
 use Rattle.std.specs.List.{AllByRecursion, list_any}
 use Rattle.keys_roles.specs.Plain.{look_up}
 use Rattle.keys_roles.specs.Rules.{SameRule}
-use Rattle.metadata.specs.Documents.{Root, Timestamp, Snapshot, Targets, Listing, MetaFile}
+use Rattle.document_parts.specs.Documents.{Root, Timestamp, Snapshot, Targets, Listing, MetaFile}
 use Rattle.sha2.specs.Sha256.{sha256}
 use Rattle.path_patterns.specs.Grammar.{IsTargetPath}
 use Rattle.metadata.specs.File.{Bytes, Name, File, root_form, timestamp_form, snapshot_form, targets_form}

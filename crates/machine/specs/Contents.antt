@@ -1,7 +1,7 @@
 -- What the tables of a repository hold.
 use Rattle.std.specs.Prelude.{ℕ, suc, List, [], ◌∷◌, map, option_map}
 use Rattle.contents.specs.Contents.{Contents}
-use Rattle.metadata.specs.Documents.{Profile, first_profile, second_profile, Root}
+use Rattle.document_parts.specs.Documents.{Profile, first_profile, second_profile, Root}
 use Rattle.metadata.specs.File.{Bytes, File}
 use Rattle.delegations.specs.Rows.{Place, Rows}
 use Rattle.machine.specs.State.{Trusted, State, root_version}

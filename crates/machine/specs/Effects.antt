@@ -1,6 +1,6 @@
 -- What a command changes, and what its answer says.
 use Rattle.std.specs.Prelude.{◌≡◌, Bool, false, not, List, [], ◌∷◌, ◌++◌, map, filter, cond, Option, Some, None, Ok, Err, bytes_eq}
-use Rattle.metadata.specs.Documents.{Root, Timestamp, Snapshot}
+use Rattle.document_parts.specs.Documents.{Root, Timestamp, Snapshot}
 use Rattle.metadata.specs.File.{Bytes, File}
 use Rattle.denials.specs.Orders.{Order}
 use Rattle.delegations.specs.Delegation.{before}

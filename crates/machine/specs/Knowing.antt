@@ -1,6 +1,6 @@
 -- What a state knows of the signatures that its searches may meet.
 use Rattle.std.specs.Prelude.{◌≡◌, ℕ, Option, Some, Result, Ok, Err, IfSome}
-use Rattle.metadata.specs.Documents.{Root, Snapshot}
+use Rattle.document_parts.specs.Documents.{Root, Snapshot}
 use Rattle.metadata.specs.File.{Bytes, File}
 use Rattle.delegations.specs.Rows.{Rows}
 use Rattle.delegations.specs.Search.{shelf_of}

@@ -4,7 +4,7 @@ use Rattle.std.specs.List.{AllByRecursion}
 use Rattle.path_patterns.specs.Grammar.{IsTargetPath}
 use Rattle.path_patterns.specs.Names.{IsDigest}
 use Rattle.keys_roles.specs.steps.Counting.{IsIn}
-use Rattle.metadata.specs.Documents.{Root, Snapshot, Targets, MetaFile, LayoutReference, Listing}
+use Rattle.document_parts.specs.Documents.{Root, Snapshot, Targets, MetaFile, LayoutReference, Listing}
 use Rattle.metadata.specs.File.{Bytes, Name, Names, File}
 use Rattle.denials.specs.Orders.{RoleMissing, BlobMissing, Denied, Judged, Stop}
 use Rattle.delegations.specs.Rows.{entry_of, row_at}

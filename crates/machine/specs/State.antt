@@ -2,8 +2,8 @@
 use Rattle.std.specs.Prelude.{◌≡◌, ℕ, suc, ◌+◌, ◌-◌, ◌≤◌, List, [], ◌∷◌, ◌++◌, map, length, Option, Some, None, bytes_eq, option_map, unwrap_or, codes, decimal, All, IsTrue, IfSome, IfNone, IsSomeAnd, is_some}
 use Rattle.std.specs.List.{AllByRecursion}
 use Rattle.keys_roles.specs.Plain.{RoleRule, look_up}
-use Rattle.metadata.specs.Bodies.{IsListable}
-use Rattle.metadata.specs.Documents.{Profile, second_profile, Root, Timestamp, Snapshot, Targets, MetaFile}
+use Rattle.document_parts.specs.Bodies.{IsListable}
+use Rattle.document_parts.specs.Documents.{Profile, second_profile, Root, Timestamp, Snapshot, Targets, MetaFile}
 use Rattle.metadata.specs.File.{IsFileOf, root_form, timestamp_form, snapshot_form, targets_form, Bytes, Name, File}
 use Rattle.delegations.specs.Delegation.{before}
 use Rattle.delegations.specs.Rows.{Place, place_before, value_at, Rises, Rows, HasLength, HasHash, named_row}

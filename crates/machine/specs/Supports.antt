@@ -2,8 +2,8 @@
 -- targets themselves, none of which has a layout (in-toto 1.0, section 5.2; this project's profile).
 use Rattle.std.specs.Prelude.{◌≡◌, ℕ, ◌≤◌, length, List, ◌∷◌, Option, Some, None, Ok, Err, IsNone, IsSome, IsTrue}
 use Rattle.std.specs.List.{AllByRecursion}
-use Rattle.metadata.specs.Documents.{Root, Listing, LayoutReference}
-use Rattle.metadata.specs.Covers.{requires_layout}
+use Rattle.document_parts.specs.Documents.{Root, Listing, LayoutReference}
+use Rattle.document_parts.specs.Covers.{requires_layout}
 use Rattle.metadata.specs.File.{Bytes, File, Form, layout_form, link_form}
 use Rattle.metadata.specs.Shape.{max_file}
 use Rattle.metadata.specs.Shaped.{shaped}

@@ -1,12 +1,12 @@
 -- What the code's states, changes and denials stand for.
 use Rattle.std.specs.Borrow.{Bor}
 use Rattle.std.specs.Prelude.{ℕ, List, [], ◌∷◌, ◌++◌, map, Option, Some, None, option_map}
-use Rattle.metadata.specs.Documents as documents
+use Rattle.document_parts.specs.Documents as documents
 use Rattle.metadata.specs.File as spec
 use Rattle.metadata.specs.FileViews.{root_file, timestamp_file, snapshot_file}
-use Rattle.metadata.specs.Views.{profile_view}
+use Rattle.document_parts.specs.Views.{profile_view}
 use Rattle.metadata.specs.declared.file.File.{File}
-use Rattle.metadata.specs.declared.documents.Root.{Root}
+use Rattle.document_parts.specs.declared.documents.Root.{Root}
 use Rattle.delegations.specs.Views.{row_views}
 use Rattle.path_patterns.specs.declared.Digest.{Digest}
 use Rattle.machine.specs.Commands as commands

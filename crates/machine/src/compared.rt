@@ -2,8 +2,8 @@
 ghost use Rattle.std.specs.Prelude.{◌≡◌, ◌↔◌, IsTrue, is_some};
 ghost use Rattle.std.specs.Option.{option_map};
 ghost use Rattle.metadata.specs.FileViews.{timestamp_file, snapshot_file};
-ghost use Rattle.metadata.specs.Documents.{second_profile};
-ghost use Rattle.metadata.specs.Views.{meta_view, profile_view, root_view, snapshot_view};
+ghost use Rattle.document_parts.specs.Documents.{second_profile};
+ghost use Rattle.document_parts.specs.Views.{meta_view, profile_view, root_view, snapshot_view};
 ghost use Rattle.delegations.specs.Rows.{named_row};
 ghost use Rattle.delegations.specs.Views.{rows_view};
 ghost use Rattle.machine.specs.Commands.{KeepsRoles, NoRollback, NoDrop};

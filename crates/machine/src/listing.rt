@@ -6,7 +6,7 @@ ghost use Rattle.delegations.specs.Search.{search};
 ghost use Rattle.delegations.specs.Verdicts.{AreFew, AreTrue, Costs, IsComplete};
 ghost use Rattle.delegations.specs.Views as searches;
 ghost use Rattle.denials.specs.Orders as orders;
-ghost use Rattle.metadata.specs.Views.{listing_view, root_view};
+ghost use Rattle.document_parts.specs.Views.{listing_view, root_view};
 ghost use Rattle.path_patterns.specs.Grammar.{IsTargetPath};
 ghost use Rattle.contents.specs.Contents.{lengths_of};
 ghost use Rattle.machine.specs.Answers.{Gives};

@@ -1,6 +1,6 @@
 //! The metadata files under their names.
 ghost use Rattle.std.specs.Prelude.{◌≡◌, ℕ, List, ◌++◌, false, map, bytes_eq, option_map, MatchOption};
-ghost use Rattle.metadata.specs.Views.{profile_view};
+ghost use Rattle.document_parts.specs.Views.{profile_view};
 ghost use Rattle.delegations.specs.Views.{row_views};
 ghost use Rattle.keys_roles.specs.Plain.{look_up};
 ghost use Rattle.machine.specs.State.{IsTrusted, dotted, metadata_of, root_files};

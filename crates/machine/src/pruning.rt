@@ -4,7 +4,7 @@ ghost use Rattle.delegations.specs.Delegation.{before};
 ghost use Rattle.delegations.specs.Rows.{Rises};
 ghost use Rattle.delegations.specs.Views.{row_views};
 ghost use Rattle.metadata.specs.FileViews.{snapshot_file};
-ghost use Rattle.metadata.specs.Views.{listing_view};
+ghost use Rattle.document_parts.specs.Views.{listing_view};
 ghost use Rattle.machine.specs.Answers.{Answers, ChangesNoGrant, CountsGone};
 ghost use Rattle.machine.specs.Commands as commands;
 ghost use Rattle.machine.specs.Commands.{kept_rows};

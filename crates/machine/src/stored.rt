@@ -2,11 +2,11 @@
 ghost use Rattle.std.specs.Prelude.{◌≡◌, ◌≤◌, List, [], All, length, map, option_map, string_bytes, Ok, IfOk, IfSome, IfNone, IsErrAnd};
 ghost use Rattle.std.specs.List.{AllZip};
 ghost use Rattle.sha2.specs.Sha256.{sha256};
-ghost use Rattle.metadata.specs.Documents as plain;
+ghost use Rattle.document_parts.specs.Documents as plain;
 ghost use Rattle.metadata.specs.File as files;
 ghost use Rattle.metadata.specs.File.{Bytes, timestamp_form, snapshot_form};
 ghost use Rattle.metadata.specs.FileViews.{root_file, timestamp_file, snapshot_file, targets_file};
-ghost use Rattle.metadata.specs.Views.{profile_view};
+ghost use Rattle.document_parts.specs.Views.{profile_view};
 ghost use Rattle.delegations.specs.Views.{row_views};
 ghost use Rattle.machine.specs.State as trust;
 ghost use Rattle.limits.specs.Limits.{most_held};

@@ -10,7 +10,7 @@ ghost use Rattle.denials.specs.Orders.{each};
 ghost use Rattle.denials.specs.Views.{denial_view};
 ghost use Rattle.metadata.specs.File.{layout_form, link_form};
 ghost use Rattle.metadata.specs.FileViews.{layout_file, link_file};
-ghost use Rattle.metadata.specs.Views.{listing_view, reference_view, root_view};
+ghost use Rattle.document_parts.specs.Views.{listing_view, reference_view, root_view};
 ghost use Rattle.machine.specs.Answers.{Gives};
 ghost use Rattle.machine.specs.Held as holding;
 ghost use Rattle.machine.specs.Held.{OfEachState, StandsFor, length_at};

@@ -2,7 +2,7 @@
 ghost use Rattle.std.specs.Prelude.{◌≡◌, ◌≤◌, ◌<◌, ◌-◌, ◌+◌, ◌++◌, [], ◌∷◌, ℕ, List, IfOk, Option, Some, bytes_eq, not, cond, map, length, vec_len, vec_capacity};
 ghost use Rattle.std.specs.List.{insert, list_any, position_or_len, position};
 ghost use Rattle.metadata.specs.FileViews.{root_file, targets_file};
-ghost use Rattle.metadata.specs.Views.{profile_view};
+ghost use Rattle.document_parts.specs.Views.{profile_view};
 ghost use Rattle.delegations.specs.Delegation.{before};
 ghost use Rattle.delegations.specs.Rows.{same_place, with_row, with_rows, place_before};
 ghost use Rattle.delegations.specs.Views.{row_views};

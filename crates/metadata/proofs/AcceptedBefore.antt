@@ -9,13 +9,13 @@ use Rattle.keys_roles.specs.Plain.{Key, lms, Table, RoleRule, Signature, look_up
 use Rattle.keys_roles.specs.Keys.{id_of, top_key}
 use Rattle.keys_roles.specs.Rules.{AreDistinct}
 use Rattle.metadata.specs.BeforeLevels.{WasKey, WasRow, WasTable, WasRuleOver, HadRule, HadRole, WereRoles, WasRoot, WasLayoutReference, HadLayoutReference, WasListing, WasDelegation, HadDelegations, WasTargets, WasStep, WasLayout, WasEntry, WasEnvelope, WasBody, WasDocument}
-use Rattle.metadata.specs.Bodies.{AreRoles, HasRequired, HasRootHead, Roles, roles_of, IsRoot, IsLayoutReference, HasLayoutReference, IsListing, IsDelegation, HasDelegations, IsTargets, IsStep, IsLayout, HasRole}
-use Rattle.metadata.specs.Documents.{Profile, Root, LayoutReference, Listing, Delegation, Delegations, Targets, Step, Layout, Body, root, timestamp, snapshot, targets, layout, link, Document}
-use Rattle.metadata.specs.Members.{MayHave, ItemsAre, MembersAre}
-use Rattle.metadata.specs.Parts.{IsKey, IsRow, IsTable, NamesAreIds, IsRuleOver, HasRule, IsEntry, IsEnvelope, top_at, tops_of}
+use Rattle.document_parts.specs.Bodies.{AreRoles, HasRequired, HasRootHead, Roles, roles_of, IsRoot, IsLayoutReference, HasLayoutReference, IsListing, IsDelegation, HasDelegations, IsTargets, IsStep, IsLayout, HasRole}
+use Rattle.document_parts.specs.Documents.{Profile, Root, LayoutReference, Listing, Delegation, Delegations, Targets, Step, Layout, Body, root, timestamp, snapshot, targets, layout, link, Document}
+use Rattle.document_parts.specs.Members.{MayHave, ItemsAre, MembersAre}
+use Rattle.document_parts.specs.Parts.{IsKey, IsRow, IsTable, NamesAreIds, IsRuleOver, HasRule, IsEntry, IsEnvelope, top_at, tops_of}
 use Rattle.metadata.specs.Shape.{delegation_tables, reference_tables, tables, IsBody, IsDocument}
-use Rattle.metadata.specs.declared.documents.Kind.{Kind}
-use Rattle.metadata.specs.declared.documents.Kind.TheVariants as kinds
+use Rattle.document_parts.specs.declared.documents.Kind.{Kind}
+use Rattle.document_parts.specs.declared.documents.Kind.TheVariants as kinds
 use Rattle.metadata.specs.steps.Entries.{HasIds}
 use Rattle.metadata.proofs.TargetsNamed.{first, second, ids_listed}
 

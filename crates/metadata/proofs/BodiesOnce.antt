@@ -3,16 +3,16 @@ use Rattle.std.proofs.Common.{◌≡◌, ℕ, List, [], ◌∷◌, ◌++◌, cod
 use Rattle.canonical_json.specs.Json.{Json}
 use Rattle.canonical_json.specs.Spelling.{IsProper}
 use Rattle.keys_roles.specs.Plain.{Table, RoleRule}
-use Rattle.metadata.specs.Documents.{MetaFile, Profile, Root, Timestamp, Snapshot, LayoutReference, Listing, Delegations, Targets}
-use Rattle.metadata.specs.Members.{Has, IsObject}
-use Rattle.metadata.specs.Parts.{IsLength, IsHashes, IsTable, IsMetaFile}
-use Rattle.metadata.specs.Bodies.{HasRequired, IsRoot, IsTimestamp, IsMetaRow, AreMetaRows, IsSnapshot, IsListing, HasDelegations, IsTargets}
-use Rattle.metadata.proofs.Congruence.{same2, same3, same4, same7}
-use Rattle.metadata.proofs.Once.{IsOnce, has-once, may-once, object-once, number-once}
-use Rattle.metadata.proofs.DelegationsOnce.{delegations-once}
+use Rattle.document_parts.specs.Documents.{MetaFile, Profile, Root, Timestamp, Snapshot, LayoutReference, Listing, Delegations, Targets}
+use Rattle.document_parts.specs.Members.{Has, IsObject}
+use Rattle.document_parts.specs.Parts.{IsLength, IsHashes, IsTable, IsMetaFile}
+use Rattle.document_parts.specs.Bodies.{HasRequired, IsRoot, IsTimestamp, IsMetaRow, AreMetaRows, IsSnapshot, IsListing, HasDelegations, IsTargets}
+use Rattle.document_parts.proofs.Congruence.{same2, same3, same4, same7}
+use Rattle.document_parts.proofs.Once.{IsOnce, has-once, may-once, object-once, number-once}
+use Rattle.document_parts.proofs.DelegationsOnce.{delegations-once}
 use Rattle.metadata.proofs.ReferencesOnce.{references-once}
 use Rattle.metadata.proofs.RootParts.{head-profile, required-once}
-use Rattle.metadata.proofs.PartsOnce.{expires-once, version-once, hashes-once, meta-once, table-once, rule-once, HasSomeRule, pair-is}
+use Rattle.document_parts.proofs.PartsOnce.{expires-once, version-once, hashes-once, meta-once, table-once, rule-once, HasSomeRule, pair-is}
 
 -- ---- root, timestamp, snapshot
 

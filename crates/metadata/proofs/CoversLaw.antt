@@ -5,9 +5,9 @@ use Rattle.std.specs.List.{list_any, Contains}
 use Rattle.keys_roles.specs.steps.Counting.{IsIn}
 use Rattle.path_patterns.specs.Matching.{MatchesSegmented, PrefixCovers}
 use Rattle.path_patterns.specs.Tests as tests
-use Rattle.metadata.specs.Documents.{Delegation, Root, Scope, patterns, prefixes}
-use Rattle.metadata.specs.Covers.{Covers, covers, ScopeCovers, scope_covers, RequiresLayout, requires_layout, required_patterns}
-use Rattle.metadata.proofs.Elements.{contains_in, in_contains}
+use Rattle.document_parts.specs.Documents.{Delegation, Root, Scope, patterns, prefixes}
+use Rattle.document_parts.specs.Covers.{Covers, covers, ScopeCovers, scope_covers, RequiresLayout, requires_layout, required_patterns}
+use Rattle.document_parts.proofs.Elements.{contains_in, in_contains}
 
 module _ (test : List ℕ → Bool) (P : List ℕ → Type 0) (tells : (p : List ℕ) → IsTrue (test p) ↔ P p) where
   some_of : (ps : List (List ℕ)) → list_any test ps ≡ true → (p : List ℕ) × IsIn ps p × P p

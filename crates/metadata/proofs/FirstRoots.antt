@@ -2,8 +2,8 @@
 use Rattle.std.proofs.Common.{◌≡◌, ◌↔◌, None, sym, subst}
 use Rattle.canonical_json.specs.Json.{Json}
 use Rattle.metadata.specs.BeforeProfiles.{WasRoot}
-use Rattle.metadata.specs.Bodies.{HasRequired, HasRootHead, IsRoot}
-use Rattle.metadata.specs.Documents.{Profile, Root, first_profile}
+use Rattle.document_parts.specs.Bodies.{HasRequired, HasRootHead, IsRoot}
+use Rattle.document_parts.specs.Documents.{Profile, Root, first_profile}
 
 is_now : (signed : Json) (r : Root) → WasRoot signed r → IsRoot signed r
 is_now signed r was = record {

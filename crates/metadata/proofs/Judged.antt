@@ -4,19 +4,19 @@ use Rattle.std.specs.List.{AllByRecursion}
 use Rattle.canonical_json.specs.Json.{Json, HasMember}
 use Rattle.canonical_json.specs.Spelling.{spelling, IsProper}
 use Rattle.keys_roles.specs.Plain.{Signature}
-use Rattle.metadata.specs.Documents.{Body, root, targets, layout, Timestamp, Snapshot}
-use Rattle.metadata.specs.Links.{Link}
+use Rattle.document_parts.specs.Documents.{Body, root, targets, layout, Timestamp, Snapshot}
+use Rattle.document_parts.specs.Links.{Link}
 use Rattle.metadata.specs.steps.Entries.{AreNamed as AreTargetsNamed}
-use Rattle.metadata.specs.steps.Faults.{IsIll, IsFaulty}
-use Rattle.metadata.specs.Parts.{IsEnvelope, NamesAreIds}
-use Rattle.metadata.specs.Bodies.{IsRoot, IsTimestamp, IsSnapshot, IsTargets, IsLayout, IsLink}
+use Rattle.document_parts.specs.steps.Faults.{IsIll, IsFaulty}
+use Rattle.document_parts.specs.Parts.{IsEnvelope, NamesAreIds}
+use Rattle.document_parts.specs.Bodies.{IsRoot, IsTimestamp, IsSnapshot, IsTargets, IsLayout, IsLink}
 use Rattle.metadata.specs.Shape.{kind_name, tables, IsBody, IsShapeFault}
 use Rattle.metadata.specs.steps.Reads.{IsSignedAs, IsFaultOf}
-use Rattle.metadata.specs.declared.documents.Kind.{Kind}
-use Rattle.metadata.specs.declared.documents.Kind.TheVariants as kinds
-use Rattle.metadata.specs.declared.documents.ShapeFault.{ShapeFault}
-use Rattle.metadata.specs.declared.documents.ShapeFault.TheVariants.{WrongShape, WrongType}
-use Rattle.metadata.proofs.Ill.{ill_again}
+use Rattle.document_parts.specs.declared.documents.Kind.{Kind}
+use Rattle.document_parts.specs.declared.documents.Kind.TheVariants as kinds
+use Rattle.document_parts.specs.declared.documents.ShapeFault.{ShapeFault}
+use Rattle.document_parts.specs.declared.documents.ShapeFault.TheVariants.{WrongShape, WrongType}
+use Rattle.document_parts.proofs.Ill.{ill_again}
 use Rattle.metadata.proofs.SaidBy.{root_in, timestamp_in, snapshot_in, targets_in, layout_in, link_in}
 use Rattle.metadata.proofs.OneDocument.{envelope-once}
 

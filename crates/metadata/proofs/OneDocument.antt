@@ -3,21 +3,21 @@ use Rattle.std.proofs.Common.{◌≡◌, ℕ, ◌<◌, List, length, codes, refl
 use Rattle.canonical_json.specs.Json.{Json}
 use Rattle.canonical_json.specs.Spelling.{spelling, IsProper, IsCanonical}
 use Rattle.keys_roles.specs.Plain.{Signature}
-use Rattle.metadata.specs.Documents.{Body, root, timestamp, snapshot, targets, layout, link, Document}
-use Rattle.metadata.specs.Members.{Has, IsArray, IsText}
-use Rattle.metadata.specs.Parts.{IsEnvelope, IsEntry, NamesAreIds}
+use Rattle.document_parts.specs.Documents.{Body, root, timestamp, snapshot, targets, layout, link, Document}
+use Rattle.document_parts.specs.Members.{Has, IsArray, IsText}
+use Rattle.document_parts.specs.Parts.{IsEnvelope, IsEntry, NamesAreIds}
 use Rattle.std.specs.List.{AllByRecursion}
 use Rattle.metadata.specs.Shape.{IsBody, IsFile, IsSignedFile, IsReadAs, IsDocument, IsShapeFault, kind_name, max_file, tables}
-use Rattle.metadata.specs.declared.documents.Kind.{Kind}
-use Rattle.metadata.specs.declared.documents.Kind.TheVariants as kinds
-use Rattle.metadata.specs.declared.documents.ShapeFault.{ShapeFault}
-use Rattle.metadata.specs.declared.documents.ShapeFault.TheVariants.{TooLong, NotCanonical, WrongShape, WrongType, BadKeyId, OutOfMemory}
-use Rattle.metadata.proofs.Congruence.{same3}
-use Rattle.metadata.proofs.Once.{has-once, array-once, text-once}
-use Rattle.metadata.proofs.PartsOnce.{signature-once}
+use Rattle.document_parts.specs.declared.documents.Kind.{Kind}
+use Rattle.document_parts.specs.declared.documents.Kind.TheVariants as kinds
+use Rattle.document_parts.specs.declared.documents.ShapeFault.{ShapeFault}
+use Rattle.document_parts.specs.declared.documents.ShapeFault.TheVariants.{TooLong, NotCanonical, WrongShape, WrongType, BadKeyId, OutOfMemory}
+use Rattle.document_parts.proofs.Congruence.{same3}
+use Rattle.document_parts.proofs.Once.{has-once, array-once, text-once}
+use Rattle.document_parts.proofs.PartsOnce.{signature-once}
 use Rattle.metadata.proofs.BodiesOnce.{root-once, timestamp-once, snapshot-once, targets-once}
 use Rattle.metadata.proofs.SaidBy.{root_in, timestamp_in, snapshot_in, targets_in, layout_in, link_in}
-use Rattle.metadata.proofs.LayoutsOnce.{layout-once, link-once}
+use Rattle.layout_files.proofs.LayoutsOnce.{layout-once, link-once}
 
 -- both are the kind's
 both : {A : Type 0} (make : A → Body) (x y : A) (a b : Body) → a ≡ make x → b ≡ make y → x ≡ y → a ≡ b

@@ -3,14 +3,14 @@ use Rattle.std.proofs.Common.{◌≡◌, ℕ, List, codes, Option, Some, None, r
 use Rattle.canonical_json.specs.Json.{Json, HasMember}
 use Rattle.keys_roles.specs.Plain.{Table, RoleRule}
 use Rattle.path_patterns.specs.Grammar.{IsName, IsTargetPath}
-use Rattle.metadata.specs.Bodies.{IsTextOf, AreTextsOf, IsLayoutReference, IsCustom, HasLayoutReference}
-use Rattle.metadata.specs.Documents.{LayoutReference}
-use Rattle.metadata.specs.Members.{Has}
-use Rattle.metadata.specs.Parts.{IsTable}
-use Rattle.metadata.proofs.Congruence.{same6}
-use Rattle.metadata.proofs.DelegationsOnce.{text-of-once, texts-of-once}
-use Rattle.metadata.proofs.Once.{IsOnce, has-once, may-once}
-use Rattle.metadata.proofs.PartsOnce.{table-once, rule-once}
+use Rattle.document_parts.specs.Bodies.{IsTextOf, AreTextsOf, IsLayoutReference, IsCustom, HasLayoutReference}
+use Rattle.document_parts.specs.Documents.{LayoutReference}
+use Rattle.document_parts.specs.Members.{Has}
+use Rattle.document_parts.specs.Parts.{IsTable}
+use Rattle.document_parts.proofs.Congruence.{same6}
+use Rattle.document_parts.proofs.DelegationsOnce.{text-of-once, texts-of-once}
+use Rattle.document_parts.proofs.Once.{IsOnce, has-once, may-once}
+use Rattle.document_parts.proofs.PartsOnce.{table-once, rule-once}
 
 pub keys-once : IsOnce (λ v t. Has v (codes "keys") (λ x. IsTable x t))
 keys-once = has-once (codes "keys") IsTable table-once

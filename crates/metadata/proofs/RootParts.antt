@@ -8,15 +8,16 @@ use Rattle.canonical_json.specs.Spelling.{IsProper}
 use Rattle.keys_roles.specs.Plain.{Table}
 use Rattle.path_patterns.specs.Bytes.{is_digit}
 use Rattle.path_patterns.specs.Grammar.{IsPattern}
-use Rattle.metadata.specs.Documents.{Profile, first_profile, second_profile, Root}
-use Rattle.metadata.specs.Parts.{IsSpecVersionOf, NamesAreIds}
-use Rattle.metadata.specs.Bodies.{AreTextsOf, HasRequired, HasRootHead, IsRoot, Roles, roles_of}
-use Rattle.metadata.specs.steps.Faults.{IsFaulty}
-use Rattle.metadata.specs.steps.Spelled.{HasKeyed, plain_root}
-use Rattle.metadata.specs.declared.documents.ShapeFault.{ShapeFault}
-use Rattle.metadata.proofs.DelegationsOnce.{texts-of-once}
-use Rattle.metadata.proofs.Ill.{ill_again}
-use Rattle.metadata.proofs.Once.{IsOnce, has-once, may-once}
+use Rattle.document_parts.specs.Documents.{Profile, first_profile, second_profile, Root}
+use Rattle.document_parts.specs.Parts.{IsSpecVersionOf, NamesAreIds}
+use Rattle.document_parts.specs.Bodies.{AreTextsOf, HasRequired, HasRootHead, IsRoot, Roles, roles_of}
+use Rattle.document_parts.specs.steps.Faults.{IsFaulty}
+use Rattle.document_parts.specs.steps.Tables.{HasKeyed}
+use Rattle.metadata.specs.steps.Spelled.{plain_root}
+use Rattle.document_parts.specs.declared.documents.ShapeFault.{ShapeFault}
+use Rattle.document_parts.proofs.DelegationsOnce.{texts-of-once}
+use Rattle.document_parts.proofs.Ill.{ill_again}
+use Rattle.document_parts.proofs.Once.{IsOnce, has-once, may-once}
 
 -- digits are no text that ends in `+p2`
 no_digits : (a b : List ℕ) → list_all is_digit a ≡ true → a ≡ b ++ codes "+p2" → ⊥

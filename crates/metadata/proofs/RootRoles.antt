@@ -3,10 +3,10 @@ use Rattle.std.proofs.Common.{◌≡◌, ℕ, List, codes, refl, sym, ◌∙◌,
 use Rattle.canonical_json.specs.Json.{Json, object, Members, no_members, member, names, HasMember}
 use Rattle.canonical_json.specs.Spelling.{IsProper}
 use Rattle.keys_roles.specs.Plain.{Table, RoleRule}
-use Rattle.metadata.specs.Members.{HasJust}
-use Rattle.metadata.specs.Parts.{HasRule}
-use Rattle.metadata.specs.Bodies.{top_roles, HasRole, Roles, AreRoles}
-use Rattle.metadata.proofs.Once.{member_once}
+use Rattle.document_parts.specs.Members.{HasJust}
+use Rattle.document_parts.specs.Parts.{HasRule}
+use Rattle.document_parts.specs.Bodies.{top_roles, HasRole, Roles, AreRoles}
+use Rattle.document_parts.proofs.Once.{member_once}
 
 -- the members of an object of four roles
 abbrev pub four : Json → Json → Json → Json → Json

@@ -2,11 +2,11 @@
 use Rattle.std.proofs.Common.{◌≡◌, List, refl}
 use Rattle.canonical_json.specs.Json.{Json}
 use Rattle.keys_roles.specs.Plain.{Signature}
-use Rattle.metadata.specs.Bodies.{IsRoot, IsTimestamp, IsSnapshot, IsTargets, IsLayout, IsLink}
-use Rattle.metadata.specs.Documents.{Body, root, timestamp, snapshot, targets, layout, link, Root, Timestamp, Snapshot, Targets, Layout}
-use Rattle.metadata.specs.Links.{Link}
+use Rattle.document_parts.specs.Bodies.{IsRoot, IsTimestamp, IsSnapshot, IsTargets, IsLayout, IsLink}
+use Rattle.document_parts.specs.Documents.{Body, root, timestamp, snapshot, targets, layout, link, Root, Timestamp, Snapshot, Targets, Layout}
+use Rattle.document_parts.specs.Links.{Link}
 use Rattle.metadata.specs.Shape.{IsBody}
-use Rattle.metadata.specs.declared.documents.Kind.TheVariants as kinds
+use Rattle.document_parts.specs.declared.documents.Kind.TheVariants as kinds
 
 pub root_in : (es : List Signature) (v : Json) (b : Body) → IsBody kinds.Root es v b → (x : Root) × IsRoot v x × (b ≡ root x)
 root_in es v (root r) h = (r, h, refl)

@@ -6,13 +6,13 @@ use Rattle.canonical_json.specs.Json.{Json, Members, no_members, member, names}
 use Rattle.canonical_json.specs.Spelling.{IsBefore, AreRising, IsProper}
 use Rattle.keys_roles.specs.Rules.{AreDistinct}
 use Rattle.path_patterns.specs.Grammar.{IsName}
-use Rattle.metadata.specs.Documents.{Snapshot, MetaFile}
-use Rattle.metadata.specs.Members.{MembersAre}
-use Rattle.metadata.specs.Bodies.{IsMetaRow, IsListable, AreMetaRows}
+use Rattle.document_parts.specs.Documents.{Snapshot, MetaFile}
+use Rattle.document_parts.specs.Members.{MembersAre}
+use Rattle.document_parts.specs.Bodies.{IsMetaRow, IsListable, AreMetaRows}
 use Rattle.metadata.specs.Shape.{kind_name}
 use Rattle.metadata.specs.File.{Name, File, IsFileOf, snapshot_form}
-use Rattle.metadata.specs.declared.documents.Kind.TheVariants as kinds
-use Rattle.metadata.proofs.Once.{not-before, member_proper}
+use Rattle.document_parts.specs.declared.documents.Kind.TheVariants as kinds
+use Rattle.document_parts.proofs.Once.{not-before, member_proper}
 use Rattle.metadata.proofs.OneDocument.{envelope-once}
 
 -- ---- each once: a file's members rise by their names

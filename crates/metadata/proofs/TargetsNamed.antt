@@ -4,15 +4,15 @@ use Rattle.std.specs.Prelude.{flat_map}
 use Rattle.std.specs.List.{AllByRecursion}
 use Rattle.canonical_json.specs.Json.{Json, Items, no_items, item, Members, no_members, member}
 use Rattle.keys_roles.specs.Plain.{Table}
-use Rattle.metadata.specs.Bodies.{HasLayoutReference, IsListing, IsDelegation, HasDelegations, IsTargets}
-use Rattle.metadata.specs.Documents.{LayoutReference, Listing, Delegation, Delegations, Targets}
-use Rattle.metadata.specs.Members.{ItemsAre, MembersAre, IsObject, MayHave}
-use Rattle.metadata.specs.Parts.{NamesAreIds, IsRuleOver}
+use Rattle.document_parts.specs.Bodies.{HasLayoutReference, IsListing, IsDelegation, HasDelegations, IsTargets}
+use Rattle.document_parts.specs.Documents.{LayoutReference, Listing, Delegation, Delegations, Targets}
+use Rattle.document_parts.specs.Members.{ItemsAre, MembersAre, IsObject, MayHave}
+use Rattle.document_parts.specs.Parts.{NamesAreIds, IsRuleOver}
 use Rattle.metadata.specs.Shape.{delegation_tables, reference_tables}
 use Rattle.metadata.specs.declared.delegations.SpelledDelegations.{SpelledDelegations}
-use Rattle.metadata.specs.declared.documents.ShapeFault.{ShapeFault}
+use Rattle.document_parts.specs.declared.documents.ShapeFault.{ShapeFault}
 use Rattle.metadata.specs.steps.Entries.{AreNamed, HasIds, IsOwned}
-use Rattle.metadata.specs.steps.Faults.{IsMisnamed, IsFaulty}
+use Rattle.document_parts.specs.steps.Faults.{IsMisnamed, IsFaulty}
 use Rattle.metadata.specs.steps.Spelled.{spelled_delegations, AreAllOver}
 
 -- what holds of each of two lists holds of one behind the other, and the other way round

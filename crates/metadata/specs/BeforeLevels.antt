@@ -10,13 +10,13 @@ use Rattle.canonical_json.specs.Spelling.{spelling}
 use Rattle.keys_roles.specs.Plain.{Key, lms, Table, RoleRule, Signature}
 use Rattle.keys_roles.specs.Keys.{key_object}
 use Rattle.keys_roles.specs.Rules.{AreDistinct}
-use Rattle.metadata.specs.Documents.{Root, first_profile, LayoutReference, Listing, Delegation, Delegations, Targets, Step, Layout, Body, root, targets, layout, Document}
-use Rattle.metadata.specs.Members.{Has, MayHave, HasJust, IsArray, IsObject, IsText, IsNumber}
-use Rattle.metadata.specs.Parts.{AreBytes, IsLength, IsHashes, HasExpires, NamesAreIds, max_signatures, signature_object, ids_of}
-use Rattle.metadata.specs.Bodies.{top_roles, HasHead, Roles, roles_of, IsConsistent, NoMember, IsTextOf, AreTextsOf, reference_members, HasScope, IsDelegable, max_delegations, IsRuleList, max_steps, HasNoInspections}
+use Rattle.document_parts.specs.Documents.{Root, first_profile, LayoutReference, Listing, Delegation, Delegations, Targets, Step, Layout, Body, root, targets, layout, Document}
+use Rattle.document_parts.specs.Members.{Has, MayHave, HasJust, IsArray, IsObject, IsText, IsNumber}
+use Rattle.document_parts.specs.Parts.{AreBytes, IsLength, IsHashes, HasExpires, NamesAreIds, max_signatures, signature_object, ids_of}
+use Rattle.document_parts.specs.Bodies.{top_roles, HasHead, Roles, roles_of, IsConsistent, NoMember, IsTextOf, AreTextsOf, reference_members, HasScope, IsDelegable, max_delegations, IsRuleList, max_steps, HasNoInspections}
 use Rattle.metadata.specs.Shape.{kind_name, IsBody, IsFile, tables}
-use Rattle.metadata.specs.declared.documents.Kind.{Kind}
-use Rattle.metadata.specs.declared.documents.Kind.TheVariants as kinds
+use Rattle.document_parts.specs.declared.documents.Kind.{Kind}
+use Rattle.document_parts.specs.declared.documents.Kind.TheVariants as kinds
 
 -- ---- keys and rules
 

@@ -1,10 +1,10 @@
 -- What a root was before roots had profiles (TUF 1.0, section 4.3).
 use Rattle.std.specs.Prelude.{◌≡◌, codes, None}
 use Rattle.canonical_json.specs.Json.{Json}
-use Rattle.metadata.specs.Documents.{Root, first_profile}
-use Rattle.metadata.specs.Members.{Has}
-use Rattle.metadata.specs.Parts.{IsTable}
-use Rattle.metadata.specs.Bodies.{HasHead, IsConsistent, AreRoles, roles_of}
+use Rattle.document_parts.specs.Documents.{Root, first_profile}
+use Rattle.document_parts.specs.Members.{Has}
+use Rattle.document_parts.specs.Parts.{IsTable}
+use Rattle.document_parts.specs.Bodies.{HasHead, IsConsistent, AreRoles, roles_of}
 
 -- its head was that of the other kinds, and it said neither of the last two
 pub record WasRoot (signed : Json) (r : Root) : Type 0 where

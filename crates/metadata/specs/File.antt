@@ -4,14 +4,14 @@ use Rattle.std.specs.List.{list_any}
 use Rattle.keys_roles.specs.Plain.{Signature}
 pub use Rattle.keys_roles.specs.Plain.{look_up}
 pub use Rattle.hex.specs.Hex.{encode_lower}
-use Rattle.metadata.specs.Documents.{Root, Timestamp, Snapshot, Targets, Layout, Body, root, timestamp, snapshot, targets, layout, link, Document}
-use Rattle.metadata.specs.Links.{Link}
+use Rattle.document_parts.specs.Documents.{Root, Timestamp, Snapshot, Targets, Layout, Body, root, timestamp, snapshot, targets, layout, link, Document}
+use Rattle.document_parts.specs.Links.{Link}
 use Rattle.metadata.specs.Shape.{IsDocument, IsShapeFault}
 use Rattle.denials.specs.Numbers as no
-use Rattle.metadata.specs.declared.documents.Kind.{Kind}
-use Rattle.metadata.specs.declared.documents.Kind.TheVariants as kinds
-use Rattle.metadata.specs.declared.documents.ShapeFault.{ShapeFault}
-use Rattle.metadata.specs.declared.documents.ShapeFault.TheVariants.{TooLong, NotCanonical, WrongShape, WrongType, BadKeyId, OutOfMemory}
+use Rattle.document_parts.specs.declared.documents.Kind.{Kind}
+use Rattle.document_parts.specs.declared.documents.Kind.TheVariants as kinds
+use Rattle.document_parts.specs.declared.documents.ShapeFault.{ShapeFault}
+use Rattle.document_parts.specs.declared.documents.ShapeFault.TheVariants.{TooLong, NotCanonical, WrongShape, WrongType, BadKeyId, OutOfMemory}
 
 abbrev pub Bytes : Type 0
 Bytes = List ℕ

@@ -1,15 +1,15 @@
 -- What the code's files stand for.
-use Rattle.metadata.specs.Documents as plain
+use Rattle.document_parts.specs.Documents as plain
 use Rattle.metadata.specs.File as spec
-use Rattle.metadata.specs.Links as links
-use Rattle.metadata.specs.RuleViews.{link_view}
-use Rattle.metadata.specs.Views.{root_view, timestamp_view, snapshot_view, targets_view, layout_view}
-use Rattle.metadata.specs.declared.documents.Root.{Root}
-use Rattle.metadata.specs.declared.documents.Timestamp.{Timestamp}
-use Rattle.metadata.specs.declared.documents.Snapshot.{Snapshot}
-use Rattle.metadata.specs.declared.documents.Targets.{Targets}
-use Rattle.metadata.specs.declared.documents.Layout.{Layout}
-use Rattle.metadata.specs.declared.links.Link.{Link}
+use Rattle.document_parts.specs.Links as links
+use Rattle.document_parts.specs.RuleViews.{link_view}
+use Rattle.document_parts.specs.Views.{root_view, timestamp_view, snapshot_view, targets_view, layout_view}
+use Rattle.document_parts.specs.declared.documents.Root.{Root}
+use Rattle.document_parts.specs.declared.documents.Timestamp.{Timestamp}
+use Rattle.document_parts.specs.declared.documents.Snapshot.{Snapshot}
+use Rattle.document_parts.specs.declared.documents.Targets.{Targets}
+use Rattle.document_parts.specs.declared.documents.Layout.{Layout}
+use Rattle.document_parts.specs.declared.links.Link.{Link}
 use Rattle.metadata.specs.declared.file.File.{File}
 
 abbrev file_view : {A B : Type 0} → (B → A) → File B → spec.File A

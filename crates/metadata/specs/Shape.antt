@@ -4,13 +4,13 @@ use Rattle.std.specs.List.{AllByRecursion}
 use Rattle.canonical_json.specs.Json.{Json}
 use Rattle.canonical_json.specs.Spelling.{spelling, IsCanonical}
 use Rattle.keys_roles.specs.Plain.{Table, Signature}
-use Rattle.metadata.specs.Documents.{Body, root, timestamp, snapshot, targets, layout, link, Document, Delegations, LayoutReference}
-use Rattle.metadata.specs.Parts.{IsEnvelope, NamesAreIds}
-use Rattle.metadata.specs.Bodies.{IsRoot, IsTimestamp, IsSnapshot, IsTargets, IsLayout, IsLink}
-use Rattle.metadata.specs.declared.documents.Kind.{Kind}
-use Rattle.metadata.specs.declared.documents.Kind.TheVariants as kinds
-use Rattle.metadata.specs.declared.documents.ShapeFault.{ShapeFault}
-use Rattle.metadata.specs.declared.documents.ShapeFault.TheVariants.{TooLong, NotCanonical, WrongShape, WrongType, BadKeyId, OutOfMemory}
+use Rattle.document_parts.specs.Documents.{Body, root, timestamp, snapshot, targets, layout, link, Document, Delegations, LayoutReference}
+use Rattle.document_parts.specs.Parts.{IsEnvelope, NamesAreIds}
+use Rattle.document_parts.specs.Bodies.{IsRoot, IsTimestamp, IsSnapshot, IsTargets, IsLayout, IsLink}
+use Rattle.document_parts.specs.declared.documents.Kind.{Kind}
+use Rattle.document_parts.specs.declared.documents.Kind.TheVariants as kinds
+use Rattle.document_parts.specs.declared.documents.ShapeFault.{ShapeFault}
+use Rattle.document_parts.specs.declared.documents.ShapeFault.TheVariants.{TooLong, NotCanonical, WrongShape, WrongType, BadKeyId, OutOfMemory}
 
 abbrev pub kind_name : Kind → List ℕ
 kind_name kinds.Root = codes "root"

@@ -3,7 +3,7 @@ use Rattle.std.specs.Prelude.{◌≡◌, Ok, Err}
 use Rattle.denials.specs.Orders.{Denied, Judged, Order, Plain}
 use Rattle.metadata.specs.File.{Bytes, File, Form, IsFileOf, fault_number}
 use Rattle.metadata.specs.Shape.{IsShapeFault}
-use Rattle.metadata.specs.declared.documents.ShapeFault.{ShapeFault}
+use Rattle.document_parts.specs.declared.documents.ShapeFault.{ShapeFault}
 
 pub data Shaped {A : Type 0} (form : Form A) (b : Bytes) : Judged (File A) → Type 0 where
   reads : {d : File A} → IsFileOf form d → d.bytes ≡ b → Shaped form b (Ok d)

@@ -7,20 +7,23 @@ ghost use Rattle.canonical_json.specs.View.{view, items_view};
 ghost use Rattle.keys_roles.specs.Rules.{AreDistinct};
 ghost use Rattle.keys_roles.specs.steps.Counting.{IsIn};
 ghost use Rattle.path_patterns.specs.Grammar.{IsHex};
-ghost use Rattle.metadata.specs.Bodies.{IsListable, IsTextOf, IsDelegable, IsDelegation, AreDelegations, HasDelegations};
-ghost use Rattle.metadata.specs.Documents as plain;
-ghost use Rattle.metadata.specs.Members.{ItemsAre};
-ghost use Rattle.metadata.specs.Parts.{NamesAreIds};
-ghost use Rattle.metadata.specs.steps.Faults.{IsIll, IsMisnamed};
-ghost use Rattle.metadata.specs.steps.Spelled.{spelled_table, spelled_rule, spelled_delegation, spelled_list, spelled_delegations, names_of, AreAllOver};
-ghost use Rattle.metadata.specs.Views.{delegation_view, delegations_view};
+ghost use Rattle.document_parts.specs.Bodies.{IsListable, IsTextOf, IsDelegable, IsDelegation, AreDelegations, HasDelegations};
+ghost use Rattle.document_parts.specs.Documents as plain;
+ghost use Rattle.document_parts.specs.Members.{ItemsAre};
+ghost use Rattle.document_parts.specs.Parts.{NamesAreIds};
+ghost use Rattle.document_parts.specs.steps.Faults.{IsIll, IsMisnamed};
+ghost use Rattle.document_parts.specs.steps.Tables.{spelled_table, spelled_rule};
+ghost use Rattle.metadata.specs.steps.Spelled.{spelled_delegation, spelled_list, spelled_delegations, names_of, AreAllOver};
+ghost use Rattle.document_parts.specs.Views.{delegation_view, delegations_view};
 
-use crate::documents::{Delegation, Delegations, Scope, ShapeFault};
-use crate::keys::{SpelledRule, SpelledTable, name_rule, name_table, read_role_rule, read_table};
-use crate::members::{bool_at, items_of, member_of, text_of};
-use crate::scopes::read_scope;
 use crate::snapshot::is_listable;
 use canonical_json::Value;
+use document_parts::documents::{Delegation, Delegations, Scope, ShapeFault};
+use document_parts::keys::{
+    SpelledRule, SpelledTable, name_rule, name_table, read_role_rule, read_table,
+};
+use document_parts::members::{bool_at, items_of, member_of, text_of};
+use document_parts::scopes::read_scope;
 use path_patterns::RoleName;
 use std::alloc::Global;
 

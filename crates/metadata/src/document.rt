@@ -4,22 +4,22 @@ ghost use Rattle.std.specs.List.{AllByRecursion};
 ghost use Rattle.canonical_json.specs.Spelling.{IsProper};
 ghost use Rattle.canonical_json.specs.View.{view};
 ghost use Rattle.keys_roles.specs.Views.{entries_view};
-ghost use Rattle.metadata.specs.steps.Faults.{IsFaulty};
-ghost use Rattle.metadata.specs.Parts.{NamesAreIds};
+ghost use Rattle.document_parts.specs.steps.Faults.{IsFaulty};
+ghost use Rattle.document_parts.specs.Parts.{NamesAreIds};
 ghost use Rattle.metadata.specs.Shape.{kind_name, tables, IsBody, IsFile, IsDocument, IsShapeFault};
 ghost use Rattle.metadata.specs.steps.Reads.{IsSignedAs, IsFaultOf};
-ghost use Rattle.metadata.specs.Views.{body_view, document_view};
+ghost use Rattle.document_parts.specs.Views.{body_view, document_view};
 
-use crate::documents::{Body, Document, Kind, ShapeFault};
 use crate::envelope::{Envelope, read_envelope};
-use crate::layout::read_layout;
-use crate::link::read_link;
 use crate::root::read_root;
 use crate::snapshot::read_snapshot;
 use crate::targets::read_targets;
 use crate::timestamp::read_timestamp;
 use canonical_json::{ReadFault, Value, member, read};
+use document_parts::documents::{Body, Document, Kind, ShapeFault};
 use keys_roles::Signature;
+use layout_files::layout::read_layout;
+use layout_files::link::read_link;
 use std::alloc::Global;
 
 /// The bytes of the longest file.

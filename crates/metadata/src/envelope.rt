@@ -7,13 +7,13 @@ ghost use Rattle.keys_roles.specs.Plain as plain;
 ghost use Rattle.keys_roles.specs.Rules.{AreDistinct};
 ghost use Rattle.keys_roles.specs.steps.Counting.{IsIn};
 ghost use Rattle.keys_roles.specs.Views.{id_text, entry_view, entries_view};
-ghost use Rattle.metadata.specs.steps.Faults.{IsIll};
-ghost use Rattle.metadata.specs.Members.{Has, IsText, ItemsAre};
-ghost use Rattle.metadata.specs.Parts.{signature_object, ids_of, IsEntry, AreSignatures, AreSignatureDigits, IsEnvelope};
+ghost use Rattle.document_parts.specs.steps.Faults.{IsIll};
+ghost use Rattle.document_parts.specs.Members.{Has, IsText, ItemsAre};
+ghost use Rattle.document_parts.specs.Parts.{signature_object, ids_of, IsEntry, AreSignatures, AreSignatureDigits, IsEnvelope};
 
-use crate::documents::ShapeFault;
-use crate::members::{items_of, member_of, text_of, two_members};
 use canonical_json::Value;
+use document_parts::documents::ShapeFault;
+use document_parts::members::{items_of, member_of, text_of, two_members};
 use keys_roles::{KeyId, Signature};
 use path_patterns::{Digest, are_hex_digits, one_digest};
 use std::alloc::Global;

@@ -3,14 +3,14 @@ ghost use Rattle.std.specs.Prelude.{◌≡◌, IfOk, IfErr, ◌⊎◌};
 ghost use Rattle.metadata.specs.File.{IsFileOf, root_form, timestamp_form, snapshot_form, targets_form, layout_form, link_form};
 ghost use Rattle.metadata.specs.FileViews.{root_file, timestamp_file, snapshot_file, targets_file, layout_file, link_file};
 ghost use Rattle.metadata.specs.Shape.{IsDocument, IsShapeFault};
-ghost use Rattle.metadata.specs.Views.{body_view};
+ghost use Rattle.document_parts.specs.Views.{body_view};
 
 use crate::document::read_document;
-use crate::documents::{
+use crate::source::Source;
+use document_parts::documents::{
     Body, Document, Kind, Layout, Root, ShapeFault, Snapshot, Targets, Timestamp,
 };
-use crate::links::Link;
-use crate::source::Source;
+use document_parts::links::Link;
 use std::alloc::Global;
 
 /// A file with the body of the document that it spells.

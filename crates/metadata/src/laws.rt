@@ -6,15 +6,15 @@ ghost use Rattle.canonical_json.specs.Json.{Json};
 ghost use Rattle.keys_roles.specs.Rules.{AreDistinct};
 ghost use Rattle.metadata.specs.BeforeLevels.{WasDocument};
 ghost use Rattle.metadata.specs.BeforeProfiles.{WasRoot};
-ghost use Rattle.metadata.specs.Covers.{Covers, covers, RequiresLayout, requires_layout};
-ghost use Rattle.metadata.specs.Documents.{Delegation, Document, Root, Snapshot, first_profile};
-ghost use Rattle.metadata.specs.Bodies.{IsListable, IsRoot};
+ghost use Rattle.document_parts.specs.Covers.{Covers, covers, RequiresLayout, requires_layout};
+ghost use Rattle.document_parts.specs.Documents.{Delegation, Document, Root, Snapshot, first_profile};
+ghost use Rattle.document_parts.specs.Bodies.{IsListable, IsRoot};
 ghost use Rattle.metadata.specs.File.{Bytes, File, IsFileOf, IsDeniedShape, root_form, timestamp_form, snapshot_form, targets_form, layout_form, link_form};
 ghost use Rattle.denials.specs.Orders.{Denied, Plain};
 ghost use Rattle.metadata.specs.Shape.{IsDocument};
 ghost use Rattle.metadata.specs.Shaped.{shaped};
-ghost use Rattle.metadata.specs.declared.documents.Kind.{Kind};
-ghost use Rattle.metadata.specs.declared.documents.Kind.TheVariants as kinds;
+ghost use Rattle.document_parts.specs.declared.documents.Kind.{Kind};
+ghost use Rattle.document_parts.specs.declared.documents.Kind.TheVariants as kinds;
 
 use path_patterns::tests_tell;
 

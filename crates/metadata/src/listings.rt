@@ -4,19 +4,19 @@ ghost use Rattle.std.specs.List.{AllByRecursion};
 ghost use Rattle.canonical_json.specs.Json.{EachMember};
 ghost use Rattle.canonical_json.specs.Spelling.{IsProper, IsSound};
 ghost use Rattle.canonical_json.specs.View.{view, members_view};
-ghost use Rattle.metadata.specs.Bodies.{IsListing};
-ghost use Rattle.metadata.specs.Documents as plain;
-ghost use Rattle.metadata.specs.Members.{IsObject, MembersAre};
-ghost use Rattle.metadata.specs.Views.{listing_view, reference_view};
+ghost use Rattle.document_parts.specs.Bodies.{IsListing};
+ghost use Rattle.document_parts.specs.Documents as plain;
+ghost use Rattle.document_parts.specs.Members.{IsObject, MembersAre};
+ghost use Rattle.document_parts.specs.Views.{listing_view, reference_view};
 ghost use Rattle.metadata.specs.steps.Entries.{HasIds, IsOwned};
-ghost use Rattle.metadata.specs.steps.Faults.{IsIll, IsMisnamed};
+ghost use Rattle.document_parts.specs.steps.Faults.{IsIll, IsMisnamed};
 ghost use Rattle.metadata.specs.steps.Spelled.{spelled_reference, spelled_listing, spelled_listings};
 
-use crate::documents::{LayoutReference, Listing, ShapeFault};
-use crate::members::members_of;
-use crate::parts::{hashes_of, length_of};
 use crate::references::{SpelledReference, name_reference, reference_of};
 use canonical_json::Value;
+use document_parts::documents::{LayoutReference, Listing, ShapeFault};
+use document_parts::members::members_of;
+use document_parts::parts::{hashes_of, length_of};
 use path_patterns::{Digest, TargetPath};
 use std::alloc::Global;
 

@@ -6,22 +6,24 @@ ghost use Rattle.canonical_json.specs.View.{view, items_view, members_view};
 ghost use Rattle.keys_roles.specs.Rules.{AreDistinct};
 ghost use Rattle.keys_roles.specs.steps.Counting.{IsIn};
 ghost use Rattle.path_patterns.specs.Grammar.{IsTargetPath};
-ghost use Rattle.metadata.specs.Bodies.{IsTextOf, AreTextsOf, IsLayoutReference, IsCustom, HasLayoutReference, reference_members};
-ghost use Rattle.metadata.specs.Documents as plain;
-ghost use Rattle.metadata.specs.Members.{Has, HasJust, ItemsAre};
-ghost use Rattle.metadata.specs.Parts.{IsRuleOver, NamesAreIds};
-ghost use Rattle.metadata.specs.Views.{reference_view};
+ghost use Rattle.document_parts.specs.Bodies.{IsTextOf, AreTextsOf, IsLayoutReference, IsCustom, HasLayoutReference, reference_members};
+ghost use Rattle.document_parts.specs.Documents as plain;
+ghost use Rattle.document_parts.specs.Members.{Has, HasJust, ItemsAre};
+ghost use Rattle.document_parts.specs.Parts.{IsRuleOver, NamesAreIds};
+ghost use Rattle.document_parts.specs.Views.{reference_view};
 ghost use Rattle.metadata.specs.steps.Entries.{first_members, last_members};
-ghost use Rattle.metadata.specs.steps.Faults.{IsIll, IsMisnamed};
-ghost use Rattle.metadata.specs.steps.Spelled.{spelled_reference, spelled_rule, spelled_table};
+ghost use Rattle.document_parts.specs.steps.Faults.{IsIll, IsMisnamed};
+ghost use Rattle.document_parts.specs.steps.Tables.{spelled_rule, spelled_table};
+ghost use Rattle.metadata.specs.steps.Spelled.{spelled_reference};
 
-use crate::documents::{LayoutReference, ShapeFault};
-use crate::keys::{SpelledRule, SpelledTable, name_rule, name_table, read_role_rule};
-use crate::members::{items_of, member_of, members_of, next_member, text_of};
-use crate::root::keys_of;
-use crate::scopes::are_few;
-use crate::steps::name_at;
 use canonical_json::Value;
+use document_parts::documents::{LayoutReference, ShapeFault};
+use document_parts::keys::{
+    SpelledRule, SpelledTable, keys_of, name_rule, name_table, read_role_rule,
+};
+use document_parts::members::{items_of, member_of, members_of, next_member, text_of};
+use document_parts::names::name_at;
+use document_parts::scopes::are_few;
 use path_patterns::{RoleName, TargetPath};
 use std::alloc::Global;
 
@@ -223,7 +225,7 @@ fn read_path(alloc: Global, value: &Value) -> Result<TargetPath, ShapeFault>
 }
 
 // Whether no link stands twice, and none is the layout.
-#[tactic(auto, using(crate::proofs::Elements::absent))]
+#[tactic(auto, using(document_parts::proofs::Elements::absent))]
 fn are_apart(path: &TargetPath, links: &[TargetPath]) -> bool
     ensures { IsTrue result ↔ (AreDistinct (path.now ∷ links.now)) }
 {

@@ -5,22 +5,25 @@ ghost use Rattle.canonical_json.specs.View.{view};
 ghost use Rattle.keys_roles.specs.Plain as plain;
 ghost use Rattle.keys_roles.specs.Views.{table_view};
 ghost use Rattle.path_patterns.specs.Grammar.{IsPattern};
-ghost use Rattle.metadata.specs.Bodies.{Roles, AreRoles, AreTextsOf, HasRequired, HasRootHead, IsRoot};
-ghost use Rattle.metadata.specs.Documents as documents;
-ghost use Rattle.metadata.specs.steps.Faults.{IsIll, IsMisnamed, IsFaulty};
-ghost use Rattle.metadata.specs.Members.{Has, MayHave};
-ghost use Rattle.metadata.specs.Parts.{IsSpecVersionOf, IsTable, NamesAreIds};
-ghost use Rattle.metadata.specs.steps.Spelled.{spelled_table, spelled_roles, keyed_view, AreOver, HasKeyed};
-ghost use Rattle.metadata.specs.Views.{profile_view, root_view};
+ghost use Rattle.document_parts.specs.Bodies.{Roles, AreRoles, AreTextsOf, HasRequired, HasRootHead, IsRoot};
+ghost use Rattle.document_parts.specs.Documents as documents;
+ghost use Rattle.document_parts.specs.steps.Faults.{IsIll, IsMisnamed, IsFaulty};
+ghost use Rattle.document_parts.specs.Members.{Has, MayHave};
+ghost use Rattle.document_parts.specs.Parts.{IsSpecVersionOf, IsTable, NamesAreIds};
+ghost use Rattle.document_parts.specs.steps.Tables.{spelled_table, HasKeyed};
+ghost use Rattle.metadata.specs.steps.Spelled.{spelled_roles, keyed_view, AreOver};
+ghost use Rattle.document_parts.specs.Views.{profile_view, root_view};
 
-use crate::documents::{Profile, Root, ShapeFault};
-use crate::head::expires_of;
-use crate::keys::{SpelledRule, SpelledTable, name_rule, name_table, read_role_rule, read_table};
-use crate::members::{four_members, is_true_at, member_of};
-use crate::moment::Moment;
-use crate::parts::{profile_of, version_of};
-use crate::scopes::read_patterns;
 use canonical_json::Value;
+use document_parts::documents::{Profile, Root, ShapeFault};
+use document_parts::head::expires_of;
+use document_parts::keys::{
+    SpelledRule, SpelledTable, keys_of, name_rule, name_table, read_role_rule,
+};
+use document_parts::members::{four_members, is_true_at, member_of};
+use document_parts::moment::Moment;
+use document_parts::parts::{profile_of, version_of};
+use document_parts::scopes::read_patterns;
 use keys_roles::{KeyTable, RoleRule};
 use path_patterns::Pattern;
 use std::alloc::Global;
@@ -133,18 +136,6 @@ fn keyed_of(alloc: Global, signed: &Value) -> Result<Keyed, ShapeFault>
     let roles = roles_of(alloc, signed, &keys)?;
     let keyed = named(alloc, &keys, &roles)?;
     Ok(keyed)
-}
-
-/// The key table that the object has under `keys`.
-pub(crate) fn keys_of(alloc: Global, signed: &Value) -> Result<SpelledTable, ShapeFault>
-    requires { IsProper (view signed.now) }
-    ensures ok { IfOk result (λ t. Has (view signed.now) (codes "keys") (λ x. IsTable x (spelled_table t))) }
-    ensures err { IfErr result (IsIll ((t : plain.Table) × Has (view signed.now) (codes "keys") (λ x. IsTable x t))) }
-{
-    let Some(keys) = member_of(signed, "keys") else {
-        return Err(ShapeFault::WrongShape);
-    };
-    read_table(alloc, keys)
 }
 
 // The rules of the four roles that the object has under `roles`.

@@ -4,9 +4,9 @@ ghost use Rattle.keys_roles.specs.Views.{entries_view};
 ghost use Rattle.metadata.specs.Shape.{IsEnvelopeFault, IsSignedBy};
 
 use crate::document::{MOST, unread};
-use crate::documents::ShapeFault;
 use crate::envelope::read_envelope;
 use canonical_json::{member, read};
+use document_parts::documents::ShapeFault;
 use keys_roles::Signature;
 use std::alloc::Global;
 

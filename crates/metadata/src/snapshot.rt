@@ -5,18 +5,18 @@ ghost use Rattle.canonical_json.specs.Json.{EachMember};
 ghost use Rattle.canonical_json.specs.Spelling.{IsProper, IsSound};
 ghost use Rattle.canonical_json.specs.View.{view, members_view};
 ghost use Rattle.keys_roles.specs.steps.Counting.{IsIn};
-ghost use Rattle.metadata.specs.Bodies.{IsMetaRow, AreMetaRows, IsListable, IsSnapshot};
-ghost use Rattle.metadata.specs.Documents as plain;
-ghost use Rattle.metadata.specs.steps.Faults.{IsIll};
-ghost use Rattle.metadata.specs.Members.{Has, MembersAre};
+ghost use Rattle.document_parts.specs.Bodies.{IsMetaRow, AreMetaRows, IsListable, IsSnapshot};
+ghost use Rattle.document_parts.specs.Documents as plain;
+ghost use Rattle.document_parts.specs.steps.Faults.{IsIll};
+ghost use Rattle.document_parts.specs.Members.{Has, MembersAre};
 ghost use Rattle.metadata.specs.steps.Entries.{rows_view};
-ghost use Rattle.metadata.specs.Views.{meta_view, snapshot_view};
+ghost use Rattle.document_parts.specs.Views.{meta_view, snapshot_view};
 
-use crate::documents::{Meta, ShapeFault, Snapshot};
-use crate::head::read_head;
-use crate::members::{member_of, members_of};
-use crate::parts::read_meta;
 use canonical_json::Value;
+use document_parts::documents::{Meta, ShapeFault, Snapshot};
+use document_parts::head::read_head;
+use document_parts::members::{member_of, members_of};
+use document_parts::parts::read_meta;
 use path_patterns::RoleName;
 use std::alloc::Global;
 
@@ -110,7 +110,7 @@ fn role_of(name: &str) -> Option<&str>
 }
 
 // Whether the rows list this role.
-#[tactic(auto, using(crate::proofs::Elements::contains_in, crate::proofs::Elements::in_contains))]
+#[tactic(auto, using(document_parts::proofs::Elements::contains_in, document_parts::proofs::Elements::in_contains))]
 fn is_listed(rows: &[(RoleName, Meta)], name: &str) -> bool
     ensures { IsTrue result ↔ (Contains (map (λ e. e.0) (rows_view rows.now)) name.now) }
 {

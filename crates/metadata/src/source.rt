@@ -2,7 +2,7 @@
 ghost use Rattle.std.specs.Prelude.{◌≡◌, ◌≤◌, IfOk, length};
 ghost use Rattle.sha2.specs.Sha256.{sha256};
 ghost use Rattle.keys_roles.specs.Views.{entries_view};
-ghost use Rattle.metadata.specs.Parts.{max_signatures};
+ghost use Rattle.document_parts.specs.Parts.{max_signatures};
 ghost use Rattle.metadata.specs.Signed.{Signed};
 
 use keys_roles::Signature;
@@ -25,7 +25,7 @@ impl Model for Source {
     ghost use Rattle.std.specs.Prelude.{◌≡◌, ◌≤◌, length};
     ghost use Rattle.sha2.specs.Sha256.{sha256};
     ghost use Rattle.keys_roles.specs.Views.{entries_view};
-    ghost use Rattle.metadata.specs.Parts.{max_signatures};
+    ghost use Rattle.document_parts.specs.Parts.{max_signatures};
     ghost use Rattle.metadata.specs.Signed.{Signed};
 
     ghost Value = { Signed };

@@ -3,22 +3,22 @@ ghost use Rattle.std.specs.Prelude.{◌≡◌, Option, codes, option_map, IfSome
 ghost use Rattle.std.specs.List.{AllByRecursion};
 ghost use Rattle.canonical_json.specs.Spelling.{IsProper};
 ghost use Rattle.canonical_json.specs.View.{view};
-ghost use Rattle.metadata.specs.Bodies.{HasDelegations, IsTargets};
-ghost use Rattle.metadata.specs.Documents as plain;
-ghost use Rattle.metadata.specs.Parts.{NamesAreIds};
+ghost use Rattle.document_parts.specs.Bodies.{HasDelegations, IsTargets};
+ghost use Rattle.document_parts.specs.Documents as plain;
+ghost use Rattle.document_parts.specs.Parts.{NamesAreIds};
 ghost use Rattle.metadata.specs.Shape.{delegation_tables};
-ghost use Rattle.metadata.specs.steps.Faults.{IsIll, IsMisnamed, IsFaulty};
-ghost use Rattle.metadata.specs.Members.{MayHave};
+ghost use Rattle.document_parts.specs.steps.Faults.{IsIll, IsMisnamed, IsFaulty};
+ghost use Rattle.document_parts.specs.Members.{MayHave};
 ghost use Rattle.metadata.specs.steps.Entries.{AreNamed};
 ghost use Rattle.metadata.specs.steps.Spelled.{spelled_delegations, AreAllOver};
-ghost use Rattle.metadata.specs.Views.{delegations_view, targets_view};
+ghost use Rattle.document_parts.specs.Views.{delegations_view, targets_view};
 
 use crate::delegations::{SpelledDelegations, name_delegations, read_delegations};
-use crate::documents::{Delegations, ShapeFault, Targets};
-use crate::head::read_head;
 use crate::listings::{name_listings, read_table};
-use crate::members::member_of;
 use canonical_json::Value;
+use document_parts::documents::{Delegations, ShapeFault, Targets};
+use document_parts::head::read_head;
+use document_parts::members::member_of;
 use std::alloc::Global;
 
 /// The targets metadata that the signed part is, the keys of its delegations named by their ids.

@@ -2,16 +2,16 @@
 ghost use Rattle.std.specs.Prelude.{◌≡◌, ℕ, MatchOption, codes};
 ghost use Rattle.canonical_json.specs.Spelling.{IsProper};
 ghost use Rattle.canonical_json.specs.View.{view};
-ghost use Rattle.metadata.specs.Bodies.{IsTimestamp, IsTimestampMeta};
-ghost use Rattle.metadata.specs.Documents as plain;
-ghost use Rattle.metadata.specs.Members.{Has};
-ghost use Rattle.metadata.specs.Views.{meta_view, timestamp_view};
+ghost use Rattle.document_parts.specs.Bodies.{IsTimestamp, IsTimestampMeta};
+ghost use Rattle.document_parts.specs.Documents as plain;
+ghost use Rattle.document_parts.specs.Members.{Has};
+ghost use Rattle.document_parts.specs.Views.{meta_view, timestamp_view};
 
-use crate::documents::{Meta, Timestamp};
-use crate::head::read_head;
-use crate::members::{member_of, one_member};
-use crate::parts::read_meta;
 use canonical_json::Value;
+use document_parts::documents::{Meta, Timestamp};
+use document_parts::head::read_head;
+use document_parts::members::{member_of, one_member};
+use document_parts::parts::read_meta;
 
 /// What the signed part of a timestamp says.
 pub(crate) fn read_timestamp(signed: &Value) -> Option<Timestamp>

@@ -1,7 +1,7 @@
 //! Where in a file the fault is for which it is no document of its kind.
 ghost use Rattle.std.specs.Prelude.{◌≡◌, ◌⊎◌, IfOk, IfSome};
 ghost use Rattle.metadata.specs.Shape.{IsShapeFault};
-ghost use Rattle.metadata.specs.declared.documents.ShapeFault.{ShapeFault};
+ghost use Rattle.document_parts.specs.declared.documents.ShapeFault.{ShapeFault};
 
 use crate::bytes::first_stray;
 use crate::ids::misnamed;

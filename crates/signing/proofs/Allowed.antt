@@ -6,7 +6,7 @@ use Rattle.std.proofs.lemmas.Str.{IsUtf8-from_ascii}
 use Rattle.canonical_json.specs.Json.{Json, array, object, no_members, member, EachItem, Everywhere, depth, items_depth}
 use Rattle.canonical_json.specs.Spelling.{IntegerFits, IsAllowed, IsSound}
 use Rattle.keys_roles.specs.Plain.{Signature}
-use Rattle.metadata.specs.Parts.{signature_object}
+use Rattle.document_parts.specs.Parts.{signature_object}
 use Rattle.signing.specs.Files.{items_of}
 use Rattle.signing.proofs.KeptEntries.{IsEntryText}
 use Rattle.signing.proofs.Plain.{hex_utf8}

@@ -5,7 +5,7 @@ use Rattle.std.proofs.lemmas.List.{append-nil}
 use Rattle.std.proofs.lemmas.Slice.Eq.{bytes_eq-Decides}
 use Rattle.keys_roles.specs.Plain.{Signature}
 use Rattle.keys_roles.specs.Rules.{AreDistinct}
-use Rattle.metadata.specs.Parts.{ids_of}
+use Rattle.document_parts.specs.Parts.{ids_of}
 use Rattle.signing.specs.Joining.{has_entry, joined, missing}
 use Rattle.signing.specs.steps.Texts.{entries_text, entry_text, list_text}
 use Rattle.signing.proofs.KeptEntries.{IsApart, all_or, apart_or, distinct_or}

@@ -6,10 +6,10 @@ use Rattle.canonical_json.specs.Spelling.{IsAllowed, item_spellings, spelling}
 use Rattle.denials.specs.declared.denial.Denial.{Denial}
 use Rattle.keys_roles.specs.Plain.{Signature}
 use Rattle.keys_roles.specs.Rules.{AreDistinct}
-use Rattle.metadata.specs.Parts.{ids_of, max_signatures}
+use Rattle.document_parts.specs.Parts.{ids_of, max_signatures}
 use Rattle.metadata.specs.Shape.{IsEnvelopeFault, IsSignedBy, max_file}
-use Rattle.metadata.specs.declared.documents.ShapeFault.{ShapeFault}
-use Rattle.metadata.specs.declared.documents.ShapeFault.TheVariants as shapes
+use Rattle.document_parts.specs.declared.documents.ShapeFault.{ShapeFault}
+use Rattle.document_parts.specs.declared.documents.ShapeFault.TheVariants as shapes
 use Rattle.std.proofs.lemmas.List.{length-map}
 use Rattle.keys_roles.specs.Views.{entries_view, entry_view}
 use Rattle.keys_roles.specs.declared.Signature.{Signature as Held}

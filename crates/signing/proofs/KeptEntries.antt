@@ -6,8 +6,8 @@ use Rattle.canonical_json.specs.Json.{Items, no_items, item}
 use Rattle.path_patterns.specs.Grammar.{IsHex}
 use Rattle.keys_roles.specs.Plain.{Signature}
 use Rattle.keys_roles.specs.Rules.{AreDistinct}
-use Rattle.metadata.specs.Members.{ItemsAre}
-use Rattle.metadata.specs.Parts.{AreSignatureDigits, IsEntry, ids_of}
+use Rattle.document_parts.specs.Members.{ItemsAre}
+use Rattle.document_parts.specs.Parts.{AreSignatureDigits, IsEntry, ids_of}
 use Rattle.signing.specs.Files.{items_of, others}
 use Rattle.signing.specs.steps.Texts.{entries_text, entry_text}
 

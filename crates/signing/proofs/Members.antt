@@ -2,7 +2,7 @@
 use Rattle.std.proofs.Common.{◌≡◌, ℕ, suc, ◌≤◌, List, inl, inr, ap, subst, arith}
 use Rattle.canonical_json.specs.Json.{Json, null, boolean, integer, text, array, object, Members, no_members, member, EachMember, Everywhere, IsAmong, HasMember, depth, members_depth}
 use Rattle.canonical_json.specs.Spelling.{IntegerFits, IsAllowed}
-use Rattle.metadata.proofs.Once.{member_proper}
+use Rattle.document_parts.proofs.Once.{member_proper}
 
 fits_among : (name : List ℕ) (x : Json) (ms : Members) → EachMember IntegerFits ms → IsAmong name x ms → Everywhere IntegerFits x
 fits_among name x no_members e h = absurd h

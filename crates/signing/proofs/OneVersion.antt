@@ -6,10 +6,10 @@ use Rattle.lms.specs.declared.Params.{Params}
 use Rattle.lms.specs.declared.Seed.{Seed}
 use Rattle.keys_roles.specs.Plain.{Signature}
 use Rattle.canonical_json.specs.Json.{Json}
-use Rattle.metadata.specs.Parts.{IsEnvelope}
+use Rattle.document_parts.specs.Parts.{IsEnvelope}
 use Rattle.metadata.specs.Shape.{IsEnvelopeFault, IsSignedBy}
-use Rattle.metadata.specs.declared.documents.ShapeFault.{ShapeFault}
-use Rattle.metadata.specs.declared.documents.ShapeFault.TheVariants as shapes
+use Rattle.document_parts.specs.declared.documents.ShapeFault.{ShapeFault}
+use Rattle.document_parts.specs.declared.documents.ShapeFault.TheVariants as shapes
 use Rattle.leaf_plans.specs.Book.{Book, Kept, key_of, with_leaf}
 use Rattle.leaf_book.specs.Calls.{Registers, Reserved, Reserves}
 use Rattle.leaf_book.specs.declared.faults.BookFault.{BookFault}

@@ -4,7 +4,7 @@ use Rattle.canonical_json.specs.Json.{Json, HasMember, object, no_members, membe
 use Rattle.canonical_json.specs.Spelling.{IsAllowed, IsCanonical, spelling}
 use Rattle.keys_roles.specs.Plain.{Signature}
 use Rattle.metadata.specs.Shape.{IsSignedBy}
-use Rattle.metadata.proofs.Once.{member_once}
+use Rattle.document_parts.proofs.Once.{member_once}
 use Rattle.signing.specs.Versions.{AreRivals}
 use Rattle.signing.proofs.Members.{member_allowed}
 

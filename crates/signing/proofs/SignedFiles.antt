@@ -16,7 +16,7 @@ use Rattle.canonical_json.specs.Json.{array, object, no_members, member}
 use Rattle.canonical_json.specs.Spelling.{IsAllowed}
 use Rattle.path_patterns.specs.Grammar.{IsHex}
 use Rattle.keys_roles.specs.Plain.{Signature}
-use Rattle.metadata.specs.Parts.{AreSignatureDigits, max_signatures}
+use Rattle.document_parts.specs.Parts.{AreSignatureDigits, max_signatures}
 use Rattle.metadata.specs.Shape.{IsSignedBy, max_file}
 use Rattle.denials.specs.declared.denial.Denial.TheVariants as denials
 use Rattle.leaf_plans.specs.Book.{Book, key_of}

@@ -4,7 +4,7 @@ use Rattle.std.specs.List.{AllByRecursion, join_with_byte}
 use Rattle.canonical_json.specs.Json.{Json}
 use Rattle.canonical_json.specs.Spelling.{item_spellings, spelling}
 use Rattle.keys_roles.specs.Plain.{Signature}
-use Rattle.metadata.specs.Parts.{signature_object}
+use Rattle.document_parts.specs.Parts.{signature_object}
 use Rattle.signing.specs.Files.{file_text, items_of}
 use Rattle.signing.specs.steps.Texts.{entries_text, entry_text, parts_text}
 use Rattle.signing.proofs.Plain.{IsHexText, plain_text}

@@ -1,7 +1,7 @@
 -- Faults of the book and of a file's envelope as faults of a signing.
 use Rattle.std.specs.Prelude.{Option, Some, None}
-use Rattle.metadata.specs.declared.documents.ShapeFault.{ShapeFault}
-use Rattle.metadata.specs.declared.documents.ShapeFault.TheVariants as shapes
+use Rattle.document_parts.specs.declared.documents.ShapeFault.{ShapeFault}
+use Rattle.document_parts.specs.declared.documents.ShapeFault.TheVariants as shapes
 use Rattle.denials.specs.declared.denial.Denial.{Denial}
 use Rattle.denials.specs.declared.denial.Denial.TheVariants.{TooLong, NotCanonical, WrongShape}
 use Rattle.leaf_book.specs.declared.faults.BookFault.{BookFault}

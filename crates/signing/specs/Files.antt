@@ -9,9 +9,9 @@ use Rattle.lms.specs.Parameters.{signature_len, signing_type}
 use Rattle.keys_roles.specs.Plain.{Signature}
 use Rattle.denials.specs.declared.denial.Denial.{Denial}
 use Rattle.denials.specs.declared.denial.Denial.TheVariants as denials
-use Rattle.metadata.specs.Parts.{AreBytes, max_signatures, signature_object}
+use Rattle.document_parts.specs.Parts.{AreBytes, max_signatures, signature_object}
 use Rattle.metadata.specs.Shape.{IsEnvelopeFault, IsSignedBy, IsSignedFile, max_file}
-use Rattle.metadata.specs.declared.documents.ShapeFault.TheVariants.{TooLong, NotCanonical, WrongShape}
+use Rattle.document_parts.specs.declared.documents.ShapeFault.TheVariants.{TooLong, NotCanonical, WrongShape}
 use Rattle.leaf_plans.specs.Book.{Book, key_of}
 use Rattle.signing.specs.Messages.{IsBegun, IsUnsigned, Signs}
 use Rattle.signing.specs.declared.faults.SignFileFault.{SignFileFault}

@@ -6,9 +6,9 @@ use Rattle.canonical_json.specs.Spelling.{spelling}
 use Rattle.keys_roles.specs.Plain.{Signature}
 use Rattle.denials.specs.declared.denial.Denial.{Denial}
 use Rattle.denials.specs.declared.denial.Denial.TheVariants as denials
-use Rattle.metadata.specs.Parts.{max_signatures}
+use Rattle.document_parts.specs.Parts.{max_signatures}
 use Rattle.metadata.specs.Shape.{IsEnvelopeFault, IsSignedBy, IsSignedFile, max_file}
-use Rattle.metadata.specs.declared.documents.ShapeFault.TheVariants.{TooLong, NotCanonical, WrongShape}
+use Rattle.document_parts.specs.declared.documents.ShapeFault.TheVariants.{TooLong, NotCanonical, WrongShape}
 use Rattle.signing.specs.Files.{file_text}
 use Rattle.signing.specs.declared.faults.JoinFault.{JoinFault}
 use Rattle.signing.specs.declared.faults.JoinFault.TheVariants.{First, Second, Different, Denied, OutOfMemory}

@@ -6,7 +6,7 @@ ghost use Rattle.sqlite.specs.State.{HasCleanDisk};
 ghost use Rattle.sqlite_trees.specs.Tree.{Trees};
 ghost use Rattle.denials.specs.declared.denial.Denial.TheVariants as denials;
 ghost use Rattle.keys_roles.specs.Views.{entries_view, id_text};
-ghost use Rattle.metadata.specs.Parts.{max_signatures};
+ghost use Rattle.document_parts.specs.Parts.{max_signatures};
 ghost use Rattle.metadata.specs.Shape.{IsSignedBy, max_file};
 ghost use Rattle.leaf_plans.specs.Book.{key_of};
 ghost use Rattle.leaf_book.specs.Rows.{HoldsWhole, IsRecorded};

@@ -2,7 +2,7 @@
 ghost use Rattle.std.specs.Prelude.{◌≡◌, ◌≤◌, ◌⊎◌, [], List, ℕ, length, IfErr, IfOk};
 ghost use Rattle.keys_roles.specs.Views.{entries_view};
 ghost use Rattle.metadata.specs.Shape.{IsEnvelopeFault, IsSignedBy};
-ghost use Rattle.metadata.specs.declared.documents.ShapeFault.TheVariants as shapes;
+ghost use Rattle.document_parts.specs.declared.documents.ShapeFault.TheVariants as shapes;
 ghost use Rattle.keys_roles.specs.Plain.{Signature as PlainSignature};
 ghost use Rattle.signing.specs.Joining.{IsUnjoined, JoinsFiles};
 

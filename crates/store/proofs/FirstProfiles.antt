@@ -3,7 +3,7 @@ use Rattle.std.proofs.Common.{◌≡◌, ℕ, suc, List, [], ◌∷◌, ◌++◌
 use Rattle.std.specs.Prelude.{IfSome}
 use Rattle.std.specs.List.{AllByRecursion}
 use Rattle.sqlite_trees.specs.Tree.{Trees}
-use Rattle.metadata.specs.Documents.{Profile, Root, first_profile, second_profile}
+use Rattle.document_parts.specs.Documents.{Profile, Root, first_profile, second_profile}
 use Rattle.metadata.specs.File.{Bytes, File}
 use Rattle.machine.specs.Contents.{profile_number, root_rows}
 use Rattle.machine.specs.State.{IsHeldUnder, IsRootChain, IsState, State, Trusted, first, kept_root, then}

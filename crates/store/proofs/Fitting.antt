@@ -20,7 +20,7 @@ use Rattle.sha2.proofs.Facts256.{length-sha256}
 use Rattle.sqlite_rules.specs.Lists.{Has}
 use Rattle.path_patterns.specs.Bytes.{is_digit, is_lower, is_name_byte, is_name_start}
 use Rattle.path_patterns.specs.Grammar.{IsName}
-use Rattle.metadata.specs.Documents.{Profile, Root, Timestamp, Snapshot, Targets, first_profile, second_profile}
+use Rattle.document_parts.specs.Documents.{Profile, Root, Timestamp, Snapshot, Targets, first_profile, second_profile}
 use Rattle.metadata.specs.File.{Bytes, File, Form, IsFileOf, root_form, timestamp_form, snapshot_form, targets_form}
 use Rattle.delegations.specs.Delegation.{before}
 use Rattle.delegations.specs.Rows.{Place, Rises, Rows, place_before}

@@ -5,7 +5,7 @@ use Rattle.std.proofs.lemmas.List.{append-nil, length-map, map-append}
 use Rattle.std.proofs.Math.Seq.{append_snoc}
 use Rattle.sqlite_rules.specs.Lists.{Has}
 use Rattle.sqlite_rules.proofs.ListLemmas.{has_left, has_right, has_either}
-use Rattle.metadata.specs.Documents.{Root}
+use Rattle.document_parts.specs.Documents.{Root}
 use Rattle.metadata.specs.File.{Bytes, File}
 use Rattle.delegations.specs.Delegation.{before}
 use Rattle.delegations.specs.Rows.{Place, Rows, place_before, same_place, with_row, with_rows}

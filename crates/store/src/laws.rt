@@ -11,7 +11,7 @@ ghost use Rattle.machine.specs.Commands.{grants};
 ghost use Rattle.machine.specs.State as trust;
 ghost use Rattle.machine.specs.State.{IsState, dotted, metadata_of};
 ghost use Rattle.metadata.specs.File.{Bytes};
-ghost use Rattle.metadata.specs.Parts.{last_number};
+ghost use Rattle.document_parts.specs.Parts.{last_number};
 ghost use Rattle.tables.specs.Opening.{IsSettled};
 ghost use Rattle.tables.specs.Tables.{HoldsFirst, HoldsWhole, IsStore};
 ghost use Rattle.store.specs.Standing.{StandsAt, seen};

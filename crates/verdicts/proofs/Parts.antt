@@ -1,8 +1,8 @@
 -- What a fault of a part says of the whole.
 use Rattle.std.proofs.Common.{◌≡◌, ◌⊎◌, ◌∙◌, ℕ, List, IfErr, Result, Ok, Err, ap, subst, sym, inl, inr}
 use Rattle.hex.specs.Hex.{IsBytes}
-use Rattle.metadata.specs.declared.documents.ShapeFault.{ShapeFault}
-use Rattle.metadata.specs.steps.Faults.{IsIll}
+use Rattle.document_parts.specs.declared.documents.ShapeFault.{ShapeFault}
+use Rattle.document_parts.specs.steps.Faults.{IsIll}
 use Rattle.verdicts.specs.declared.case.CaseFault.{CaseFault}
 use Rattle.verdicts.specs.declared.case.CaseFault.TheVariants.{OutOfMemory}
 use Rattle.verdicts.specs.RuleCase.{IsRuleText, RuleCase}

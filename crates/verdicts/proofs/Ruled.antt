@@ -1,8 +1,8 @@
 -- Lists of words that are read as rules so far, and what a judgement of rules says of the case.
 use Rattle.std.proofs.Common.{◌≡◌, ◌∙◌, ℕ, suc, List, [], ◌∷◌, ◌++◌, length, Some, slice_get, refl, sym, ap, subst}
 use Rattle.std.proofs.lemmas.List.{append_assoc}
-use Rattle.metadata.specs.Links.{Link}
-use Rattle.metadata.specs.Rules.{ArtifactRule, AreWordsOf}
+use Rattle.document_parts.specs.Links.{Link}
+use Rattle.document_parts.specs.Rules.{ArtifactRule, AreWordsOf}
 use Rattle.verdicts.specs.RuleCase.{AreJudged, AreRules, IsFirstNoRule, RuleCase}
 
 same_count : (lists : List (List (List ℕ))) (rules : List ArtifactRule) → AreRules lists rules → length lists ≡ length rules

@@ -2,9 +2,9 @@
 use Rattle.std.proofs.Common.{◌≡◌, ◌∙◌, ℕ, List, [], ◌∷◌, Option, Some, None, map, option_map, slice_get, refl, sym, ap}
 use Rattle.std.proofs.lemmas.Option.{slice_get-map}
 use Rattle.canonical_json.specs.Json.{Json, Members, no_members, member, names}
-use Rattle.metadata.specs.Links.{Link}
-use Rattle.metadata.specs.Members.{IsObject, MembersAre}
-use Rattle.metadata.proofs.Growing.{same_members}
+use Rattle.document_parts.specs.Links.{Link}
+use Rattle.document_parts.specs.Members.{IsObject, MembersAre}
+use Rattle.document_parts.proofs.Growing.{same_members}
 use Rattle.artifact_rules.proofs.Places.{some_once}
 use Rattle.verdicts.specs.RuleCase.{IsLinkOf}
 

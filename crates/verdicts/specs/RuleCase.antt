@@ -4,11 +4,11 @@ use Rattle.std.specs.declared.alloc.Global.{Global}
 use Rattle.canonical_json.specs.Json.{Json, text, object, no_members, member}
 use Rattle.canonical_json.specs.Spelling.{IsCanonical}
 use Rattle.path_patterns.specs.Grammar.{IsName}
-use Rattle.metadata.specs.Bodies.{AreArtifacts}
-use Rattle.metadata.specs.Links.{Link}
-use Rattle.metadata.specs.Members.{IsArray, IsObject, IsText}
-use Rattle.metadata.specs.Rules.{ArtifactRule, AreWordsOf, Side, materials, products}
-use Rattle.metadata.specs.RuleViews.{link_view, side_view}
+use Rattle.document_parts.specs.Bodies.{AreArtifacts}
+use Rattle.document_parts.specs.Links.{Link}
+use Rattle.document_parts.specs.Members.{IsArray, IsObject, IsText}
+use Rattle.document_parts.specs.Rules.{ArtifactRule, AreWordsOf, Side, materials, products}
+use Rattle.document_parts.specs.RuleViews.{link_view, side_view}
 use Rattle.verdicts.specs.declared.rule_case.RuleCase as code
 
 -- Links of steps, of which the one of this place is judged; the words of each rule; and the side of the link that the rules are about.

@@ -17,11 +17,11 @@ use Rattle.lms.specs.Hss.{VerifiesHss}
 use Rattle.keys_roles.specs.Keys.{id_of}
 use Rattle.keys_roles.specs.Views.{key_view}
 use Rattle.keys_roles.specs.declared.Key.{Key}
-use Rattle.metadata.specs.Dates.{IsDateTime}
-use Rattle.metadata.specs.Documents as documents
+use Rattle.document_parts.specs.Dates.{IsDateTime}
+use Rattle.document_parts.specs.Documents as documents
 use Rattle.metadata.specs.File.{fault_number}
 use Rattle.metadata.specs.Shape.{IsDocument, IsShapeFault}
-use Rattle.metadata.specs.declared.documents.Kind.{Kind}
+use Rattle.document_parts.specs.declared.documents.Kind.{Kind}
 use Rattle.path_patterns.specs.Grammar.{IsTargetPath, IsPattern, IsHashPrefix}
 use Rattle.path_patterns.specs.Matching.{MatchesSegmented, MatchesFlat, PrefixCovers}
 use Rattle.path_patterns.specs.Names.{Asks}

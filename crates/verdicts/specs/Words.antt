@@ -7,8 +7,8 @@ use Rattle.lms.specs.declared.OtsType.{OtsType}
 use Rattle.lms.specs.declared.OtsType.TheVariants.{W1, W2, W4, W8}
 use Rattle.lms.specs.declared.SigningHeight.{SigningHeight}
 use Rattle.lms.specs.declared.SigningHeight.TheVariants.{H5, H10}
-use Rattle.metadata.specs.declared.documents.ShapeFault.{ShapeFault}
-use Rattle.metadata.specs.declared.documents.ShapeFault.TheVariants as shape_faults
+use Rattle.document_parts.specs.declared.documents.ShapeFault.{ShapeFault}
+use Rattle.document_parts.specs.declared.documents.ShapeFault.TheVariants as shape_faults
 use Rattle.verdicts.specs.declared.case.Covering.{Covering}
 use Rattle.verdicts.specs.declared.case.Covering.TheVariants.{Segmented, Flat, Prefix}
 use Rattle.verdicts.specs.declared.case.CaseFault.{CaseFault}

@@ -1,7 +1,7 @@
 // Whether artifact rules hold.
 ghost use Rattle.std.specs.Prelude.{◌≡◌, Some, IfOk, MatchResult, map, slice_get};
 ghost use Rattle.artifact_rules.specs.Views.{links_view};
-ghost use Rattle.metadata.specs.RuleViews.{link_view, rule_view};
+ghost use Rattle.document_parts.specs.RuleViews.{link_view, rule_view};
 ghost use Rattle.verdicts.specs.RuleCase.{AreRules, IsFirstNoRule, lists_view, rule_case_view};
 ghost use Rattle.verdicts.specs.Verdict.{IsRuling};
 

@@ -8,7 +8,7 @@ ghost use Rattle.keys_roles.specs.declared.Key as keys;
 ghost use Rattle.lms.specs.declared.OtsType.{OtsType};
 ghost use Rattle.lms.specs.declared.SigningHeight.{SigningHeight};
 ghost use Rattle.metadata.specs.Shape.{kind_name};
-ghost use Rattle.metadata.specs.declared.documents.Kind.{Kind};
+ghost use Rattle.document_parts.specs.declared.documents.Kind.{Kind};
 ghost use Rattle.verdicts.specs.Case.{IsBytesOf, IsText};
 ghost use Rattle.verdicts.specs.Words.{hex_word, ots_word, height_word, covering_word};
 ghost use Rattle.verdicts.specs.declared.case.Covering.{Covering};

@@ -1,6 +1,6 @@
 -- What one rule comes to, by what is left in the queue.
 use Rattle.std.specs.Prelude.{◌≡◌, ℕ, List, Some, slice_get}
-use Rattle.metadata.specs.Rules.{ArtifactRule, disallow, require}
+use Rattle.document_parts.specs.Rules.{ArtifactRule, disallow, require}
 use Rattle.artifact_rules.specs.steps.Queue.{FirstLeft, NoneLeft, Queue}
 use Rattle.artifact_rules.specs.declared.faults.RuleFault.{RuleFault}
 use Rattle.artifact_rules.specs.declared.faults.RuleFault.TheVariants.{Disallowed, Required, OutOfMemory}

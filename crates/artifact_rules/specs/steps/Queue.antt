@@ -2,8 +2,8 @@
 use Rattle.std.specs.Prelude.{◌≡◌, ℕ, ◌<◌, ◌≤◌, List, length, map, Some, slice_get}
 use Rattle.std.specs.List.{AllZip}
 use Rattle.path_patterns.specs.Matching.{MatchesFlat}
-use Rattle.metadata.specs.Links.{Artifacts, Link}
-use Rattle.metadata.specs.Rules.{Side, ArtifactRule, disallow, require}
+use Rattle.document_parts.specs.Links.{Artifacts, Link}
+use Rattle.document_parts.specs.Rules.{Side, ArtifactRule, disallow, require}
 use Rattle.artifact_rules.specs.Rules.{Takes}
 use Rattle.artifact_rules.specs.declared.queue.Queued.{Queued}
 

@@ -1,8 +1,8 @@
 -- What single rules take of one path.
 use Rattle.std.specs.Prelude.{◌≡◌, ◌≢◌, ℕ, List, Some}
 use Rattle.path_patterns.specs.Matching.{MatchesFlat}
-use Rattle.metadata.specs.Links.{HasDigest, Link, Lists, side_of}
-use Rattle.metadata.specs.Rules.{Match}
+use Rattle.document_parts.specs.Links.{HasDigest, Link, Lists, side_of}
+use Rattle.document_parts.specs.Rules.{Match}
 use Rattle.artifact_rules.specs.Rules.{link_of, path_in}
 
 abbrev pub IsCreated : Link → List ℕ → Type 0

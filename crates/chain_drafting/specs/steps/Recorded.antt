@@ -2,7 +2,7 @@
 use Rattle.std.specs.Prelude.{◌≡◌, ℕ, pos, Option, List, [], ◌∷◌, codes}
 use Rattle.canonical_json.specs.Json.{Json, integer, text, array, object, no_items, no_members, member}
 use Rattle.canonical_json.specs.View.{items_of}
-use Rattle.metadata.specs.Dates.{IsDateTime}
+use Rattle.document_parts.specs.Dates.{IsDateTime}
 use Rattle.drafting.specs.Members.{HasNone, IsObjectAt, Puts, PutsAll}
 use Rattle.drafting.specs.Roots.{ids_of}
 use Rattle.drafting.specs.declared.terms.Terms.{Terms}

@@ -5,10 +5,10 @@ use Rattle.limits.specs.Limits.{blob_limit, most_held}
 use Rattle.sha2.specs.Sha256.{sha256}
 use Rattle.path_patterns.specs.Grammar.{IsName, IsTargetPath}
 use Rattle.path_patterns.specs.Names.{Asks, IsDigest}
-use Rattle.metadata.specs.Documents.{MetaFile, Profile, Root, Snapshot, Targets, Timestamp}
-use Rattle.metadata.specs.Bodies.{IsListable}
+use Rattle.document_parts.specs.Documents.{MetaFile, Profile, Root, Snapshot, Targets, Timestamp}
+use Rattle.document_parts.specs.Bodies.{IsListable}
 use Rattle.metadata.specs.File.{Bytes, Name, File, IsFileOf, root_form, snapshot_form, targets_form, timestamp_form}
-use Rattle.metadata.specs.Parts.{last_number}
+use Rattle.document_parts.specs.Parts.{last_number}
 use Rattle.denials.specs.Orders.{RoleMissing, BlobMissing, Denied, Judged, Same}
 use Rattle.delegations.specs.Delegation.{before}
 use Rattle.delegations.specs.Missed.{IsMissed}

@@ -5,7 +5,7 @@
 use Rattle.std.specs.Prelude.{◌≡◌, ℕ, ◌+◌, ◌<◌, Bool, true, false, ◌||◌, List, [], ◌∷◌, ◌++◌, length, take, Some, None, Err}
 use Rattle.metadata.specs.File.{Bytes, Names, has_name}
 use Rattle.denials.specs.Orders.{Judged, Denied, Plain, denied}
-use Rattle.metadata.specs.Covers.{covers}
+use Rattle.document_parts.specs.Covers.{covers}
 use Rattle.delegations.specs.Delegation.{Edge, Hops, Graph, hops}
 use Rattle.delegations.specs.Search.{Shelf, Found, find_in, graph_of}
 

@@ -5,7 +5,7 @@ use Rattle.keys_roles.specs.Plain.{look_up}
 use Rattle.keys_roles.specs.Rules.{AreDistinct}
 use Rattle.keys_roles.specs.Verdicts.{Pair, Verdict, AreVerdicts, is_known, pairs}
 use Rattle.keys_roles.specs.steps.Counting.{IsIn}
-use Rattle.metadata.specs.Documents.{Targets, Delegation, Delegations}
+use Rattle.document_parts.specs.Documents.{Targets, Delegation, Delegations}
 use Rattle.metadata.specs.File.{Name, Names, File}
 use Rattle.delegations.specs.Delegation.{Edge}
 use Rattle.delegations.specs.Rows.{Place, row_at}

@@ -5,10 +5,10 @@ use Rattle.std.specs.Prelude.{◌≡◌, ℕ, ◌+◌, true, false, cond, List, 
 use Rattle.std.specs.List.{AllByRecursion}
 use Rattle.keys_roles.specs.Plain.{Table}
 use Rattle.keys_roles.specs.Views as keys
-use Rattle.metadata.specs.Documents.{Targets, MetaFile}
+use Rattle.document_parts.specs.Documents.{Targets, MetaFile}
 use Rattle.metadata.specs.File.{Name, Names, File, has_name}
-use Rattle.metadata.specs.Views.{delegation_view}
-use Rattle.metadata.specs.declared.documents.Delegation.{Delegation as CodeDelegation}
+use Rattle.document_parts.specs.Views.{delegation_view}
+use Rattle.document_parts.specs.declared.documents.Delegation.{Delegation as CodeDelegation}
 use Rattle.delegations.specs.Delegation.{Edge, Hops, hops, hop_at}
 use Rattle.delegations.specs.Search.{Shelf, Good, MeetsEdge, Vouched, hops_of, whole}
 use Rattle.delegations.specs.declared.frames.Frame.{Frame}

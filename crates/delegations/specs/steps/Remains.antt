@@ -7,9 +7,9 @@
 use Rattle.std.specs.Prelude.{◌≡◌, ℕ, suc, ◌+◌, ◌-◌, ◌*◌, ◌≤◌, true, false, cond, List, [], ◌∷◌, ◌++◌, map, length, Option, Some, None, Result, Ok, Err}
 use Rattle.std.specs.List.{AllByRecursion}
 use Rattle.keys_roles.specs.Views as keys
-use Rattle.metadata.specs.Covers.{covers}
+use Rattle.document_parts.specs.Covers.{covers}
 use Rattle.metadata.specs.File.{Bytes, Names, has_name}
-use Rattle.metadata.specs.Views.{delegation_view}
+use Rattle.document_parts.specs.Views.{delegation_view}
 use Rattle.denials.specs.Orders.{Denied}
 use Rattle.delegations.specs.Delegation.{Edge, Hops, Graph, hops}
 use Rattle.delegations.specs.Rows.{Rows}

@@ -3,7 +3,7 @@ use Rattle.std.specs.Prelude.{ℕ, ◌<◌, List, codes, length, slice_index_or,
 use Rattle.std.specs.List.{AllByRecursion}
 use Rattle.canonical_json.specs.Json.{Json}
 use Rattle.canonical_json.specs.Spelling.{IsCanonical}
-use Rattle.metadata.specs.Documents.{Document}
+use Rattle.document_parts.specs.Documents.{Document}
 use Rattle.drafting.specs.Members.{IsObjectAt}
 use Rattle.keys_roles.specs.Views.{id_text, key_view, rows_view}
 use Rattle.keys_roles.specs.declared.Key.{Key}

@@ -6,10 +6,10 @@ use Rattle.denials.specs.Orders.{Denied, Order, Plain}
 use Rattle.keys_roles.specs.Keys.{top_key}
 use Rattle.keys_roles.specs.Plain.{Key, Signature, Table, look_up}
 use Rattle.keys_roles.specs.Rules.{IsSigned}
-use Rattle.metadata.specs.Documents.{Step}
+use Rattle.document_parts.specs.Documents.{Step}
 use Rattle.metadata.specs.File.{File}
-use Rattle.metadata.specs.Links.{Link}
-use Rattle.metadata.specs.RuleViews.{link_view}
+use Rattle.document_parts.specs.Links.{Link}
+use Rattle.document_parts.specs.RuleViews.{link_view}
 use Rattle.layouts.specs.Layouts.{EnoughKeys, IsGoodBy, IsLinkOf, SameArtifacts}
 use Rattle.layouts.specs.declared.step_links.Good.{Good}
 

@@ -3,8 +3,8 @@ use Rattle.std.specs.Prelude.{◌≡◌, ℕ, Bool, true, false, Result, Ok, Err
 use Rattle.metadata.specs.File.{fault_number}
 use Rattle.denials.specs.Orders as orders
 use Rattle.denials.specs.Orders.{Order, Plain, Same}
-use Rattle.metadata.specs.declared.documents.ShapeFault.{ShapeFault}
-use Rattle.metadata.specs.declared.documents.ShapeFault.TheVariants as shapes
+use Rattle.document_parts.specs.declared.documents.ShapeFault.{ShapeFault}
+use Rattle.document_parts.specs.declared.documents.ShapeFault.TheVariants as shapes
 use Rattle.machine.specs.State.{Trusted}
 use Rattle.machine.specs.Commands.{BatchOrder}
 use Rattle.denials.specs.Views.{denial_view}

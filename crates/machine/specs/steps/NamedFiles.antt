@@ -1,6 +1,6 @@
 -- The metadata files under their names, table by table.
 use Rattle.std.specs.Prelude.{ℕ, ◌-◌, List, [], ◌∷◌, map, length, Option, codes}
-use Rattle.metadata.specs.Documents.{Profile, Timestamp, Snapshot}
+use Rattle.document_parts.specs.Documents.{Profile, Timestamp, Snapshot}
 use Rattle.metadata.specs.File.{Bytes, File}
 use Rattle.delegations.specs.Rows.{Rows}
 use Rattle.machine.specs.State.{dotted, one_file}

@@ -3,9 +3,9 @@ use Rattle.std.specs.Prelude.{◌≡◌, ◌≢◌, ◌↔◌, ◌⊎◌, ℕ, n
 use Rattle.sha2.specs.Sha256.{sha256}
 use Rattle.metadata.specs.Shape.{max_file}
 use Rattle.metadata.specs.File.{Bytes}
-use Rattle.metadata.specs.declared.documents.ShapeFault.{ShapeFault}
-use Rattle.metadata.specs.declared.documents.ShapeFault.TheVariants as shapes
-use Rattle.metadata.specs.Views.{listing_view, root_view}
+use Rattle.document_parts.specs.declared.documents.ShapeFault.{ShapeFault}
+use Rattle.document_parts.specs.declared.documents.ShapeFault.TheVariants as shapes
+use Rattle.document_parts.specs.Views.{listing_view, root_view}
 use Rattle.denials.specs.Numbers as no
 use Rattle.denials.specs.Orders as orders
 use Rattle.denials.specs.Orders.{Order, Plain}

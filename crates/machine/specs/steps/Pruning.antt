@@ -1,6 +1,6 @@
 -- What a prune takes away, step by step.
 use Rattle.std.specs.Prelude.{◌≡◌, ℕ, not, List, [], ◌∷◌, map, filter, Option, Some, None, bytes_eq}
-use Rattle.metadata.specs.Documents.{Listing, Snapshot}
+use Rattle.document_parts.specs.Documents.{Listing, Snapshot}
 use Rattle.metadata.specs.File.{Bytes, File}
 use Rattle.delegations.specs.Rows.{Place, Rows}
 use Rattle.delegations.specs.Verdicts.{AreListed, Table}

@@ -3,12 +3,12 @@ use Rattle.std.specs.Prelude.{◌≡◌, ◌⊎◌, ℕ, List}
 use Rattle.std.specs.List.{AllByRecursion}
 use Rattle.canonical_json.specs.Json.{Json}
 use Rattle.keys_roles.specs.Plain.{Signature}
-use Rattle.metadata.specs.Documents.{Body}
-use Rattle.metadata.specs.Parts.{IsEnvelope, NamesAreIds}
+use Rattle.document_parts.specs.Documents.{Body}
+use Rattle.document_parts.specs.Parts.{IsEnvelope, NamesAreIds}
 use Rattle.metadata.specs.Shape.{kind_name, tables, IsBody, IsFile, IsShapeFault}
-use Rattle.metadata.specs.declared.documents.Kind.{Kind}
-use Rattle.metadata.specs.declared.documents.ShapeFault.{ShapeFault}
-use Rattle.metadata.specs.declared.documents.ShapeFault.TheVariants.{OutOfMemory}
+use Rattle.document_parts.specs.declared.documents.Kind.{Kind}
+use Rattle.document_parts.specs.declared.documents.ShapeFault.{ShapeFault}
+use Rattle.document_parts.specs.declared.documents.ShapeFault.TheVariants.{OutOfMemory}
 
 -- the value is a document of the kind with these signatures, which says this
 pub record IsSignedAs (kind : Kind) (v : Json) (entries : List Signature) (body : Body) : Type 0 where

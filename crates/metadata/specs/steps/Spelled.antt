@@ -1,42 +1,20 @@
--- Tables and rules as a file spells them: their ids are texts of any form.
-use Rattle.std.specs.Prelude.{ℕ, List, Option, codes, map, option_map, String, string_bytes}
+-- The rules of a root, delegations, references and listings as a file spells them: their ids are texts of any form.
+use Rattle.std.specs.Prelude.{ℕ, List, Option, map, option_map}
 use Rattle.std.specs.List.{AllByRecursion}
-use Rattle.std.specs.declared.alloc.Global.{Global}
 use Rattle.keys_roles.specs.Plain as plain
-use Rattle.keys_roles.specs.Views.{key_view, table_view, rule_view}
-use Rattle.keys_roles.specs.declared.Key.{Key}
-use Rattle.metadata.specs.declared.keys.SpelledTable.{SpelledTable}
-use Rattle.metadata.specs.declared.keys.SpelledRule.{SpelledRule}
+use Rattle.keys_roles.specs.Views.{table_view, rule_view}
+use Rattle.document_parts.specs.Bodies as bodies
+use Rattle.document_parts.specs.Documents as documents
+use Rattle.document_parts.specs.Parts.{IsRuleOver}
+use Rattle.document_parts.specs.Views.{scope_view}
+use Rattle.document_parts.specs.declared.keys.SpelledTable.{SpelledTable}
+use Rattle.document_parts.specs.steps.Tables.{spelled_rule, spelled_table}
 use Rattle.metadata.specs.declared.delegations.SpelledDelegation.{SpelledDelegation}
 use Rattle.metadata.specs.declared.delegations.SpelledDelegations.{SpelledDelegations}
 use Rattle.metadata.specs.declared.listings.SpelledListing.{SpelledListing}
 use Rattle.metadata.specs.declared.references.SpelledReference.{SpelledReference}
-use Rattle.metadata.specs.declared.steps.SpelledStep.{SpelledStep}
 use Rattle.metadata.specs.declared.root.SpelledRoles.{SpelledRoles}
 use Rattle.metadata.specs.declared.root.Keyed.{Keyed}
-use Rattle.canonical_json.specs.Json.{Json, text, object, no_members, member}
-use Rattle.metadata.specs.Members.{Has}
-use Rattle.metadata.specs.Parts.{IsTable, IsRuleOver}
-use Rattle.metadata.specs.Bodies as bodies
-use Rattle.metadata.specs.Documents as documents
-use Rattle.metadata.specs.RuleViews.{rule_view as artifact_view}
-use Rattle.metadata.specs.Views.{scope_view}
-
--- {"public":..} with this text
-abbrev pub keyval_object : List ℕ → Json
-keyval_object digits = object (member (codes "public") (text digits) no_members)
-
-abbrev pub texts_view : List (String Global) → List (List ℕ)
-texts_view ts = map string_bytes ts
-
-abbrev pub spelled_rows : List (String Global × Key) → plain.Table
-spelled_rows rows = map (λ e. (string_bytes e.0, key_view e.1)) rows
-
-abbrev pub spelled_table : SpelledTable → plain.Table
-spelled_table t = spelled_rows t.rows.items
-
-abbrev pub spelled_rule : SpelledRule → plain.RoleRule
-spelled_rule r = record { keyids = texts_view r.ids.items; threshold = r.threshold }
 
 abbrev pub spelled_roles : SpelledRoles → bodies.Roles
 spelled_roles r = record {
@@ -58,15 +36,6 @@ spelled_delegations d = record { keys = spelled_table d.keys; roles = spelled_li
 abbrev pub names_of : List documents.Delegation → List (List ℕ)
 names_of ds = map (λ d. d.name) ds
 
-abbrev pub spelled_step : SpelledStep → documents.Step
-spelled_step s = record { name = s.name; rule = spelled_rule s.rule; materials = map artifact_view s.materials.items; products = map artifact_view s.products.items }
-
-abbrev pub spelled_steps : List SpelledStep → List documents.Step
-spelled_steps ss = map spelled_step ss
-
-abbrev pub step_names : List documents.Step → List (List ℕ)
-step_names ss = map (λ s. s.name) ss
-
 abbrev pub spelled_reference : SpelledReference → documents.LayoutReference
 spelled_reference l = record {
   owners = spelled_rule l.owners;
@@ -87,10 +56,6 @@ spelled_listings ls = map spelled_listing ls
 abbrev pub keyed_view : Keyed → plain.Table × bodies.Roles
 keyed_view k =
     (table_view k.keys, record { root = rule_view k.root; snapshot = rule_view k.snapshot; targets = rule_view k.targets; timestamp = rule_view k.timestamp })
-
--- the object has these keys, and the rules of the four roles over them
-abbrev pub HasKeyed : Json → plain.Table × bodies.Roles → Type 0
-HasKeyed v k = Has v (codes "keys") (λ x. IsTable x k.0) × Has v (codes "roles") (λ x. bodies.AreRoles x k.0 k.1)
 
 abbrev pub plain_root : documents.Profile → ℕ → ℕ → Option (List (List ℕ)) → plain.Table × bodies.Roles → documents.Root
 plain_root profile version expires required k = record {

@@ -1,7 +1,7 @@
 -- What changes of a state make of its rows.
 use Rattle.std.specs.Prelude.{ℕ, ◌-◌, Bool, List, [], ◌∷◌, ◌++◌, cond, length, Option, Some, None, option_map, unwrap_or}
 use Rattle.metadata.specs.File.{Bytes, File}
-use Rattle.metadata.specs.Documents.{Root}
+use Rattle.document_parts.specs.Documents.{Root}
 use Rattle.machine.specs.Contents.{numbered, profile_number, shelf_rows}
 use Rattle.contents.specs.Contents.{Contents}
 use Rattle.delegations.specs.Rows.{Place}

@@ -1,8 +1,8 @@
 use Rattle.std.proofs.Common.{rules, ◌≡◌, ◌+◌, List, ◌<◌, ◌≤◌, length, map, refl, subst, arith}
 use Rattle.std.proofs.lemmas.List.{length-map}
 use Rattle.std.proofs.lemmas.Option.{slice_get_within}
-use Rattle.metadata.specs.Links.{side_of}
-use Rattle.metadata.specs.RuleViews.{link_view, rule_view, side_view}
+use Rattle.document_parts.specs.Links.{side_of}
+use Rattle.document_parts.specs.RuleViews.{link_view, rule_view, side_view}
 use Rattle.artifact_rules.specs.Faults.{IsRuleFault}
 use Rattle.artifact_rules.specs.Rules.{FailsAt}
 use Rattle.artifact_rules.specs.Views.{links_view}

@@ -1,5 +1,5 @@
 use Rattle.std.proofs.Common.{ℕ, ◌<◌, ◌≤◌, ◌-◌, length, map}
-use Rattle.metadata.specs.RuleViews.{link_view, rule_view, side_view}
+use Rattle.document_parts.specs.RuleViews.{link_view, rule_view, side_view}
 use Rattle.artifact_rules.specs.Rules.{FailsAt}
 use Rattle.artifact_rules.specs.Views.{links_view}
 use Rattle.artifact_rules.proofs.checking.check.Given as goal

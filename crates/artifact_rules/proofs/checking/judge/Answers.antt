@@ -1,7 +1,7 @@
 use Rattle.std.proofs.Common.{rules, ◌≡◌, ℕ, List, ◌<◌, length, Some, refl, ap, ◌∙◌, arith}
 use Rattle.std.proofs.lemmas.List.{length-map}
-use Rattle.metadata.specs.Rules.{disallow}
-use Rattle.metadata.specs.RuleViews.{rule_view}
+use Rattle.document_parts.specs.Rules.{disallow}
+use Rattle.document_parts.specs.RuleViews.{rule_view}
 use Rattle.artifact_rules.specs.steps.Queue.{FirstLeft, queue_view}
 use Rattle.artifact_rules.specs.declared.queue.Queued.{Queued}
 use Rattle.artifact_rules.proofs.Places.{item_at}

@@ -1,5 +1,5 @@
 use Rattle.std.proofs.Common.{rules, ℕ, List, ◌<◌, ◌≤◌, ◌+◌, length}
-use Rattle.metadata.specs.RuleViews.{rule_view}
+use Rattle.document_parts.specs.RuleViews.{rule_view}
 use Rattle.artifact_rules.specs.steps.Queue.{IsLeft, queue_view}
 use Rattle.artifact_rules.specs.declared.queue.Queued.{Queued}
 use Rattle.artifact_rules.proofs.Places.{item_at, one_more, past_all}

@@ -1,5 +1,5 @@
 use Rattle.std.proofs.Common.{◌≡◌, ℕ, List, ◌<◌, ◌≤◌, ◌-◌, length, Some, slice_get}
-use Rattle.metadata.specs.RuleViews.{rule_view}
+use Rattle.document_parts.specs.RuleViews.{rule_view}
 use Rattle.artifact_rules.specs.steps.Queue.{IsLeft, queue_view}
 use Rattle.artifact_rules.proofs.queue.first_left.Given as goal
 

@@ -1,6 +1,6 @@
 use Rattle.std.proofs.Common.{rules, ◌≡◌, List, [], ◌∷◌, length, map, refl, subst, append-nil, arith}
-use Rattle.metadata.specs.Links.{Artifacts, side_of}
-use Rattle.metadata.specs.RuleViews.{link_view, rule_view, side_view}
+use Rattle.document_parts.specs.Links.{Artifacts, side_of}
+use Rattle.document_parts.specs.RuleViews.{link_view, rule_view, side_view}
 use Rattle.artifact_rules.specs.Views.{links_view}
 use Rattle.artifact_rules.specs.steps.Queue.{IsQueue, Queue, queue_view}
 use Rattle.artifact_rules.proofs.queue.queue_of.Goals as goal

@@ -1,6 +1,6 @@
 use Rattle.std.proofs.Common.{rules, ◌+◌, ◌<◌, ◌≤◌, length, map}
-use Rattle.metadata.specs.Rules.{ArtifactRule}
-use Rattle.metadata.specs.RuleViews.{link_view, rule_view, side_view}
+use Rattle.document_parts.specs.Rules.{ArtifactRule}
+use Rattle.document_parts.specs.RuleViews.{link_view, rule_view, side_view}
 use Rattle.artifact_rules.specs.Rules.{Takes}
 use Rattle.artifact_rules.specs.Views.{links_view}
 use Rattle.artifact_rules.proofs.Places.{item_at, one_more}

@@ -1,5 +1,5 @@
 use Rattle.std.proofs.Common.{rules, ◌≡◌}
-use Rattle.metadata.specs.RuleViews.{match_view}
+use Rattle.document_parts.specs.RuleViews.{match_view}
 use Rattle.artifact_rules.specs.Rules.{path_in}
 use Rattle.artifact_rules.proofs.Matching.{concerned}
 use Rattle.artifact_rules.proofs.taking.concerns.Goals as goal

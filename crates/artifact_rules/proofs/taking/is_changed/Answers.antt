@@ -1,6 +1,6 @@
 use Rattle.std.proofs.Common.{rules}
-use Rattle.metadata.specs.Links.{HasDigest}
-use Rattle.metadata.specs.RuleViews.{link_view}
+use Rattle.document_parts.specs.Links.{HasDigest}
+use Rattle.document_parts.specs.RuleViews.{link_view}
 use Rattle.artifact_rules.proofs.Changing.{changed_tells}
 use Rattle.artifact_rules.proofs.taking.is_changed.Goals as goal
 

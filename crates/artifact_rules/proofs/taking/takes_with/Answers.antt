@@ -1,8 +1,8 @@
 use Rattle.std.proofs.Common.{rules, ◌≡◌, Some, None}
 use Rattle.path_patterns.specs.Matching.{MatchesFlat}
 use Rattle.metadata.specs.File.{look_up}
-use Rattle.metadata.specs.Links.{side_of}
-use Rattle.metadata.specs.RuleViews.{link_view, match_view}
+use Rattle.document_parts.specs.Links.{side_of}
+use Rattle.document_parts.specs.RuleViews.{link_view, match_view}
 use Rattle.artifact_rules.specs.Rules.{link_of, path_in}
 use Rattle.artifact_rules.specs.Views.{links_view}
 use Rattle.artifact_rules.proofs.Matching.{no_match, not_there, found}

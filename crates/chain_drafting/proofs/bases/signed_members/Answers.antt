@@ -1,4 +1,4 @@
-use Rattle.metadata.specs.declared.documents.Kind.TheVariants as kinds
+use Rattle.document_parts.specs.declared.documents.Kind.TheVariants as kinds
 use Rattle.chain_drafting.proofs.LinkFiles.{no_link}
 use Rattle.chain_drafting.proofs.bases.signed_members.Goals as goal
 

@@ -1,6 +1,6 @@
 use Rattle.std.proofs.Common.{ℕ, pos, List, [], ◌∷◌, codes, Option, None, option_map, Bor}
 use Rattle.canonical_json.specs.Json.{Json, integer, text}
-use Rattle.metadata.specs.declared.documents.Kind.TheVariants as kinds
+use Rattle.document_parts.specs.declared.documents.Kind.TheVariants as kinds
 use Rattle.drafting.specs.Drafts.{File, nothing_else}
 use Rattle.drafting.specs.declared.terms.Terms.{Terms}
 use Rattle.drafting.proofs.Refusals.{unfinished}

@@ -1,5 +1,5 @@
 use Rattle.std.proofs.Common.{ℕ, List, Option, option_map, Bor}
-use Rattle.metadata.specs.declared.documents.Kind.TheVariants as kinds
+use Rattle.document_parts.specs.declared.documents.Kind.TheVariants as kinds
 use Rattle.drafting.specs.Drafts.{File}
 use Rattle.delegation_drafting.specs.Delegations.{DraftsDelegations, IsNotDelegated}
 use Rattle.delegation_drafting.specs.steps.Delegated.{delegation_changes_view}

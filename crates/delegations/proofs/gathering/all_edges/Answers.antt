@@ -1,7 +1,7 @@
 use Rattle.std.proofs.Common.{◌≡◌, ◌++◌, List, [], ◌∷◌, map, ap, sym, subst, ◌∙◌}
 use Rattle.metadata.specs.File.{Name, Names}
-use Rattle.metadata.specs.Views.{meta_view}
-use Rattle.metadata.specs.declared.documents.Meta.{Meta}
+use Rattle.document_parts.specs.Views.{meta_view}
+use Rattle.document_parts.specs.declared.documents.Meta.{Meta}
 use Rattle.delegations.specs.declared.shelf.Edge.{Edge as CodeEdge}
 use Rattle.delegations.specs.Delegation.{Edge}
 use Rattle.delegations.specs.Views.{edge_view, shelf_view}

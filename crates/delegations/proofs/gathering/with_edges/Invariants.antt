@@ -1,6 +1,6 @@
 use Rattle.std.proofs.Common.{◌≡◌, ◌++◌, length, map}
 use Rattle.keys_roles.specs.Views as keys
-use Rattle.metadata.specs.Views.{delegation_view}
+use Rattle.document_parts.specs.Views.{delegation_view}
 use Rattle.delegations.specs.Search.{edge_of}
 use Rattle.delegations.specs.Views.{edge_view}
 use Rattle.delegations.proofs.gathering.with_edges.Given as goal

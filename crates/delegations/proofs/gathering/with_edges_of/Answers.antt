@@ -1,7 +1,7 @@
 use Rattle.std.proofs.Common.{◌≡◌, ◌++◌, ◌∷◌, Some, option_map, IfOk, Result, Ok, Err, List, map, ap, sym, subst}
 use Rattle.metadata.specs.File.{Names}
 use Rattle.metadata.specs.FileViews.{targets_file}
-use Rattle.metadata.specs.Views.{delegations_view}
+use Rattle.document_parts.specs.Views.{delegations_view}
 use Rattle.delegations.specs.Delegation.{Edge}
 use Rattle.delegations.specs.Search.{edge_of}
 use Rattle.delegations.specs.Views.{edge_view, shelf_view}

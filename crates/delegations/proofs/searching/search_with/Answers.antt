@@ -1,8 +1,8 @@
 use Rattle.std.proofs.Common.{◌++◌, ◌∙◌, codes, map, sym, subst}
 use Rattle.keys_roles.specs.Rules.{AreDistinct}
 use Rattle.metadata.specs.File.{Names}
-use Rattle.metadata.specs.Sorted.{AreInOrder}
-use Rattle.metadata.specs.Views.{meta_view}
+use Rattle.document_parts.specs.Sorted.{AreInOrder}
+use Rattle.document_parts.specs.Views.{meta_view}
 use Rattle.delegations.specs.Verdicts.{Costs, Table}
 use Rattle.delegations.specs.Views.{shelf_view}
 use Rattle.delegations.proofs.Free.{free}

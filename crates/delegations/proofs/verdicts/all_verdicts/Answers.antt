@@ -2,9 +2,9 @@ use Rattle.std.proofs.Common.{◌≡◌, ◌+◌, ◌++◌, ◌∙◌, List, [],
 use Rattle.std.proofs.lemmas.List.{length-map}
 use Rattle.keys_roles.specs.Views.{verdict_view}
 use Rattle.metadata.specs.File.{Name, Names}
-use Rattle.metadata.specs.Sorted.{AreInOrder}
-use Rattle.metadata.specs.Views.{meta_view}
-use Rattle.metadata.specs.declared.documents.Meta.{Meta}
+use Rattle.document_parts.specs.Sorted.{AreInOrder}
+use Rattle.document_parts.specs.Views.{meta_view}
+use Rattle.document_parts.specs.declared.documents.Meta.{Meta}
 use Rattle.delegations.specs.Search.{doc}
 use Rattle.delegations.specs.Verdicts.{Table, verdict_count}
 use Rattle.delegations.specs.Views.{known_row, shelf_view, table_view}

@@ -1,6 +1,6 @@
 use Rattle.std.proofs.Common.{◌≡◌, ◌∙◌, List, Some, sym, subst}
 use Rattle.keys_roles.specs.Verdicts.{AreVerdicts, Verdict}
-use Rattle.metadata.specs.Documents.{Targets}
+use Rattle.document_parts.specs.Documents.{Targets}
 use Rattle.metadata.specs.File.{File}
 use Rattle.metadata.specs.FileViews.{targets_file}
 use Rattle.delegations.specs.Verdicts.{Table, known_at}

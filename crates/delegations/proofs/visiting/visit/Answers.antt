@@ -1,5 +1,5 @@
 use Rattle.metadata.specs.FileViews.{targets_file}
-use Rattle.metadata.specs.Views.{meta_view}
+use Rattle.document_parts.specs.Views.{meta_view}
 use Rattle.delegations.proofs.Visits.{unlisted, missing, other_length, other_hash, unmet, expired, good, refuted}
 use Rattle.delegations.specs.Views.{shelf_view, edge_view}
 use Rattle.std.proofs.Common.{List, sym, subst}

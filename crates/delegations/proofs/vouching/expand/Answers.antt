@@ -2,11 +2,11 @@ use Rattle.std.proofs.Common.{◌≡◌, List, [], ◌∷◌, map, Some, Bool, l
 use Rattle.keys_roles.specs.Plain.{Table}
 use Rattle.keys_roles.specs.Views as keys
 use Rattle.keys_roles.specs.Views.{rule_view}
-use Rattle.metadata.specs.Documents as plain
+use Rattle.document_parts.specs.Documents as plain
 use Rattle.metadata.specs.File.{Name, Names, File}
 use Rattle.metadata.specs.FileViews.{targets_file}
-use Rattle.metadata.specs.Views.{delegation_view}
-use Rattle.metadata.specs.declared.documents.Delegation.{Delegation as CodeDelegation}
+use Rattle.document_parts.specs.Views.{delegation_view}
+use Rattle.document_parts.specs.declared.documents.Delegation.{Delegation as CodeDelegation}
 use Rattle.delegations.specs.Delegation.{Edge, Hops}
 use Rattle.delegations.specs.Search.{Shelf, edge_of}
 use Rattle.delegations.specs.Views.{shelf_view}

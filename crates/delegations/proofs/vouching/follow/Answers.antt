@@ -3,11 +3,11 @@ use Rattle.std.proofs.lemmas.List.{map-append}
 use Rattle.std.proofs.lemmas.Slice.Eq.{bytes_eq-Decides}
 use Rattle.std.specs.List.{list_any}
 use Rattle.keys_roles.specs.Views as keys
-use Rattle.metadata.specs.declared.documents.Delegation.{Delegation as CodeDelegation}
+use Rattle.document_parts.specs.declared.documents.Delegation.{Delegation as CodeDelegation}
 use Rattle.metadata.specs.File.{Names, has_name}
 use Rattle.metadata.specs.FileViews.{targets_file}
-use Rattle.metadata.specs.Views.{delegations_view}
-use Rattle.metadata.specs.declared.documents.Delegations.{Delegations as CodeDelegations}
+use Rattle.document_parts.specs.Views.{delegations_view}
+use Rattle.document_parts.specs.declared.documents.Delegations.{Delegations as CodeDelegations}
 use Rattle.delegations.specs.Delegation.{Edge, Hops, hops}
 use Rattle.delegations.specs.Search.{Shelf, doc, hops_of, whole}
 use Rattle.delegations.specs.Views.{edge_view, shelf_view}

@@ -4,11 +4,11 @@ use Rattle.std.proofs.lemmas.List.{map-append}
 use Rattle.keys_roles.specs.Views as keys
 use Rattle.metadata.specs.File.{Names}
 use Rattle.metadata.specs.FileViews.{targets_file}
-use Rattle.metadata.specs.declared.documents.Delegation.{Delegation as CodeDelegation}
+use Rattle.document_parts.specs.declared.documents.Delegation.{Delegation as CodeDelegation}
 use Rattle.delegations.specs.declared.frames.Frame.{Frame}
 use Rattle.delegations.specs.steps.Reaching.{IsOpen, rest_of, waiting, whole_of}
-use Rattle.metadata.specs.Views.{delegations_view}
-use Rattle.metadata.specs.declared.documents.Delegations.{Delegations as CodeDelegations}
+use Rattle.document_parts.specs.Views.{delegations_view}
+use Rattle.document_parts.specs.declared.documents.Delegations.{Delegations as CodeDelegations}
 use Rattle.delegations.specs.Delegation.{Edge, Hops, hops}
 use Rattle.delegations.specs.Search.{Shelf, Good, MeetsEdge, doc, hops_of, whole}
 use Rattle.delegations.specs.Views.{shelf_view}

@@ -1,13 +1,13 @@
 use Rattle.std.proofs.Common.{◌≡◌, ℕ, ◌-◌, ◌≤◌, List, ◌∷◌, Option, Some, length, map, option_map, refl, ap, sym, ◌∙◌, subst, arith}
 use Rattle.std.proofs.lemmas.Result.{err_from_is_err_and}
 use Rattle.keys_roles.specs.Views as keys
-use Rattle.metadata.specs.Covers.{covers}
-use Rattle.metadata.specs.Documents as plain
+use Rattle.document_parts.specs.Covers.{covers}
+use Rattle.document_parts.specs.Documents as plain
 use Rattle.metadata.specs.File.{Bytes, File}
 use Rattle.metadata.specs.FileViews.{targets_file}
-use Rattle.metadata.specs.Views.{delegation_view, delegations_view, listing_view}
-use Rattle.metadata.specs.declared.documents.Delegation.{Delegation as CodeDelegation}
-use Rattle.metadata.specs.declared.documents.Delegations.{Delegations as CodeDelegations}
+use Rattle.document_parts.specs.Views.{delegation_view, delegations_view, listing_view}
+use Rattle.document_parts.specs.declared.documents.Delegation.{Delegation as CodeDelegation}
+use Rattle.document_parts.specs.declared.documents.Delegations.{Delegations as CodeDelegations}
 use Rattle.delegations.specs.Delegation.{Edge, Hops}
 use Rattle.delegations.specs.Search.{Shelf, hops_of, listing_of}
 use Rattle.delegations.specs.Verdicts.{Table}

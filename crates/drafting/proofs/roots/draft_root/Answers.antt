@@ -1,5 +1,5 @@
 use Rattle.std.proofs.Common.{ℕ, List, Option, option_map, Bor}
-use Rattle.metadata.specs.declared.documents.Kind.TheVariants as kinds
+use Rattle.document_parts.specs.declared.documents.Kind.TheVariants as kinds
 use Rattle.drafting.specs.Drafts.{File}
 use Rattle.drafting.specs.Roots.{DraftsRoot, IsRuleless}
 use Rattle.drafting.specs.steps.Rules.{rules_view}

@@ -1,5 +1,5 @@
 use Rattle.std.proofs.Common.{ℕ, List, Option, option_map, Bor}
-use Rattle.metadata.specs.declared.documents.Kind.TheVariants as kinds
+use Rattle.document_parts.specs.declared.documents.Kind.TheVariants as kinds
 use Rattle.drafting.specs.Drafts.{File, nothing_else}
 use Rattle.drafting.specs.Snapshots.{DraftsSnapshot}
 use Rattle.drafting.specs.steps.Rows.{roles_view}

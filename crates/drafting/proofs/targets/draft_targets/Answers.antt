@@ -1,5 +1,5 @@
 use Rattle.std.proofs.Common.{ℕ, List, Option, option_map, Bor}
-use Rattle.metadata.specs.declared.documents.Kind.TheVariants as kinds
+use Rattle.document_parts.specs.declared.documents.Kind.TheVariants as kinds
 use Rattle.drafting.specs.Drafts.{File}
 use Rattle.drafting.specs.Targets.{DraftsTargets, IsNoTarget}
 use Rattle.drafting.specs.steps.Rows.{changes_view}

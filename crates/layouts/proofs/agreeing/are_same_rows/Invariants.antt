@@ -1,5 +1,5 @@
 use Rattle.std.proofs.Common.{◌≡◌, length}
-use Rattle.metadata.specs.steps.Entries.{artifact_views}
+use Rattle.layout_files.specs.steps.Spelled.{artifact_views}
 use Rattle.layouts.proofs.agreeing.are_same_rows.Given as goal
 
 abbrev pub invariant-rows : goal.invariant-rows

@@ -4,8 +4,8 @@ use Rattle.std.proofs.lemmas.Result.{err_from_is_err_and}
 use Rattle.artifact_rules.specs.Views.{links_view}
 use Rattle.denials.specs.Numbers as no
 use Rattle.denials.specs.Orders.{check, fails, holds, pass}
-use Rattle.metadata.specs.Views.{step_view}
-use Rattle.metadata.specs.declared.documents.Step.{Step}
+use Rattle.document_parts.specs.Views.{step_view}
+use Rattle.document_parts.specs.declared.documents.Step.{Step}
 use Rattle.layouts.specs.Faults.{IsDeniedBy}
 use Rattle.layouts.specs.Layouts.{HasProduct, all, step_rules}
 use Rattle.layouts.proofs.Judged.{denied_first}

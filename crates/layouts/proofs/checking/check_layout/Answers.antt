@@ -8,8 +8,8 @@ use Rattle.keys_roles.specs.Plain.{RoleRule, Signature, Table}
 use Rattle.keys_roles.specs.Rules.{Meets}
 use Rattle.keys_roles.specs.Views.{entries_view, rule_view, table_view}
 use Rattle.metadata.specs.FileViews.{layout_file}
-use Rattle.metadata.specs.Views.{step_view}
-use Rattle.metadata.specs.declared.documents.Step.{Step}
+use Rattle.document_parts.specs.Views.{step_view}
+use Rattle.document_parts.specs.declared.documents.Step.{Step}
 use Rattle.layouts.specs.Faults.{IsDeniedBy, IsJudged}
 use Rattle.layouts.specs.Layouts.{AllAgree, EnoughKeys, all, rules_and_product}
 use Rattle.layouts.specs.Views.{files_view}

@@ -1,6 +1,6 @@
 use Rattle.std.proofs.Common.{[], length}
 use Rattle.keys_roles.specs.Views.{table_view}
-use Rattle.metadata.specs.Views.{step_view}
+use Rattle.document_parts.specs.Views.{step_view}
 use Rattle.layouts.specs.Views.{files_view}
 use Rattle.layouts.specs.steps.Gathering.{MakesGood, goods_view}
 use Rattle.layouts.proofs.Growing.{Grown}

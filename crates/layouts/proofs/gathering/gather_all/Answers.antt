@@ -5,9 +5,9 @@ use Rattle.artifact_rules.specs.Views.{links_view}
 use Rattle.denials.specs.Numbers as no
 use Rattle.denials.specs.Orders.{check, holds}
 use Rattle.keys_roles.specs.Views.{table_view}
-use Rattle.metadata.specs.Links.{Link}
-use Rattle.metadata.specs.RuleViews.{link_view}
-use Rattle.metadata.specs.Views.{step_view}
+use Rattle.document_parts.specs.Links.{Link}
+use Rattle.document_parts.specs.RuleViews.{link_view}
+use Rattle.document_parts.specs.Views.{step_view}
 use Rattle.layouts.specs.Layouts.{AllAgree, EnoughKeys}
 use Rattle.layouts.specs.Views.{files_view}
 use Rattle.layouts.specs.steps.Gathering.{IsEnough}

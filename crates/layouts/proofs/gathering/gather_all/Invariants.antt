@@ -3,7 +3,7 @@ use Rattle.artifact_rules.specs.Views.{links_view}
 use Rattle.denials.specs.Numbers as no
 use Rattle.denials.specs.Orders.{Judged, check}
 use Rattle.keys_roles.specs.Views.{table_view}
-use Rattle.metadata.specs.Views.{step_view}
+use Rattle.document_parts.specs.Views.{step_view}
 use Rattle.layouts.specs.Layouts.{AllAgree, EnoughKeys, all}
 use Rattle.layouts.specs.Views.{files_view}
 use Rattle.layouts.specs.steps.Gathering.{IsEnough}

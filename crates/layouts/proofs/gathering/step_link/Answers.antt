@@ -1,8 +1,8 @@
 use Rattle.std.proofs.Common.{rules, ◌≡◌, ◌↔◌, ◌<◌, ◌≤◌, List, length, Some, None, IsTrue, inr, sym, subst, arith}
 use Rattle.denials.specs.Orders.{fails}
 use Rattle.keys_roles.specs.Views.{table_view}
-use Rattle.metadata.specs.RuleViews.{link_view}
-use Rattle.metadata.specs.Views.{step_view}
+use Rattle.document_parts.specs.RuleViews.{link_view}
+use Rattle.document_parts.specs.Views.{step_view}
 use Rattle.layouts.specs.Views.{files_view}
 use Rattle.layouts.specs.steps.Gathering.{FirstAgrees, distinct_of, first_of, goods_view, tops_of}
 use Rattle.layouts.specs.declared.step_links.Good.{Good}

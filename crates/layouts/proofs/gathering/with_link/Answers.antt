@@ -3,7 +3,7 @@ use Rattle.keys_roles.specs.steps.Counting.{IsIn}
 use Rattle.keys_roles.specs.Views.{ids_view, table_view}
 use Rattle.keys_roles.specs.declared.KeyId.{KeyId}
 use Rattle.metadata.specs.FileViews.{link_file}
-use Rattle.metadata.specs.Views.{step_view}
+use Rattle.document_parts.specs.Views.{step_view}
 use Rattle.layouts.specs.steps.Gathering.{MakesGood, SignsAs, Some_of, goods_view}
 use Rattle.layouts.proofs.Growing.{other_way}
 use Rattle.layouts.proofs.StepLinks.{good_signs, signs_good}

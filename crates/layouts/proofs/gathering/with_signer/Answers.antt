@@ -3,7 +3,7 @@ use Rattle.std.proofs.lemmas.List.{map-append}
 use Rattle.keys_roles.specs.steps.Counting.{IsIn}
 use Rattle.keys_roles.specs.Views.{id_text, table_view}
 use Rattle.metadata.specs.FileViews.{link_file}
-use Rattle.metadata.specs.RuleViews.{link_view}
+use Rattle.document_parts.specs.RuleViews.{link_view}
 use Rattle.layouts.specs.steps.Gathering.{Signed, SignsAs, good_view, goods_view}
 use Rattle.layouts.proofs.Growing.{added, kept, pair_is}
 use Rattle.layouts.proofs.gathering.with_signer.Goals as goal

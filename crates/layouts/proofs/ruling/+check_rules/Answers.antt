@@ -3,8 +3,8 @@ use Rattle.std.specs.List.{zip}
 use Rattle.std.proofs.lemmas.Result.{err_from_is_err_and}
 use Rattle.artifact_rules.specs.Views.{links_view}
 use Rattle.denials.specs.Orders.{given}
-use Rattle.metadata.specs.RuleViews.{link_view}
-use Rattle.metadata.specs.Views.{step_view}
+use Rattle.document_parts.specs.RuleViews.{link_view}
+use Rattle.document_parts.specs.Views.{step_view}
 use Rattle.layouts.specs.Layouts.{all, step_rules}
 use Rattle.layouts.proofs.Judged.{denied_first, judged_next}
 use Rattle.layouts.proofs.Lists.{none_left}

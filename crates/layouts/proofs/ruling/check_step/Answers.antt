@@ -1,9 +1,9 @@
 use Rattle.std.proofs.Common.{List, map, Ok, subst}
 use Rattle.std.proofs.lemmas.Result.{err_from_is_err_and}
 use Rattle.artifact_rules.specs.Views.{links_view}
-use Rattle.metadata.specs.RuleViews.{link_view, rule_view}
-use Rattle.metadata.specs.Rules.{materials, products}
-use Rattle.metadata.specs.declared.rules.Rule.{Rule}
+use Rattle.document_parts.specs.RuleViews.{link_view, rule_view}
+use Rattle.document_parts.specs.Rules.{materials, products}
+use Rattle.document_parts.specs.declared.rules.Rule.{Rule}
 use Rattle.layouts.specs.Faults.{IsDeniedBy, IsJudged}
 use Rattle.layouts.specs.Layouts.{ruled}
 use Rattle.layouts.proofs.Judged.{denied_first, judged_next}

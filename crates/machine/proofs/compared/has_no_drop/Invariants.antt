@@ -3,7 +3,7 @@ use Rattle.std.specs.Prelude.{IsSome}
 use Rattle.std.specs.List.{AllByRecursion}
 use Rattle.keys_roles.specs.Plain.{look_up}
 use Rattle.metadata.specs.steps.Entries as rows
-use Rattle.metadata.specs.Views.{snapshot_view}
+use Rattle.document_parts.specs.Views.{snapshot_view}
 use Rattle.machine.proofs.compared.has_no_drop.Given as goal
 
 abbrev pub invariant-rows : goal.invariant-rows

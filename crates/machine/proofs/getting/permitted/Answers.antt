@@ -1,6 +1,6 @@
 use Rattle.std.proofs.Common.{◌∙◌, ◌-◌, ℕ, Ok, Err, arith, refl, subst, sym}
 use Rattle.std.proofs.lemmas.Result.{err_from_is_err_and}
-use Rattle.metadata.specs.Views.{listing_view}
+use Rattle.document_parts.specs.Views.{listing_view}
 use Rattle.denials.specs.Orders.{decide, fails as failing, given, holds, pass}
 use Rattle.machine.specs.Commands.{Listed}
 use Rattle.machine.specs.Knowing.{ChecksFew}

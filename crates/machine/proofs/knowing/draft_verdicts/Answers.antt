@@ -1,5 +1,5 @@
 use Rattle.std.proofs.Common.{ap, sym, subst, Option, ◌∙◌}
-use Rattle.metadata.specs.Documents.{Snapshot}
+use Rattle.document_parts.specs.Documents.{Snapshot}
 use Rattle.metadata.specs.File.{File}
 use Rattle.metadata.specs.FileViews.{root_file, snapshot_file}
 use Rattle.delegations.specs.Rows.{Rows}

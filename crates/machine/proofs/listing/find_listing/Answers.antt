@@ -2,7 +2,7 @@ use Rattle.std.proofs.Common.{◌≡◌, ◌∙◌, Ok, Err, Some, sym, ap, subs
 use Rattle.std.proofs.lemmas.Result.{err_from_is_err_and}
 use Rattle.std.specs.Prelude.{option_map}
 use Rattle.metadata.specs.FileViews.{root_file, timestamp_file, snapshot_file}
-use Rattle.metadata.specs.Views.{listing_view}
+use Rattle.document_parts.specs.Views.{listing_view}
 use Rattle.denials.specs.Orders.{decide, holds, pass}
 use Rattle.denials.specs.declared.denial.Denial.TheVariants.{NoRoot}
 use Rattle.delegations.specs.Rows.{Rows}

@@ -1,5 +1,5 @@
 use Rattle.std.proofs.Common.{◌∙◌, refl, sym}
-use Rattle.metadata.specs.Views.{listing_view, reference_view, root_view}
+use Rattle.document_parts.specs.Views.{listing_view, reference_view, root_view}
 use Rattle.machine.proofs.TargetFiles.{needed_tells, nothing_needed}
 use Rattle.machine.proofs.listing.has_needed.Goals as goal
 

@@ -1,5 +1,5 @@
 use Rattle.std.proofs.Common.{◌≡◌, map, length}
-use Rattle.metadata.specs.Views.{profile_view}
+use Rattle.document_parts.specs.Views.{profile_view}
 use Rattle.keys_roles.specs.Plain.{look_up}
 use Rattle.machine.specs.steps.NamedFiles.{earlier_files}
 use Rattle.machine.proofs.names.earlier_named.Given as goal

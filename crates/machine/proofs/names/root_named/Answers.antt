@@ -1,5 +1,5 @@
 use Rattle.std.proofs.Common.{◌≡◌, ap, sym, ◌∙◌, map, true, false, Some}
-use Rattle.metadata.specs.Views.{profile_view}
+use Rattle.document_parts.specs.Views.{profile_view}
 use Rattle.std.specs.Prelude.{bytes_eq, codes}
 use Rattle.machine.specs.State.{dotted}
 use Rattle.machine.specs.steps.NamedFiles.{earlier_files}

@@ -1,12 +1,12 @@
 use Rattle.std.proofs.Common.{◌≡◌, ◌∙◌, ℕ, List, Option, Some, None, Bor, ap, subst, sym, map, nat_eq, option_map, unwrap_or, false}
 use Rattle.keys_roles.specs.Plain.{look_up}
 use Rattle.keys_roles.specs.Rules.{AreDistinct}
-use Rattle.metadata.specs.Documents as plain
+use Rattle.document_parts.specs.Documents as plain
 use Rattle.metadata.specs.File.{Name}
 use Rattle.metadata.specs.FileViews.{snapshot_file}
-use Rattle.metadata.specs.Views.{meta_view, snapshot_view}
-use Rattle.metadata.specs.declared.documents.Meta.{Meta}
-use Rattle.metadata.specs.declared.documents.Snapshot.{Snapshot}
+use Rattle.document_parts.specs.Views.{meta_view, snapshot_view}
+use Rattle.document_parts.specs.declared.documents.Meta.{Meta}
+use Rattle.document_parts.specs.declared.documents.Snapshot.{Snapshot}
 use Rattle.metadata.specs.declared.file.File.{File}
 use Rattle.delegations.proofs.Gathered.{listed_names, names_distinct}
 use Rattle.machine.specs.Commands as commands

@@ -1,5 +1,5 @@
 use Rattle.std.proofs.Common.{◌≡◌, bytes_eq, length, map}
-use Rattle.metadata.specs.Views.{listing_view}
+use Rattle.document_parts.specs.Views.{listing_view}
 use Rattle.delegations.specs.Delegation.{before}
 use Rattle.delegations.specs.Rows.{Rises}
 use Rattle.machine.specs.Effects.{without}

@@ -3,7 +3,7 @@ use Rattle.std.proofs.Common.{Bor}
 use Rattle.std.proofs.lemmas.Result.{err_from_is_err_and}
 use Rattle.std.specs.Option.{option_map}
 use Rattle.metadata.specs.declared.file.File.{File}
-use Rattle.metadata.specs.declared.documents.Timestamp.{Timestamp}
+use Rattle.document_parts.specs.declared.documents.Timestamp.{Timestamp}
 use Rattle.metadata.specs.FileViews.{root_file, timestamp_file, snapshot_file}
 use Rattle.denials.specs.Orders.{pass, decide, holds, fails, differs, same, given}
 use Rattle.machine.specs.Answers.{Gives}

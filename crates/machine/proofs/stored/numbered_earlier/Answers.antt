@@ -1,7 +1,7 @@
 use Rattle.std.proofs.Common.{◌≡◌, ◌≤◌, ◌-◌, ◌++◌, suc, length, map, ap, subst, arith}
 use Rattle.std.proofs.lemmas.List.{length-map, map-append}
 use Rattle.limits.specs.Limits.{most_held}
-use Rattle.metadata.specs.Views.{profile_view}
+use Rattle.document_parts.specs.Views.{profile_view}
 use Rattle.machine.specs.steps.Stored.{earlier_roots}
 use Rattle.machine.proofs.RootRows.{all_there, one_more}
 use Rattle.machine.proofs.stored.numbered_earlier.Goals as goal

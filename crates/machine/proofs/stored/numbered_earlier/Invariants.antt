@@ -1,6 +1,6 @@
 use Rattle.std.proofs.Common.{◌≡◌, ◌≤◌, ◌++◌, map, length}
 use Rattle.limits.specs.Limits.{most_held}
-use Rattle.metadata.specs.Views.{profile_view}
+use Rattle.document_parts.specs.Views.{profile_view}
 use Rattle.machine.specs.steps.Stored.{earlier_roots}
 use Rattle.machine.proofs.stored.numbered_earlier.Given as goal
 

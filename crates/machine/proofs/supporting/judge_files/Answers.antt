@@ -3,7 +3,7 @@ use Rattle.std.proofs.lemmas.Result.{err_from_is_err_and}
 use Rattle.keys_roles.specs.Views.{rule_view, table_view}
 use Rattle.metadata.specs.FileViews.{layout_file}
 use Rattle.metadata.specs.declared.file.File.{File}
-use Rattle.metadata.specs.declared.links.Link.{Link}
+use Rattle.document_parts.specs.declared.links.Link.{Link}
 use Rattle.denials.specs.Orders.{Order, decide, fails, holds}
 use Rattle.layouts.specs.Faults.{IsDeniedBy}
 use Rattle.layouts.specs.Layouts.{layout_holds}

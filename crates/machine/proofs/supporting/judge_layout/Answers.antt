@@ -1,8 +1,8 @@
 use Rattle.std.proofs.Common.{Option, Ok, Err, List, ap, is_some, refl, subst, sym}
 use Rattle.std.proofs.lemmas.Result.{err_from_is_err_and}
 use Rattle.std.specs.Prelude.{option_map}
-use Rattle.metadata.specs.Views.{listing_view, reference_view, root_view}
-use Rattle.metadata.specs.declared.documents.LayoutReference.{LayoutReference}
+use Rattle.document_parts.specs.Views.{listing_view, reference_view, root_view}
+use Rattle.document_parts.specs.declared.documents.LayoutReference.{LayoutReference}
 use Rattle.denials.specs.Orders.{given}
 use Rattle.delegations.specs.Views.{shelf_view}
 use Rattle.metadata.specs.File.{Bytes}

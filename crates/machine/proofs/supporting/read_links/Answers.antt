@@ -6,7 +6,7 @@ use Rattle.std.specs.List.{AllByRecursion}
 use Rattle.metadata.specs.File as plain
 use Rattle.metadata.specs.File.{link_form}
 use Rattle.metadata.specs.FileViews.{link_file}
-use Rattle.metadata.specs.Links.{Link}
+use Rattle.document_parts.specs.Links.{Link}
 use Rattle.layouts.proofs.Lists.{none_left}
 use Rattle.path_patterns.specs.declared.Digest.{Digest}
 use Rattle.machine.specs.Held.{length_at}

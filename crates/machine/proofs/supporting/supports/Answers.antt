@@ -4,7 +4,7 @@ use Rattle.std.proofs.lemmas.Result.{err_from_is_err_and}
 use Rattle.std.specs.Prelude.{IsSome}
 use Rattle.std.specs.List.{AllByRecursion}
 use Rattle.metadata.specs.File.{Bytes}
-use Rattle.metadata.specs.Views.{root_view}
+use Rattle.document_parts.specs.Views.{root_view}
 use Rattle.delegations.specs.Views.{shelf_view}
 use Rattle.path_patterns.specs.declared.Digest.{Digest}
 use Rattle.layouts.proofs.Lists.{none_left}

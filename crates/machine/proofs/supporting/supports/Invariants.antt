@@ -3,7 +3,7 @@ use Rattle.std.specs.Prelude.{IsSome}
 use Rattle.std.specs.List.{AllByRecursion}
 use Rattle.delegations.specs.Verdicts.{AreFew, IsComplete}
 use Rattle.delegations.specs.Views.{shelf_view}
-use Rattle.metadata.specs.Views.{root_view}
+use Rattle.document_parts.specs.Views.{root_view}
 use Rattle.machine.specs.Held.{OfEachState, length_at}
 use Rattle.machine.specs.Supports.{support}
 use Rattle.machine.specs.steps.Permitting.{all_bytes_at}

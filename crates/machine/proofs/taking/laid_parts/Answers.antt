@@ -1,5 +1,5 @@
 use Rattle.std.proofs.Common.{ap, ◌∙◌, ◌++◌, None, map, option_map, refl}
-use Rattle.metadata.specs.Views.{profile_view}
+use Rattle.document_parts.specs.Views.{profile_view}
 use Rattle.machine.specs.State.{kept_root}
 use Rattle.metadata.specs.FileViews.{root_file}
 use Rattle.machine.specs.Views.{last_kept}

@@ -1,7 +1,7 @@
 use Rattle.std.proofs.Common.{ap, ◌∙◌, ◌++◌, List, map, option_map}
-use Rattle.metadata.specs.Views.{profile_view}
+use Rattle.document_parts.specs.Views.{profile_view}
 use Rattle.machine.specs.State.{kept_root}
-use Rattle.metadata.specs.Documents.{Profile}
+use Rattle.document_parts.specs.Documents.{Profile}
 use Rattle.metadata.specs.File.{Bytes}
 use Rattle.metadata.specs.FileViews.{root_file, timestamp_file, snapshot_file, targets_file}
 use Rattle.delegations.specs.Rows.{Rows, with_rows}

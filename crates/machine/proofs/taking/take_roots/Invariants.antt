@@ -1,5 +1,5 @@
 use Rattle.std.proofs.Common.{◌≡◌, ◌≤◌, ◌-◌, ◌+◌, ◌++◌, map, length, vec_len, vec_capacity}
-use Rattle.metadata.specs.Views.{profile_view}
+use Rattle.document_parts.specs.Views.{profile_view}
 use Rattle.machine.specs.State.{kept_root}
 use Rattle.metadata.specs.FileViews.{root_file}
 use Rattle.machine.specs.Effects.{last_or}

@@ -2,7 +2,7 @@ use Rattle.std.proofs.Common.{ℕ, true≢false, sym, ap, ◌∙◌, subst}
 use Rattle.std.proofs.lemmas.Result.{err_from_is_err_and}
 use Rattle.metadata.specs.FileViews.{root_file, snapshot_file, targets_file}
 use Rattle.denials.specs.Orders.{pass, decide, holds, fails}
-use Rattle.metadata.specs.Views.{meta_view}
+use Rattle.document_parts.specs.Views.{meta_view}
 use Rattle.delegations.specs.Search.{Shelf, Vouched, shelf_of}
 use Rattle.delegations.specs.Rows as shelves
 use Rattle.delegations.specs.Rows.{with_row, place_before}

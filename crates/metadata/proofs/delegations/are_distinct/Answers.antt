@@ -1,7 +1,7 @@
 use Rattle.std.proofs.Common.{◌≡◌, false, true, sym, ap, subst, ◌∙◌}
 use Rattle.keys_roles.specs.steps.Counting.{IsIn}
 use Rattle.metadata.specs.steps.Spelled.{spelled_list, names_of}
-use Rattle.metadata.proofs.Elements.{first_alone, first_again}
+use Rattle.document_parts.proofs.Elements.{first_alone, first_again}
 use Rattle.metadata.proofs.delegations.are_distinct.Goals as goal
 
 pub returns-then-is_among : goal.returns-then-is_among

@@ -1,5 +1,6 @@
-use Rattle.metadata.specs.steps.Spelled.{spelled_table, spelled_list}
-use Rattle.metadata.proofs.Named.{each_ids_hex}
+use Rattle.document_parts.specs.steps.Tables.{spelled_table}
+use Rattle.metadata.specs.steps.Spelled.{spelled_list}
+use Rattle.document_parts.proofs.Named.{each_ids_hex}
 use Rattle.metadata.proofs.delegations.name_delegations.Goals as goal
 
 pub name_roles-requires : goal.name_roles-requires

@@ -3,9 +3,9 @@ use Rattle.std.specs.List.{AllByRecursion}
 use Rattle.std.proofs.lemmas.Iterator.Adapters.{YieldsList-from_vec}
 use Rattle.std.proofs.lemmas.Iterator.Consumers.{YieldsList-turn}
 use Rattle.path_patterns.specs.Grammar.{IsHex}
-use Rattle.metadata.specs.Documents as plain
+use Rattle.document_parts.specs.Documents as plain
 use Rattle.metadata.specs.steps.Spelled.{spelled_delegation}
-use Rattle.metadata.proofs.Named.{each_at}
+use Rattle.document_parts.proofs.Named.{each_at}
 use Rattle.metadata.proofs.delegations.name_roles.Goals as goal
 
 pub name_role-requires : goal.name_role-requires

@@ -1,5 +1,5 @@
 use Rattle.std.proofs.Common.{◌≡◌, map}
-use Rattle.metadata.specs.Views.{delegation_view}
+use Rattle.document_parts.specs.Views.{delegation_view}
 use Rattle.metadata.specs.steps.Spelled.{spelled_list}
 use Rattle.metadata.proofs.delegations.name_roles.Given as goal
 

@@ -3,12 +3,12 @@ use Rattle.std.proofs.lemmas.Result.{err_from_is_err_and}
 use Rattle.canonical_json.specs.Json.{Json}
 use Rattle.canonical_json.specs.View.{view}
 use Rattle.keys_roles.specs.Plain.{Table}
-use Rattle.metadata.specs.Bodies.{AreDelegations}
-use Rattle.metadata.specs.Parts.{IsTable}
-use Rattle.metadata.specs.steps.Spelled.{spelled_table}
-use Rattle.metadata.proofs.Ill.{ill_again}
-use Rattle.metadata.proofs.Once.{has-once}
-use Rattle.metadata.proofs.PartsOnce.{table-once}
+use Rattle.document_parts.specs.Bodies.{AreDelegations}
+use Rattle.document_parts.specs.Parts.{IsTable}
+use Rattle.document_parts.specs.steps.Tables.{spelled_table}
+use Rattle.document_parts.proofs.Ill.{ill_again}
+use Rattle.document_parts.proofs.Once.{has-once}
+use Rattle.document_parts.proofs.PartsOnce.{table-once}
 use Rattle.metadata.proofs.delegations.read_delegations.Goals as goal
 
 pub returns-in_err-roles-clause-err : goal.returns-in_err-roles-clause-err

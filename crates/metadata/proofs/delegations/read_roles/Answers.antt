@@ -1,11 +1,12 @@
 use Rattle.std.proofs.Common.{◌≡◌, false, true, refl, inr, subst, sym, ◌∙◌, arith}
 use Rattle.canonical_json.specs.View.{view, items_view}
 use Rattle.keys_roles.specs.Rules.{AreDistinct}
-use Rattle.metadata.specs.Bodies.{IsDelegation}
-use Rattle.metadata.specs.steps.Spelled.{spelled_table, spelled_list, names_of}
-use Rattle.metadata.proofs.DelegationsOnce.{delegation-once}
-use Rattle.metadata.proofs.Growing.{array_len, items_len}
-use Rattle.metadata.proofs.Once.{array-once}
+use Rattle.document_parts.specs.Bodies.{IsDelegation}
+use Rattle.document_parts.specs.steps.Tables.{spelled_table}
+use Rattle.metadata.specs.steps.Spelled.{spelled_list, names_of}
+use Rattle.document_parts.proofs.DelegationsOnce.{delegation-once}
+use Rattle.document_parts.proofs.Growing.{array_len, items_len}
+use Rattle.document_parts.proofs.Once.{array-once}
 use Rattle.metadata.proofs.delegations.read_roles.Goals as goal
 
 pub returns-then-items-gt-MOST_DELEGATIONS-clause-err : goal.returns-then-items-gt-MOST_DELEGATIONS-clause-err

@@ -2,13 +2,14 @@ use Rattle.std.proofs.Common.{◌∷◌, [], List, ap, sym, subst, ◌∙◌}
 use Rattle.std.proofs.lemmas.List.{map-append}
 use Rattle.std.proofs.lemmas.Result.{err_from_is_err_and}
 use Rattle.canonical_json.specs.View.{view, items_view}
-use Rattle.metadata.specs.Bodies.{IsDelegation}
-use Rattle.metadata.specs.Documents as plain
-use Rattle.metadata.specs.steps.Spelled.{spelled_table, spelled_delegation, spelled_list}
-use Rattle.metadata.proofs.Elements.{none_left}
-use Rattle.metadata.proofs.Found.{each_item_proper}
-use Rattle.metadata.proofs.Growing.{ItemsGrow, items_first, items_grow, items_left, items_done}
-use Rattle.metadata.proofs.Ill.{ill_again}
+use Rattle.document_parts.specs.Bodies.{IsDelegation}
+use Rattle.document_parts.specs.Documents as plain
+use Rattle.document_parts.specs.steps.Tables.{spelled_table}
+use Rattle.metadata.specs.steps.Spelled.{spelled_delegation, spelled_list}
+use Rattle.document_parts.proofs.Elements.{none_left}
+use Rattle.document_parts.proofs.Found.{each_item_proper}
+use Rattle.document_parts.proofs.Growing.{ItemsGrow, items_first, items_grow, items_left, items_done}
+use Rattle.document_parts.proofs.Ill.{ill_again}
 use Rattle.metadata.proofs.delegations.roles_of.Goals as goal
 
 pub returns-in_err-role-clause-err : goal.returns-in_err-role-clause-err

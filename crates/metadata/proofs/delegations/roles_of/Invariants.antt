@@ -2,9 +2,10 @@ use Rattle.std.proofs.Common.{length}
 use Rattle.canonical_json.specs.Json.{EachItem}
 use Rattle.canonical_json.specs.Spelling.{IsSound}
 use Rattle.canonical_json.specs.View.{items_view}
-use Rattle.metadata.specs.Bodies.{IsDelegation}
-use Rattle.metadata.specs.steps.Spelled.{spelled_table, spelled_list}
-use Rattle.metadata.proofs.Growing.{ItemsGrow, ItemsLeft}
+use Rattle.document_parts.specs.Bodies.{IsDelegation}
+use Rattle.document_parts.specs.steps.Tables.{spelled_table}
+use Rattle.metadata.specs.steps.Spelled.{spelled_list}
+use Rattle.document_parts.proofs.Growing.{ItemsGrow, ItemsLeft}
 use Rattle.metadata.proofs.delegations.roles_of.Given as goal
 
 abbrev pub invariant-items : goal.invariant-items

@@ -3,11 +3,11 @@ use Rattle.std.proofs.lemmas.Result.{err_from_is_err_and}
 use Rattle.std.specs.List.{AllByRecursion}
 use Rattle.canonical_json.specs.View.{view}
 use Rattle.keys_roles.specs.Views.{entries_view}
-use Rattle.metadata.specs.steps.Faults.{IsFaulty}
-use Rattle.metadata.specs.Parts.{NamesAreIds}
+use Rattle.document_parts.specs.steps.Faults.{IsFaulty}
+use Rattle.document_parts.specs.Parts.{NamesAreIds}
 use Rattle.metadata.specs.Shape.{tables, IsBody}
-use Rattle.metadata.specs.declared.documents.Kind.{Kind}
-use Rattle.metadata.specs.declared.documents.ShapeFault.TheVariants.{WrongShape}
+use Rattle.document_parts.specs.declared.documents.Kind.{Kind}
+use Rattle.document_parts.specs.declared.documents.ShapeFault.TheVariants.{WrongShape}
 use Rattle.metadata.proofs.Judged.{root_faulty, timestamp_faulty, targets_faulty, layout_faulty}
 use Rattle.metadata.proofs.document.read_body.Goals as goal
 

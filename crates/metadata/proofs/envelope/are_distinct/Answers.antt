@@ -1,7 +1,7 @@
 use Rattle.std.proofs.Common.{◌≡◌, false, true, sym, ap, ◌∙◌}
 use Rattle.keys_roles.specs.Views.{id_text, entries_view}
-use Rattle.metadata.specs.Parts.{ids_of}
-use Rattle.metadata.proofs.Elements.{first_alone, first_again}
+use Rattle.document_parts.specs.Parts.{ids_of}
+use Rattle.document_parts.proofs.Elements.{first_alone, first_again}
 use Rattle.metadata.proofs.envelope.are_distinct.Goals as goal
 
 pub returns-then-is_among : goal.returns-then-is_among

@@ -1,7 +1,7 @@
 use Rattle.std.proofs.Common.{length}
 use Rattle.keys_roles.specs.steps.Counting.{IsIn}
 use Rattle.keys_roles.specs.Views.{id_text, entries_view}
-use Rattle.metadata.specs.Parts.{ids_of}
+use Rattle.document_parts.specs.Parts.{ids_of}
 use Rattle.metadata.proofs.envelope.is_among.Given as goal
 
 abbrev pub invariant-signatures : goal.invariant-signatures

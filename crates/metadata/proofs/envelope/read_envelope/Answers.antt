@@ -1,6 +1,6 @@
 use Rattle.std.proofs.Common.{◌≡◌, refl, inr, subst, sym, ◌∙◌, codes}
 use Rattle.canonical_json.specs.View.{view}
-use Rattle.metadata.specs.Members.{Has, IsText}
+use Rattle.document_parts.specs.Members.{Has, IsText}
 use Rattle.metadata.proofs.envelope.read_envelope.Goals as goal
 
 pub returns-in_default-clause-err : goal.returns-in_default-clause-err

@@ -2,11 +2,11 @@ use Rattle.std.proofs.Common.{◌≡◌, false, true, refl, inr, subst, sym, ◌
 use Rattle.canonical_json.specs.View.{view, items_view}
 use Rattle.keys_roles.specs.Rules.{AreDistinct}
 use Rattle.keys_roles.specs.Views.{entries_view}
-use Rattle.metadata.specs.Members.{ItemsAre}
-use Rattle.metadata.specs.Parts.{IsEntry, ids_of}
-use Rattle.metadata.proofs.Growing.{items_len, same_items}
-use Rattle.metadata.proofs.Once.{array-once}
-use Rattle.metadata.proofs.PartsOnce.{signature-once}
+use Rattle.document_parts.specs.Members.{ItemsAre}
+use Rattle.document_parts.specs.Parts.{IsEntry, ids_of}
+use Rattle.document_parts.proofs.Growing.{items_len, same_items}
+use Rattle.document_parts.proofs.Once.{array-once}
+use Rattle.document_parts.proofs.PartsOnce.{signature-once}
 use Rattle.metadata.proofs.envelope.read_signatures.Goals as goal
 
 pub returns-then-items-gt-MOST_SIGNATURES-clause-err : goal.returns-then-items-gt-MOST_SIGNATURES-clause-err

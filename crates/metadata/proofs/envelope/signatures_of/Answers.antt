@@ -2,10 +2,10 @@ use Rattle.std.proofs.Common.{ap}
 use Rattle.std.proofs.lemmas.Result.{err_from_is_err_and}
 use Rattle.canonical_json.specs.View.{view, items_view}
 use Rattle.keys_roles.specs.Views.{entries_view}
-use Rattle.metadata.specs.Parts.{IsEntry}
-use Rattle.metadata.proofs.Elements.{none_left}
-use Rattle.metadata.proofs.Growing.{items_first, items_done}
-use Rattle.metadata.proofs.Ill.{ill_again}
+use Rattle.document_parts.specs.Parts.{IsEntry}
+use Rattle.document_parts.proofs.Elements.{none_left}
+use Rattle.document_parts.proofs.Growing.{items_first, items_done}
+use Rattle.document_parts.proofs.Ill.{ill_again}
 use Rattle.metadata.proofs.envelope.signatures_of.Goals as goal
 
 pub returns-in_err-signature-clause-err : goal.returns-in_err-signature-clause-err

@@ -1,8 +1,8 @@
 use Rattle.std.proofs.Common.{length}
 use Rattle.canonical_json.specs.View.{items_view}
 use Rattle.keys_roles.specs.Views.{entries_view}
-use Rattle.metadata.specs.Parts.{IsEntry}
-use Rattle.metadata.proofs.Growing.{ItemsGrow, ItemsLeft}
+use Rattle.document_parts.specs.Parts.{IsEntry}
+use Rattle.document_parts.proofs.Growing.{ItemsGrow, ItemsLeft}
 use Rattle.metadata.proofs.envelope.signatures_of.Given as goal
 
 abbrev pub invariant-items : goal.invariant-items

@@ -2,11 +2,11 @@ use Rattle.std.proofs.Common.{arith}
 use Rattle.std.proofs.lemmas.Iterator.Adapters.{YieldsList-from_vec}
 use Rattle.std.proofs.lemmas.Iterator.Consumers.{YieldsList-turn}
 use Rattle.std.proofs.lemmas.Result.{err_from_is_err_and}
-use Rattle.metadata.specs.Documents as plain
+use Rattle.document_parts.specs.Documents as plain
 use Rattle.metadata.specs.steps.Entries.{HasIds, IsOwned}
 use Rattle.metadata.specs.steps.Spelled.{spelled_listing}
-use Rattle.metadata.proofs.Ill.{misnamed_again}
-use Rattle.metadata.proofs.Named.{each_at}
+use Rattle.document_parts.proofs.Ill.{misnamed_again}
+use Rattle.document_parts.proofs.Named.{each_at}
 use Rattle.metadata.proofs.listings.name_listings.Goals as goal
 
 pub name_listing-requires : goal.name_listing-requires

@@ -1,6 +1,6 @@
 use Rattle.std.proofs.Common.{◌≡◌, map}
 use Rattle.std.specs.List.{AllByRecursion}
-use Rattle.metadata.specs.Views.{listing_view}
+use Rattle.document_parts.specs.Views.{listing_view}
 use Rattle.metadata.specs.steps.Entries.{HasIds}
 use Rattle.metadata.specs.steps.Spelled.{spelled_listings}
 use Rattle.metadata.proofs.listings.name_listings.Given as goal

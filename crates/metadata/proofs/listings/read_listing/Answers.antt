@@ -1,6 +1,6 @@
 use Rattle.std.proofs.Common.{refl, inr, sym}
 use Rattle.std.proofs.lemmas.Result.{err_from_is_err_and}
-use Rattle.metadata.proofs.Ill.{ill_again}
+use Rattle.document_parts.proofs.Ill.{ill_again}
 use Rattle.metadata.proofs.listings.read_listing.Goals as goal
 
 pub returns-in_default-clause-err : goal.returns-in_default-clause-err

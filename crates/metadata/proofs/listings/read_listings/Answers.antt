@@ -1,12 +1,12 @@
 use Rattle.std.proofs.Common.{◌∷◌, [], ℕ, List, string_bytes, sym, ap, subst, ◌∙◌}
 use Rattle.std.proofs.lemmas.List.{map-append}
 use Rattle.canonical_json.specs.View.{view, members_view}
-use Rattle.metadata.specs.Bodies.{IsListing}
-use Rattle.metadata.specs.Documents as plain
+use Rattle.document_parts.specs.Bodies.{IsListing}
+use Rattle.document_parts.specs.Documents as plain
 use Rattle.metadata.specs.steps.Spelled.{spelled_listing, spelled_listings}
-use Rattle.metadata.proofs.Elements.{none_left}
-use Rattle.metadata.proofs.Found.{each_proper}
-use Rattle.metadata.proofs.Growing.{MembersGrow, members_grow, members_left, members_done}
+use Rattle.document_parts.proofs.Elements.{none_left}
+use Rattle.document_parts.proofs.Found.{each_proper}
+use Rattle.document_parts.proofs.Growing.{MembersGrow, members_grow, members_left, members_done}
 use Rattle.metadata.proofs.listings.read_listings.Goals as goal
 
 pub members-preserved : goal.members-preserved

@@ -2,9 +2,9 @@ use Rattle.std.proofs.Common.{length}
 use Rattle.canonical_json.specs.Json.{EachMember}
 use Rattle.canonical_json.specs.Spelling.{IsSound}
 use Rattle.canonical_json.specs.View.{members_view}
-use Rattle.metadata.specs.Bodies.{IsListing}
+use Rattle.document_parts.specs.Bodies.{IsListing}
 use Rattle.metadata.specs.steps.Spelled.{spelled_listings}
-use Rattle.metadata.proofs.Growing.{MembersGrow, MembersLeft}
+use Rattle.document_parts.proofs.Growing.{MembersGrow, MembersLeft}
 use Rattle.metadata.proofs.listings.read_listings.Given as goal
 
 abbrev pub invariant-members : goal.invariant-members

@@ -1,6 +1,6 @@
 use Rattle.std.proofs.Common.{◌≡◌, false, true, not, ap, sym, subst, ◌∙◌}
 use Rattle.keys_roles.specs.steps.Counting.{IsIn}
-use Rattle.metadata.proofs.Elements.{present}
+use Rattle.document_parts.proofs.Elements.{present}
 use Rattle.metadata.proofs.references.are_apart.Goals as goal
 
 pub returns-else-not-is_among : goal.returns-else-not-is_among

@@ -1,6 +1,6 @@
 use Rattle.std.proofs.Common.{◌≡◌, false, true, sym, subst, ◌∙◌}
 use Rattle.keys_roles.specs.steps.Counting.{IsIn}
-use Rattle.metadata.proofs.Elements.{first_alone, first_again}
+use Rattle.document_parts.proofs.Elements.{first_alone, first_again}
 use Rattle.metadata.proofs.references.are_distinct.Goals as goal
 
 pub returns-then-is_among : goal.returns-then-is_among

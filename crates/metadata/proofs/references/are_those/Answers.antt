@@ -3,10 +3,10 @@ use Rattle.std.specs.declared.alloc.Global.{Global}
 use Rattle.canonical_json.specs.Json.{names}
 use Rattle.canonical_json.specs.View.{members_view}
 use Rattle.canonical_json.specs.declared.Value.{Value}
-use Rattle.metadata.specs.Bodies.{reference_members}
+use Rattle.document_parts.specs.Bodies.{reference_members}
 use Rattle.metadata.specs.steps.Entries.{first_members, last_members}
-use Rattle.metadata.proofs.Elements.{none_left}
-use Rattle.metadata.proofs.Found.{no_names}
+use Rattle.document_parts.proofs.Elements.{none_left}
+use Rattle.document_parts.proofs.Found.{no_names}
 use Rattle.metadata.proofs.references.are_those.Goals as goal
 
 -- what the members behind the first four are called

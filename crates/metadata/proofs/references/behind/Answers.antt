@@ -1,5 +1,5 @@
 use Rattle.canonical_json.specs.View.{members_view}
-use Rattle.metadata.proofs.Found.{named_first}
+use Rattle.document_parts.proofs.Found.{named_first}
 use Rattle.metadata.proofs.references.behind.Goals as goal
 
 pub returns-in_default : goal.returns-in_default

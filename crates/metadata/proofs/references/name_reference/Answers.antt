@@ -1,6 +1,6 @@
 use Rattle.std.proofs.lemmas.Result.{err_from_is_err_and}
-use Rattle.metadata.specs.steps.Spelled.{spelled_rule, spelled_table}
-use Rattle.metadata.proofs.Named.{ids_hex, only_memory}
+use Rattle.document_parts.specs.steps.Tables.{spelled_rule, spelled_table}
+use Rattle.document_parts.proofs.Named.{ids_hex, only_memory}
 use Rattle.metadata.proofs.references.name_reference.Goals as goal
 
 pub returns-in_err-owners-clause-err : goal.returns-in_err-owners-clause-err

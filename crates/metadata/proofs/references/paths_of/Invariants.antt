@@ -1,8 +1,8 @@
 use Rattle.std.proofs.Common.{length}
 use Rattle.canonical_json.specs.View.{items_view}
 use Rattle.path_patterns.specs.Grammar.{IsTargetPath}
-use Rattle.metadata.specs.Bodies.{IsTextOf}
-use Rattle.metadata.proofs.Growing.{ItemsGrow, ItemsLeft}
+use Rattle.document_parts.specs.Bodies.{IsTextOf}
+use Rattle.document_parts.proofs.Growing.{ItemsGrow, ItemsLeft}
 use Rattle.metadata.proofs.references.paths_of.Given as goal
 
 abbrev pub invariant-items : goal.invariant-items

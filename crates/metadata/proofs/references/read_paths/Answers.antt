@@ -1,8 +1,8 @@
 use Rattle.std.proofs.Common.{◌≡◌, false, true, refl, inr, sym, ◌∙◌, arith}
 use Rattle.canonical_json.specs.View.{view, items_view}
 use Rattle.path_patterns.specs.Grammar.{IsTargetPath}
-use Rattle.metadata.specs.Bodies.{IsTextOf}
-use Rattle.metadata.proofs.Growing.{array_len, items_len}
+use Rattle.document_parts.specs.Bodies.{IsTextOf}
+use Rattle.document_parts.proofs.Growing.{array_len, items_len}
 use Rattle.metadata.proofs.references.read_paths.Goals as goal
 
 pub returns-then-not-are_few-clause-err : goal.returns-then-not-are_few-clause-err

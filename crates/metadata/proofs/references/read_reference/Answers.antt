@@ -3,9 +3,9 @@ use Rattle.std.proofs.lemmas.Result.{err_from_is_err_and}
 use Rattle.canonical_json.specs.View.{view}
 use Rattle.keys_roles.specs.Plain.{Table}
 use Rattle.keys_roles.specs.Rules.{AreDistinct}
-use Rattle.metadata.specs.Parts.{HasRule}
-use Rattle.metadata.specs.steps.Spelled.{spelled_table}
-use Rattle.metadata.proofs.Ill.{ill_again}
+use Rattle.document_parts.specs.Parts.{HasRule}
+use Rattle.document_parts.specs.steps.Tables.{spelled_table}
+use Rattle.document_parts.proofs.Ill.{ill_again}
 use Rattle.metadata.proofs.ReferencesOnce.{keys-once, links-once, path-once}
 use Rattle.metadata.proofs.references.read_reference.Goals as goal
 

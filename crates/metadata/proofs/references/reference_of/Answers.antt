@@ -2,7 +2,7 @@ use Rattle.std.proofs.Common.{option_map}
 use Rattle.std.proofs.lemmas.Result.{err_from_is_err_and}
 use Rattle.canonical_json.specs.View.{view}
 use Rattle.metadata.specs.steps.Spelled.{spelled_reference}
-use Rattle.metadata.proofs.Ill.{ill_again}
+use Rattle.document_parts.proofs.Ill.{ill_again}
 use Rattle.metadata.proofs.ReferencesOnce.{custom_is, in_custom}
 use Rattle.metadata.proofs.references.reference_of.Goals as goal
 

@@ -2,11 +2,12 @@ use Rattle.std.proofs.Common.{inl, sym, subst}
 use Rattle.std.proofs.lemmas.Result.{err_from_is_err_and}
 use Rattle.canonical_json.specs.View.{view}
 use Rattle.keys_roles.specs.Plain.{Table}
-use Rattle.metadata.specs.Bodies.{Roles}
-use Rattle.metadata.specs.Parts.{NamesAreIds}
-use Rattle.metadata.specs.steps.Spelled.{spelled_table, spelled_roles, HasKeyed}
-use Rattle.metadata.proofs.Ill.{ill_again}
-use Rattle.metadata.proofs.Named.{misnamed_keys, same_roles}
+use Rattle.document_parts.specs.Bodies.{Roles}
+use Rattle.document_parts.specs.Parts.{NamesAreIds}
+use Rattle.document_parts.specs.steps.Tables.{spelled_table, HasKeyed}
+use Rattle.metadata.specs.steps.Spelled.{spelled_roles}
+use Rattle.document_parts.proofs.Ill.{ill_again}
+use Rattle.document_parts.proofs.Named.{misnamed_keys, same_roles}
 use Rattle.metadata.proofs.root.keyed_of.Goals as goal
 
 pub returns-in_err-roles-clause-err : goal.returns-in_err-roles-clause-err

@@ -1,6 +1,6 @@
 use Rattle.std.proofs.lemmas.Result.{err_from_is_err_and}
-use Rattle.metadata.specs.steps.Spelled.{spelled_table, spelled_rule}
-use Rattle.metadata.proofs.Named.{only_memory, ids_hex}
+use Rattle.document_parts.specs.steps.Tables.{spelled_table, spelled_rule}
+use Rattle.document_parts.proofs.Named.{only_memory, ids_hex}
 use Rattle.metadata.proofs.root.named.Goals as goal
 
 pub returns-in_err-root-clause-err : goal.returns-in_err-root-clause-err

@@ -2,9 +2,9 @@ use Rattle.std.proofs.Common.{codes}
 use Rattle.std.proofs.lemmas.Result.{err_from_is_err_and}
 use Rattle.canonical_json.specs.View.{view}
 use Rattle.path_patterns.specs.Grammar.{IsPattern}
-use Rattle.metadata.specs.Bodies.{AreTextsOf}
-use Rattle.metadata.proofs.Found.{held}
-use Rattle.metadata.proofs.Ill.{ill_again}
+use Rattle.document_parts.specs.Bodies.{AreTextsOf}
+use Rattle.document_parts.proofs.Found.{held}
+use Rattle.document_parts.proofs.Ill.{ill_again}
 use Rattle.metadata.proofs.root.patterns_at.Goals as goal
 
 pub returns-in_err-patterns-clause-err : goal.returns-in_err-patterns-clause-err

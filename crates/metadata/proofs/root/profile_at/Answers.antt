@@ -1,7 +1,7 @@
 use Rattle.std.proofs.Common.{codes}
 use Rattle.canonical_json.specs.View.{view}
-use Rattle.metadata.specs.Parts.{IsSpecVersionOf}
-use Rattle.metadata.proofs.Found.{none_has}
+use Rattle.document_parts.specs.Parts.{IsSpecVersionOf}
+use Rattle.document_parts.proofs.Found.{none_has}
 use Rattle.metadata.proofs.root.profile_at.Goals as goal
 
 pub returns-in_err-found : goal.returns-in_err-found

@@ -1,8 +1,8 @@
 use Rattle.std.proofs.Common.{refl, inr}
 use Rattle.std.proofs.lemmas.Result.{err_from_is_err_and}
 use Rattle.canonical_json.specs.View.{view}
-use Rattle.metadata.specs.steps.Spelled.{spelled_table}
-use Rattle.metadata.proofs.Ill.{ill_again}
+use Rattle.document_parts.specs.steps.Tables.{spelled_table}
+use Rattle.document_parts.proofs.Ill.{ill_again}
 use Rattle.metadata.proofs.RootRoles.{just_four, snapshot_rule, targets_rule, timestamp_rule}
 use Rattle.metadata.proofs.root.read_roles.Goals as goal
 

@@ -1,8 +1,8 @@
 use Rattle.std.proofs.Common.{option_map, rules, refl, inl, inr}
 use Rattle.std.proofs.lemmas.Result.{err_from_is_err_and}
 use Rattle.canonical_json.specs.View.{view}
-use Rattle.metadata.specs.Views.{profile_view}
-use Rattle.metadata.proofs.Ill.{ill_again}
+use Rattle.document_parts.specs.Views.{profile_view}
+use Rattle.document_parts.proofs.Ill.{ill_again}
 use Rattle.metadata.proofs.RootParts.{head_required, faulty_root}
 use Rattle.metadata.proofs.root.read_root.Goals as goal
 

@@ -1,6 +1,6 @@
 use Rattle.std.proofs.Common.{length}
 use Rattle.std.specs.List.{AllByRecursion}
-use Rattle.metadata.specs.Bodies.{IsListable}
+use Rattle.document_parts.specs.Bodies.{IsListable}
 use Rattle.metadata.specs.steps.Entries.{rows_view}
 use Rattle.metadata.proofs.snapshot.are_listable.Given as goal
 

@@ -1,13 +1,13 @@
 use Rattle.std.proofs.Common.{◌∷◌, [], ℕ, List, string_bytes, sym, ap, subst, ◌∙◌}
 use Rattle.std.proofs.lemmas.List.{map-append}
 use Rattle.canonical_json.specs.View.{view, members_view}
-use Rattle.metadata.specs.Bodies.{IsMetaRow}
-use Rattle.metadata.specs.Documents.{MetaFile}
+use Rattle.document_parts.specs.Bodies.{IsMetaRow}
+use Rattle.document_parts.specs.Documents.{MetaFile}
 use Rattle.metadata.specs.steps.Entries.{rows_view}
-use Rattle.metadata.specs.Views.{meta_view}
-use Rattle.metadata.proofs.Elements.{none_left}
-use Rattle.metadata.proofs.Found.{each_proper}
-use Rattle.metadata.proofs.Growing.{MembersGrow, members_grow, members_left, members_done}
+use Rattle.document_parts.specs.Views.{meta_view}
+use Rattle.document_parts.proofs.Elements.{none_left}
+use Rattle.document_parts.proofs.Found.{each_proper}
+use Rattle.document_parts.proofs.Growing.{MembersGrow, members_grow, members_left, members_done}
 use Rattle.metadata.proofs.snapshot.read_rows.Goals as goal
 
 pub members-preserved : goal.members-preserved

@@ -2,9 +2,9 @@ use Rattle.std.proofs.Common.{length}
 use Rattle.canonical_json.specs.Json.{EachMember}
 use Rattle.canonical_json.specs.Spelling.{IsSound}
 use Rattle.canonical_json.specs.View.{members_view}
-use Rattle.metadata.specs.Bodies.{IsMetaRow}
+use Rattle.document_parts.specs.Bodies.{IsMetaRow}
 use Rattle.metadata.specs.steps.Entries.{rows_view}
-use Rattle.metadata.proofs.Growing.{MembersGrow, MembersLeft}
+use Rattle.document_parts.proofs.Growing.{MembersGrow, MembersLeft}
 use Rattle.metadata.proofs.snapshot.read_rows.Given as goal
 
 abbrev pub invariant-members : goal.invariant-members

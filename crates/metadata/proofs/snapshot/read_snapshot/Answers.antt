@@ -1,11 +1,11 @@
 use Rattle.std.proofs.Common.{ℕ, List, ◌++◌, codes, refl, inr}
 use Rattle.canonical_json.specs.View.{view}
-use Rattle.metadata.specs.Bodies.{IsMetaRow}
-use Rattle.metadata.specs.Documents.{MetaFile}
+use Rattle.document_parts.specs.Bodies.{IsMetaRow}
+use Rattle.document_parts.specs.Documents.{MetaFile}
 use Rattle.metadata.specs.steps.Entries.{rows_view}
-use Rattle.metadata.specs.Views.{meta_view}
-use Rattle.metadata.specs.declared.documents.Meta.{Meta}
-use Rattle.metadata.proofs.Halving.{members_in_order, seen_in_order}
+use Rattle.document_parts.specs.Views.{meta_view}
+use Rattle.document_parts.specs.declared.documents.Meta.{Meta}
+use Rattle.document_parts.proofs.Halving.{members_in_order, seen_in_order}
 use Rattle.metadata.proofs.snapshot.read_snapshot.Goals as goal
 
 abbrev file : List ℕ × MetaFile → List ℕ

@@ -1,13 +1,13 @@
 use Rattle.std.proofs.Common.{◌≡◌, ℕ, List, false, true, codes, map, refl, inr, subst, sym, ap, ◌∙◌, arith}
 use Rattle.std.specs.List.{AllByRecursion, Contains}
 use Rattle.canonical_json.specs.View.{view, members_view}
-use Rattle.metadata.specs.Bodies.{IsMetaRow, IsListable}
-use Rattle.metadata.specs.Documents.{MetaFile}
-use Rattle.metadata.specs.Members.{MembersAre}
+use Rattle.document_parts.specs.Bodies.{IsMetaRow, IsListable}
+use Rattle.document_parts.specs.Documents.{MetaFile}
+use Rattle.document_parts.specs.Members.{MembersAre}
 use Rattle.metadata.specs.steps.Entries.{rows_view}
-use Rattle.metadata.proofs.Found.{meta-row-once}
-use Rattle.metadata.proofs.Growing.{members_len, same_members}
-use Rattle.metadata.proofs.Once.{object-once}
+use Rattle.document_parts.proofs.Found.{meta-row-once}
+use Rattle.document_parts.proofs.Growing.{members_len, same_members}
+use Rattle.document_parts.proofs.Once.{object-once}
 use Rattle.metadata.proofs.snapshot.read_table.Goals as goal
 
 pub returns-then-members-gt-MOST_ROLES-clause-err : goal.returns-then-members-gt-MOST_ROLES-clause-err

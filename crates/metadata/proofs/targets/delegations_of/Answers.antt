@@ -1,9 +1,9 @@
 use Rattle.std.proofs.Common.{codes}
 use Rattle.std.proofs.lemmas.Result.{err_from_is_err_and}
 use Rattle.canonical_json.specs.View.{view}
-use Rattle.metadata.specs.Bodies.{HasDelegations}
-use Rattle.metadata.proofs.Found.{held}
-use Rattle.metadata.proofs.Ill.{ill_again}
+use Rattle.document_parts.specs.Bodies.{HasDelegations}
+use Rattle.document_parts.proofs.Found.{held}
+use Rattle.document_parts.proofs.Ill.{ill_again}
 use Rattle.metadata.proofs.targets.delegations_of.Goals as goal
 
 pub returns-in_err-delegations-clause-err : goal.returns-in_err-delegations-clause-err

@@ -2,15 +2,15 @@ use Rattle.std.proofs.Common.{rules, refl, inl, inr, sym, subst, codes, map, opt
 use Rattle.std.proofs.lemmas.Result.{err_from_is_err_and}
 use Rattle.std.specs.List.{AllByRecursion}
 use Rattle.canonical_json.specs.View.{view}
-use Rattle.metadata.specs.Bodies.{IsListing, HasDelegations}
-use Rattle.metadata.specs.Documents as plain
-use Rattle.metadata.specs.Members.{IsObject, MayHave}
-use Rattle.metadata.specs.Parts.{NamesAreIds}
+use Rattle.document_parts.specs.Bodies.{IsListing, HasDelegations}
+use Rattle.document_parts.specs.Documents as plain
+use Rattle.document_parts.specs.Members.{IsObject, MayHave}
+use Rattle.document_parts.specs.Parts.{NamesAreIds}
 use Rattle.metadata.specs.Shape.{delegation_tables}
 use Rattle.metadata.specs.steps.Entries.{HasIds}
 use Rattle.metadata.specs.steps.Spelled.{spelled_delegations, spelled_listings}
-use Rattle.metadata.specs.Views.{listing_view, delegations_view}
-use Rattle.metadata.proofs.Halving.{members_in_order, seen_in_order}
+use Rattle.document_parts.specs.Views.{listing_view, delegations_view}
+use Rattle.document_parts.proofs.Halving.{members_in_order, seen_in_order}
 use Rattle.metadata.proofs.TargetsNamed.{all_named, all_over, all_owned, misnamed_listings, misnamed_targets}
 use Rattle.metadata.proofs.targets.read_targets.Goals as goal
 

@@ -1,7 +1,7 @@
 use Rattle.std.proofs.Common.{codes}
 use Rattle.canonical_json.specs.View.{view}
-use Rattle.metadata.specs.Parts.{IsMetaFile}
-use Rattle.metadata.proofs.Found.{none_has, just_one}
+use Rattle.document_parts.specs.Parts.{IsMetaFile}
+use Rattle.document_parts.proofs.Found.{none_has, just_one}
 use Rattle.metadata.proofs.timestamp.read_row.Goals as goal
 
 pub returns-in_default : goal.returns-in_default

@@ -1,7 +1,7 @@
 use Rattle.std.proofs.Common.{codes}
 use Rattle.canonical_json.specs.View.{view}
-use Rattle.metadata.specs.Bodies.{IsTimestampMeta}
-use Rattle.metadata.proofs.Found.{none_has}
+use Rattle.document_parts.specs.Bodies.{IsTimestampMeta}
+use Rattle.document_parts.proofs.Found.{none_has}
 use Rattle.metadata.proofs.timestamp.snapshot_of.Goals as goal
 
 pub returns-in-None : goal.returns-in-None

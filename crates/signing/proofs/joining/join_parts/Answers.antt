@@ -1,6 +1,6 @@
 use Rattle.std.proofs.Common.{◌<◌, ◌≤◌, ℕ, List, length, sym, subst, arith}
 use Rattle.keys_roles.specs.Views.{entries_view}
-use Rattle.metadata.specs.Parts.{max_signatures}
+use Rattle.document_parts.specs.Parts.{max_signatures}
 use Rattle.metadata.specs.Shape.{IsSignedBy, max_file}
 use Rattle.signing.specs.Joining.{joined}
 use Rattle.signing.proofs.JoinedFiles.{counted, joins, same_text, too_long, too_many}

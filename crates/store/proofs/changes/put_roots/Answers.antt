@@ -1,6 +1,6 @@
 use Rattle.std.proofs.Common.{◌≡◌, ◌-◌, length, map, None, Option, ap, arith}
 use Rattle.std.specs.Prelude.{option_map, unwrap_or}
-use Rattle.metadata.specs.Documents.{Root}
+use Rattle.document_parts.specs.Documents.{Root}
 use Rattle.metadata.specs.File.{File}
 use Rattle.metadata.specs.FileViews.{root_file}
 use Rattle.store.specs.steps.Changed.{last_version}

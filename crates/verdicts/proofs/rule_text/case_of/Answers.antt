@@ -2,10 +2,10 @@ use Rattle.std.proofs.Common.{◌≡◌, ◌∙◌, ℕ, List, Some, slice_get, 
 use Rattle.std.proofs.lemmas.Result.{err_from_is_err_and}
 use Rattle.canonical_json.specs.Json.{text}
 use Rattle.canonical_json.specs.View.{view}
-use Rattle.metadata.specs.Links.{Link}
-use Rattle.metadata.specs.Members.{IsArray, IsObject, IsText}
-use Rattle.metadata.specs.RuleViews.{link_view}
-use Rattle.metadata.specs.declared.links.Link as code
+use Rattle.document_parts.specs.Links.{Link}
+use Rattle.document_parts.specs.Members.{IsArray, IsObject, IsText}
+use Rattle.document_parts.specs.RuleViews.{link_view}
+use Rattle.document_parts.specs.declared.links.Link as code
 use Rattle.verdicts.specs.RuleCase.{IsLinkOf, IsRuleCase}
 use Rattle.verdicts.proofs.Parts.{by_part}
 use Rattle.verdicts.proofs.StepNames.{same_place}

@@ -1,7 +1,7 @@
 use Rattle.std.proofs.Common.{rules, ◌≡◌, ◌∙◌, sym, subst, inr}
 use Rattle.std.proofs.lemmas.Result.{err_from_is_err_and}
 use Rattle.canonical_json.specs.View.{view}
-use Rattle.metadata.specs.Bodies.{AreArtifacts}
+use Rattle.document_parts.specs.Bodies.{AreArtifacts}
 use Rattle.verdicts.specs.RuleCase.{IsLinkOf}
 use Rattle.verdicts.proofs.Parts.{by_shape}
 use Rattle.verdicts.proofs.rule_text.link_of.Goals as goal

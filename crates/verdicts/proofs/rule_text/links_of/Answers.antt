@@ -2,12 +2,12 @@ use Rattle.std.proofs.Common.{◌∷◌, [], ℕ, List, string_bytes, map, sym, 
 use Rattle.std.proofs.lemmas.List.{map-append}
 use Rattle.std.proofs.lemmas.Result.{err_from_is_err_and}
 use Rattle.canonical_json.specs.View.{view, members_view}
-use Rattle.metadata.specs.Links.{Link}
-use Rattle.metadata.specs.Members.{MembersAre}
-use Rattle.metadata.specs.RuleViews.{link_view}
-use Rattle.metadata.proofs.Elements.{none_left}
-use Rattle.metadata.proofs.Found.{each_proper}
-use Rattle.metadata.proofs.Growing.{MembersGrow, members_first, members_grow, members_left, members_done}
+use Rattle.document_parts.specs.Links.{Link}
+use Rattle.document_parts.specs.Members.{MembersAre}
+use Rattle.document_parts.specs.RuleViews.{link_view}
+use Rattle.document_parts.proofs.Elements.{none_left}
+use Rattle.document_parts.proofs.Found.{each_proper}
+use Rattle.document_parts.proofs.Growing.{MembersGrow, members_first, members_grow, members_left, members_done}
 use Rattle.verdicts.specs.RuleCase.{IsLinkOf}
 use Rattle.verdicts.proofs.Parts.{by_part}
 use Rattle.verdicts.proofs.rule_text.links_of.Goals as goal

@@ -2,8 +2,8 @@ use Rattle.std.proofs.Common.{length, map}
 use Rattle.canonical_json.specs.Json.{EachMember}
 use Rattle.canonical_json.specs.Spelling.{IsSound}
 use Rattle.canonical_json.specs.View.{members_view}
-use Rattle.metadata.specs.RuleViews.{link_view}
-use Rattle.metadata.proofs.Growing.{MembersGrow, MembersLeft}
+use Rattle.document_parts.specs.RuleViews.{link_view}
+use Rattle.document_parts.proofs.Growing.{MembersGrow, MembersLeft}
 use Rattle.verdicts.specs.RuleCase.{IsLinkOf}
 use Rattle.verdicts.proofs.rule_text.links_of.Given as goal
 

@@ -1,9 +1,9 @@
 use Rattle.std.proofs.Common.{ap}
 use Rattle.std.proofs.lemmas.Result.{err_from_is_err_and}
 use Rattle.canonical_json.specs.View.{view, items_view}
-use Rattle.metadata.specs.Members.{IsArray, IsText, ItemsAre}
-use Rattle.metadata.proofs.Elements.{none_left}
-use Rattle.metadata.proofs.Growing.{items_first, items_done}
+use Rattle.document_parts.specs.Members.{IsArray, IsText, ItemsAre}
+use Rattle.document_parts.proofs.Elements.{none_left}
+use Rattle.document_parts.proofs.Growing.{items_first, items_done}
 use Rattle.verdicts.specs.RuleCase.{lists_view}
 use Rattle.verdicts.proofs.Parts.{by_shape}
 use Rattle.verdicts.proofs.rule_text.lists_of.Goals as goal

@@ -1,7 +1,7 @@
 use Rattle.std.proofs.Common.{length}
 use Rattle.canonical_json.specs.View.{items_view}
-use Rattle.metadata.specs.Members.{IsArray, IsText}
-use Rattle.metadata.proofs.Growing.{ItemsGrow, ItemsLeft}
+use Rattle.document_parts.specs.Members.{IsArray, IsText}
+use Rattle.document_parts.proofs.Growing.{ItemsGrow, ItemsLeft}
 use Rattle.verdicts.specs.RuleCase.{lists_view}
 use Rattle.verdicts.proofs.rule_text.lists_of.Given as goal
 

@@ -1,6 +1,6 @@
 use Rattle.std.proofs.Common.{◌≡◌, ◌-◌, ◌≤◌, length, map}
-use Rattle.metadata.specs.Links.{Link}
-use Rattle.metadata.specs.RuleViews.{link_view}
+use Rattle.document_parts.specs.Links.{Link}
+use Rattle.document_parts.specs.RuleViews.{link_view}
 use Rattle.artifact_rules.proofs.Places.{NoneBefore}
 use Rattle.verdicts.proofs.rule_text.place_of.Given as goal
 

@@ -1,9 +1,9 @@
 use Rattle.std.proofs.Common.{◌≡◌, ◌∙◌, List, ap, map}
 use Rattle.artifact_rules.specs.Rules.{RulesHold}
 use Rattle.artifact_rules.specs.Views.{links_view}
-use Rattle.metadata.specs.Links.{Link}
-use Rattle.metadata.specs.Rules.{ArtifactRule}
-use Rattle.metadata.specs.RuleViews.{link_view, rule_view, side_view}
+use Rattle.document_parts.specs.Links.{Link}
+use Rattle.document_parts.specs.Rules.{ArtifactRule}
+use Rattle.document_parts.specs.RuleViews.{link_view, rule_view, side_view}
 use Rattle.verdicts.specs.RuleCase.{rule_case_view}
 use Rattle.verdicts.proofs.Ruled.{judged_by}
 use Rattle.verdicts.proofs.ruling.judged.Goals as goal

@@ -1,6 +1,6 @@
 use Rattle.std.proofs.Common.{◌≡◌, ◌++◌, length, map}
 use Rattle.artifact_rules.specs.Views.{links_view}
-use Rattle.metadata.specs.RuleViews.{link_view}
+use Rattle.document_parts.specs.RuleViews.{link_view}
 use Rattle.verdicts.proofs.ruling.lent.Given as goal
 
 abbrev pub invariant-links : goal.invariant-links

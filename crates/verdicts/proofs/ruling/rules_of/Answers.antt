@@ -1,8 +1,8 @@
 use Rattle.std.proofs.Common.{◌≡◌, ◌∙◌, ◌∷◌, ◌++◌, [], ℕ, List, length, map, String, string_bytes, ap, subst, sym}
 use Rattle.std.specs.declared.alloc.Global.{Global}
 use Rattle.std.proofs.lemmas.List.{length-map, map-append}
-use Rattle.metadata.specs.Rules.{ArtifactRule, AreWordsOf}
-use Rattle.metadata.specs.RuleViews.{rule_view}
+use Rattle.document_parts.specs.Rules.{ArtifactRule, AreWordsOf}
+use Rattle.document_parts.specs.RuleViews.{rule_view}
 use Rattle.verdicts.specs.RuleCase.{AreRules, lists_view}
 use Rattle.verdicts.proofs.Ruled.{no_rule, one_more, parted_later}
 use Rattle.verdicts.proofs.ruling.rules_of.Goals as goal

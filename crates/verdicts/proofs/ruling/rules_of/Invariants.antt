@@ -1,5 +1,5 @@
 use Rattle.std.proofs.Common.{◌≡◌, ◌++◌, ℕ, List, length, map}
-use Rattle.metadata.specs.RuleViews.{rule_view}
+use Rattle.document_parts.specs.RuleViews.{rule_view}
 use Rattle.verdicts.specs.RuleCase.{AreRules, lists_view}
 use Rattle.verdicts.proofs.ruling.rules_of.Given as goal
 

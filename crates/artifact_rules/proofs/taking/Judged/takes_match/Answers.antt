@@ -1,7 +1,7 @@
 use Rattle.std.proofs.Common.{rules, ◌≡◌, None}
 use Rattle.metadata.specs.File.{look_up}
-use Rattle.metadata.specs.Links.{HasDigest, side_of}
-use Rattle.metadata.specs.RuleViews.{link_view, match_view, side_view}
+use Rattle.document_parts.specs.Links.{HasDigest, side_of}
+use Rattle.document_parts.specs.RuleViews.{link_view, match_view, side_view}
 use Rattle.artifact_rules.specs.Views.{links_view}
 use Rattle.artifact_rules.proofs.Matching.{listed, unlisted}
 use Rattle.artifact_rules.proofs.taking.Judged.takes_match.Goals as goal

@@ -1,6 +1,6 @@
 use Rattle.std.proofs.Common.{◌≡◌, Option, Some, None, refl, ap, subst}
 use Rattle.std.specs.Prelude.{IfSome, IsSomeAnd, option_map}
-use Rattle.metadata.specs.Documents.{Timestamp}
+use Rattle.document_parts.specs.Documents.{Timestamp}
 use Rattle.metadata.specs.File.{File}
 use Rattle.metadata.specs.FileViews.{timestamp_file, snapshot_file}
 use Rattle.machine.specs.State.{IsSnapshotDue, NamesSnapshot, Trusted}

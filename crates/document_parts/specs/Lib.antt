@@ -1,0 +1,12 @@
+pub mod Bodies
+pub mod Covers
+pub mod Dates
+pub mod Documents
+pub mod Links
+pub mod Members
+pub mod Parts
+pub mod RuleViews
+pub mod Rules
+pub mod Sorted
+pub mod Views
+pub mod steps

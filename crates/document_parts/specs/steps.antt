@@ -1,0 +1,5 @@
+-- Definitions that contracts of private functions cite.
+pub mod Faults
+pub mod Rising
+pub mod Words
+pub mod Tables

@@ -1,0 +1,2 @@
+pub mod LayoutsNamed
+pub mod LayoutsOnce

@@ -1,0 +1,182 @@
+// Steps of a layout as a file spells them (in-toto 1.0, section 4.3.1).
+ghost use Rattle.std.specs.Prelude.{◌≡◌, ◌↔◌, ◌<◌, ◌≤◌, ℕ, List, codes, length, map, IsTrue, IfOk, IfErr};
+ghost use Rattle.std.specs.List.{AllByRecursion};
+ghost use Rattle.canonical_json.specs.Json.{EachItem};
+ghost use Rattle.canonical_json.specs.Spelling.{IsProper, IsSound};
+ghost use Rattle.canonical_json.specs.View.{view, items_view};
+ghost use Rattle.keys_roles.specs.Rules.{AreDistinct};
+ghost use Rattle.keys_roles.specs.steps.Counting.{IsIn};
+ghost use Rattle.path_patterns.specs.Grammar.{IsHex, IsName};
+ghost use Rattle.document_parts.specs.Bodies.{IsRuleList, IsStep, IsTextOf, AreSteps, max_steps};
+ghost use Rattle.document_parts.specs.Documents as plain;
+ghost use Rattle.document_parts.specs.Members.{Has, ItemsAre};
+ghost use Rattle.document_parts.specs.RuleViews.{rule_view};
+ghost use Rattle.document_parts.specs.Rules.{ArtifactRule};
+ghost use Rattle.document_parts.specs.Views.{step_view};
+ghost use Rattle.document_parts.specs.steps.Faults.{IsIll};
+ghost use Rattle.document_parts.specs.steps.Tables.{spelled_rule, spelled_table};
+ghost use Rattle.layout_files.specs.steps.Spelled.{spelled_step, spelled_steps, step_names};
+
+use crate::rule_lists::read_rules;
+use canonical_json::Value;
+use document_parts::documents::{ShapeFault, Step};
+use document_parts::keys::{SpelledRule, SpelledTable, name_rule, read_role_rule};
+use document_parts::members::{items_of, member_of};
+use document_parts::names::name_at;
+use document_parts::rules::Rule;
+use path_patterns::RoleName;
+use std::alloc::Global;
+
+// The most steps of a layout.
+const MOST_STEPS: usize = 16;
+
+/// A step whose rule's ids need not be ids of keys.
+#[derive(Drop)]
+pub struct SpelledStep {
+    pub name: RoleName,
+    pub rule: SpelledRule,
+    pub materials: Vec<Rule>,
+    pub products: Vec<Rule>,
+}
+
+/// The steps over the table that the value is.
+pub fn read_steps(
+    alloc: Global,
+    value: &Value,
+    keys: &SpelledTable,
+) -> Result<Vec<SpelledStep>, ShapeFault>
+    requires { IsProper (view value.now) }
+    ensures ok { IfOk result (λ ss. AreSteps (spelled_table keys.now) (view value.now) (spelled_steps ss.items)) }
+    ensures err { IfErr result (IsIll ((ss : List plain.Step) × AreSteps (spelled_table keys.now) (view value.now) ss)) }
+{
+    let Some(items) = items_of(value) else {
+        return Err(ShapeFault::WrongShape);
+    };
+    if !are_few(items) {
+        return Err(ShapeFault::WrongShape);
+    }
+    let steps = steps_of(alloc, items, keys)?;
+    if are_distinct(&steps) {
+        Ok(steps)
+    } else {
+        Err(ShapeFault::WrongShape)
+    }
+}
+
+// Whether there are as many as a layout may have.
+fn are_few(items: &[Value]) -> bool
+    ensures { IsTrue result ↔ ((0 < length items.now) × (length items.now ≤ max_steps)) }
+{
+    !items.is_empty() && items.len() <= MOST_STEPS
+}
+
+fn steps_of(
+    alloc: Global,
+    items: &[Value],
+    keys: &SpelledTable,
+) -> Result<Vec<SpelledStep>, ShapeFault>
+    requires { EachItem IsSound (items_view items.now) }
+    ensures ok { IfOk result (λ ss. ItemsAre (IsStep (spelled_table keys.now)) (items_view items.now) (spelled_steps ss.items)) }
+    ensures err { IfErr result (IsIll ((ss : List plain.Step) × ItemsAre (IsStep (spelled_table keys.now)) (items_view items.now) ss)) }
+{
+    let mut steps = Vec::new(alloc);
+    let mut rest = items;
+    'items: while let Some((item, later)) = rest.split_first() {
+        let step = read_step(alloc, item, keys)?;
+        steps.push(step)?;
+        rest = later;
+    }
+    Ok(steps)
+}
+
+// The step over the table that the value is.
+fn read_step(alloc: Global, value: &Value, keys: &SpelledTable) -> Result<SpelledStep, ShapeFault>
+    requires { IsProper (view value.now) }
+    ensures ok { IfOk result (λ s. IsStep (spelled_table keys.now) (view value.now) (spelled_step s)) }
+    ensures err { IfErr result (IsIll ((s : plain.Step) × IsStep (spelled_table keys.now) (view value.now) s)) }
+{
+    let name = name_at(alloc, value, "name")?;
+    let rule = read_role_rule(alloc, value, "pubkeys", keys)?;
+    let materials = rules_at(alloc, value, "expected_materials")?;
+    let products = rules_at(alloc, value, "expected_products")?;
+    Ok(SpelledStep {
+        name,
+        rule,
+        materials,
+        products,
+    })
+}
+
+// The rules that the object has under the name.
+fn rules_at(alloc: Global, value: &Value, name: &str) -> Result<Vec<Rule>, ShapeFault>
+    requires { IsProper (view value.now) }
+    ensures ok { IfOk result (λ rs. Has (view value.now) name.now (λ x. IsRuleList x (map rule_view rs.items))) }
+    ensures err { IfErr result (IsIll ((rs : List ArtifactRule) × Has (view value.now) name.now (λ x. IsRuleList x rs))) }
+{
+    let Some(found) = member_of(value, name) else {
+        return Err(ShapeFault::WrongShape);
+    };
+    read_rules(alloc, found)
+}
+
+// Whether no step is named twice.
+fn are_distinct(steps: &[SpelledStep]) -> bool
+    ensures { IsTrue result ↔ (AreDistinct (step_names (spelled_steps steps.now))) }
+{
+    let mut rest = steps;
+    'steps: while let Some((step, later)) = rest.split_first() {
+        if is_among(later, step.name.as_str()) {
+            return false;
+        }
+        rest = later;
+    }
+    true
+}
+
+// Whether a step of this name is among them.
+fn is_among(steps: &[SpelledStep], name: &str) -> bool
+    ensures { IsTrue result ↔ (IsIn (step_names (spelled_steps steps.now)) name.now) }
+{
+    let mut rest = steps;
+    'steps: while let Some((first, later)) = rest.split_first() {
+        if first.name.as_str() == name {
+            return true;
+        }
+        rest = later;
+    }
+    false
+}
+
+/// The steps, the keys of their rules named by their ids.
+pub fn name_steps(alloc: Global, spelled: Vec<SpelledStep>) -> Result<Vec<Step>, ShapeFault>
+    requires { AllByRecursion (λ s. AllByRecursion (IsHex 64) s.rule.keyids) (spelled_steps spelled.items) }
+    ensures ok { IfOk result (λ ss. map step_view ss.items ≡ spelled_steps spelled.items) }
+    ensures err { IfErr result (λ e. e ≡ ShapeFault.OutOfMemory) }
+{
+    let mut steps = Vec::new(alloc);
+    for step in spelled {
+        let named = name_step(alloc, step)?;
+        steps.push(named)?;
+    }
+    Ok(steps)
+}
+
+fn name_step(alloc: Global, spelled: SpelledStep) -> Result<Step, ShapeFault>
+    requires { AllByRecursion (IsHex 64) (spelled_rule spelled.rule).keyids }
+    ensures ok { IfOk result (λ s. step_view s ≡ spelled_step spelled) }
+    ensures err { IfErr result (λ e. e ≡ ShapeFault.OutOfMemory) }
+{
+    let SpelledStep {
+        name,
+        rule,
+        materials,
+        products,
+    } = spelled;
+    let rule = name_rule(alloc, &rule)?;
+    Ok(Step {
+        name,
+        rule,
+        materials,
+        products,
+    })
+}

@@ -1,7 +1,0 @@
-use Rattle.canonical_json.specs.View.{view}
-use Rattle.keys_roles.specs.Views.{key_view}
-use Rattle.metadata.proofs.KeyObjects.{no_key}
-use Rattle.metadata.proofs.keys.read_key.Goals as goal
-
-pub returns-in_default : goal.returns-in_default
-returns-in_default c k h = no_key (view c.args.value.now) c.in_default.ensures k h

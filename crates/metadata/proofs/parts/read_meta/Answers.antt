@@ -1,4 +1,0 @@
-use Rattle.metadata.proofs.parts.read_meta.Goals as goal
-
-pub returns-in_default : goal.returns-in_default
-returns-in_default c m h = c.in_default.ensures m.version h.0
