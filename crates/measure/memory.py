@@ -27,7 +27,7 @@ import time
 from pathlib import Path
 
 from serve_rates import HERE, RELEASE, release, repository
-from store_rates import BLOB, MEASURE, sha2_blocks
+from store_rates import BLOB, MEASURE, rates
 
 sys.path.insert(0, str(HERE.parent / "gate"))
 from served import Server, rest  # noqa: E402
@@ -162,7 +162,7 @@ def read_alone(db, digest, requests):
 def hash_alone(data, requests):
     """Seconds in which `sha2` hashes the target, and who says so."""
     if MEASURE.is_file():
-        return (len(data) / 64 + 1) / sha2_blocks(), "sha2"
+        return (len(data) / 64 + 1) / rates()[0], "sha2"
     return median([seconds(lambda: hashlib.sha256(data).digest()) for _ in range(requests)]), "hashlib"
 
 

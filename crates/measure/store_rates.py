@@ -7,8 +7,10 @@ usage: store_rates.py [--opens N] [--rows N..] [--puts N] [--batches N]
   is held opens it and writes nothing; the time of the program over an empty repository is taken off. Beside it the floor: sqlite3 reads
   every row, and the time is added in which the crate `sha2` hashes as many blocks of 64 bytes as the blobs have. That rate is the line
   `sha2` of `measure lms`, whose hashes are of one block each, with what a hash takes besides.
-- Puts of 1 MiB, through `release serve` over loopback, one connection each, and as one transaction each of sqlite3 in a file.
-- Batches of a timestamp, a snapshot and a targets document, each of the next version, in the same two ways.
+- Puts of 1 MiB, through `release serve` over loopback, one connection each, and as one transaction each of sqlite3 in a file, with the time added in
+  which `sha2` hashes as many blocks: the floor.
+- Batches of a timestamp, a snapshot and a targets document, each of the next version, in the same two ways; to the floor the time of the three
+  verifications is added (W4 at height 5, the line `w4` of `measure lms`).
 
 The programs are crates/release/out/release and crates/measure/out/measure, as `rt run` leaves them.
 """
@@ -36,10 +38,11 @@ def seconds(call, times):
     return sorted(best)[len(best) // 2]
 
 
-def sha2_blocks():
-    """How many blocks of 64 bytes the crate `sha2` hashes in a second."""
+def rates():
+    """How many blocks of 64 bytes the crate `sha2` hashes in a second, and how many signatures of W4 at height 5 are verified."""
     lines = subprocess.run([MEASURE, "lms", "200"], check=True, capture_output=True, text=True).stdout.splitlines()
-    return next(int(line.split()[1]) for line in lines if line.startswith("sha2 "))
+    words = {line.split()[0]: line.split() for line in lines}
+    return int(words["sha2"][1]), int(words["w4"][2])
 
 
 def fill(db, targets, rows):
@@ -69,12 +72,11 @@ def made(folder, name, small):
     return db
 
 
-def opens(folder, times, sizes):
+def opens(folder, times, sizes, blocks):
     small = folder / "small.bin"
     small.write_bytes(b"abc")
     empty = made(folder, "empty.db", small)
     base = seconds(lambda: release("put", "--db", empty, str(small)), times)
-    blocks = sha2_blocks()
     print(f"the program over no rows: {base * 1000:.0f} ms; sha2: {blocks * 64 / 1e6:.0f} MB a second")
     for rows in sizes:
         db = made(folder, f"held{rows}.db", small)
@@ -120,7 +122,13 @@ def beside(folder, rows):
     return len(rows) / took
 
 
-def puts(folder, times):
+def beside_floor(what, ours, stored, further):
+    """Prints a rate beside that of sqlite3, and beside the floor: sqlite3, and further seconds for each."""
+    floor = 1 / (1 / stored + further)
+    print(f"{what}: release {ours:.1f} a second, sqlite3 {stored:.1f}, with the rest of the floor {floor:.1f}, ratio {ours / floor:.2f}")
+
+
+def puts(folder, times, blocks):
     db = str(folder / "puts.db")
     release("init", "--db", db, str(folder / "root.json"))
     blobs = [n.to_bytes(4, "big") + bytes([9]) * 1048572 for n in range(times)]
@@ -131,10 +139,11 @@ def puts(folder, times):
         request(port, "PUT", f"/blobs/{name}", blob)
     ours = times / (time.perf_counter() - start)
     server.kill()
-    print(f"put of 1 MiB: release {ours:.1f} a second, sqlite3 {beside(folder, [[p] for p in zip(names, blobs)]):.1f}")
+    stored = beside(folder, [[pair] for pair in zip(names, blobs)])
+    beside_floor("put of 1 MiB", ours, stored, (len(blobs[0]) // 64 + 1) / blocks)
 
 
-def batches(folder, times):
+def batches(folder, times, verified):
     db = str(folder / "batches.db")
     release("init", "--db", db, str(folder / "root.json"))
     roles = {"timestamp": 2, "snapshot": 3, "targets": 4}
@@ -154,7 +163,7 @@ def batches(folder, times):
         request(port, "POST", "/batch", body)
     ours = times / (time.perf_counter() - start)
     server.kill()
-    print(f"batch of 3: release {ours:.1f} a second, sqlite3 {beside(folder, rows):.1f}")
+    beside_floor("batch of 3", ours, beside(folder, rows), 3 / verified)
 
 
 def main():
@@ -167,9 +176,10 @@ def main():
     with tempfile.TemporaryDirectory() as name:
         folder = Path(name)
         repository(folder, {"small.bin": b"abc"})
-        opens(folder, args.opens, args.rows)
-        puts(folder, args.puts)
-        batches(folder, args.batches)
+        blocks, verified = rates()
+        opens(folder, args.opens, args.rows, blocks)
+        puts(folder, args.puts, blocks)
+        batches(folder, args.batches, verified)
 
 
 if __name__ == "__main__":
