@@ -1,21 +1,16 @@
 //! The subcommands of `release` by which documents are written: `draft` and `show`, and `publish` of a folder of drafts.
 #![tactic(auto)]
 
-mod drafted;
-mod following;
 mod publishing;
 mod sealing;
 mod showing;
-mod standing;
-mod tree;
-mod visits;
 
 use chain_commands::{draft_chain, draft_step, relist, see_listable, take_all};
 use command_line::{Draft, Drafting};
 use command_support::{Fault, Notes, moment};
 use drafting_commands::{draft_listing, draft_rules};
 use drafts::Folder;
-use following::follow;
+use overview_rows::follow;
 pub use publishing::{Batch, complete_batch_in, empty, waiting_files};
 use sealing::seal;
 pub use showing::show;

@@ -1,7 +1,5 @@
 //! `show`: what a database holds, and what a folder of drafts has.
-use crate::drafted::drafts_in;
 use crate::publishing::batch_in;
-use crate::standing::{put, show_standing};
 use command_line::Showing;
 use command_support::{Fault, Notes, moment, print};
 use commands::{Work, worked};
@@ -9,6 +7,7 @@ use drafts::Folder;
 use keys_roles::KeyId;
 use machine::BatchRefusal;
 use metadata::Moment;
+use overview_rows::{drafts_in, put, show_standing};
 use overviews::{Drafts, drafts_as_json, drafts_as_lines, drafts_as_page};
 use sqlite::Alter;
 use std::alloc::{AllocError, Global};

@@ -1,7 +1,6 @@
 //! `sign --key`: signs drafts by a key that is kept in three files.
 use crate::books::{BookAt, BookWork, book_fault, has_bytes, worked_over};
 use crate::files::{KeyFiles, book_place};
-use crate::judging::{Judged, have_key};
 use command_support::{Fault, Notes, Slip, moment, print};
 use drafts::{
     Folder, Said, changes_of, held_said, owners_of, read_said, rules_for, sign_order,
@@ -11,6 +10,7 @@ use keys_roles::KeyId;
 use lms::KeyPair;
 use metadata::{Moment, SignedFile, read_signed};
 use signing::{Book, SignFileFault, SignOnceFault, leaf_of, sign_file_once, sign_file_with};
+use signing_checks::{Judged, have_key};
 use sqlite::Alter;
 use std::alloc::Global;
 use std::io::{IsTerminal, Write};

@@ -6,7 +6,6 @@ mod books;
 mod by_key;
 mod documents;
 mod files;
-mod judging;
 mod key;
 mod leaves;
 mod seeds;

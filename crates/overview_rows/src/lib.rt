@@ -1,0 +1,13 @@
+//! The rows that `show` looks at: what a database holds, and what a folder of drafts has.
+#![tactic(auto)]
+
+mod drafted;
+mod following;
+mod standing;
+mod tree;
+mod visits;
+
+pub use command_support::{Fault, Notes};
+pub use drafted::drafts_in;
+pub use following::follow;
+pub use standing::{put, show_standing};

@@ -1,0 +1,7 @@
+//! What is looked at of a draft before a leaf is spent on it.
+#![tactic(auto)]
+
+mod judging;
+
+pub use command_support::{Fault, Notes};
+pub use judging::{Judged, have_key};
