@@ -5,7 +5,7 @@ use sqlite::types::ValueRef;
 use sqlite::{Connection, FileStore, Files, Row};
 use sqlite_disk::{Crash, Disk, Fuse, Memory};
 use sqlite_pager::Options;
-use std::alloc::{AllocError, Global};
+use std::alloc::Global;
 use std::process::Abort;
 use std::test::Fail;
 use store::{Command, Moment, Offer, Reply, RoleName, Store};
@@ -36,15 +36,15 @@ const ALONE: [Step; 6] = [
 
 const TOGETHER: [Step; 4] = [Step::Init, Step::Batch, Step::Put, Step::Prune];
 
-// A line for each row of the five tables that both schemas have, and for each of the sixth, which schema 1 lacks.
-const FIVE: &str = "SELECT 'root ' || version || ' ' || hex(bytes) FROM root
-    UNION ALL SELECT 'current ' || slot || ' ' || version || ' ' || hex(bytes) FROM current
-    UNION ALL SELECT 'shelf ' || role || ' ' || version || ' ' || hex(bytes) FROM shelf
-    UNION ALL SELECT 'blob ' || digest || ' ' || hex(bytes) FROM blob
-    UNION ALL SELECT 'schema ' || version FROM schema ORDER BY 1";
-
-const SIXTH: &str =
-    "SELECT 'root2 ' || version || ' ' || profile || ' ' || hex(bytes) FROM root2 ORDER BY 1";
+// The rows of each of the six tables, of which schema 1 had the first five.
+const QUERIES: [&str; 6] = [
+    "SELECT version, bytes FROM root ORDER BY version",
+    "SELECT slot, version, bytes FROM current ORDER BY slot",
+    "SELECT role, version, bytes FROM shelf ORDER BY role, version",
+    "SELECT digest, bytes FROM blob ORDER BY digest",
+    "SELECT version FROM schema",
+    "SELECT version, profile, bytes FROM root2 ORDER BY version",
+];
 
 // Back to schema 1.
 const BACK: &str =
@@ -63,69 +63,32 @@ fn command<'a>(step: Step, documents: &'a [Document<'a>]) -> Command<'a> {
     }
 }
 
-// What the commands left: whether the store was opened, how many of them were made, and the files, unless the opening that failed took them with
-// it.
+// What the commands left: how many were made, and the files.
 #[derive(Drop)]
 struct Left {
-    is_open: bool,
     made: usize,
-    files: Option<Files<Fuse<Memory>>>,
+    files: Files<Fuse<Memory>>,
 }
 
-// A connection to these files, or the files.
-fn connected(
+// The store of these files, or the files.
+fn opened(
     alloc: Global,
     files: Files<Fuse<Memory>>,
-) -> Result<Connection<Disks>, Files<Fuse<Memory>>> {
+) -> Result<Store<Disks>, Option<Files<Fuse<Memory>>>> {
     if !files.may_be_used() {
-        return Err(files);
+        return Err(Some(files));
     }
-    match Connection::open_files(alloc, files, Options::new(1)) {
-        Ok(conn) => Ok(conn),
-        Err((_, left)) => Err(left.into_files()),
-    }
-}
-
-// The commands over a store that opens over the connection, and its files.
-fn run_over<'a>(
-    alloc: Global,
-    conn: Connection<Disks>,
-    steps: &[Step],
-    documents: &'a [Document<'a>],
-    now: Moment,
-) -> Left {
+    let conn = match Connection::open_files(alloc, files, Options::new(1)) {
+        Ok(conn) => conn,
+        Err((_, left)) => return Err(Some(left.into_files())),
+    };
     match Store::open_over(alloc, conn) {
-        Ok(mut store) => {
-            let made = made_in(&mut store, steps, documents, now);
-            Left {
-                is_open: true,
-                made,
-                files: Some(store.into_connection().into_store().close()),
-            }
-        }
-        Err(unopened) => Left {
-            is_open: false,
-            made: 0,
-            files: unopened.conn.map(|conn| conn.into_store().close()),
+        Ok(store) => Ok(store),
+        Err(unopened) => match unopened.conn {
+            Some(conn) => Err(Some(conn.into_store().close())),
+            None => Err(None),
         },
     }
-}
-
-// How many of the commands are made, until one is not. None of them is denied.
-fn made_in<'a>(
-    store: &mut Store<Disks>,
-    steps: &[Step],
-    documents: &'a [Document<'a>],
-    now: Moment,
-) -> usize {
-    for (made, step) in steps.iter().enumerate() {
-        match store.apply(command(*step, documents), now) {
-            Ok(Reply::Denied(_, _)) => return usize::MAX,
-            Ok(_) => {}
-            Err(_) => return made,
-        }
-    }
-    steps.len()
 }
 
 // Makes the commands over these files, until one is not made.
@@ -135,94 +98,101 @@ fn run<'a>(
     steps: &[Step],
     documents: &'a [Document<'a>],
     now: Moment,
-) -> Left {
-    match connected(alloc, files) {
-        Ok(conn) => run_over(alloc, conn, steps, documents, now),
-        Err(files) => Left {
-            is_open: false,
-            made: 0,
-            files: Some(files),
-        },
+) -> Result<Left, Fail> {
+    let mut store = match opened(alloc, files) {
+        Ok(store) => store,
+        Err(Some(files)) => return Ok(Left { made: 0, files }),
+        Err(None) => return Err(Fail::from("no files")),
+    };
+    let mut made: usize = 0;
+    for step in steps {
+        match store.apply(command(*step, documents), now) {
+            Ok(Reply::Denied(_, _)) => return Err(Fail::from("denied")),
+            Ok(_) => made = made.saturating_add(1),
+            Err(_) => break,
+        }
     }
+    let files = store.into_connection().into_store().close();
+    Ok(Left { made, files })
 }
 
-// What is found in files: the rows as lines, and the files.
-#[derive(Drop)]
-struct Look {
-    rows: Option<String>,
-    files: Files<Fuse<Memory>>,
+// The rows that the next open after a crash finds.
+fn rows_after(alloc: Global, mut files: Files<Fuse<Memory>>) -> Result<Vec<Row>, Fail> {
+    files.log.crash();
+    files.db.crash();
+    let Ok(store) = opened(alloc, files) else {
+        return Err(Fail::from("no store"));
+    };
+    let mut conn = store.into_connection();
+    rows_of(alloc, &mut conn)
 }
 
-// The rows behind statements of SQL.
-fn looked(alloc: Global, mut conn: Connection<Disks>, change: &str) -> Look {
-    let rows = rows_behind(alloc, &mut conn, change);
-    Look {
-        rows,
-        files: conn.into_store().close(),
+// The rows of the six tables, or of the five where there is no sixth.
+fn rows_of(alloc: Global, conn: &mut Connection<Disks>) -> Result<Vec<Row>, Fail> {
+    let count = match conn.query_all(QUERIES[5], &[]) {
+        Ok(_) => 6,
+        Err(_) => 5,
+    };
+    let mut rows = Vec::new(alloc);
+    for query in &QUERIES[..count] {
+        for row in conn.query_all(query, &[])? {
+            rows.push(row)?;
+        }
     }
+    Ok(rows)
 }
 
-fn look_into(alloc: Global, files: Files<Fuse<Memory>>, change: &str) -> Look {
-    match connected(alloc, files) {
-        Ok(conn) => looked(alloc, conn, change),
-        Err(files) => Look { rows: None, files },
-    }
-}
-
-// The rows of the six tables behind the statements, or of the five where there is no sixth.
-fn rows_behind(alloc: Global, conn: &mut Connection<Disks>, change: &str) -> Option<String> {
-    if conn.execute_batch(change).is_err() {
+// The connection to these files, if it is opened.
+fn connected(alloc: Global, files: Files<Fuse<Memory>>) -> Option<Connection<Disks>> {
+    if !files.may_be_used() {
         return None;
     }
-    let mut lines = String::new(alloc);
-    let is_read = push_rows(&mut lines, conn, FIVE);
-    let _ = push_rows(&mut lines, conn, SIXTH);
-    if is_read { Some(lines) } else { None }
-}
-
-fn push_rows(lines: &mut String, conn: &mut Connection<Disks>, query: &str) -> bool {
-    match conn.query_all(query, &[]) {
-        Ok(rows) => push_lines(lines, &rows),
-        Err(_) => false,
+    match Connection::open_files(alloc, files, Options::new(1)) {
+        Ok(conn) => Some(conn),
+        Err(_) => None,
     }
 }
 
-fn push_lines(lines: &mut String, rows: &[Row]) -> bool {
-    for row in rows {
-        let Ok(ValueRef::Text(line)) = row.get_ref(0) else {
-            return false;
-        };
-        let Ok(line) = str::from_utf8(line) else {
-            return false;
-        };
-        if lines.push_str(line).is_err() || lines.push_str("\n").is_err() {
+// The rows that stand in files after a crash, and the files.
+fn rows_left(
+    alloc: Global,
+    mut files: Files<Fuse<Memory>>,
+) -> Result<(Vec<Row>, Files<Fuse<Memory>>), Fail> {
+    files.log.crash();
+    files.db.crash();
+    let Some(mut conn) = connected(alloc, files) else {
+        return Err(Fail::from("no connection"));
+    };
+    let rows = rows_of(alloc, &mut conn)?;
+    Ok((rows, conn.into_store().close()))
+}
+
+fn is_same_value(one: ValueRef<'_>, other: ValueRef<'_>) -> bool {
+    match (one, other) {
+        (ValueRef::Int(a), ValueRef::Int(b)) => a == b,
+        (ValueRef::Text(a), ValueRef::Text(b)) => a == b,
+        (ValueRef::Blob(a), ValueRef::Blob(b)) => a == b,
+        _ => false,
+    }
+}
+
+fn is_same_row(one: &Row, other: &Row) -> bool {
+    for at in 0..one.column_count() {
+        match (one.get_ref(at), other.get_ref(at)) {
+            (Ok(a), Ok(b)) if is_same_value(a, b) => {}
+            _ => return false,
+        }
+    }
+    one.column_count() == other.column_count()
+}
+
+fn are_same(one: &[Row], other: &[Row]) -> bool {
+    for at in 0..one.len() {
+        if at >= other.len() || !is_same_row(&one[at], &other[at]) {
             return false;
         }
     }
-    true
-}
-
-// What the next open after a crash finds: the rows.
-fn rows_after(alloc: Global, files: Option<Files<Fuse<Memory>>>, now: Moment) -> Option<String> {
-    let mut files = files?;
-    files.log.crash();
-    files.db.crash();
-    match run(alloc, files, &[], &[], now) {
-        Left {
-            is_open: true,
-            files: Some(files),
-            ..
-        } => look_into(alloc, files, "").rows,
-        _ => None,
-    }
-}
-
-// Whether the first are just the second.
-fn are_same(found: &Option<String>, wanted: &Option<String>) -> bool {
-    match (found, wanted) {
-        (Some(found), Some(wanted)) => found.as_str() == wanted.as_str(),
-        _ => false,
-    }
+    one.len() == other.len()
 }
 
 // New files, which stop after so many calls of the log and of the database.
@@ -247,46 +217,19 @@ fn wanted<'a>(
     steps: &[Step],
     documents: &'a [Document<'a>],
     now: Moment,
-) -> Result<Vec<Option<String>>, AllocError> {
+) -> Result<Vec<Vec<Row>>, Fail> {
     let mut wanted = Vec::new(alloc);
     for count in 0..steps.len().saturating_add(1) {
-        let files = new_files(alloc, u64::MAX, u64::MAX);
         let left = run(
             alloc,
-            files,
+            new_files(alloc, u64::MAX, u64::MAX),
             &steps[..count.min(steps.len())],
             documents,
             now,
-        );
-        wanted.push(rows_after(alloc, left.files, now))?;
+        )?;
+        wanted.push(rows_after(alloc, left.files)?)?;
     }
     Ok(wanted)
-}
-
-// Whether the rows are those behind so many of the commands.
-fn are_behind(found: &Option<String>, wanted: &[Option<String>], count: usize) -> bool {
-    match wanted.get(count) {
-        Some(wanted) => are_same(found, wanted),
-        None => false,
-    }
-}
-
-// Makes the commands over files of which one stops after so many calls: how many of them are made, and whether the next open finds the rows
-// before the one that was not made, or those behind it.
-fn stopped<'a>(
-    alloc: Global,
-    files: Files<Fuse<Memory>>,
-    steps: &[Step],
-    documents: &'a [Document<'a>],
-    now: Moment,
-    wanted: &[Option<String>],
-) -> (usize, bool) {
-    let left = run(alloc, files, steps, documents, now);
-    let found = rows_after(alloc, left.files, now);
-    let is_before = are_behind(&found, wanted, left.made);
-    let is_behind = are_behind(&found, wanted, left.made.saturating_add(1));
-    let is_whole = is_before || is_behind && left.made < steps.len();
-    (left.made, is_whole)
 }
 
 // The file stops at each of its calls in turn, until none is left. Behind each stop the next open finds the rows before the command that was
@@ -307,29 +250,42 @@ fn stops_at_each_call(
     let wanted = wanted(alloc, steps, &documents, now)?;
     for calls in 0..2_000u64 {
         let files = files_that_stop(alloc, stops_log, calls);
-        let (made, is_whole) = stopped(alloc, files, steps, &documents, now, &wanted);
-        assert!(rt; is_whole, "{calls} calls, {made} commands");
+        let Left { made, files } = run(alloc, files, steps, &documents, now)?;
+        let found = rows_after(alloc, files)?;
+        let next = made.saturating_add(1);
+        let before = made < wanted.len() && are_same(&found, &wanted[made]);
+        let after = next < wanted.len() && are_same(&found, &wanted[next]);
+        assert!(rt; before || after, "{calls} calls, {made} commands");
         if made == steps.len() {
+            assert!(rt; before, "{calls} calls");
             return Ok(());
         }
     }
     Err(Fail::from("never at the end"))
 }
 
-// The files of a database of schema 1, and its rows.
-fn first_schema<'a>(alloc: Global, documents: &'a [Document<'a>], now: Moment) -> Option<Look> {
+// The files of a database of schema 1.
+fn first_schema<'a>(
+    alloc: Global,
+    documents: &'a [Document<'a>],
+    now: Moment,
+) -> Result<Files<Fuse<Memory>>, Fail> {
     let files = new_files(alloc, u64::MAX, u64::MAX);
-    let left = run(alloc, files, &TOGETHER[..3], documents, now);
-    Some(look_into(alloc, left.files?, BACK))
+    let left = run(alloc, files, &TOGETHER[..3], documents, now)?;
+    let Some(mut conn) = connected(alloc, left.files) else {
+        return Err(Fail::from("no connection"));
+    };
+    conn.execute_batch(BACK)?;
+    Ok(conn.into_store().close())
 }
 
 // A copy of a file, which stops after so many calls.
-fn copied(alloc: Global, file: &Fuse<Memory>, calls: u64) -> Option<Fuse<Memory>> {
+fn copied(alloc: Global, file: &Fuse<Memory>, calls: u64) -> Result<Fuse<Memory>, Fail> {
     let mut copy = Memory::new(alloc);
     if copy.write_at(0, file.inner().bytes()).is_err() || copy.sync().is_err() {
-        return None;
+        return Err(Fail::from("no copy"));
     }
-    Some(Fuse::new(copy, calls))
+    Ok(Fuse::new(copy, calls))
 }
 
 fn copies(
@@ -337,58 +293,27 @@ fn copies(
     files: &Files<Fuse<Memory>>,
     stops_log: bool,
     calls: u64,
-) -> Option<Files<Fuse<Memory>>> {
+) -> Result<Files<Fuse<Memory>>, Fail> {
     let (log, db) = if stops_log {
         (calls, u64::MAX)
     } else {
         (u64::MAX, calls)
     };
-    Some(Files {
+    Ok(Files {
         log: copied(alloc, &files.log, log)?,
         db: copied(alloc, &files.db, db)?,
     })
 }
 
-// What an opening of schema 1 that stops leaves: whether the store was open, whether a crash then finds schema 2 whole, and whether schema 1 or 2;
-// and whether the next open brings it to schema 2.
-#[derive(Clone, Copy)]
-struct Migrated {
-    is_open: bool,
-    is_second: bool,
-    is_one: bool,
-    is_brought: bool,
-}
-
-const LOST: Migrated = Migrated {
-    is_open: false,
-    is_second: false,
-    is_one: false,
-    is_brought: false,
-};
-
-fn migrate(
+// Opens a store over the files: whether it is open, and the files.
+fn migrated(
     alloc: Global,
-    files: Option<Files<Fuse<Memory>>>,
-    first: &Option<String>,
-    second: &Option<String>,
-    now: Moment,
-) -> Migrated {
-    let Some(files) = files else {
-        return LOST;
-    };
-    let left = run(alloc, files, &[], &[], now);
-    let Some(mut files) = left.files else {
-        return LOST;
-    };
-    files.log.crash();
-    files.db.crash();
-    let found = look_into(alloc, files, "");
-    let is_second = are_same(&found.rows, second);
-    Migrated {
-        is_open: left.is_open,
-        is_second,
-        is_one: is_second || are_same(&found.rows, first),
-        is_brought: are_same(&rows_after(alloc, Some(found.files), now), second),
+    files: Files<Fuse<Memory>>,
+) -> Result<(bool, Files<Fuse<Memory>>), Fail> {
+    match opened(alloc, files) {
+        Ok(store) => Ok((true, store.into_connection().into_store().close())),
+        Err(Some(files)) => Ok((false, files)),
+        Err(None) => Err(Fail::from("no files")),
     }
 }
 
@@ -406,23 +331,23 @@ fn stops_at_each_call_of_a_migration(
         (Offer::Snapshot, SNAPSHOT.as_bytes()),
         (Offer::Targets(role), TARGETS.as_bytes()),
     ];
-    let before = first_schema(alloc, &documents, now).expect(rt, "schema 1");
-    let calm = run(
-        alloc,
-        new_files(alloc, u64::MAX, u64::MAX),
-        &TOGETHER[..3],
-        &documents,
-        now,
-    );
-    let second = rows_after(alloc, calm.files, now);
-    assert!(rt; before.rows.is_some() && second.is_some());
-    assert!(rt; !are_same(&before.rows, &second));
+    let before = first_schema(alloc, &documents, now)?;
+    let (first, before) = rows_left(alloc, before)?;
+    let files = new_files(alloc, u64::MAX, u64::MAX);
+    let calm = run(alloc, files, &TOGETHER[..3], &documents, now)?;
+    let second = rows_after(alloc, calm.files)?;
+    assert!(rt; !are_same(&first, &second));
     for calls in 0..2_000u64 {
-        let files = copies(alloc, &before.files, stops_log, calls);
-        let left = migrate(alloc, files, &before.rows, &second, now);
-        assert!(rt; left.is_one && left.is_brought, "{calls} calls");
-        if left.is_open {
-            assert!(rt; left.is_second, "{calls} calls");
+        let (is_open, files) = migrated(alloc, copies(alloc, &before, stops_log, calls)?)?;
+        let (found, files) = rows_left(alloc, files)?;
+        let is_second = are_same(&found, &second);
+        assert!(rt; is_second || are_same(&found, &first), "{calls} calls");
+        assert!(rt;
+            are_same(&rows_after(alloc, files)?, &second),
+            "{calls} calls"
+        );
+        if is_open {
+            assert!(rt; is_second, "{calls} calls");
             return Ok(());
         }
     }
