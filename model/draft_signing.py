@@ -40,23 +40,17 @@ class Draft:
 def drafts_of(folder):
     """All that may be signed. The links of `layouts/` are signed elsewhere."""
     found = [Draft(name) for name in folder if not name.startswith(("files/", "held/"))]
-    return sorted((it for it in found if it.folder != "layouts" or it.kind == "layout"), key=lambda it: (it.order, it.name))
+    return sorted((it for it in found if it.folder != "layouts" or it.kind == "layout"), key=lambda it: (it.order, place_of(it.name)))
 
 
 def entries_of(text):
-    """The ids of those who signed, and none where the bytes are no document."""
-    try:
-        return {keyid: signature for keyid, signature in read_envelope(text)[0]}
-    except Denied:
-        return {}
+    """The ids of those who signed, each with its signature."""
+    return {keyid: signature for keyid, signature in read_envelope(text)[0]}
 
 
 def document_at(folder, kind, name):
-    """The document under this name, or None where there is none that can be read."""
-    try:
-        return read_document(kind, folder[name]) if name in folder else None
-    except Denied:
-        return None
+    """The document under this name, or None where there is none."""
+    return read_document(kind, folder[name]) if name in folder else None
 
 
 def in_use(folder, kind, role):
@@ -76,10 +70,11 @@ def targets_in_use(folder):
 
 def rules_of_root(folder, draft):
     """A root follows the rule of the one that is held and its own."""
-    roots = [document_at(folder, "root", name) for name in ("root.json", "held/root.json")]
     if draft.role == "root":
+        roots = [document_at(folder, "root", name) for name in ("held/root.json", "root.json")]
         return [root.rules["root"] for root in roots if root]
-    return [next(root.rules[draft.role] for root in roots if root)] if any(roots) else []
+    root = in_use(folder, "root", "root")
+    return [root.rules[draft.role]] if root else []
 
 
 def rules_of(folder, draft):
@@ -98,10 +93,11 @@ def has_rule(folder, draft, key):
 
 def is_chosen(folder, draft, key, named):
     """Those that are named; else those whose rules have the key and that lack its entry. A link is signed once."""
-    entries = entries_of(folder[draft.name])
-    if draft.kind == "link" and entries:
-        return False
-    return draft.is_named(named) if named else has_rule(folder, draft, key) and key.id not in entries
+    if draft.kind == "link":
+        return (not named or draft.is_named(named)) and not entries_of(folder[draft.name])
+    if named:
+        return draft.is_named(named)
+    return has_rule(folder, draft, key) and key.id not in entries_of(folder[draft.name])
 
 
 def judge_shape(folder, draft, key):
@@ -117,10 +113,17 @@ def judge_book(folder, key, book):
     """The book has the key, and knows each signature of the key in the folder: by its leaf, for what it stands over."""
     if not book.is_made or key.id not in book.leaves:
         raise Refused("book")
-    for name, text in folder.items():
-        signature = None if name.startswith("files/") else entries_of(text).get(key.id)
-        if signature is not None and book.leaves[key.id].get(read_envelope(text)[2]) != int.from_bytes(signature[:4], "big"):
+    for name in sorted((it for it in folder if not it.startswith("files/")), key=place_of):
+        signature = entries_of(folder[name]).get(key.id)
+        if signature is not None and book.leaves[key.id].get(read_envelope(folder[name])[2]) != int.from_bytes(signature[:4], "big"):
             raise Refused("book")
+
+
+def place_of(name):
+    """What is held comes first, then the drafts, each by their roles, then layouts and links by their names."""
+    inner, _, file = name.rpartition("/")
+    place = ("held", "", "layouts", "links").index(inner)
+    return place, file.removesuffix(".json") if place < 2 else file
 
 
 def judge_against_held(folder, draft, document):
@@ -139,21 +142,19 @@ def judge_against_held(folder, draft, document):
 
 
 def has_enough(folder, name):
-    """Whether the rules of a draft are met."""
+    """Whether the rules of a draft are met, of which there is one: a root follows two, and a role may be delegated to it twice."""
     draft = Draft(name)
-    document = document_at(folder, draft.kind, name)
     rules = rules_of(folder, draft)
-    if draft.role == "root":
-        return document is not None and all(meets(rule, document) for rule in rules)
-    return document is not None and any(meets(rule, document) for rule in rules)
+    document = document_at(folder, draft.kind, name)
+    return bool(rules) and all(meets(rule, document) for rule in rules)
 
 
 def judge_order(folder, draft):
     """A snapshot and a timestamp come behind all else that is drafted, and the timestamp behind the snapshot: a later change would cost them a leaf."""
     if draft.kind not in ("snapshot", "timestamp"):
         return
-    for name in folder:
-        if "/" not in name and Draft(name).order < draft.order and not has_enough(folder, name):
+    for name in sorted((it for it in folder if "/" not in it), key=place_of):
+        if Draft(name).order < draft.order and not has_enough(folder, name):
             raise Refused("order")
 
 
@@ -214,12 +215,16 @@ def sign_one(folder, draft, key, book):
 
 
 def sign_by(folder, key, book, named, again, now, printed):
-    """Each draft is judged behind the signature of the one before it: a timestamp is over the snapshot that the same key has just signed."""
+    """Each draft is judged behind the signature of the one before it: a timestamp is over the snapshot that the same key has just signed.
+    Which documents of roles are to be signed is found before the first is, and of layouts and links when it is their turn; a draft in which the
+    rules stand, and one that may lack the key's entry, is denied for its shape where that is ill."""
     if key.id not in book.leaves:
         raise Refused("book")
-    for draft in [it for it in drafts_of(folder) if is_chosen(folder, it, key, named)]:
-        judge(folder, draft, key, book, again, now)
-        printed.append(sign_one(folder, draft, key, book))
+    roles = [it.name for it in drafts_of(folder) if not it.folder and is_chosen(folder, it, key, named)]
+    for draft in drafts_of(folder):
+        if draft.name in roles or draft.folder and is_chosen(folder, draft, key, named):
+            judge(folder, draft, key, book, again, now)
+            printed.append(sign_one(folder, draft, key, book))
 
 
 def sign(folder, signers, named, again, now):

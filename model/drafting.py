@@ -120,7 +120,9 @@ def seconds_of(text):
 
 
 def sealed(held_snapshot, held_timestamp, versions, given, now):
-    """The snapshot, or None where the held one is not due and lists these versions, and the timestamp."""
+    """The snapshot, or None where the held one is not due and lists these versions, and the timestamp. A snapshot has something to list."""
+    if not held_snapshot and not versions:
+        raise Refused("order")
     snapshot = held_snapshot
     lists = held_snapshot and all(held_snapshot["meta"].get(f"{role}.json", {}).get("version") == version for role, version in versions)
     drafted = None

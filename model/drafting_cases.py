@@ -155,7 +155,7 @@ def file_said(session, random, path):
 
 
 def compare_seals(session, random, count):
-    """Seals over what is held: the timestamp, and the snapshot where it is due or is none."""
+    """Seals over what is held: the timestamp, and the snapshot where it is due. Where none is held, nothing is listed."""
     for _ in range(count):
         folder = Folder(session)
         now = BEGIN
@@ -169,7 +169,6 @@ def compare_seals(session, random, count):
             said = {"_type": "timestamp", "spec_version": "1.0.31", "version": random.randint(1, 99), "expires": date(now)}
             folder.hold("timestamp", {**said, "meta": meta, "term": random.choice((5, 86400))})
         given = random.choice(TERMS)
-        if "snapshot" not in folder.held:
-            continue
-        drafted, timestamp = drafting.sealed(folder.held["snapshot"], folder.held.get("timestamp"), [], given, now)
-        folder.draft("seal", ["snapshot", "timestamp"], {"snapshot": drafted, "timestamp": timestamp}, ["seal", *term_words(given)], now)
+        kinds = ["snapshot", "timestamp"]
+        wanted = answered(lambda: dict(zip(kinds, drafting.sealed(*map(folder.held.get, kinds), [], given, now))))
+        folder.draft("seal", kinds, wanted, ["seal", *term_words(given)], now)

@@ -7,8 +7,8 @@ usage: store_rates.py [--opens N] [--rows N..] [--puts N] [--batches N]
   is held opens it and writes nothing; the time of the program over an empty repository is taken off. Beside it the floor: sqlite3 reads
   every row, and the time is added in which the crate `sha2` hashes as many blocks of 64 bytes as the blobs have. That rate is the line
   `sha2` of `measure lms`, whose hashes are of one block each, with what a hash takes besides.
-- Puts of 1 MiB, through `release serve` over loopback, one connection each, and as one transaction each of sqlite3 in a file, with the time added in
-  which `sha2` hashes as many blocks: the floor.
+- Puts of 1 MiB, through `release serve` over loopback, one connection each, and as one transaction each of sqlite3 in a file, with a second sync as the
+  program has it, and the time added in which `sha2` hashes as many blocks: the floor.
 - Batches of a timestamp, a snapshot and a targets document, each of the next version, in the same two ways; to the floor the time of the three
   verifications is added (W4 at height 5, the line `w4` of `measure lms`).
 
@@ -17,6 +17,7 @@ The programs are crates/release/out/release and crates/measure/out/measure, as `
 import argparse
 import hashlib
 import http.client
+import os
 import sqlite3
 import subprocess
 import tempfile
@@ -106,7 +107,9 @@ def serve(db):
 
 
 def beside(folder, rows):
-    """One transaction for each list of rows, in a file of sqlite3."""
+    """One transaction for each list of rows, in a file of sqlite3, and as many syncs as the program has for each: its log is synced behind the rows and
+    behind the mark that they are whole, that of sqlite3 once."""
+    mark = os.open(folder / "mark", os.O_RDWR | os.O_CREAT)
     connection = sqlite3.connect(folder / "beside.db", isolation_level=None)
     connection.execute("PRAGMA journal_mode=WAL")
     connection.execute("PRAGMA synchronous=FULL")
@@ -117,15 +120,18 @@ def beside(folder, rows):
         for name, data in group:
             connection.execute("INSERT OR REPLACE INTO blob VALUES (?, ?)", (name, data))
         connection.execute("COMMIT")
+        os.pwrite(mark, b"1", 0)
+        os.fdatasync(mark)
     took = time.perf_counter() - start
     connection.close()
+    os.close(mark)
     return len(rows) / took
 
 
 def beside_floor(what, ours, stored, further):
     """Prints a rate beside that of sqlite3, and beside the floor: sqlite3, and further seconds for each."""
     floor = 1 / (1 / stored + further)
-    print(f"{what}: release {ours:.1f} a second, sqlite3 {stored:.1f}, with the rest of the floor {floor:.1f}, ratio {ours / floor:.2f}")
+    print(f"{what}: release {ours:.1f} a second, sqlite3 with the same syncs {stored:.1f}, with the rest of the floor {floor:.1f}, ratio {ours / floor:.2f}")
 
 
 def puts(folder, times, blocks):

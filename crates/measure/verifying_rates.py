@@ -5,9 +5,11 @@ usage: verifying_rates.py [--rounds N] [--pairs N]
 
 For LMS of each LM-OTS width at height 5 and for HSS of two levels of W8 at height 5, a vector of the stored run of `verdicts` is verified by lines of
 `verdicts` and by `straight.c`, in turn. The time of as many lines of the same length whose key is of no known type is taken off, so what is left is the
-verification alone. It prints both rates and the median of their ratios, and ends with 1 where HSS is below 1.0. It needs `cc` and OpenSSL's headers.
+verification alone. It prints both rates and the median of their ratios, and ends with 1 where HSS is below 1.0. OpenSSL is kept from the processor's SHA
+instructions, which the program does not use; where there are such, the rate with them is printed, too. It needs `cc` and OpenSSL's headers.
 """
 import argparse
+import os
 import statistics
 import subprocess
 import sys
@@ -17,6 +19,8 @@ from pathlib import Path
 
 from pattern_rates import HERE, VERDICTS
 
+# OpenSSL's words for a processor without SHA instructions (bit 29 of the extended features).
+PLAIN = {**os.environ, "OPENSSL_ia32cap": ":~0x20000000"}
 HSS_BYTES = 2644  # 4, 1,292, 56 and 1,292 bytes
 TYPES = {"00000001": "lms w1", "00000002": "lms w2", "00000003": "lms w4", "00000004": "lms w8"}
 
@@ -46,6 +50,12 @@ def lines_in(kind, public, signature, message, rounds):
     return time.perf_counter() - start
 
 
+def straight_rate(straight, rounds, words, environment):
+    """How many verifications a second `straight.c` makes."""
+    done = subprocess.run([straight, str(rounds), *words], env=environment, capture_output=True, text=True, check=True)
+    return float(done.stdout)
+
+
 def main():
     parser = argparse.ArgumentParser()
     parser.add_argument("--rounds", type=int, default=400)
@@ -62,10 +72,11 @@ def main():
                 whole = lines_in(kind, public, signature, message, options.rounds)
                 beside = lines_in(kind, "f" * len(public), signature, message, options.rounds)
                 ours.append(options.rounds / max(whole - beside, 1e-9))
-                done = subprocess.run([straight, str(options.rounds), public, signature, message], capture_output=True, text=True, check=True)
-                theirs.append(float(done.stdout))
+                theirs.append(straight_rate(straight, options.rounds, (public, signature, message), PLAIN))
             ratio = statistics.median(a / b for a, b in zip(ours, theirs))
             print(f"{name}: {statistics.median(ours):.0f} a second, straight C {statistics.median(theirs):.0f}, ratio {ratio:.2f}")
+            if "sha_ni" in Path("/proc/cpuinfo").read_text():
+                print(f"    straight C with SHA instructions: {straight_rate(straight, options.rounds, (public, signature, message), os.environ):.0f}")
             slow = slow or kind == "hss" and ratio < 1
     return int(slow)
 

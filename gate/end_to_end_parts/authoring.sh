@@ -76,7 +76,11 @@ an_index_begins() {
     "$release" sign --at $now --key bob --in bobs --yes >/dev/null
     draft_alone take bobs/root.json
     is_told '  2 of 2 have signed'
+    is_told 'next: release init --db DB d/root.json'
+    is_told 'next: release draft --in d targets --add FILE'
     wants 0 'begun\n' '' init --at $now --db repository.db d/root.json
+    slips order draft --at $now --db repository.db --in d seal
+    [ ! -e d/snapshot.json ] || fail "a snapshot that lists nothing is drafted"
 }
 
 an_index_is_published() {

@@ -9,6 +9,7 @@ use drafts::{
     target_of_layout, version_in,
 };
 use metadata::{Kind, Moment, SignedFile, read_signed};
+use overview_rows::lacks_targets;
 use std::alloc::Global;
 use std::io::Write;
 
@@ -33,6 +34,7 @@ pub fn seal<E: Write>(
     }
     see_signatures(alloc, folder, notes)?;
     see_layouts(alloc, folder, notes)?;
+    see_targets(folder, notes)?;
     let version = seal_snapshot(rt, folder, asked, forgets, now, notes)?;
     let before = Before::of(rt, folder, "timestamp", asked.anew, notes)?;
     let given = asked.expires.as_deref();
@@ -102,6 +104,18 @@ fn see_layouts<E: Write>(
                 return Err(Fault::Slip(Slip::Order));
             }
         }
+    }
+    Ok(())
+}
+
+// There is something that a snapshot can list.
+fn see_targets<E: Write>(folder: Folder<'_>, notes: &mut Notes<'_, E>) -> Result<(), Fault> {
+    if lacks_targets(folder, notes)? {
+        notes.warn(
+            &"targets",
+            &"there are no targets metadata: draft and sign them first",
+        );
+        return Err(Fault::Slip(Slip::Order));
     }
     Ok(())
 }

@@ -28,6 +28,7 @@ pub fn drafts_in<E: Write>(
         db,
         are_met: true,
         is_sealed: false,
+        lacks_targets: false,
         shown: Drafts {
             now: now.seconds(),
             drafts: Vec::new(alloc),
@@ -43,6 +44,14 @@ pub fn drafts_in<E: Write>(
     }
 }
 
+/// Whether a snapshot would have nothing to list: no top-level targets metadata are drafted or held, and no snapshot that lists them.
+pub fn lacks_targets<E: Write>(
+    folder: Folder<'_>,
+    notes: &mut Notes<'_, E>,
+) -> Result<bool, Fault> {
+    Ok(folder.latest("targets", notes)?.is_none() && folder.latest("snapshot", notes)?.is_none())
+}
+
 // What is known of the folder so far.
 #[derive(Drop)]
 struct Looking<'a> {
@@ -51,6 +60,7 @@ struct Looking<'a> {
     db: Option<&'a str>,
     are_met: bool,
     is_sealed: bool,
+    lacks_targets: bool,
     shown: Drafts,
 }
 
@@ -59,7 +69,22 @@ impl Looking<'_> {
         self.look_at_drafts(notes)?;
         self.look_at_layouts(notes)?;
         self.shown.links = self.folder.chain_files("links", notes)?;
+        self.lacks_targets = lacks_targets(self.folder, notes)?;
+        if self.are_met && self.begins(notes)? {
+            let folder = self.folder.path();
+            let line = format!(in self.alloc; "next: release init --db DB {folder}/root.json")?;
+            self.shown.next.push(line)?;
+        }
         Ok(self.tell_next()?)
+    }
+
+    // Whether a first root is drafted, and no database is named.
+    fn begins<E: Write>(&self, notes: &mut Notes<'_, E>) -> Result<bool, Fault> {
+        if self.db.is_some() || !self.lacks_targets {
+            return Ok(false);
+        }
+        let is_drafted = self.folder.draft("root", notes)?.is_some();
+        Ok(is_drafted && self.folder.held("root", notes)?.is_none())
     }
 
     fn look_at_drafts<E: Write>(&mut self, notes: &mut Notes<'_, E>) -> Result<(), Fault> {
@@ -227,6 +252,8 @@ impl Looking<'_> {
         }
         let line = if self.shown.drafts.is_empty() {
             String::from_str(self.alloc, "no draft")?
+        } else if self.lacks_targets {
+            format!(in self.alloc; "next: release draft --in {folder} targets --add FILE")?
         } else if self.is_sealed {
             match self.db {
                 Some(db) => format!(in self.alloc;

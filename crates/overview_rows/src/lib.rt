@@ -8,6 +8,6 @@ mod tree;
 mod visits;
 
 pub use command_support::{Fault, Notes};
-pub use drafted::drafts_in;
+pub use drafted::{drafts_in, lacks_targets};
 pub use following::follow;
 pub use standing::{put, show_standing};
