@@ -1,7 +1,7 @@
 //! `draft layout`: the layout of a target, and what refers the target to it.
 use chain_drafting::{Reference, StepDraft, draft_layout, with_reference};
 use command_line::{Drafting, LayoutDraft};
-use command_support::{DOCUMENT_LIMIT, Fault, Notes, Slip, read_at_most};
+use command_support::{FILE_LIMIT, Fault, Notes, Slip, read_at_most};
 use drafting::{Addition, Rule, TargetsChanges, draft_targets};
 use drafting_commands::{
     Before, DAYS as TARGETS_DAYS, Known, RuleRead, addition_of, digest_in, drafted, kept_terms,
@@ -91,7 +91,7 @@ fn steps_of<'a, E: Write>(
     let Some(file) = &told.rules else {
         return steps_by(rt, known, told, "", notes);
     };
-    let bytes = read_at_most(rt, file.as_str(), DOCUMENT_LIMIT, notes)?;
+    let bytes = read_at_most(rt, file.as_str(), FILE_LIMIT, notes)?;
     match str::from_utf8(&bytes) {
         Ok(lines) => steps_by(rt, known, told, lines, notes),
         Err(_) => {

@@ -1,6 +1,6 @@
 //! `draft take`: what another machine sends back.
 use crate::linking::take_link;
-use command_support::{DOCUMENT_LIMIT, Denial, Fault, Notes, Slip, read_at_most};
+use command_support::{Denial, FILE_LIMIT, Fault, Notes, Slip, read_at_most};
 use drafting_commands::last_segment;
 use drafts::{Folder, ListedFile, kind_of, read_said, version_in};
 use limits::BLOB_LIMIT;
@@ -32,7 +32,7 @@ fn take<E: Write>(
     file: &str,
     notes: &mut Notes<'_, E>,
 ) -> Result<(), Fault> {
-    let bytes = read_at_most(rt, file, DOCUMENT_LIMIT, notes)?;
+    let bytes = read_at_most(rt, file, FILE_LIMIT, notes)?;
     if take_link(rt, folder, target, &bytes, notes)?
         || take_layout(rt, folder, file, &bytes, notes)?
     {

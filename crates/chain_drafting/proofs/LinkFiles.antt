@@ -1,11 +1,12 @@
 -- Files of links that nobody signed yet.
 use Rattle.std.proofs.Common.{◌≡◌, ◌⊎◌, inl, inr, ℕ, ◌≤◌, List, length, codes, refl, sym, ◌∙◌, subst, arith}
+use Rattle.limits.specs.Limits.{file_limit}
 use Rattle.canonical_json.specs.Json.{Json, text, array, object, no_items, no_members, member}
 use Rattle.canonical_json.specs.Spelling.{IsCanonical}
 use Rattle.document_parts.specs.Bodies.{AreArtifacts, IsTextOf}
 use Rattle.document_parts.specs.Links.{Artifacts}
 use Rattle.document_parts.specs.Members.{IsText}
-use Rattle.metadata.specs.Shape.{IsEnvelopeFault, IsShapeFault, kind_name, max_file}
+use Rattle.metadata.specs.Shape.{IsEnvelopeFault, IsShapeFault, kind_name}
 use Rattle.document_parts.specs.declared.documents.Kind.TheVariants as kinds
 use Rattle.document_parts.specs.declared.documents.ShapeFault.{ShapeFault}
 use Rattle.document_parts.specs.declared.documents.ShapeFault.TheVariants.{TooLong, NotCanonical, WrongShape, WrongType, BadKeyId, OutOfMemory}
@@ -40,7 +41,7 @@ link_part v k m n p is typed materials name products = subst IsLinkPart (sym is)
   };
 })
 
-pub unsigned_link : (file : File) (v part : Json) → length file ≤ max_file → IsCanonical v file → v ≡ unsigned_file part → IsLinkFile v → IsUnsignedLink part file
+pub unsigned_link : (file : File) (v part : Json) → length file ≤ file_limit → IsCanonical v file → v ≡ unsigned_file part → IsLinkFile v → IsUnsignedLink part file
 unsigned_link file v part short canonical is found =
     let both : object (member (codes "signatures") found.0 (member (codes "signed") found.1 no_members)) ≡ unsigned_file part = sym found.2 ∙ is in
     let part_is : found.1 ≡ part = cc in

@@ -14,12 +14,10 @@ ghost use Rattle.chain_drafting.specs.steps.Recorded.{IsLinkFile};
 
 use canonical_json::Value;
 use drafting::{Denial, DraftFault, file_of, written};
+use limits::FILE_LIMIT;
 use metadata::{ShapeFault, four_members, read_artifacts, text_of, two_members};
 use path_patterns::is_role_name;
 use std::alloc::Global;
-
-// The most bytes of a file.
-const MOST_BYTES: usize = 262_144;
 
 /// The file without signatures of a signed part with these members, which are a link's.
 pub(crate) fn finish_link(
@@ -39,7 +37,7 @@ fn link_bytes(alloc: Global, file: &Value) -> Result<Vec<u8>, DraftFault>
     ensures err { IfErr result (λ e. (e ≡ DraftFault.OutOfMemory) ⊎ ((d : Denial) × (e ≡ DraftFault.Unfit d))) }
 {
     let bytes = written(alloc, file)?;
-    if bytes.len() > MOST_BYTES {
+    if bytes.len() > FILE_LIMIT {
         return Err(DraftFault::Unfit(Denial::TooLong));
     }
     judge_file(alloc, file)?;

@@ -3,14 +3,14 @@ use Rattle.std.proofs.Common.{◌≡◌, ◌⊎◌, inl, inr, ℕ, ◌<◌, ◌�
 use Rattle.std.specs.Prelude.{codes}
 use Rattle.limits.specs.Limits.{blob_limit}
 use Rattle.path_patterns.specs.Grammar.{IsTargetPath}
-use Rattle.path_patterns.specs.Names.{Asks}
+use Rattle.path_patterns.specs.Names.{Asks, dotted}
 use Rattle.keys_roles.proofs.Elements.{any_in}
 use Rattle.metadata.specs.File.{Bytes, Name, Names, has_name}
 use Rattle.denials.specs.Orders as orders
 use Rattle.denials.specs.Orders.{BlobMissing, Denial, Judged, Plain, RoleMissing, Same}
 use Rattle.machine.proofs.ShapedOnce.{Shapes}
 use Rattle.machine.specs.Misses.{IsPart}
-use Rattle.machine.specs.State.{IsCoherent, IsState, State, Trusted, dotted}
+use Rattle.machine.specs.State.{IsCoherent, IsState, State, Trusted}
 use Rattle.machine.specs.Commands.{TargetsOffer, grants, put_blob}
 use Rattle.machine.specs.Runs.{PutBlob, with_trusted}
 use Rattle.delegations.specs.Delegation.{before}

@@ -3,8 +3,8 @@ use Rattle.std.proofs.Common.{◌≡◌, ℕ, Bool, [], ◌++◌, Option, Some, 
 use Rattle.std.specs.Prelude.{IfSome, codes, length}
 use Rattle.metadata.specs.File.{Bytes, Names}
 use Rattle.denials.specs.Orders as orders
-use Rattle.path_patterns.specs.Names.{Asks}
-use Rattle.machine.specs.State.{State, blob_at, dotted}
+use Rattle.path_patterns.specs.Names.{Asks, dotted}
+use Rattle.machine.specs.State.{State, blob_at}
 use Rattle.machine.specs.Commands.{Listed, Offer, RootOffer, SnapshotOffer, TargetsOffer, TimestampOffer, grants, listed}
 use Rattle.machine.specs.Runs.{Command}
 use Rattle.sources.specs.Source.{Gives}

@@ -1,8 +1,8 @@
 -- What comes of one file that is taken from an honest source: it ends in want, or as the offer or the upload is judged.
 use Rattle.std.proofs.Common.{◌≡◌, ◌⊎◌, inl, inr, ℕ, ◌<◌, ◌≤◌, Bool, true, false, ◌++◌, Option, Some, None, Result, Ok, Err, refl, sym, ap, ◌∙◌, subst, arith, length}
+use Rattle.limits.specs.Limits.{file_limit}
 use Rattle.std.specs.Prelude.{codes}
 use Rattle.metadata.specs.File.{Bytes}
-use Rattle.metadata.specs.Shape.{max_file}
 use Rattle.denials.specs.Orders as orders
 use Rattle.denials.specs.Orders.{Judged, Same, Denied}
 use Rattle.machine.specs.State.{IsState, State, Trusted, metadata_of}
@@ -191,7 +191,7 @@ yes there e = cc
 not_ok : (fault : Fault) (there : Bool) → ◌≡◌ {A = Result Bool Fault} (Err fault) (Ok there) → there ≡ true
 not_ok fault there e = absurd cc
 
-module _ (S : State) (now : ℕ) (file : Bytes) (o : Offer) (b : Bytes) (held : metadata_of S.trusted file ≡ Some b) (short : length b ≤ max_file) where
+module _ (S : State) (now : ℕ) (file : Bytes) (o : Offer) (b : Bytes) (held : metadata_of S.trusted file ≡ Some b) (short : length b ≤ file_limit) where
   abbrev Held : Option Bytes → Type 0
   Held = IsHeldAs S now (codes "metadata/" ++ file)
 
@@ -213,7 +213,7 @@ module _ (S : State) (now : ℕ) (file : Bytes) (o : Offer) (b : Bytes) (held : 
       by (inl x) = inl x.0
       by (inr x) = inr (x.0, x.1, x.2, not_ok fault)
   document_arrives C _ _ (nothing h) = let e : None ≡ Some b = h.metadata file refl ∙ held in absurd cc
-  document_arrives C _ _ (longer c h long) = let e = is_file c h in let k = subst (λ (x : Bytes). max_file < length x) e long in absurd (omega (arith, k, short))
+  document_arrives C _ _ (longer c h long) = let e = is_file c h in let k = subst (λ (x : Bytes). file_limit < length x) e long in absurd (omega (arith, k, short))
   document_arrives C _ _ (wants h) = inl h
 
 -- where the server has no such document, none arrives

@@ -10,7 +10,7 @@ use Rattle.std.proofs.lemmas.Slice.Eq.{bytes_eq-Decides}
 use Rattle.sha2.specs.Sha256.{sha256}
 use Rattle.limits.specs.Limits.{blob_limit, most_held}
 use Rattle.path_patterns.specs.Grammar.{IsName, IsTargetPath}
-use Rattle.path_patterns.specs.Names.{Asks, IsDigest}
+use Rattle.path_patterns.specs.Names.{Asks, IsDigest, dotted}
 use Rattle.keys_roles.proofs.Elements.{each_more, fewer, for_each, of_each}
 use Rattle.keys_roles.specs.Plain.{look_up}
 use Rattle.keys_roles.specs.Rules.{AreDistinct}
@@ -31,7 +31,7 @@ use Rattle.machine.proofs.OneJudgement.{search-definite}
 use Rattle.machine.proofs.RowsInOrder.{length_with_row}
 use Rattle.machine.proofs.ShapedOnce.{Shapes, file-once, targets-tells}
 use Rattle.machine.specs.Misses.{IsPart, MissesBlob, MissesRole, IsProperListing, support_paths}
-use Rattle.machine.specs.State.{IsCoherent, IsState, State, Trusted, blob_at, dotted, metadata_of}
+use Rattle.machine.specs.State.{IsCoherent, IsState, State, Trusted, blob_at, metadata_of}
 use Rattle.machine.specs.Commands.{Listed, TargetsOffer, grants, listed, offer, put_blob}
 use Rattle.machine.specs.Runs.{with_trusted}
 use Rattle.client.specs.Behind.{most_rows}

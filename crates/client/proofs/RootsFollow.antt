@@ -1,15 +1,15 @@
 -- The roots of an update from an honest source: it ends in want, or the client has the roots of the server.
 use Rattle.std.proofs.Common.{◌≡◌, ◌≢◌, ◌⊎◌, inl, inr, ℕ, ◌+◌, ◌<◌, ◌≤◌, Bool, true, false, List, [], ◌∷◌, ◌++◌, length, Option, Some, None, Result, Ok, Err, refl, sym, ap, ◌∙◌, subst, arith, length-append}
+use Rattle.path_patterns.specs.Names.{dotted}
 use Rattle.std.specs.Prelude.{codes, IfSome, IfNone}
 use Rattle.std.proofs.lemmas.List.{append-nil}
 use Rattle.std.proofs.Math.Seq.{append_snoc}
-use Rattle.limits.specs.Limits.{most_held}
+use Rattle.limits.specs.Limits.{most_held, file_limit}
 use Rattle.document_parts.specs.Documents.{Profile, Root}
 use Rattle.metadata.specs.File.{Bytes, File, IsFileOf, root_form}
 use Rattle.document_parts.specs.Parts.{last_number}
-use Rattle.metadata.specs.Shape.{max_file}
 use Rattle.denials.specs.Orders.{Judged, Denied, Same}
-use Rattle.machine.specs.State.{FollowsRoot, IsHeldUnder, IsRootChain, IsState, IsTrusted, State, Trusted, dotted, first, kept_root, metadata_of, nothing_trusted, then}
+use Rattle.machine.specs.State.{FollowsRoot, IsHeldUnder, IsRootChain, IsState, IsTrusted, State, Trusted, first, kept_root, metadata_of, nothing_trusted, then}
 use Rattle.machine.specs.Commands.{AfterRoot, RootOffer, kept, offer, rotated}
 use Rattle.machine.specs.Runs.{with_trusted}
 use Rattle.sources.specs.Source.{Gives}
@@ -84,8 +84,8 @@ module _ (roots_law : RootLaws) (steps_law : StepLaws) (S : State) (sure : IsSta
     next_held : metadata_of S.trusted (dotted (root.body.version + 1) (codes "root")) ≡ Some b.1
     next_held = roots_law.named S.trusted C.trusted.roots more b root sure.trusted own rest
 
-    next_short : length b.1 ≤ max_file
-    next_short = subst (λ (x : Profile × Bytes). length x.1 ≤ max_file) next_root.1 (next_root.2.read.file.file.short)
+    next_short : length b.1 ≤ file_limit
+    next_short = subst (λ (x : Profile × Bytes). length x.1 ≤ file_limit) next_root.1 (next_root.2.read.file.file.short)
 
     -- its version is a version
     next_below : root.body.version ≡ max_version → ⊥

@@ -1,6 +1,7 @@
 -- The timestamp and the snapshot of an update from an honest source, behind its roots: it ends in want; or both states deny every
 -- target; or the client has the server's timestamp and snapshot, and beside them what it had.
 use Rattle.std.proofs.Common.{◌≡◌, ◌≢◌, ◌⊎◌, inl, inr, ℕ, ◌<◌, ◌≤◌, Bool, true, false, List, [], ◌∷◌, Option, Some, None, option_map, Result, Ok, Err, refl, sym, ap, ◌∙◌, subst, arith}
+use Rattle.path_patterns.specs.Names.{dotted}
 use Rattle.std.specs.Prelude.{codes, IfSome, IsSome, IsSomeAnd, nat_eq, option_and_then, if◌then◌else◌}
 use Rattle.std.specs.List.{AllByRecursion}
 use Rattle.std.proofs.lemmas.Bool.{cases_lt, eq-eqb}
@@ -14,7 +15,7 @@ use Rattle.denials.specs.Numbers as no
 use Rattle.denials.specs.Orders.{Denial, Denied, Judged, Plain, Same, ◌>>◌, check, decide, fails, give, given, holds, need, pass, same, same_if, stopped}
 use Rattle.delegations.specs.Rows.{entry_of}
 use Rattle.machine.proofs.ShapedOnce.{Shapes, file-once, snapshot-tells, timestamp-tells}
-use Rattle.machine.specs.State.{AreCoherent, HoldsAll, IsCoherent, IsHeldUnder, IsSnapshotDue, IsState, MeetsTop, NamesSnapshot, State, Trusted, dotted, metadata_of}
+use Rattle.machine.specs.State.{AreCoherent, HoldsAll, IsCoherent, IsHeldUnder, IsSnapshotDue, IsState, MeetsTop, NamesSnapshot, State, Trusted, metadata_of}
 use Rattle.machine.specs.Commands.{NoDrop, NoRollback, Offer, after_snapshot, after_timestamp, SnapshotOffer, TimestampOffer, grants, live_snapshot, live_timestamp, offer}
 use Rattle.machine.specs.Runs.{with_trusted}
 use Rattle.sources.specs.Source.{Gives}

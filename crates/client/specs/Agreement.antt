@@ -1,10 +1,11 @@
 -- Agreement: a client behind a server gets a target exactly where the server grants it.
 use Rattle.std.specs.Prelude.{◌≡◌, ◌≢◌, ◌≤◌, ℕ, List, [], ◌∷◌, length, codes, Some, None, Result, Ok, Err, IfOk}
+use Rattle.path_patterns.specs.Names.{dotted}
 use Rattle.document_parts.specs.Documents.{Profile}
 use Rattle.metadata.specs.File.{Bytes}
 use Rattle.denials.specs.Orders as orders
 use Rattle.path_patterns.specs.Grammar.{IsTargetPath}
-use Rattle.machine.specs.State.{State, IsState, IsCoherent, blob_at, dotted, metadata_of, nothing}
+use Rattle.machine.specs.State.{State, IsState, IsCoherent, blob_at, metadata_of, nothing}
 use Rattle.machine.specs.Commands.{Offer, RootOffer, TimestampOffer, SnapshotOffer, TargetsOffer, grants, init}
 use Rattle.machine.specs.Runs.{Command, OfferOne, PutBlob}
 use Rattle.sources.specs.Source.{Gives}

@@ -1,12 +1,10 @@
 -- What a client fetches, and what it makes of the answer. (TUF 1.0, sections 5.3 to 5.7)
 use Rattle.std.specs.Prelude.{ℕ, ◌++◌, min, codes, Some}
 use Rattle.metadata.specs.File.{Bytes, Name}
-use Rattle.metadata.specs.Shape.{max_file}
 use Rattle.denials.specs.Orders.{Denial, RoleMissing, BlobMissing}
-use Rattle.limits.specs.Limits.{blob_limit}
+use Rattle.limits.specs.Limits.{blob_limit, file_limit}
 use Rattle.path_patterns.specs.Grammar.{IsName}
-use Rattle.path_patterns.specs.Names.{Asks}
-use Rattle.machine.specs.State.{dotted}
+use Rattle.path_patterns.specs.Names.{Asks, dotted}
 use Rattle.machine.specs.Commands.{Offer, RootOffer, TimestampOffer, SnapshotOffer, TargetsOffer}
 use Rattle.machine.specs.Runs.{Command, OfferOne, PutBlob}
 
@@ -17,7 +15,7 @@ pub record Wanted : Type 0 where
   pub command : Bytes → Command
 
 abbrev pub document : Bytes → Offer → Wanted
-document file offer = record { name = codes "metadata/" ++ file; limit = max_file; command = λ b. OfferOne offer b }
+document file offer = record { name = codes "metadata/" ++ file; limit = file_limit; command = λ b. OfferOne offer b }
 
 abbrev pub wanted_root : ℕ → Wanted
 wanted_root version = document (dotted version (codes "root")) RootOffer

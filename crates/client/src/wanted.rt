@@ -1,20 +1,16 @@
 //! What a client fetches: names, limits, and what is made of the answers.
 ghost use Rattle.std.specs.Prelude.{◌≡◌, ◌++◌, IfOk, codes, string_bytes};
-ghost use Rattle.metadata.specs.Shape.{max_file};
-ghost use Rattle.machine.specs.State.{dotted};
+ghost use Rattle.limits.specs.Limits.{file_limit};
 ghost use Rattle.machine.specs.Runs as steps;
 ghost use Rattle.machine.specs.Views.{offer_view};
-ghost use Rattle.path_patterns.specs.Names.{Asks};
+ghost use Rattle.path_patterns.specs.Names.{Asks, dotted};
 ghost use Rattle.client.specs.Wanted as plain;
 ghost use Rattle.client.specs.WantedViews.{wanted_view};
 
-use limits::BLOB_LIMIT;
+use limits::{BLOB_LIMIT, FILE_LIMIT};
 use machine::Offer;
-use path_patterns::{Digest, NoMemory, RoleName, TargetPath, consistent_name};
+use path_patterns::{Digest, NoMemory, RoleName, TargetPath, consistent_name, metadata_name};
 use std::alloc::Global;
-
-// The most bytes of a metadata file.
-const FILE_LIMIT: usize = 262_144;
 
 // What is made of a file.
 #[derive(Drop)]
@@ -86,7 +82,7 @@ impl Wanted {
 
 // A metadata file that is offered.
 fn document(name: String, offer: Offer) -> Wanted
-    ensures { wanted_view result ≡ record { name = string_bytes name; limit = max_file; command = λ b. steps.OfferOne (offer_view offer) b } }
+    ensures { wanted_view result ≡ record { name = string_bytes name; limit = file_limit; command = λ b. steps.OfferOne (offer_view offer) b } }
 {
     Wanted {
         name,
@@ -99,11 +95,8 @@ fn document(name: String, offer: Offer) -> Wanted
 fn numbered(alloc: Global, version: u32, role: &str) -> Result<String, NoMemory>
     ensures { IfOk result (λ s. string_bytes s ≡ codes "metadata/" ++ dotted version role.now) }
 {
-    let mut buffer = itoa::Buffer::new();
+    let file = metadata_name(alloc, version, role)?;
     let mut name = String::from_str(alloc, "metadata/")?;
-    name.push_str(buffer.format(version))?;
-    name.push_str(".")?;
-    name.push_str(role)?;
-    name.push_str(".json")?;
+    name.push_str(file.as_str())?;
     Ok(name)
 }

@@ -1,7 +1,7 @@
 //! What the server at a port of 127.0.0.1 is asked beside a batch, and what is warned of by its answers, as `publish` over a database
 //! warns. A question that gets no answer costs its warning, and nothing else.
 use crate::wire::{Wire, connected, host};
-use command_support::{DOCUMENT_LIMIT, Notes};
+use command_support::{FILE_LIMIT, Notes};
 use commands::{
     FORGETS, FORGOTTEN, HeldFiles, NOT_TAKEN, Offer, forgets, root_version_of, tell_listed,
 };
@@ -114,7 +114,7 @@ impl Asking<'_> {
             &mut reader,
             host.as_str(),
             name,
-            DOCUMENT_LIMIT,
+            FILE_LIMIT,
         )
         .ok()
     }

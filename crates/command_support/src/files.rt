@@ -4,9 +4,6 @@ use crate::notes::Notes;
 use std::fs::{self, File};
 use std::io::{self, Read, Write};
 
-/// The most bytes of a metadata file.
-pub const DOCUMENT_LIMIT: usize = 262_144;
-
 /// The bytes of a file.
 pub fn read<E: Write>(
     rt: &HostRuntime,

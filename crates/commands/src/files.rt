@@ -1,7 +1,7 @@
 //! The files of documents.
 ghost use Rattle.std.specs.Prelude.{◌≡◌, IfOk, map};
 
-use command_support::{DOCUMENT_LIMIT, Fault, Notes, read_at_most};
+use command_support::{FILE_LIMIT, Fault, Notes, read_at_most};
 use machine::Offer;
 use std::io::Write;
 
@@ -20,7 +20,7 @@ fn read_file<'a, E: Write>(
 ) -> Result<InputFile<'a>, Fault>
     ensures { IfOk result (λ file. file.path.now ≡ path.now) }
 {
-    let bytes = read_at_most(rt, path, DOCUMENT_LIMIT, notes)?;
+    let bytes = read_at_most(rt, path, FILE_LIMIT, notes)?;
     Ok(InputFile { path, bytes })
 }
 

@@ -1,6 +1,7 @@
 //! What is told of a repository before it is served, and of a client's own state: what is trusted, and when the first of its documents expires.
 use command_support::Notes;
 use metadata::{Body, Kind, Moment, Snapshot, read_document};
+use path_patterns::metadata_name;
 use sqlite::Alter;
 use std::alloc::Global;
 use std::fmt;
@@ -184,7 +185,7 @@ impl<S: Alter> Looked<'_, S> {
 
     // The bytes of a role's document of a version, if it is held.
     fn file_of(&mut self, version: u32, role: &str) -> Option<Vec<u8>> {
-        let name = format!(in self.alloc; "{version}.{role}.json").ok()?;
+        let name = metadata_name(self.alloc, version, role).ok()?;
         self.file(name.as_str())
     }
 

@@ -1,5 +1,6 @@
 -- The parts that documents are made of (TUF 1.0, section 4.2; this project's profile).
 use Rattle.std.specs.Prelude.{◌≡◌, ℕ, ◌<◌, ◌≤◌, ◌%◌, List, ◌++◌, length, codes, IsTrue, Contains, map, filter_map, option_map, Option}
+use Rattle.limits.specs.Limits.{most_signatures}
 use Rattle.std.specs.List.{AllByRecursion, list_all}
 use Rattle.hex.specs.Hex.{encode_lower}
 use Rattle.path_patterns.specs.Bytes.{is_digit, is_hex}
@@ -93,9 +94,6 @@ IsMetaFile v e =
     × MayHave v (codes "hashes") IsHashes e.digest
 
 -- the most signatures of a file
-abbrev pub max_signatures : ℕ
-max_signatures = 16
-
 -- the longest signature, in hex digits
 abbrev pub max_signature_digits : ℕ
 max_signature_digits = 149976
@@ -115,7 +113,7 @@ ids_of entries = map (λ e. e.keyid) entries
 
 -- no more than the most, no id twice
 abbrev pub AreSignatures : Json → List Signature → Type 0
-AreSignatures v entries = IsArray IsEntry v entries × (length entries ≤ max_signatures) × AreDistinct (ids_of entries)
+AreSignatures v entries = IsArray IsEntry v entries × (length entries ≤ most_signatures) × AreDistinct (ids_of entries)
 
 -- {"signatures":[..],"signed":{..}}, where `signed` has a text `_type`
 pub record IsEnvelope (v : Json) (entries : List Signature) (signed : Json) (type_name : List ℕ) : Type 0 where

@@ -1,5 +1,5 @@
 //! The files of a folder of drafts.
-use command_support::{DOCUMENT_LIMIT, Fault, Notes, file_fault, put_in_place, read_at_most};
+use command_support::{FILE_LIMIT, Fault, Notes, file_fault, put_in_place, read_at_most};
 use metadata::{Digest, RoleName, digest_of};
 use std::alloc::{AllocError, Global};
 use std::fs;
@@ -110,7 +110,7 @@ impl<'a> Folder<'a> {
         if !is_there(self.rt, place) {
             return Ok(None);
         }
-        let bytes = read_at_most(self.rt, place, DOCUMENT_LIMIT, notes)?;
+        let bytes = read_at_most(self.rt, place, FILE_LIMIT, notes)?;
         Ok(Some(bytes))
     }
 

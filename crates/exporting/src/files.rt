@@ -5,7 +5,7 @@ use limits::BLOB_LIMIT;
 use metadata::{
     Body, Kind, Listing, Moment, ShapeFault, Snapshot, Targets, digest_of, read_document,
 };
-use path_patterns::consistent_name;
+use path_patterns::{consistent_name, metadata_name};
 use sqlite::Alter;
 use std::alloc::{AllocError, Global};
 use std::fs::{self, File, Metadata};
@@ -72,7 +72,7 @@ impl<'a, S: Alter> Exporting<'a, S> {
 
     // The name of a role's metadata file.
     fn name(&self, version: u32, role: &str) -> Result<String, AllocError> {
-        format!(in self.alloc(); "{version}.{role}.json")
+        metadata_name(self.alloc(), version, role)
     }
 
     // The snapshot that the timestamp names, where it is held, behind what it lists.

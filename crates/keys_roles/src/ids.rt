@@ -141,7 +141,7 @@ fn top_level(public: &[u8; 60]) -> &[u8; 56]
 }
 
 /// Whether the ids are one.
-pub(crate) fn same_id(a: &KeyId, b: &KeyId) -> bool
+pub fn same_id(a: &KeyId, b: &KeyId) -> bool
     ensures text { result ≡ bytes_eq (id_text a.now) (id_text b.now) }
     ensures same { IsTrue result ↔ id_text a.now ≡ id_text b.now }
 {

@@ -56,7 +56,7 @@ mod rotation;
 mod verdicts;
 
 pub use digits::read_digits;
-pub use ids::{key_id, key_object, top_key};
+pub use ids::{key_id, key_object, same_id, top_key};
 pub use laws::lms_rules_as_before;
 pub use lms::Steps;
 pub use meeting::{meets, meets_counted, meets_with, meets_with_counted};

@@ -4,9 +4,8 @@ ghost use Rattle.keys_roles.specs.Plain.{look_up};
 ghost use Rattle.keys_roles.specs.Views.{id_text, key_view, rows_view, table_view};
 ghost use Rattle.layouts.specs.steps.Gathering.{IsSigner};
 
-use keys_roles::{Key, KeyId, KeyTable, RoleRule, meets, top_key};
+use keys_roles::{Key, KeyId, KeyTable, RoleRule, meets, same_id, top_key};
 use metadata::Source;
-use path_patterns::{Digest, one_digest};
 use std::alloc::{AllocError, Global};
 
 /// The public key by which the key of this id in the table is counted, if that has signed the file.
@@ -46,14 +45,4 @@ fn key_of<'a>(rows: &'a [(KeyId, Key)], id: &KeyId) -> Option<&'a Key>
         rest = later;
     }
     None
-}
-
-// Whether the ids are one.
-fn same_id(a: &KeyId, b: &KeyId) -> bool
-    ensures { result ≡ bytes_eq (id_text a.now) (id_text b.now) }
-{
-    one_digest();
-    let a = Digest(a.0).bytes();
-    let b = Digest(b.0).bytes();
-    a == b
 }

@@ -13,9 +13,9 @@ ghost use Rattle.leaf_book.specs.steps.Loading.{AreLeaves, AreSigners, IsAddedLe
 
 use crate::cells::{copied, id_of};
 use crate::faults::BookFault;
+use keys_roles::same_id;
 use leaf_plans::{
-    Kept, Signer, height_of, is_same, leaves_of as leaves_of_tree, ots_of, params_of, same_id,
-    same_params,
+    Kept, Signer, height_of, is_same, leaves_of as leaves_of_tree, ots_of, params_of, same_params,
 };
 use lms::Params;
 use sql_tables::{blob_at, number_at, text_at};

@@ -1,13 +1,13 @@
 //! What a book of leaves holds, and which leaf of an LMS key a message gets by it (RFC 8554, section 9).
 #![tactic(auto)]
 
+mod compared;
 mod entries;
-mod ids;
 mod parameters;
 mod planning;
 
+pub use compared::is_same;
 pub use entries::{Kept, Signer};
-pub use ids::{is_same, same_id};
 pub use keys_roles::KeyId;
 pub use lms::{OtsType, Params, SigningHeight};
 pub use parameters::{code_of, height_of, leaves_of, number_of, ots_of, same_params};

@@ -7,10 +7,10 @@ ghost use Rattle.leaf_plans.specs.Book.{IsBook, IsLeastUnused, IsRegistered, IsU
 ghost use Rattle.leaf_plans.specs.Views.{book_view, kept_view, signer_view};
 ghost use Rattle.leaf_plans.specs.Planning.{IsPlan};
 
+use crate::compared::is_same;
 use crate::entries::{Kept, Signer};
-use crate::ids::{is_same, same_id};
 use crate::parameters::leaves_of;
-use keys_roles::KeyId;
+use keys_roles::{KeyId, same_id};
 use lms::Params;
 
 /// The parameters of the key that stand first.

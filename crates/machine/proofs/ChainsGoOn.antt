@@ -1,5 +1,6 @@
 -- With which root a chain goes on, and under which name a state has it.
 use Rattle.std.proofs.Common.{◌≡◌, ℕ, suc, ◌+◌, ◌-◌, ◌<◌, ◌≤◌, false, List, [], ◌∷◌, ◌++◌, length, Option, Some, None, option_map, refl, sym, ap, ◌∙◌, subst, arith, length-append, nat_eq}
+use Rattle.path_patterns.specs.Names.{dotted}
 use Rattle.std.specs.Prelude.{All, IfSome, IfNone, codes}
 use Rattle.std.proofs.lemmas.Bool.{eq-eqb, ne_eqb}
 use Rattle.std.proofs.lemmas.List.Elements.{All-nil, All-cons, All-head, All-tail}
@@ -9,7 +10,7 @@ use Rattle.metadata.specs.File.{Bytes, File, IsFileOf, root_form}
 use Rattle.document_parts.specs.Parts.{last_number}
 use Rattle.delegations.specs.Rows.{value_at}
 use Rattle.machine.specs.Contents.{profile_number, root_rows}
-use Rattle.machine.specs.State.{FollowsRoot, IsHeldUnder, IsRootChain, IsTrusted, Trusted, dotted, first, kept_root, metadata_of, nothing_trusted, root_version, then}
+use Rattle.machine.specs.State.{FollowsRoot, IsHeldUnder, IsRootChain, IsTrusted, Trusted, first, kept_root, metadata_of, nothing_trusted, root_version, then}
 use Rattle.machine.specs.Effects.{last_or}
 use Rattle.machine.specs.steps.Loading.{FollowOn, IsChain}
 use Rattle.machine.proofs.FileNames.{root_found, root_small}

@@ -1,5 +1,6 @@
 -- Under which names the metadata of a valid state is found.
 use Rattle.std.proofs.Common.{◌≡◌, ◌≢◌, ℕ, suc, ◌+◌, ◌^◌, ◌<◌, ◌≤◌, Bool, true, false, cond, List, [], ◌∷◌, ◌++◌, map, length, get_or, Option, Some, None, option_map, option_and_then, codes, bytes_eq, nat_eq, refl, sym, ap, ◌∙◌, subst, arith}
+use Rattle.path_patterns.specs.Names.{dotted}
 use Rattle.std.specs.Prelude.{All, IfNone, IfSome}
 use Rattle.std.specs.Fmt.{decimal}
 use Rattle.std.specs.Str.Parse.{AllDigits, digits_value}
@@ -18,7 +19,7 @@ use Rattle.delegations.proofs.KeyOrder.{place_one}
 use Rattle.delegations.proofs.Walk.{by_test}
 use Rattle.delegations.specs.Rows.{Place, Rows, row_at, same_place, value_at}
 use Rattle.machine.specs.Contents.{root_rows}
-use Rattle.machine.specs.State.{Trusted, IsHeldUnder, IsRootChain, IsShelfRow, IsTrusted, dotted, first, metadata_of, nothing_trusted, one_file, root_files, root_version, then}
+use Rattle.machine.specs.State.{Trusted, IsHeldUnder, IsRootChain, IsShelfRow, IsTrusted, first, metadata_of, nothing_trusted, one_file, root_files, root_version, then}
 use Rattle.machine.proofs.MetadataNames.{found_later}
 use Rattle.machine.proofs.PrunedStates.{bytes_itself, bytes_one, place_self}
 

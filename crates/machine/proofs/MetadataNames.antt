@@ -1,5 +1,6 @@
 -- Looking a metadata file up by its name.
 use Rattle.std.proofs.Common.{◌≡◌, ℕ, suc, ◌+◌, ◌-◌, List, [], ◌∷◌, ◌++◌, map, length, Option, Some, None, refl, ap, ◌∙◌, true, false, arith, length-append}
+use Rattle.path_patterns.specs.Names.{dotted}
 use Rattle.std.specs.Prelude.{bytes_eq, codes, option_map}
 use Rattle.keys_roles.specs.Plain.{look_up}
 use Rattle.document_parts.specs.Documents.{Profile, Root}
@@ -10,7 +11,7 @@ use Rattle.metadata.specs.declared.file.File.{File as KeptFile}
 use Rattle.document_parts.specs.declared.documents.Root.{Root as KeptRoot}
 use Rattle.machine.specs.Views.{trusted_view, last_kept}
 use Rattle.machine.specs.declared.parts.Trusted.{Trusted as CodeTrusted}
-use Rattle.machine.specs.State.{Trusted, dotted, kept_root, root_version, root_files, metadata_of}
+use Rattle.machine.specs.State.{Trusted, kept_root, root_version, root_files, metadata_of}
 use Rattle.machine.specs.steps.NamedFiles.{earlier_files, shelf_files, timestamp_files, snapshot_files}
 use Rattle.delegations.proofs.Walk.{by_test}
 

@@ -1,10 +1,10 @@
 -- The lengths of the files that a layout needs, and requests where one of them is too long.
 use Rattle.std.proofs.Common.{◌≡◌, ◌∙◌, ℕ, ◌≤◌, ◌&&◌, Bool, true, false, List, [], ◌∷◌, length, Option, Some, None, Ok, Err, refl, sym, ap, subst}
+use Rattle.limits.specs.Limits.{file_limit}
 use Rattle.std.proofs.lemmas.Bool.{leb-true, le-leb, true≢false}
 use Rattle.std.specs.List.{AllByRecursion, list_all}
 use Rattle.std.specs.Prelude.{option_map, unwrap_or}
 use Rattle.metadata.specs.File.{Bytes}
-use Rattle.metadata.specs.Shape.{max_file}
 use Rattle.denials.specs.Orders as orders
 use Rattle.denials.specs.Orders.{Judged, Order, Plain, check, fails}
 use Rattle.denials.specs.Views.{denial_view}
@@ -32,19 +32,19 @@ held_length S digest is =
     at None = refl
 
 module _ {H : Held} (S : State) (is : held_of S ≡ H) where
-  each_short : (ds : List Digest) → list_all (is_short_in H.blobs) ds ≡ true → AllByRecursion (λ b. length b ≤ max_file) (all_bytes_at S ds)
+  each_short : (ds : List Digest) → list_all (is_short_in H.blobs) ds ≡ true → AllByRecursion (λ b. length b ≤ file_limit) (all_bytes_at S ds)
   each_short [] e = tt
   each_short (d ∷ ds) e = at (is_short_in H.blobs d) refl e (each_short ds)
     where
       at : (t : Bool) → is_short_in H.blobs d ≡ t → (t && list_all (is_short_in H.blobs) ds) ≡ true
-          → (list_all (is_short_in H.blobs) ds ≡ true → AllByRecursion (λ b. length b ≤ max_file) (all_bytes_at S ds))
-          → AllByRecursion (λ b. length b ≤ max_file) (all_bytes_at S (d ∷ ds))
-      at true short e later = (subst (λ (n : ℕ). n ≤ max_file) (held_length S d.0 is) (leb-true _ _ short), later e)
+          → (list_all (is_short_in H.blobs) ds ≡ true → AllByRecursion (λ b. length b ≤ file_limit) (all_bytes_at S ds))
+          → AllByRecursion (λ b. length b ≤ file_limit) (all_bytes_at S (d ∷ ds))
+      at true short e later = (subst (λ (n : ℕ). n ≤ file_limit) (held_length S d.0 is) (leb-true _ _ short), later e)
       at false long e later = absurd (true≢false (sym e))
 
-  short_each : (ds : List Digest) → AllByRecursion (λ b. length b ≤ max_file) (all_bytes_at S ds) → list_all (is_short_in H.blobs) ds ≡ true
+  short_each : (ds : List Digest) → AllByRecursion (λ b. length b ≤ file_limit) (all_bytes_at S ds) → list_all (is_short_in H.blobs) ds ≡ true
   short_each [] all = refl
-  short_each (d ∷ ds) all = rw (le-leb _ _ (subst (λ (n : ℕ). n ≤ max_file) (sym (held_length S d.0 is)) all.0), short_each ds all.1) refl
+  short_each (d ∷ ds) all = rw (le-leb _ _ (subst (λ (n : ℕ). n ≤ file_limit) (sym (held_length S d.0 is)) all.0), short_each ds all.1) refl
 
   -- what the held lengths say of a layout and its links
   pub are_short : (d : Digest) (ds : List Digest) → list_all (is_short_in H.blobs) (d ∷ ds) ≡ true → AreShort (bytes_at S d.0) (all_bytes_at S ds)

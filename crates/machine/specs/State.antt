@@ -1,5 +1,6 @@
 -- What a repository trusts.
 use Rattle.std.specs.Prelude.{◌≡◌, ℕ, suc, ◌+◌, ◌-◌, ◌≤◌, List, [], ◌∷◌, ◌++◌, map, length, Option, Some, None, bytes_eq, option_map, unwrap_or, codes, decimal, All, IsTrue, IfSome, IfNone, IsSomeAnd, is_some}
+use Rattle.path_patterns.specs.Names.{dotted}
 use Rattle.std.specs.List.{AllByRecursion}
 use Rattle.keys_roles.specs.Plain.{RoleRule, look_up}
 use Rattle.document_parts.specs.Bodies.{IsListable}
@@ -118,9 +119,6 @@ abbrev pub root_version : Trusted → ℕ → ℕ
 root_version T k = unwrap_or (option_map (λ root. root.body.version) T.root) 0 + k + 1 - length T.roots
 
 -- the metadata files under their names
-abbrev pub dotted : ℕ → Name → Bytes
-dotted n name = decimal n ++ (codes "." ++ (name ++ codes ".json"))
-
 abbrev pub root_files : Trusted → ℕ → List (Profile × Bytes) → List (Bytes × Bytes)
 root_files T k [] = []
 root_files T k (b ∷ bs) = (dotted (root_version T k) (codes "root"), b.1) ∷ root_files T (suc k) bs

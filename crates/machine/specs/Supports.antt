@@ -1,11 +1,11 @@
 -- What a target is judged by where the root requires a layout of it, and what one with a layout is: the layout and its links are
 -- targets themselves, none of which has a layout (in-toto 1.0, section 5.2; this project's profile).
 use Rattle.std.specs.Prelude.{◌≡◌, ℕ, ◌≤◌, length, List, ◌∷◌, Option, Some, None, Ok, Err, IsNone, IsSome, IsTrue}
+use Rattle.limits.specs.Limits.{file_limit}
 use Rattle.std.specs.List.{AllByRecursion}
 use Rattle.document_parts.specs.Documents.{Root, Listing, LayoutReference}
 use Rattle.document_parts.specs.Covers.{requires_layout}
 use Rattle.metadata.specs.File.{Bytes, File, Form, layout_form, link_form}
-use Rattle.metadata.specs.Shape.{max_file}
 use Rattle.metadata.specs.Shaped.{shaped}
 use Rattle.denials.specs.Numbers as no
 use Rattle.denials.specs.Orders.{BlobMissing, Denied, Judged, Order, Plain, ◌>>=◌, ◌>>◌, give, stop, denied, check, need_or, each, judged}
@@ -50,7 +50,7 @@ read_as form b = judged (shaped form b) layout_answer
 
 -- the layout and its links are each short enough for a document
 abbrev pub AreShort : Bytes → List Bytes → Type 0
-AreShort layout_bytes link_bytes = AllByRecursion (λ b. length b ≤ max_file) (layout_bytes ∷ link_bytes)
+AreShort layout_bytes link_bytes = AllByRecursion (λ b. length b ≤ file_limit) (layout_bytes ∷ link_bytes)
 
 -- what the layout and its links are, and what they say. Their lengths come first, since these are known before any bytes are
 abbrev pub files_hold : Listing → LayoutReference → ℕ → Bytes → List Bytes → Order (Unit {0})

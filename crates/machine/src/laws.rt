@@ -1,5 +1,6 @@
 //! Laws of the trust machine, in functions that do nothing.
 ghost use Rattle.std.specs.List.{AllByRecursion};
+ghost use Rattle.path_patterns.specs.Names.{dotted};
 ghost use Rattle.std.specs.Prelude.{◌≡◌, ◌↔◌, ◌≢◌, ◌<◌, ◌≤◌, ◌+◌, ◌++◌, [], ◌∷◌, ℕ, List, Option, Some, None, Result, Ok, Err, IfSome, IsNone, IsSome, length, map, codes, nat_eq, option_map, option_and_then, if◌then◌else◌};
 ghost use Rattle.limits.specs.Limits.{blob_limit, most_held};
 ghost use Rattle.sha2.specs.Sha256.{sha256};
@@ -12,7 +13,7 @@ ghost use Rattle.delegations.specs.Rows.{HasHash, HasLength, entry_of, place_bef
 ghost use Rattle.delegations.specs.Search.{Vouched, shelf_of};
 ghost use Rattle.denials.specs.Orders.{Denial, RoleMissing, BlobMissing, Denied, Judged, Same};
 ghost use Rattle.machine.specs.Misses.{IsPart, IsThere, MissesRole, MissesBlob, IsProperListing};
-ghost use Rattle.machine.specs.State.{Trusted, State, FollowsRoot, MeetsTop, NamesSnapshot, blob_at, IsRootChain, IsTrusted, IsState, dotted, kept_root, metadata_of, nothing};
+ghost use Rattle.machine.specs.State.{Trusted, State, FollowsRoot, MeetsTop, NamesSnapshot, blob_at, IsRootChain, IsTrusted, IsState, kept_root, metadata_of, nothing};
 ghost use Rattle.machine.specs.Commands.{AfterRoot, GrantAlike, Listed, listed, NoDrop, NoRollback, Offer, RootOffer, SnapshotOffer, TargetsOffer, TimestampOffer, Batched, init, offer, batch, put_blob, prune, grants};
 ghost use Rattle.machine.specs.Answers.{AnswersBatch};
 ghost use Rattle.machine.specs.Before.{grants_before};

@@ -1,9 +1,10 @@
 //! The metadata files under their names.
 ghost use Rattle.std.specs.Prelude.{◌≡◌, ℕ, List, ◌++◌, false, map, bytes_eq, option_map, MatchOption};
+ghost use Rattle.path_patterns.specs.Names.{dotted};
 ghost use Rattle.document_parts.specs.Views.{profile_view};
 ghost use Rattle.delegations.specs.Views.{row_views};
 ghost use Rattle.keys_roles.specs.Plain.{look_up};
-ghost use Rattle.machine.specs.State.{IsTrusted, dotted, metadata_of, root_files};
+ghost use Rattle.machine.specs.State.{IsTrusted, metadata_of, root_files};
 ghost use Rattle.machine.specs.steps.NamedFiles.{earlier_files, shelf_files, timestamp_files, snapshot_files};
 ghost use Rattle.machine.specs.Views.{trusted_view};
 

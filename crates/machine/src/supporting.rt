@@ -29,15 +29,13 @@ use crate::serving::{Blobs, GetFault, load};
 use delegations::{Found, Shelf, Steps};
 use denials::Denial;
 use layouts::check_layout;
+use limits::FILE_LIMIT;
 use metadata::{
     File, Layout, LayoutReference, Link, Listing, Moment, Root, ShapeFault, read_layout_file,
     read_link_file,
 };
 use path_patterns::{Digest, TargetPath};
 use std::alloc::Global;
-
-// The most bytes of a document.
-const MOST: usize = 262_144;
 
 /// Whether the layout of a listing, if it has one, allows the file. Its bytes and those of its links are loaded once all of them are
 /// found, none has a layout and none is too long for a document, and are dropped when it is judged.
@@ -281,7 +279,7 @@ fn is_short(held: &Held, digest: Digest) -> bool
     ensures { result ≡ is_short_in held.now.held.blobs digest }
 {
     match length_of(held.lengths(), &digest) {
-        Some(length) => length <= MOST,
+        Some(length) => length <= FILE_LIMIT,
         None => true,
     }
 }

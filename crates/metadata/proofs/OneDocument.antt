@@ -1,5 +1,6 @@
 -- A file is one document of a kind at most, or has one fault of shape, and not both.
 use Rattle.std.proofs.Common.{◌≡◌, ℕ, ◌<◌, List, length, codes, refl, sym, ap, ◌∙◌, subst, arith}
+use Rattle.limits.specs.Limits.{file_limit}
 use Rattle.canonical_json.specs.Json.{Json}
 use Rattle.canonical_json.specs.Spelling.{spelling, IsProper, IsCanonical}
 use Rattle.keys_roles.specs.Plain.{Signature}
@@ -7,7 +8,7 @@ use Rattle.document_parts.specs.Documents.{Body, root, timestamp, snapshot, targ
 use Rattle.document_parts.specs.Members.{Has, IsArray, IsText}
 use Rattle.document_parts.specs.Parts.{IsEnvelope, IsEntry, NamesAreIds}
 use Rattle.std.specs.List.{AllByRecursion}
-use Rattle.metadata.specs.Shape.{IsBody, IsFile, IsSignedFile, IsReadAs, IsDocument, IsShapeFault, kind_name, max_file, tables}
+use Rattle.metadata.specs.Shape.{IsBody, IsFile, IsSignedFile, IsReadAs, IsDocument, IsShapeFault, kind_name, tables}
 use Rattle.document_parts.specs.declared.documents.Kind.{Kind}
 use Rattle.document_parts.specs.declared.documents.Kind.TheVariants as kinds
 use Rattle.document_parts.specs.declared.documents.ShapeFault.{ShapeFault}
@@ -132,7 +133,7 @@ module _ (one_value : OneValue) where
   document-no-fault kind bytes d OutOfMemory h f = absurd f
 
   -- one fault
-  long-short : (bytes : List ℕ) (v : Json) → max_file < length bytes → IsFile bytes v → ⊥
+  long-short : (bytes : List ℕ) (v : Json) → file_limit < length bytes → IsFile bytes v → ⊥
   long-short bytes v h k =
       let short = k.short in
       omega (arith, short, h)

@@ -2,6 +2,7 @@
 -- ids, and a signature had at most 18,648 hex digits. What stands here is `Parts`, `Bodies` and `Shape` with these three changed;
 -- a law says that each such document is one still.
 use Rattle.std.specs.Prelude.{◌≡◌, ℕ, ◌<◌, ◌≤◌, ◌%◌, List, ◌∷◌, length, codes, IsTrue, Contains, map, Option, Some, None, ◌⊎◌}
+use Rattle.limits.specs.Limits.{most_signatures}
 use Rattle.std.specs.List.{AllByRecursion, list_all}
 use Rattle.path_patterns.specs.Bytes.{is_hex}
 use Rattle.path_patterns.specs.Grammar.{IsHex, IsTargetPath, IsName}
@@ -12,7 +13,7 @@ use Rattle.keys_roles.specs.Keys.{key_object}
 use Rattle.keys_roles.specs.Rules.{AreDistinct}
 use Rattle.document_parts.specs.Documents.{Root, first_profile, LayoutReference, Listing, Delegation, Delegations, Targets, Step, Layout, Body, root, targets, layout, Document}
 use Rattle.document_parts.specs.Members.{Has, MayHave, HasJust, IsArray, IsObject, IsText, IsNumber}
-use Rattle.document_parts.specs.Parts.{AreBytes, IsLength, IsHashes, HasExpires, NamesAreIds, max_signatures, signature_object, ids_of}
+use Rattle.document_parts.specs.Parts.{AreBytes, IsLength, IsHashes, HasExpires, NamesAreIds, signature_object, ids_of}
 use Rattle.document_parts.specs.Bodies.{top_roles, HasHead, Roles, roles_of, IsConsistent, NoMember, IsTextOf, AreTextsOf, reference_members, HasScope, IsDelegable, max_delegations, IsRuleList, max_steps, HasNoInspections}
 use Rattle.metadata.specs.Shape.{kind_name, IsBody, IsFile, tables}
 use Rattle.document_parts.specs.declared.documents.Kind.{Kind}
@@ -136,7 +137,7 @@ abbrev pub WasEntry : Json → Signature → Type 0
 WasEntry v e = (v ≡ signature_object e.keyid e.sig) × IsHex 64 e.keyid × WereSignatureDigits e.sig
 
 abbrev pub WereSignatures : Json → List Signature → Type 0
-WereSignatures v entries = IsArray WasEntry v entries × (length entries ≤ max_signatures) × AreDistinct (ids_of entries)
+WereSignatures v entries = IsArray WasEntry v entries × (length entries ≤ most_signatures) × AreDistinct (ids_of entries)
 
 pub record WasEnvelope (v : Json) (entries : List Signature) (signed : Json) (type_name : List ℕ) : Type 0 where
   pub list : Json

@@ -1,5 +1,6 @@
 -- Which document a file is, or the first check of its shape that fails.
 use Rattle.std.specs.Prelude.{◌≡◌, ◌≢◌, ℕ, ◌<◌, ◌≤◌, List, [], ◌∷◌, ◌++◌, length, codes, Option, Some, None, flat_map}
+use Rattle.limits.specs.Limits.{file_limit}
 use Rattle.std.specs.List.{AllByRecursion}
 use Rattle.canonical_json.specs.Json.{Json}
 use Rattle.canonical_json.specs.Spelling.{spelling, IsCanonical}
@@ -47,12 +48,9 @@ tables (targets t) = delegation_tables t.delegations ++ flat_map (λ l. referenc
 tables (layout l) = l.keys ∷ []
 tables (link l) = []
 
-abbrev pub max_file : ℕ
-max_file = 262144
-
 -- a file that is short enough and canonical, seen as its value
 pub record IsFile (bytes : List ℕ) (v : Json) : Type 0 where
-  pub short : length bytes ≤ max_file
+  pub short : length bytes ≤ file_limit
   pub canonical : IsCanonical v bytes
 
 -- a file whose envelope is in order, with the type that it names
@@ -79,8 +77,8 @@ pub record IsDocument (kind : Kind) (bytes : List ℕ) (d : Document) : Type 0 w
 
 -- the first check that fails, as far as the envelope
 abbrev pub IsEnvelopeFault : List ℕ → ShapeFault → Type 0
-IsEnvelopeFault bytes TooLong = max_file < length bytes
-IsEnvelopeFault bytes NotCanonical = (length bytes ≤ max_file) × ((v : Json) → IsCanonical v bytes → ⊥)
+IsEnvelopeFault bytes TooLong = file_limit < length bytes
+IsEnvelopeFault bytes NotCanonical = (length bytes ≤ file_limit) × ((v : Json) → IsCanonical v bytes → ⊥)
 IsEnvelopeFault bytes WrongShape = (v : Json) × IsFile bytes v
     × ((entries : List Signature) (signed : Json) (type_name : List ℕ) → IsEnvelope v entries signed type_name → ⊥)
 IsEnvelopeFault bytes WrongType = ⊥
@@ -89,8 +87,8 @@ IsEnvelopeFault bytes OutOfMemory = ⊥
 
 -- the first check that fails
 abbrev pub IsShapeFault : Kind → List ℕ → ShapeFault → Type 0
-IsShapeFault kind bytes TooLong = max_file < length bytes
-IsShapeFault kind bytes NotCanonical = (length bytes ≤ max_file) × ((v : Json) → IsCanonical v bytes → ⊥)
+IsShapeFault kind bytes TooLong = file_limit < length bytes
+IsShapeFault kind bytes NotCanonical = (length bytes ≤ file_limit) × ((v : Json) → IsCanonical v bytes → ⊥)
 IsShapeFault kind bytes WrongShape = (v : Json) × IsFile bytes v
     × ((entries : List Signature) (signed : Json) → IsEnvelope v entries signed (kind_name kind) → (body : Body) → IsBody kind entries signed body → ⊥)
     × ((entries : List Signature) (signed : Json) (type_name : List ℕ) → IsEnvelope v entries signed type_name → type_name ≡ kind_name kind)

@@ -20,10 +20,8 @@ use document_parts::documents::{Body, Document, Kind, ShapeFault};
 use keys_roles::Signature;
 use layout_files::layout::read_layout;
 use layout_files::link::read_link;
+use limits::FILE_LIMIT;
 use std::alloc::Global;
-
-/// The bytes of the longest file.
-pub const MOST: usize = 262_144;
 
 /// The document of this kind that the bytes are (TUF 1.0, sections 4.2 to 4.6; in-toto 1.0, sections 4.3 and 4.4), or the first check that fails, in this
 /// order: at most 262,144 bytes, canonical JSON, an envelope whose signed part has a text `_type`, the kind's `_type`, the
@@ -36,7 +34,7 @@ pub fn read_document<'a>(
     ensures document { IfOk result (λ d. IsDocument kind bytes.now (document_view d)) }
     ensures fault { IfErr result (λ e. (e ≡ ShapeFault.OutOfMemory) ⊎ IsShapeFault kind bytes.now e) }
 {
-    if bytes.len() > MOST {
+    if bytes.len() > FILE_LIMIT {
         return Err(ShapeFault::TooLong);
     }
     let value = match read(alloc, bytes) {

@@ -14,12 +14,10 @@ ghost use Rattle.document_parts.specs.Parts.{signature_object, ids_of, IsEntry, 
 use canonical_json::Value;
 use document_parts::documents::ShapeFault;
 use document_parts::members::{items_of, member_of, text_of, two_members};
-use keys_roles::{KeyId, Signature};
-use path_patterns::{Digest, are_hex_digits, one_digest};
+use keys_roles::{KeyId, Signature, same_id};
+use limits::MOST_SIGNATURES;
+use path_patterns::{Digest, are_hex_digits};
 use std::alloc::Global;
-
-// The most signatures of a file.
-const MOST_SIGNATURES: usize = 16;
 
 // The digits of the longest signature.
 const MOST_DIGITS: usize = 149_976;
@@ -161,14 +159,4 @@ fn is_among(signatures: &[Signature], id: &KeyId) -> bool
         rest = later;
     }
     false
-}
-
-// Whether the ids are one.
-fn same_id(a: &KeyId, b: &KeyId) -> bool
-    ensures { IsTrue result ↔ id_text a.now ≡ id_text b.now }
-{
-    one_digest();
-    let a = Digest(a.0).bytes();
-    let b = Digest(b.0).bytes();
-    a == b
 }

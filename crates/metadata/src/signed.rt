@@ -3,11 +3,12 @@ ghost use Rattle.std.specs.Prelude.{◌≡◌, ◌⊎◌, IfOk, IfErr};
 ghost use Rattle.keys_roles.specs.Views.{entries_view};
 ghost use Rattle.metadata.specs.Shape.{IsEnvelopeFault, IsSignedBy};
 
-use crate::document::{MOST, unread};
+use crate::document::unread;
 use crate::envelope::read_envelope;
 use canonical_json::{member, read};
 use document_parts::documents::ShapeFault;
 use keys_roles::Signature;
+use limits::FILE_LIMIT;
 use std::alloc::Global;
 
 /// The signatures of a file, 0 to 16, and the bytes that they are over, lent from the file.
@@ -23,7 +24,7 @@ pub fn read_signed<'a>(alloc: Global, bytes: &'a [u8]) -> Result<SignedFile<'a>,
     ensures file { IfOk result (λ f. IsSignedBy bytes.now (entries_view f.signatures.items) f.signed.now) }
     ensures fault { IfErr result (λ e. (e ≡ ShapeFault.OutOfMemory) ⊎ IsEnvelopeFault bytes.now e) }
 {
-    if bytes.len() > MOST {
+    if bytes.len() > FILE_LIMIT {
         return Err(ShapeFault::TooLong);
     }
     let value = match read(alloc, bytes) {

@@ -1,8 +1,8 @@
 //! The bytes of a file, with what it costs to find in them.
 ghost use Rattle.std.specs.Prelude.{◌≡◌, ◌≤◌, IfOk, length};
+ghost use Rattle.limits.specs.Limits.{most_signatures};
 ghost use Rattle.sha2.specs.Sha256.{sha256};
 ghost use Rattle.keys_roles.specs.Views.{entries_view};
-ghost use Rattle.document_parts.specs.Parts.{max_signatures};
 ghost use Rattle.metadata.specs.Signed.{Signed};
 
 use keys_roles::Signature;
@@ -25,14 +25,14 @@ impl Model for Source {
     ghost use Rattle.std.specs.Prelude.{◌≡◌, ◌≤◌, length};
     ghost use Rattle.sha2.specs.Sha256.{sha256};
     ghost use Rattle.keys_roles.specs.Views.{entries_view};
-    ghost use Rattle.document_parts.specs.Parts.{max_signatures};
+    ghost use Rattle.limits.specs.Limits.{most_signatures};
     ghost use Rattle.metadata.specs.Signed.{Signed};
 
     ghost Value = { Signed };
 
     ghost view = { λ s. record { bytes = s.bytes.items; signed = s.signed.items; entries = entries_view s.signatures.items } };
 
-    ghost invariant = { λ s. (s.digest.0 ≡ sha256 s.bytes.items) × (length s.signatures.items ≤ max_signatures) };
+    ghost invariant = { λ s. (s.digest.0 ≡ sha256 s.bytes.items) × (length s.signatures.items ≤ most_signatures) };
 }
 
 impl Source {
@@ -42,7 +42,7 @@ impl Source {
         signed: &[u8],
         signatures: Vec<Signature>,
     ) -> Result<Source, AllocError>
-        requires { length signatures.items ≤ max_signatures }
+        requires { length signatures.items ≤ most_signatures }
         ensures { IfOk result (λ s. s ≡ record { bytes = bytes.now; signed = signed.now; entries = entries_view signatures.items }) }
     {
         let digest = digest_of(bytes);
@@ -73,7 +73,7 @@ impl Source {
     /// The signatures, at most 16.
     pub fn signatures(&self) -> &[Signature]
         ensures value { entries_view result.now ≡ self.now.entries }
-        ensures few { length result.now ≤ max_signatures }
+        ensures few { length result.now ≤ most_signatures }
     {
         &self.signatures
     }

@@ -3,6 +3,7 @@ use command_support::{Denial, Fault, Notes};
 use commands::{Work, worked};
 use drafts::{Folder, kind_of, read_said, version_in};
 use metadata::{Kind, Moment};
+use path_patterns::metadata_name;
 use sqlite::Alter;
 use std::alloc::Global;
 use std::io::Write;
@@ -47,7 +48,7 @@ impl Work for Following<'_> {
         for role in &self.folder.held_roles(notes)? {
             self.folder.drop_held(role.as_str(), notes)?;
         }
-        let name = format!(in self.alloc; "{root}.root.json")?;
+        let name = metadata_name(self.alloc, root, "root")?;
         self.keep(repository, name.as_str(), "root", notes)?;
         if self.keep(repository, "timestamp.json", "timestamp", notes)? {
             self.keep_named(repository, "timestamp", notes)?;
@@ -80,7 +81,7 @@ impl Following<'_> {
     ) -> Result<(), Fault> {
         for (role, version) in names {
             let role = role.as_str();
-            let name = format!(in self.alloc; "{version}.{role}.json")?;
+            let name = metadata_name(self.alloc, *version, role)?;
             self.keep(repository, name.as_str(), role, notes)?;
         }
         Ok(())

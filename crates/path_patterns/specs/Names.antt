@@ -1,6 +1,6 @@
--- The names of files in a consistent snapshot: a target's file name with the digest of the file before it (TUF 1.0,
--- section 6.2).
-use Rattle.std.specs.Prelude.{◌≡◌, ◌≢◌, ℕ, ◌<◌, List, [], ◌∷◌, ◌++◌, length, ◌⊎◌, Option, Some, None}
+-- The names of files in a consistent snapshot: a target's file name with the digest of the file before it, and a metadata file's
+-- with the number of its version (TUF 1.0, section 6.2).
+use Rattle.std.specs.Prelude.{◌≡◌, ◌≢◌, ℕ, ◌<◌, List, [], ◌∷◌, ◌++◌, length, ◌⊎◌, Option, Some, None, codes, decimal}
 use Rattle.std.specs.List.{AllByRecursion}
 use Rattle.hex.specs.Hex.{encode_lower}
 
@@ -34,3 +34,7 @@ pub record IsConsistentName (text path digest : List ℕ) : Type 0 where
 abbrev pub Asks : List ℕ → List ℕ → Option (List ℕ) → Type 0
 Asks text path (Some digest) = IsConsistentName text path digest
 Asks text path None = (path ≡ text) × ((p d : List ℕ) → IsConsistentName text p d → ⊥)
+
+-- the name of the metadata file of this version and role: VERSION.ROLE.json
+abbrev pub dotted : ℕ → List ℕ → List ℕ
+dotted version role = decimal version ++ (codes "." ++ (role ++ codes ".json"))

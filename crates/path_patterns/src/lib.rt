@@ -21,7 +21,7 @@ pub use matching::{
     matches_flat, matches_flat_text, matches_segmented, prefix_covers, some_prefix_covers,
     tests_tell,
 };
-pub use names::{consistent_name, names_undo, read_asked};
+pub use names::{consistent_name, metadata_name, names_undo, read_asked};
 
 /// The error of a call that has no other: no memory.
 pub type NoMemory = AllocError;

@@ -2,7 +2,7 @@
 ghost use Rattle.std.specs.Prelude.{◌≡◌, ◌≢◌, ◌<◌, ◌∷◌, ◌++◌, ℕ, List, Some, Option, IfOk, IfSome, IfNone, length, option_map, string_bytes};
 ghost use Rattle.hex.specs.Hex.{encode_lower};
 ghost use Rattle.path_patterns.specs.Grammar.{IsTargetPath};
-ghost use Rattle.path_patterns.specs.Names.{IsDigest, IsCutAtLast, Asks};
+ghost use Rattle.path_patterns.specs.Names.{IsDigest, IsCutAtLast, Asks, dotted};
 
 use crate::{Digest, NoMemory, TargetPath};
 use std::alloc::Global;
@@ -46,6 +46,18 @@ pub fn consistent_name(
     text.push_str(".")?;
     text.push_str(name)?;
     Ok(text)
+}
+
+/// The name of the metadata file of this version and role: `7.snapshot.json`, `2.targets.json` (TUF 1.0, section 6.2).
+pub fn metadata_name(alloc: Global, version: u32, role: &str) -> Result<String, NoMemory>
+    ensures { IfOk result (λ s. string_bytes s ≡ dotted version role.now) }
+{
+    let mut buffer = itoa::Buffer::new();
+    let mut name = String::from_str(alloc, buffer.format(version))?;
+    name.push_str(".")?;
+    name.push_str(role)?;
+    name.push_str(".json")?;
+    Ok(name)
 }
 
 // What stands before the last segment of the text, and the last segment.

@@ -8,11 +8,9 @@ use crate::members::{
 use crate::metas::{snapshot_meta, timestamp_meta};
 use crate::rules::rule;
 use canonical_json::Value;
+use limits::MOST_SIGNATURES;
 use metadata::Kind;
 use std::alloc::Global;
-
-// The most signatures of a file.
-const MOST_SIGNATURES: usize = 16;
 
 /// What is at fault in the envelope, or in the members of its signed part.
 pub(crate) fn document(alloc: Global, kind: Kind, value: &Value) -> Found {

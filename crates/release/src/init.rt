@@ -1,5 +1,5 @@
 //! `init`: begins the trust with a first root.
-use command_support::{DOCUMENT_LIMIT, Fault, Notes, moment, print, read_at_most};
+use command_support::{FILE_LIMIT, Fault, Notes, moment, print, read_at_most};
 use commands::{applied, refused, tell_first_root};
 use std::io::Write;
 use store::{Command, Reply};
@@ -14,7 +14,7 @@ pub fn init<O: Write, E: Write>(
     notes: &mut Notes<'_, E>,
 ) -> Result<(), Fault> {
     let now = moment(rt, at)?;
-    let bytes = read_at_most(rt, root, DOCUMENT_LIMIT, notes)?;
+    let bytes = read_at_most(rt, root, FILE_LIMIT, notes)?;
     match applied(rt, db, Command::Init(&bytes), now, notes)? {
         Reply::Begun => print(out, b"begun\n", notes),
         other => {

@@ -5,6 +5,7 @@ use delegations::{
 };
 use machine::Held;
 use metadata::{read_root_file, read_snapshot_file, read_targets_file, read_timestamp_file};
+use path_patterns::metadata_name;
 use std::alloc::Global;
 
 /// How many signatures the search checks, and how many roles it visits, where a root, a timestamp and a snapshot are held.
@@ -53,14 +54,14 @@ fn search_in(
 }
 
 fn root_of(alloc: Global, held: &Held, version: u32) -> Result<File<Root>, LineFault> {
-    let name = format!(in alloc; "{version}.root.json")?;
+    let name = metadata_name(alloc, version, "root")?;
     shaped(read_root_file(alloc, file(held, name.as_str())?))
 }
 
 // The snapshot that the timestamp names.
 fn snapshot_of(alloc: Global, held: &Held) -> Result<File<Snapshot>, LineFault> {
     let version = snapshot_version(alloc, held)?;
-    let name = format!(in alloc; "{version}.snapshot.json")?;
+    let name = metadata_name(alloc, version, "snapshot")?;
     shaped(read_snapshot_file(alloc, file(held, name.as_str())?))
 }
 
@@ -77,7 +78,7 @@ fn rows_of(alloc: Global, held: &Held, snapshot: &Snapshot) -> Result<Vec<Row>, 
     for (role, entry) in &snapshot.meta {
         let text = role.as_str();
         let version = entry.version;
-        let name = format!(in alloc; "{version}.{text}.json")?;
+        let name = metadata_name(alloc, version, text)?;
         if let Some(bytes) = held.metadata_file(name.as_str()) {
             let row = row_of(alloc, text, version, bytes)?;
             rows.push(row)?;

@@ -1,13 +1,14 @@
 -- A file that is put together of a signed part and a list of entries.
 use Rattle.std.proofs.Common.{◌≡◌, ◌≢◌, ◌⊎◌, inl, inr, ℕ, ◌+◌, ◌≤◌, ◌<◌, List, [], ◌∷◌, ◌++◌, Some, None, refl, sym, ap, ap₂, ◌∙◌, subst, arith, length, length-append, append_assoc, codes}
+use Rattle.limits.specs.Limits.{file_limit, most_signatures}
 use Rattle.std.specs.List.{AllByRecursion, join_with_byte}
 use Rattle.canonical_json.specs.Json.{Json, array, object, Items, no_members, member}
 use Rattle.canonical_json.specs.Spelling.{IsAllowed, item_spellings, spelling}
 use Rattle.denials.specs.declared.denial.Denial.{Denial}
 use Rattle.keys_roles.specs.Plain.{Signature}
 use Rattle.keys_roles.specs.Rules.{AreDistinct}
-use Rattle.document_parts.specs.Parts.{ids_of, max_signatures}
-use Rattle.metadata.specs.Shape.{IsEnvelopeFault, IsSignedBy, max_file}
+use Rattle.document_parts.specs.Parts.{ids_of}
+use Rattle.metadata.specs.Shape.{IsEnvelopeFault, IsSignedBy}
 use Rattle.document_parts.specs.declared.documents.ShapeFault.{ShapeFault}
 use Rattle.document_parts.specs.declared.documents.ShapeFault.TheVariants as shapes
 use Rattle.std.proofs.lemmas.List.{length-map}
@@ -45,7 +46,7 @@ pub text_of_part : (file : List ℕ) (entries : List Signature) (message : List 
 text_of_part file entries message es f all = ap (whole_text es) f.3 ∙ whole_is es f.0 (plain_entries es all)
 
 pub with_entries : (file : List ℕ) (entries : List Signature) (message : List ℕ) (es : List Signature) (out : List ℕ) → IsSignedBy file entries message → AllByRecursion IsEntryText es
-    → length es ≤ max_signatures → AreDistinct (ids_of es) → out ≡ whole_text es message → length out ≤ max_file → IsSignedBy out es message
+    → length es ≤ most_signatures → AreDistinct (ids_of es) → out ≡ whole_text es message → length out ≤ file_limit → IsSignedBy out es message
 with_entries file entries message es out f all few distinct is short =
     let old = subst IsAllowed f.2.envelope.members f.2.file.canonical.allowed in (
       f.0,
@@ -86,8 +87,8 @@ without_any file entries message out f is =
     = ap (λ (t : List ℕ). length t) (f.2.file.canonical.spelled ∙ ap (λ (v : Json). spelling v) value) in
     let mine : length out ≡ length (whole_text [] (spelling f.0)) = ap (λ (t : List ℕ). length t) (is ∙ ap (λ (m : List ℕ). whole_text [] m) f.3) in
     let bound : length (whole_text [] (spelling f.0)) ≤ length (spelling (object (member (codes "signatures") (array list.0) (member (codes "signed") f.0 no_members)))) = no_longer list.0 f.0 in
-    let was : length file ≤ max_file = f.2.file.short in
-    let fits : length out ≤ max_file = short_by (length out) (length (whole_text [] (spelling f.0))) (length (spelling (object (member (codes "signatures") (array list.0) (member (codes "signed") f.0 no_members))))) (length file) max_file mine bound text was in
+    let was : length file ≤ file_limit = f.2.file.short in
+    let fits : length out ≤ file_limit = short_by (length out) (length (whole_text [] (spelling f.0))) (length (spelling (object (member (codes "signatures") (array list.0) (member (codes "signed") f.0 no_members))))) (length file) file_limit mine bound text was in
     with_entries file entries message [] out f tt (omega arith) tt is fits
   where
     short_by : (a b c d m : ℕ) → a ≡ b → b ≤ c → d ≡ c → d ≤ m → a ≤ m
@@ -101,7 +102,7 @@ all_joined file entries message other further n f g =
     all_both IsEntryText entries (missing entries further) (entries_in file entries message f) (all_missing IsEntryText entries further (entries_in other further n g))
 
 pub joins : (file other : List ℕ) (entries further : List Signature) (message out : List ℕ) → IsSignedBy file entries message → IsSignedBy other further message
-    → length (joined entries further) ≤ max_signatures → out ≡ whole_text (joined entries further) message → length out ≤ max_file → JoinsFiles file other out
+    → length (joined entries further) ≤ most_signatures → out ≡ whole_text (joined entries further) message → length out ≤ file_limit → JoinsFiles file other out
 joins file other entries further message out f g few is short = record {
   entries = entries;
   further = further;
@@ -116,14 +117,14 @@ one_part : (file other : List ℕ) (entries further : List Signature) (message :
 one_part file other entries further message f g = record { type_name = f.1; first = f.2; second = subst (λ (m : List ℕ). IsSignedBy other further m) f.3 g }
 
 pub too_many : (file other : List ℕ) (entries further : List Signature) (message : List ℕ) → IsSignedBy file entries message → IsSignedBy other further message
-    → max_signatures < length (joined entries further) → IsUnjoined file other (Denied denials.WrongShape)
+    → most_signatures < length (joined entries further) → IsUnjoined file other (Denied denials.WrongShape)
 too_many file other entries further message f g many = (entries, further, f.0, one_part file other entries further message f g, many)
 
 pub too_long : (file other : List ℕ) (entries further : List Signature) (message out : List ℕ) → IsSignedBy file entries message → IsSignedBy other further message
-    → length (joined entries further) ≤ max_signatures → out ≡ whole_text (joined entries further) message → max_file < length out → IsUnjoined file other (Denied denials.TooLong)
+    → length (joined entries further) ≤ most_signatures → out ≡ whole_text (joined entries further) message → file_limit < length out → IsUnjoined file other (Denied denials.TooLong)
 too_long file other entries further message out f g few is long =
     let text = is ∙ text_of_part file entries message (joined entries further) f (all_joined file entries message other further message f g) in
-    (entries, further, f.0, one_part file other entries further message f g, few, subst (λ (t : List ℕ). max_file < length t) text long)
+    (entries, further, f.0, one_part file other entries further message f g, few, subst (λ (t : List ℕ). file_limit < length t) text long)
 
 -- ---- why a file is not read
 

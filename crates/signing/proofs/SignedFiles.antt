@@ -1,5 +1,6 @@
 -- A file that was signed is one with these entries over the same part.
 use Rattle.std.proofs.Common.{◌≡◌, ◌⊎◌, inl, inr, Ok, Err, Result, IfOk, length-append, ℕ, ◌+◌, ◌*◌, ◌≤◌, ◌<◌, List, [], ◌∷◌, ◌++◌, refl, sym, ap, ◌∙◌, subst, arith, length, codes}
+use Rattle.limits.specs.Limits.{file_limit, most_signatures}
 use Rattle.std.specs.List.{AllByRecursion}
 use Rattle.hex.specs.Hex.{encode_lower}
 use Rattle.lms.specs.declared.OtsType.{OtsType}
@@ -16,8 +17,8 @@ use Rattle.canonical_json.specs.Json.{array, object, no_members, member}
 use Rattle.canonical_json.specs.Spelling.{IsAllowed}
 use Rattle.path_patterns.specs.Grammar.{IsHex}
 use Rattle.keys_roles.specs.Plain.{Signature}
-use Rattle.document_parts.specs.Parts.{AreSignatureDigits, max_signatures}
-use Rattle.metadata.specs.Shape.{IsSignedBy, max_file}
+use Rattle.document_parts.specs.Parts.{AreSignatureDigits}
+use Rattle.metadata.specs.Shape.{IsSignedBy}
 use Rattle.denials.specs.declared.denial.Denial.TheVariants as denials
 use Rattle.leaf_plans.specs.Book.{Book, key_of}
 use Rattle.leaf_book.specs.declared.faults.BookFault.{BookFault}
@@ -78,7 +79,7 @@ text_is file entries message key signature f id bytes =
 
 pub is_signed : (file : List ℕ) (entries : List Signature) (message key signature out : List ℕ) (ots : OtsType) (height : SigningHeight)
     → IsSignedBy file entries message → IsHex 64 key → AllByRecursion (λ b. b < 256) signature → length signature ≡ signature_len ots (signing_type height)
-    → length (others key entries) < 16 → out ≡ parts_text (others key entries) key (encode_lower signature) message → length out ≤ max_file
+    → length (others key entries) < 16 → out ≡ parts_text (others key entries) key (encode_lower signature) message → length out ≤ file_limit
     → IsSignedBy out (with_signature key signature entries) message
 is_signed file entries message key signature out ots height f id bytes long few is short =
     let new : Signature = record { keyid = key; sig = encode_lower signature } in
@@ -134,9 +135,9 @@ same_length os key s t message same =
 
 abbrev pub Judged : List ℕ → List Signature → List ℕ → ℕ → SignFileFault → Type 0
 Judged key entries message count fault =
-    (fault ≡ OutOfMemory) ⊎ (((fault ≡ Denied denials.WrongShape) × (max_signatures ≤ length (others key entries)))
-    ⊎ ((fault ≡ Denied denials.TooLong) × (length (others key entries) < max_signatures)
-    × ((signature : List ℕ) → length signature ≡ count → max_file < length (parts_text (others key entries) key (encode_lower signature) message))))
+    (fault ≡ OutOfMemory) ⊎ (((fault ≡ Denied denials.WrongShape) × (most_signatures ≤ length (others key entries)))
+    ⊎ ((fault ≡ Denied denials.TooLong) × (length (others key entries) < most_signatures)
+    × ((signature : List ℕ) → length signature ≡ count → file_limit < length (parts_text (others key entries) key (encode_lower signature) message))))
 
 judged_by_key : (b : Book) (seed : Seed) (params : Params) (file : List ℕ) (entries : List Signature) (message : List ℕ) (fault : SignFileFault)
     → IsSignedBy file entries message → IsHex 64 (key_of seed params) → Judged (key_of seed params) entries message (signature_len params.ots (signing_type params.height)) fault
@@ -153,7 +154,7 @@ judged_by_key b seed params file entries message fault f id (inr (inr long)) =
         f.2,
         long.1,
         (λ signature are.
-            subst (λ (text : List ℕ). max_file < length text) (text_is file entries message (key_of seed params) signature f id are.1) (long.2 signature are.0)),
+            subst (λ (text : List ℕ). file_limit < length text) (text_is file entries message (key_of seed params) signature f id are.1) (long.2 signature are.0)),
       ),
       refl,
     )
@@ -183,8 +184,8 @@ unwritten b seed params file entries message signature after f s = inr (entries,
 -- with so many bytes of a signature the file is within the limits
 abbrev pub Fits : List ℕ → List Signature → List ℕ → ℕ → Type 0
 Fits key entries message count =
-    (length (others key entries) < max_signatures)
-    × ((s : List ℕ) → length s ≡ count → length (parts_text (others key entries) key (encode_lower s) message) ≤ max_file)
+    (length (others key entries) < most_signatures)
+    × ((s : List ℕ) → length s ≡ count → length (parts_text (others key entries) key (encode_lower s) message) ≤ file_limit)
 
 pub signs_file : (b : Book) (seed : Seed) (params : Params) (file : List ℕ) (entries : List Signature) (message id key signature out : List ℕ) (count : ℕ) (after : Book)
     → IsSignedBy file entries message → Signs b seed params message signature after → Verifies (public_of seed params) message signature
@@ -194,7 +195,7 @@ pub signs_file : (b : Book) (seed : Seed) (params : Params) (file : List ℕ) (e
 signs_file b seed params file entries message id key signature out count after f s v first same hex bytes so fits is =
     let long = signature_is seed params message signature v in
     let here = subst (λ (k : List ℕ). Fits k entries message count) (first ∙ sym same) fits in
-    let short = subst (λ (text : List ℕ). length text ≤ max_file) (sym is) (here.1 signature (long ∙ sym so)) in
+    let short = subst (λ (text : List ℕ). length text ≤ file_limit) (sym is) (here.1 signature (long ∙ sym so)) in
     let made = is_signed file entries message key signature out params.ots params.height f hex bytes long here.0 is short in
     record {
       entries = entries;

@@ -1,5 +1,6 @@
 -- Files that get a signature (TUF 1.0, section 4.2).
 use Rattle.std.specs.Prelude.{◌≡◌, ◌⊎◌, ◌<◌, ◌≤◌, ℕ, List, [], ◌∷◌, ◌++◌, length, codes, filter, not, bytes_eq}
+use Rattle.limits.specs.Limits.{file_limit, most_signatures}
 use Rattle.hex.specs.Hex.{encode_lower}
 use Rattle.canonical_json.specs.Json.{Json, array, object, Items, no_items, item, no_members, member}
 use Rattle.canonical_json.specs.Spelling.{spelling}
@@ -9,8 +10,8 @@ use Rattle.lms.specs.Parameters.{signature_len, signing_type}
 use Rattle.keys_roles.specs.Plain.{Signature}
 use Rattle.denials.specs.declared.denial.Denial.{Denial}
 use Rattle.denials.specs.declared.denial.Denial.TheVariants as denials
-use Rattle.document_parts.specs.Parts.{AreBytes, max_signatures, signature_object}
-use Rattle.metadata.specs.Shape.{IsEnvelopeFault, IsSignedBy, IsSignedFile, max_file}
+use Rattle.document_parts.specs.Parts.{AreBytes, signature_object}
+use Rattle.metadata.specs.Shape.{IsEnvelopeFault, IsSignedBy, IsSignedFile}
 use Rattle.document_parts.specs.declared.documents.ShapeFault.TheVariants.{TooLong, NotCanonical, WrongShape}
 use Rattle.leaf_plans.specs.Book.{Book, key_of}
 use Rattle.signing.specs.Messages.{IsBegun, IsUnsigned, Signs}
@@ -47,18 +48,18 @@ file_text entries part = spelling (object (member (codes "signatures") (array (i
 
 -- with an entry more the file would have too many
 abbrev pub HasNoRoom : List ℕ → List Signature → Type 0
-HasNoRoom key entries = max_signatures ≤ length (others key entries)
+HasNoRoom key entries = most_signatures ≤ length (others key entries)
 
 -- with a signature of so many bytes the file would be too long
 abbrev pub WouldBeLong : List ℕ → ℕ → List Signature → Json → Type 0
-WouldBeLong key count entries part = (signature : List ℕ) → AreBytes count signature → max_file < length (file_text (with_signature key signature entries) part)
+WouldBeLong key count entries part = (signature : List ℕ) → AreBytes count signature → file_limit < length (file_text (with_signature key signature entries) part)
 
 -- The first check that fails: those of the envelope, then the number of entries with the new one, then the length with it.
 abbrev pub IsSigningDenial : Seed → Params → List ℕ → Denial → Type 0
 IsSigningDenial seed params file denials.TooLong =
     IsEnvelopeFault file TooLong
     ⊎ ((entries : List Signature) × (part : Json) × (type_name : List ℕ) × IsSignedFile file entries part type_name
-    × (length (others (key_of seed params) entries) < max_signatures) × WouldBeLong (key_of seed params) (signature_len params.ots (signing_type params.height)) entries part)
+    × (length (others (key_of seed params) entries) < most_signatures) × WouldBeLong (key_of seed params) (signature_len params.ots (signing_type params.height)) entries part)
 IsSigningDenial seed params file denials.NotCanonical = IsEnvelopeFault file NotCanonical
 IsSigningDenial seed params file denials.WrongShape =
     IsEnvelopeFault file WrongShape

@@ -1,13 +1,13 @@
 -- Two files with one signed part as one (TUF 1.0, section 4.2: signatures of one document may come from several places).
 use Rattle.std.specs.Prelude.{◌≢◌, ◌<◌, ◌≤◌, ◌++◌, ℕ, List, Bool, length, filter, not, bytes_eq}
+use Rattle.limits.specs.Limits.{file_limit, most_signatures}
 use Rattle.std.specs.List.{list_any}
 use Rattle.canonical_json.specs.Json.{Json}
 use Rattle.canonical_json.specs.Spelling.{spelling}
 use Rattle.keys_roles.specs.Plain.{Signature}
 use Rattle.denials.specs.declared.denial.Denial.{Denial}
 use Rattle.denials.specs.declared.denial.Denial.TheVariants as denials
-use Rattle.document_parts.specs.Parts.{max_signatures}
-use Rattle.metadata.specs.Shape.{IsEnvelopeFault, IsSignedBy, IsSignedFile, max_file}
+use Rattle.metadata.specs.Shape.{IsEnvelopeFault, IsSignedBy, IsSignedFile}
 use Rattle.document_parts.specs.declared.documents.ShapeFault.TheVariants.{TooLong, NotCanonical, WrongShape}
 use Rattle.signing.specs.Files.{file_text}
 use Rattle.signing.specs.declared.faults.JoinFault.{JoinFault}
@@ -57,9 +57,9 @@ IsUnjoined file other (Second denial) = ((entries : List Signature) × (message 
 IsUnjoined file other Different =
     (entries further : List Signature) × (m n : List ℕ) × IsSignedBy file entries m × IsSignedBy other further n × (m ≢ n)
 IsUnjoined file other (Denied denials.WrongShape) =
-    (entries further : List Signature) × (part : Json) × HaveOnePart file other entries further part × (max_signatures < length (joined entries further))
+    (entries further : List Signature) × (part : Json) × HaveOnePart file other entries further part × (most_signatures < length (joined entries further))
 IsUnjoined file other (Denied denials.TooLong) =
     (entries further : List Signature) × (part : Json) × HaveOnePart file other entries further part
-    × (length (joined entries further) ≤ max_signatures) × (max_file < length (file_text (joined entries further) part))
+    × (length (joined entries further) ≤ most_signatures) × (file_limit < length (file_text (joined entries further) part))
 IsUnjoined file other (Denied denial) = ⊥
 IsUnjoined file other OutOfMemory = Unit {0}

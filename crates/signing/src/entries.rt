@@ -7,8 +7,7 @@ ghost use Rattle.keys_roles.specs.Views.{entries_view, id_text};
 ghost use Rattle.signing.specs.Files.{others as others_of};
 ghost use Rattle.signing.specs.steps.Texts.{entries_text, entry_text, parts_text};
 
-use keys_roles::{KeyId, NoMemory, Signature};
-use leaf_plans::same_id;
+use keys_roles::{KeyId, NoMemory, Signature, same_id};
 use metadata::{Digest, SignedFile};
 use path_patterns::one_digest;
 use std::alloc::Global;

@@ -1,13 +1,13 @@
 //! Files that get a signature.
 ghost use Rattle.std.specs.Prelude.{◌≡◌, ◌⊎◌, ◌<◌, ◌≤◌, List, ℕ, length, IfErr, IfOk, OnOk};
+ghost use Rattle.limits.specs.Limits.{file_limit, most_signatures};
 ghost use Rattle.hex.specs.Hex.{encode_lower};
 ghost use Rattle.sqlite.specs.Held.{state};
 ghost use Rattle.sqlite.specs.State.{HasCleanDisk};
 ghost use Rattle.sqlite_trees.specs.Tree.{Trees};
 ghost use Rattle.denials.specs.declared.denial.Denial.TheVariants as denials;
 ghost use Rattle.keys_roles.specs.Views.{entries_view, id_text};
-ghost use Rattle.document_parts.specs.Parts.{max_signatures};
-ghost use Rattle.metadata.specs.Shape.{IsSignedBy, max_file};
+ghost use Rattle.metadata.specs.Shape.{IsSignedBy};
 ghost use Rattle.leaf_plans.specs.Book.{key_of};
 ghost use Rattle.leaf_book.specs.Rows.{HoldsWhole, IsRecorded};
 ghost use Rattle.signing.specs.Files.{IsUnsignedFile, SignsFile, others as others_of};
@@ -19,15 +19,11 @@ use crate::messages::sign_message;
 use denials::Denial;
 use keys_roles::{Key, KeyId, key_id};
 use leaf_book::Book;
+use limits::{FILE_LIMIT, MOST_SIGNATURES};
 use lms::{KeyPair, Params, Seed};
 use metadata::{SignedFile, read_signed};
 use sqlite::Alter;
 use std::alloc::Global;
-
-// The most signatures of a file, and its most bytes.
-const MOST_SIGNATURES: usize = 16;
-
-const MOST: usize = 262_144;
 
 /// The file with a signature of the seed's key over its signed part, in canonical JSON: the key's entry stands last, and an older one of
 /// the key is taken out. The leaf is the one that the book keeps for this signed part; the book keeps it before anything is signed. The
@@ -122,14 +118,14 @@ fn judge_result(
     id: &KeyId,
     signature_len: usize,
 ) -> Result<(), SignFileFault>
-    ensures ok { OnOk result ((length (others_of (id_text id.now) (entries_view file.now.signatures.items)) < max_signatures)
+    ensures ok { OnOk result ((length (others_of (id_text id.now) (entries_view file.now.signatures.items)) < most_signatures)
         × ((signature : List ℕ) → length signature ≡ signature_len
-        → length (parts_text (others_of (id_text id.now) (entries_view file.now.signatures.items)) (id_text id.now) (encode_lower signature) file.now.signed.now) ≤ max_file)) }
+        → length (parts_text (others_of (id_text id.now) (entries_view file.now.signatures.items)) (id_text id.now) (encode_lower signature) file.now.signed.now) ≤ file_limit)) }
     ensures fault { IfErr result (λ e. (e ≡ SignFileFault.OutOfMemory)
-        ⊎ (((e ≡ SignFileFault.Denied denials.WrongShape) × (max_signatures ≤ length (others_of (id_text id.now) (entries_view file.now.signatures.items))))
-        ⊎ ((e ≡ SignFileFault.Denied denials.TooLong) × (length (others_of (id_text id.now) (entries_view file.now.signatures.items)) < max_signatures)
+        ⊎ (((e ≡ SignFileFault.Denied denials.WrongShape) × (most_signatures ≤ length (others_of (id_text id.now) (entries_view file.now.signatures.items))))
+        ⊎ ((e ≡ SignFileFault.Denied denials.TooLong) × (length (others_of (id_text id.now) (entries_view file.now.signatures.items)) < most_signatures)
         × ((signature : List ℕ) → length signature ≡ signature_len
-        → max_file < length (parts_text (others_of (id_text id.now) (entries_view file.now.signatures.items)) (id_text id.now) (encode_lower signature) file.now.signed.now))))) }
+        → file_limit < length (parts_text (others_of (id_text id.now) (entries_view file.now.signatures.items)) (id_text id.now) (encode_lower signature) file.now.signed.now))))) }
 {
     if others(file.signatures.as_slice(), id) >= MOST_SIGNATURES {
         return Err(SignFileFault::Denied(Denial::WrongShape));
@@ -137,7 +133,7 @@ fn judge_result(
     // zeros, in the place of a signature
     let nothing = vec![in alloc; 0; signature_len]?;
     let whole = with_entry(alloc, file, id, nothing.as_slice())?;
-    if whole.len() > MOST {
+    if whole.len() > FILE_LIMIT {
         return Err(SignFileFault::Denied(Denial::TooLong));
     }
     Ok(())

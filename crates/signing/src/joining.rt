@@ -11,13 +11,9 @@ use crate::lists::{missing, whole_file};
 use canonical_json::one_spelling;
 use denials::Denial;
 use leaf_plans::is_same;
+use limits::{FILE_LIMIT, MOST_SIGNATURES};
 use metadata::{ShapeFault, SignedFile, read_signed};
 use std::alloc::Global;
-
-// The most signatures of a file, and its most bytes.
-const MOST_SIGNATURES: usize = 16;
-
-const MOST: usize = 262_144;
 
 /// One file of two that have the same signed part, byte for byte: the entries of the first, and behind them those of the other whose key
 /// ids have none there, so that each id stands once. It is canonical, and within the limits of a file. No signature is checked.
@@ -73,7 +69,7 @@ fn join_parts(
         return Err(JoinFault::Denied(Denial::WrongShape));
     }
     match whole_file(alloc, entries, further, first.signed) {
-        Ok(out) if out.len() > MOST => Err(JoinFault::Denied(Denial::TooLong)),
+        Ok(out) if out.len() > FILE_LIMIT => Err(JoinFault::Denied(Denial::TooLong)),
         Ok(out) => Ok(out),
         Err(_) => Err(JoinFault::OutOfMemory),
     }

@@ -6,9 +6,9 @@ ghost use Rattle.leaf_plans.specs.Book.{Keeps};
 ghost use Rattle.leaf_plans.specs.Views.{kept_view};
 ghost use Rattle.signing.specs.Leaves.{BeginsWithLeaf};
 
-use keys_roles::{KeyId, read_digits};
+use keys_roles::{KeyId, read_digits, same_id};
 use leaf_book::Book;
-use leaf_plans::{Kept, is_same, same_id};
+use leaf_plans::{Kept, is_same};
 use sqlite::Alter;
 
 /// Whether the book keeps this leaf of the key for this message. It takes no memory.

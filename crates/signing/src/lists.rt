@@ -5,8 +5,7 @@ ghost use Rattle.signing.specs.Joining.{has_entry as has_entry_of, joined, missi
 ghost use Rattle.signing.specs.steps.Texts.{entries_text, whole_text};
 
 use crate::entries::put_with_comma;
-use keys_roles::{KeyId, NoMemory, Signature};
-use leaf_plans::same_id;
+use keys_roles::{KeyId, NoMemory, Signature, same_id};
 use std::alloc::Global;
 
 /// How many of the further entries have keys with none among the entries.

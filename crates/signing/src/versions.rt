@@ -8,9 +8,9 @@ ghost use Rattle.leaf_plans.specs.Views.{kept_view};
 ghost use Rattle.signing.specs.Versions.{AreRivals, IsRivalLeaf};
 
 use canonical_json::{ReadFault, member, one_spelling, read};
-use keys_roles::{KeyId, NoMemory};
+use keys_roles::{KeyId, NoMemory, same_id};
 use leaf_book::Book;
-use leaf_plans::{Kept, is_same, same_id};
+use leaf_plans::{Kept, is_same};
 use sqlite::Alter;
 use std::alloc::{AllocError, Global};
 

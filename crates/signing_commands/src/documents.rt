@@ -1,7 +1,7 @@
 //! `sign`: signs a document by a leaf that no other document gets.
 use crate::books::{BookAt, BookWork, book_fault, worked_over};
 use crate::seeds::seed_at;
-use command_support::{DOCUMENT_LIMIT, Fault, Notes, moment, print, read_at_most};
+use command_support::{FILE_LIMIT, Fault, Notes, moment, print, read_at_most};
 use drafts::typed_kind;
 use keys_roles::{Key, KeyId, key_id};
 use lms::{KeyPair, Params, SigningHeight};
@@ -53,7 +53,7 @@ pub fn sign<O: Write, E: Write>(
 ) -> Result<(), Fault> {
     let _now = moment(rt, at)?;
     let seed = seed_at(rt, asked.seed, notes)?;
-    let bytes = read_at_most(rt, asked.file, DOCUMENT_LIMIT, notes)?;
+    let bytes = read_at_most(rt, asked.file, FILE_LIMIT, notes)?;
     warn_of_shape(rt.alloc(), asked.file, &bytes, notes);
     let signed = signed_by(rt, &seed, asked, &bytes, notes)?;
     print(out, &signed, notes)

@@ -1,5 +1,6 @@
 //! What is known of the state that a store stands for, and of what a crash leaves.
 ghost use Rattle.std.specs.Prelude.{◌≡◌, ◌↔◌, ◌≤◌, false, codes, nat_eq, option_map, ℕ, IsTrue, Option};
+ghost use Rattle.path_patterns.specs.Names.{dotted};
 ghost use Rattle.contents.specs.Contents.{Contents};
 ghost use Rattle.sqlite.specs.Held.{state};
 ghost use Rattle.sqlite.specs.State.{HasCleanDisk, IsLive};
@@ -9,7 +10,7 @@ ghost use Rattle.denials.specs.Orders.{Judged};
 ghost use Rattle.machine.specs.Before.{grants_before};
 ghost use Rattle.machine.specs.Commands.{grants};
 ghost use Rattle.machine.specs.State as trust;
-ghost use Rattle.machine.specs.State.{IsState, dotted, metadata_of};
+ghost use Rattle.machine.specs.State.{IsState, metadata_of};
 ghost use Rattle.metadata.specs.File.{Bytes};
 ghost use Rattle.document_parts.specs.Parts.{last_number};
 ghost use Rattle.tables.specs.Opening.{IsSettled};

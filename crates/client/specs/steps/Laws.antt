@@ -4,7 +4,7 @@ use Rattle.std.specs.List.{AllByRecursion}
 use Rattle.limits.specs.Limits.{blob_limit, most_held}
 use Rattle.sha2.specs.Sha256.{sha256}
 use Rattle.path_patterns.specs.Grammar.{IsName, IsTargetPath}
-use Rattle.path_patterns.specs.Names.{Asks, IsDigest}
+use Rattle.path_patterns.specs.Names.{Asks, IsDigest, dotted}
 use Rattle.document_parts.specs.Documents.{MetaFile, Profile, Root, Snapshot, Targets, Timestamp}
 use Rattle.document_parts.specs.Bodies.{IsListable}
 use Rattle.metadata.specs.File.{Bytes, Name, File, IsFileOf, root_form, snapshot_form, targets_form, timestamp_form}
@@ -14,7 +14,7 @@ use Rattle.delegations.specs.Delegation.{before}
 use Rattle.delegations.specs.Missed.{IsMissed}
 use Rattle.delegations.specs.Rows.{HasHash, HasLength, entry_of, place_before, row_at, with_row}
 use Rattle.delegations.specs.Search.{Shelf, Vouched, search, shelf_of}
-use Rattle.machine.specs.State.{Trusted, State, FollowsRoot, MeetsTop, NamesSnapshot, blob_at, IsRootChain, IsTrusted, IsState, dotted, kept_root, metadata_of}
+use Rattle.machine.specs.State.{Trusted, State, FollowsRoot, MeetsTop, NamesSnapshot, blob_at, IsRootChain, IsTrusted, IsState, kept_root, metadata_of}
 use Rattle.machine.specs.Commands.{AfterRoot, Listed, NoDrop, NoRollback, Offer, RootOffer, SnapshotOffer, TargetsOffer, TimestampOffer, grants, listed, offer, put_blob}
 use Rattle.machine.specs.Misses.{IsPart, IsThere, MissesRole, MissesBlob, IsProperListing}
 use Rattle.machine.specs.Runs.{Command, Reply, Steps}

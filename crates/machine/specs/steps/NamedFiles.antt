@@ -1,9 +1,10 @@
 -- The metadata files under their names, table by table.
 use Rattle.std.specs.Prelude.{ℕ, ◌-◌, List, [], ◌∷◌, map, length, Option, codes}
+use Rattle.path_patterns.specs.Names.{dotted}
 use Rattle.document_parts.specs.Documents.{Profile, Timestamp, Snapshot}
 use Rattle.metadata.specs.File.{Bytes, File}
 use Rattle.delegations.specs.Rows.{Rows}
-use Rattle.machine.specs.State.{dotted, one_file}
+use Rattle.machine.specs.State.{one_file}
 
 -- the files of the roots before the one with this version, of the shelf, of the timestamp, of the snapshot
 abbrev pub earlier_files : ℕ → List (Profile × Bytes) → List (Bytes × Bytes)

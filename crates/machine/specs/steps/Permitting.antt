@@ -1,7 +1,7 @@
 -- What the parts of a request for a target say of the bytes that they do not see, and of those that they load.
 use Rattle.std.specs.Prelude.{◌≡◌, ◌≢◌, ◌↔◌, ◌⊎◌, ℕ, nat_le, Bool, true, false, cond, List, [], map, unwrap_or, Result, Ok, Err, IsTrue}
+use Rattle.limits.specs.Limits.{file_limit}
 use Rattle.sha2.specs.Sha256.{sha256}
-use Rattle.metadata.specs.Shape.{max_file}
 use Rattle.metadata.specs.File.{Bytes}
 use Rattle.document_parts.specs.declared.documents.ShapeFault.{ShapeFault}
 use Rattle.document_parts.specs.declared.documents.ShapeFault.TheVariants as shapes
@@ -42,7 +42,7 @@ all_bytes_at S digests = map (λ d. bytes_at S d.0) digests
 
 -- the held length of the file with this digest, if it is held, is one of a document
 abbrev pub is_short_in : List (Bytes × ℕ) → Digest → Bool
-is_short_in lengths d = nat_le (unwrap_or (length_at lengths d.0) 0) max_file
+is_short_in lengths d = nat_le (unwrap_or (length_at lengths d.0) 0) file_limit
 
 -- the bytes that were loaded, or why none were
 abbrev pub IsLoaded : Type 0 → (Bytes → Bytes → Type 0) → Bytes → Result Served GetFault → Type 0

@@ -1,7 +1,7 @@
 use Rattle.std.proofs.Common.{◌≡◌, ap, sym, ◌∙◌, map, true, false, Some}
+use Rattle.path_patterns.specs.Names.{dotted}
 use Rattle.document_parts.specs.Views.{profile_view}
 use Rattle.std.specs.Prelude.{bytes_eq, codes}
-use Rattle.machine.specs.State.{dotted}
 use Rattle.machine.specs.steps.NamedFiles.{earlier_files}
 use Rattle.machine.proofs.MetadataNames.{found_first, found_later, one_found, one_missed, roots_kept}
 use Rattle.machine.proofs.names.root_named.Goals as goal

@@ -5,13 +5,13 @@ use Rattle.signing.specs.Files.{others as others_of}
 use Rattle.signing.proofs.SignedFiles.{same_length}
 use Rattle.signing.proofs.files.judge_result.Goals as goal
 
-pub returns-then-len-gt-MOST-clause-fault : goal.returns-then-len-gt-MOST-clause-fault
-returns-then-len-gt-MOST-clause-fault c =
+pub returns-then-len-gt-FILE_LIMIT-clause-fault : goal.returns-then-len-gt-FILE_LIMIT-clause-fault
+returns-then-len-gt-FILE_LIMIT-clause-fault c =
     let key = id_text c.args.id.now in
     let os = others_of key (entries_view c.args.file.now.signatures.items) in
     let few = c.if-others-ge-MOST_SIGNATURES.false in
     let count = c.others.ensures ∙ ap (λ (es : List Signature). length (others_of key (entries_view es))) c.as_slice.ensures.value in
-    let long = c.if-len-gt-MOST.true in
+    let long = c.if-len-gt-FILE_LIMIT.true in
     let zeros : length c.as_slice-2.result.now ≡ c.args.signature_len = c.as_slice-2.ensures.len ∙ c.in_ok-nothing.ensures.len in
     inr (inr (
       refl,
@@ -28,7 +28,7 @@ returns-clause-ok c =
     let os = others_of key (entries_view c.args.file.now.signatures.items) in
     let few = c.if-others-ge-MOST_SIGNATURES.false in
     let count = c.others.ensures ∙ ap (λ (es : List Signature). length (others_of key (entries_view es))) c.as_slice.ensures.value in
-    let short = c.if-len-gt-MOST.false in
+    let short = c.if-len-gt-FILE_LIMIT.false in
     let zeros : length c.as_slice-2.result.now ≡ c.args.signature_len = c.as_slice-2.ensures.len ∙ c.in_ok-nothing.ensures.len in (
       omega (arith, few, count),
       λ signature has.
