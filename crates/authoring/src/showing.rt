@@ -5,7 +5,7 @@ use command_support::{Fault, Notes, moment, print};
 use commands::{Work, worked};
 use drafts::Folder;
 use keys_roles::KeyId;
-use machine::BatchRefusal;
+use machine::{BatchRefusal, would_take};
 use metadata::Moment;
 use overview_rows::{drafts_in, put, show_standing};
 use overviews::{Drafts, drafts_as_json, drafts_as_lines, drafts_as_page};
@@ -136,10 +136,7 @@ impl Work for Judging<'_> {
         repository: &mut Store<S>,
         _notes: &mut Notes<'_, E>,
     ) -> Result<(), Fault> {
-        match repository
-            .held()
-            .would_take(self.alloc, self.offers, self.now)
-        {
+        match would_take(self.alloc, repository.held(), self.offers, self.now) {
             Ok(()) => Ok(()),
             Err(BatchRefusal::Denied(denial, index)) => Err(Fault::Denied(denial, Some(index))),
             Err(BatchRefusal::OutOfMemory) => Err(Fault::Memory),

@@ -4,9 +4,9 @@ use Rattle.document_parts.specs.Documents.{Profile, Root}
 use Rattle.metadata.specs.File.{Bytes, File, IsFileOf, root_form}
 use Rattle.metadata.specs.Shaped.{reads}
 use Rattle.denials.specs.Orders.{pass, given}
-use Rattle.machine.specs.State.{IsRootChain, IsState, State, Trusted, first, kept_root, then}
-use Rattle.machine.specs.Commands.{AfterRoot, kept, offer_root, rotated}
-use Rattle.machine.proofs.ShapedOnce.{Shapes, file-once, root-tells}
+use Rattle.trust_rules.specs.State.{IsRootChain, IsState, State, Trusted, first, kept_root, then}
+use Rattle.trust_rules.specs.Offers.{AfterRoot, kept, offer_root, rotated}
+use Rattle.trust_rules.proofs.ShapedOnce.{Shapes, file-once, root-tells}
 use Rattle.client.specs.Agreement.{AnchorIsBehind}
 use Rattle.client.specs.Behind.{AfterRoots, IsBare, none, one}
 use Rattle.client.proofs.RootsFollow.{held_by, no_chain, trusts_one}

@@ -2,7 +2,7 @@
 use Rattle.std.proofs.Common.{◌≡◌, ℕ, Err, Ok, subst}
 use Rattle.denials.specs.Orders as orders
 use Rattle.denials.specs.declared.denial.Denial.{Denial}
-use Rattle.machine.specs.State.{State}
+use Rattle.trust_rules.specs.State.{State}
 use Rattle.sources.specs.Source.{Gives}
 use Rattle.sources.specs.declared.FetchFault.{FetchFault}
 use Rattle.client.specs.Agreement as agreement

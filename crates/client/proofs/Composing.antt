@@ -1,6 +1,6 @@
 -- Calls one after the other.
 use Rattle.std.proofs.Common.{◌≡◌}
-use Rattle.machine.specs.State.{State}
+use Rattle.trust_rules.specs.State.{State}
 use Rattle.store.specs.Standing.{Keeps, Standing, StandsAt}
 use Rattle.client.specs.Changes.{Changes}
 

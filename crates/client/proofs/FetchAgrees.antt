@@ -8,11 +8,12 @@ use Rattle.keys_roles.proofs.Elements.{any_in}
 use Rattle.metadata.specs.File.{Bytes, Name, Names, has_name}
 use Rattle.denials.specs.Orders as orders
 use Rattle.denials.specs.Orders.{BlobMissing, Denial, Judged, Plain, RoleMissing, Same}
-use Rattle.machine.proofs.ShapedOnce.{Shapes}
-use Rattle.machine.specs.Misses.{IsPart}
-use Rattle.machine.specs.State.{IsCoherent, IsState, State, Trusted}
-use Rattle.machine.specs.Commands.{TargetsOffer, grants, put_blob}
-use Rattle.machine.specs.Runs.{PutBlob, with_trusted}
+use Rattle.trust_rules.proofs.ShapedOnce.{Shapes}
+use Rattle.trust_rules.specs.Misses.{IsPart}
+use Rattle.trust_rules.specs.State.{IsCoherent, IsState, State, Trusted}
+use Rattle.trust_rules.specs.Offers.{TargetsOffer, put_blob}
+use Rattle.trust_rules.specs.Grants.{grants}
+use Rattle.trust_rules.specs.Runs.{PutBlob, with_trusted}
 use Rattle.delegations.specs.Delegation.{before}
 use Rattle.delegations.specs.Rows.{with_row}
 use Rattle.sources.specs.Source.{Gives}

@@ -4,9 +4,10 @@ use Rattle.std.specs.Prelude.{IfSome, codes, length}
 use Rattle.metadata.specs.File.{Bytes, Names}
 use Rattle.denials.specs.Orders as orders
 use Rattle.path_patterns.specs.Names.{Asks, dotted}
-use Rattle.machine.specs.State.{State, blob_at}
-use Rattle.machine.specs.Commands.{Listed, Offer, RootOffer, SnapshotOffer, TargetsOffer, TimestampOffer, grants, listed}
-use Rattle.machine.specs.Runs.{Command}
+use Rattle.trust_rules.specs.State.{State, blob_at}
+use Rattle.trust_rules.specs.Offers.{Offer, RootOffer, SnapshotOffer, TargetsOffer, TimestampOffer}
+use Rattle.trust_rules.specs.Grants.{Listed, grants, listed}
+use Rattle.trust_rules.specs.Runs.{Command}
 use Rattle.sources.specs.Source.{Gives}
 use Rattle.client.specs.Agreement.{Brings, BringsAndFetches, IsFileOf, IsPlaceOf, updated, denied}
 use Rattle.client.specs.Agreement as agreement

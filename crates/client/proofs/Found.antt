@@ -6,12 +6,12 @@ use Rattle.std.proofs.lemmas.List.{append_cancel_left}
 use Rattle.metadata.specs.File.{Bytes}
 use Rattle.denials.specs.Views.{denial_view}
 use Rattle.denials.specs.declared.denial.Denial.{Denial}
-use Rattle.machine.specs.Answers.{Gives, denies, gives}
-use Rattle.machine.specs.declared.refusal.Refusal.{Refusal}
-use Rattle.machine.specs.declared.refusal.Refusal.TheVariants.{Denied}
+use Rattle.trusted_state.specs.Answers.{Gives, denies, gives}
+use Rattle.trusted_state.specs.declared.refusal.Refusal.{Refusal}
+use Rattle.trusted_state.specs.declared.refusal.Refusal.TheVariants.{Denied}
 use Rattle.path_patterns.specs.Names.{Asks}
-use Rattle.machine.specs.State.{State}
-use Rattle.machine.specs.Commands.{grants}
+use Rattle.trust_rules.specs.State.{State}
+use Rattle.trust_rules.specs.Grants.{grants}
 use Rattle.sources.specs.Source.{Answer}
 use Rattle.client.specs.Answering as answering
 use Rattle.client.specs.Answering.{IsAnswer, IsHeldAs, IsServed}

@@ -5,9 +5,9 @@ use Rattle.std.specs.Prelude.{codes}
 use Rattle.metadata.specs.File.{Bytes}
 use Rattle.denials.specs.Orders as orders
 use Rattle.denials.specs.Orders.{Judged, Same, Denied}
-use Rattle.machine.specs.State.{IsState, State, Trusted, metadata_of}
-use Rattle.machine.specs.Commands.{Offer, offer, put_blob}
-use Rattle.machine.specs.Runs.{Command, OfferOne, PutBlob, Outcome, Leads, leads, Reply, Offered, Stored, Refused, settled, with_trusted}
+use Rattle.trust_rules.specs.State.{IsState, State, Trusted, metadata_of}
+use Rattle.trust_rules.specs.Offers.{Offer, offer, put_blob}
+use Rattle.trust_rules.specs.Runs.{Command, OfferOne, PutBlob, Outcome, Leads, leads, Reply, Offered, Stored, Refused, settled, with_trusted}
 use Rattle.sources.specs.Source.{Gives}
 use Rattle.sources.specs.declared.FetchFault.{FetchFault}
 use Rattle.sources.specs.declared.FetchFault.TheVariants as fetches

@@ -4,8 +4,7 @@ use Rattle.std.proofs.Common.{◌≡◌, ◌≢◌, ◌⊎◌, inl, inr, ℕ, su
 use Rattle.std.specs.Prelude.{IfSome, IsSome, codes, is_some, slice_index_or}
 use Rattle.std.proofs.lemmas.Bool.{both_ways}
 use Rattle.std.specs.List.{AllByRecursion}
-use Rattle.std.proofs.lemmas.List.{length-map}
-use Rattle.std.proofs.lemmas.List.{append_cancel_left}
+use Rattle.std.proofs.lemmas.List.{length-map, append_cancel_left}
 use Rattle.std.proofs.lemmas.Slice.Eq.{bytes_eq-Decides}
 use Rattle.sha2.specs.Sha256.{sha256}
 use Rattle.limits.specs.Limits.{blob_limit, most_held}
@@ -26,14 +25,15 @@ use Rattle.delegations.specs.Delegation.{before}
 use Rattle.delegations.specs.Missed.{HasRowsOf, IsMissed}
 use Rattle.delegations.specs.Rows.{HasHash, HasLength, Rises, Rows, entry_of, named_row, place_before, row_at, same_place, value_at, with_row}
 use Rattle.delegations.specs.Search.{Found, MeetsEdge, shelf_of, visit}
-use Rattle.machine.proofs.LinesGive.{needed}
-use Rattle.machine.proofs.OneJudgement.{search-definite}
-use Rattle.machine.proofs.RowsInOrder.{length_with_row}
-use Rattle.machine.proofs.ShapedOnce.{Shapes, file-once, targets-tells}
-use Rattle.machine.specs.Misses.{IsPart, MissesBlob, MissesRole, IsProperListing, support_paths}
-use Rattle.machine.specs.State.{IsCoherent, IsState, State, Trusted, blob_at, metadata_of}
-use Rattle.machine.specs.Commands.{Listed, TargetsOffer, grants, listed, offer, put_blob}
-use Rattle.machine.specs.Runs.{with_trusted}
+use Rattle.trust_rules.proofs.LinesGive.{needed}
+use Rattle.trust_rules.proofs.OneJudgement.{search-definite}
+use Rattle.trust_rules.proofs.RowsInOrder.{length_with_row}
+use Rattle.trust_rules.proofs.ShapedOnce.{Shapes, file-once, targets-tells}
+use Rattle.trust_rules.specs.Misses.{IsPart, MissesBlob, MissesRole, IsProperListing, support_paths}
+use Rattle.trust_rules.specs.State.{IsCoherent, IsState, State, Trusted, blob_at, metadata_of}
+use Rattle.trust_rules.specs.Offers.{TargetsOffer, offer, put_blob}
+use Rattle.trust_rules.specs.Grants.{Listed, grants, listed}
+use Rattle.trust_rules.specs.Runs.{with_trusted}
 use Rattle.client.specs.Behind.{most_rows}
 use Rattle.client.specs.steps.Laws.{GrantLaws, NewLaws, StepLaws}
 use Rattle.client.proofs.Refused as refused

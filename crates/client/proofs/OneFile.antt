@@ -4,10 +4,10 @@ use Rattle.metadata.specs.File.{Bytes, Name}
 use Rattle.denials.specs.Orders.{RoleMissing, BlobMissing}
 use Rattle.path_patterns.specs.Grammar.{IsName}
 use Rattle.path_patterns.specs.Names.{Asks}
-use Rattle.machine.specs.State.{State}
-use Rattle.machine.specs.Runs.{Command, Init, Batch, OfferOne, PutBlob, Prune, Metadata, Target, Reply, Begun, Offered, BatchDone, Stored, Pruned, FileBytes, Absent, Refused, Steps}
-use Rattle.tables.specs.declared.faults.StoreFault.{StoreFault}
-use Rattle.tables.specs.declared.faults.StoreFault.TheVariants as stored
+use Rattle.trust_rules.specs.State.{State}
+use Rattle.trust_rules.specs.Runs.{Command, Init, Batch, OfferOne, PutBlob, Prune, Metadata, Target, Reply, Begun, Offered, BatchDone, Stored, Pruned, FileBytes, Absent, Refused, Steps}
+use Rattle.table_rows.specs.declared.faults.StoreFault.{StoreFault}
+use Rattle.table_rows.specs.declared.faults.StoreFault.TheVariants as stored
 use Rattle.store.specs.Applies.{Replies}
 use Rattle.store.specs.Applies as applied
 use Rattle.store.specs.Standing.{Standing}

@@ -2,9 +2,9 @@
 use Rattle.std.proofs.Common.{◌≡◌, ℕ, Option, Some, None, Ok, Err, sym, subst}
 use Rattle.metadata.specs.File.{Bytes}
 use Rattle.denials.specs.Orders.{Denial, Denied}
-use Rattle.machine.specs.State.{State}
-use Rattle.machine.specs.Commands.{grants}
-use Rattle.machine.specs.Runs.{Target, Reply, Begun, Offered, BatchDone, Stored, Pruned, FileBytes, Absent, Refused, IsGranted, Steps}
+use Rattle.trust_rules.specs.State.{State}
+use Rattle.trust_rules.specs.Grants.{grants}
+use Rattle.trust_rules.specs.Runs.{Target, Reply, Begun, Offered, BatchDone, Stored, Pruned, FileBytes, Absent, Refused, IsGranted, Steps}
 use Rattle.store.specs.Applies.{Replies}
 use Rattle.store.specs.Applies as applied
 use Rattle.store.specs.Standing.{IsClean, Standing, StandsAt}

@@ -5,7 +5,7 @@ use Rattle.document_parts.specs.Documents.{Root}
 use Rattle.metadata.specs.File.{File}
 use Rattle.denials.specs.Numbers as no
 use Rattle.denials.specs.Orders as orders
-use Rattle.machine.specs.State.{State}
+use Rattle.trust_rules.specs.State.{State}
 use Rattle.sources.specs.Source.{Gives}
 use Rattle.store.specs.Standing.{IsStateOf, Standing}
 use Rattle.client.specs.Changes.{Changes}

@@ -9,9 +9,9 @@ use Rattle.document_parts.specs.Documents.{Profile, Root}
 use Rattle.metadata.specs.File.{Bytes, File, IsFileOf, root_form}
 use Rattle.document_parts.specs.Parts.{last_number}
 use Rattle.denials.specs.Orders.{Judged, Denied, Same}
-use Rattle.machine.specs.State.{FollowsRoot, IsHeldUnder, IsRootChain, IsState, IsTrusted, State, Trusted, first, kept_root, metadata_of, nothing_trusted, then}
-use Rattle.machine.specs.Commands.{AfterRoot, RootOffer, kept, offer, rotated}
-use Rattle.machine.specs.Runs.{with_trusted}
+use Rattle.trust_rules.specs.State.{FollowsRoot, IsHeldUnder, IsRootChain, IsState, IsTrusted, State, Trusted, first, kept_root, metadata_of, nothing_trusted, then}
+use Rattle.trust_rules.specs.Offers.{AfterRoot, RootOffer, kept, offer, rotated}
+use Rattle.trust_rules.specs.Runs.{with_trusted}
 use Rattle.sources.specs.Source.{Gives}
 use Rattle.client.specs.Answering.{IsHonest}
 use Rattle.client.specs.Behind as behind

@@ -5,8 +5,8 @@ use Rattle.metadata.specs.File.{Bytes, Names, has_name}
 use Rattle.denials.specs.Orders as orders
 use Rattle.denials.specs.Views.{denial_view}
 use Rattle.denials.specs.declared.denial.Denial.{Denial as Code}
-use Rattle.machine.specs.State.{State}
-use Rattle.machine.specs.Commands.{grants}
+use Rattle.trust_rules.specs.State.{State}
+use Rattle.trust_rules.specs.Grants.{grants}
 use Rattle.sources.specs.Source.{Gives}
 use Rattle.store.specs.Standing.{IsClean, Standing}
 use Rattle.client.specs.Changes.{Changes}

@@ -4,9 +4,9 @@ use Rattle.std.specs.List.{AllByRecursion}
 use Rattle.std.proofs.lemmas.List.{map-append}
 use Rattle.metadata.specs.File.{Bytes, Names}
 use Rattle.denials.specs.Orders as orders
-use Rattle.machine.specs.State.{State}
-use Rattle.machine.specs.Commands.{grants}
-use Rattle.machine.specs.Runs.{Command, Reply, Runs, Steps, done, next}
+use Rattle.trust_rules.specs.State.{State}
+use Rattle.trust_rules.specs.Grants.{grants}
+use Rattle.trust_rules.specs.Runs.{Command, Reply, Runs, Steps, done, next}
 use Rattle.sources.specs.Source.{Gives}
 use Rattle.client.specs.Session as session
 use Rattle.client.specs.Session.{Makes, accepted, denied, unmade, Takes, TakesRoots, TakesSnapshot, TakesTimestamp, Updates, Fetches}

@@ -14,10 +14,11 @@ use Rattle.metadata.specs.Shaped.{reads}
 use Rattle.denials.specs.Numbers as no
 use Rattle.denials.specs.Orders.{Denial, Denied, Judged, Plain, Same, ◌>>◌, check, decide, fails, give, given, holds, need, pass, same, same_if, stopped}
 use Rattle.delegations.specs.Rows.{entry_of}
-use Rattle.machine.proofs.ShapedOnce.{Shapes, file-once, snapshot-tells, timestamp-tells}
-use Rattle.machine.specs.State.{AreCoherent, HoldsAll, IsCoherent, IsHeldUnder, IsSnapshotDue, IsState, MeetsTop, NamesSnapshot, State, Trusted, metadata_of}
-use Rattle.machine.specs.Commands.{NoDrop, NoRollback, Offer, after_snapshot, after_timestamp, SnapshotOffer, TimestampOffer, grants, live_snapshot, live_timestamp, offer}
-use Rattle.machine.specs.Runs.{with_trusted}
+use Rattle.trust_rules.proofs.ShapedOnce.{Shapes, file-once, snapshot-tells, timestamp-tells}
+use Rattle.trust_rules.specs.State.{AreCoherent, HoldsAll, IsCoherent, IsHeldUnder, IsSnapshotDue, IsState, MeetsTop, NamesSnapshot, State, Trusted, metadata_of}
+use Rattle.trust_rules.specs.Offers.{NoDrop, NoRollback, Offer, after_snapshot, after_timestamp, SnapshotOffer, TimestampOffer, live_snapshot, live_timestamp, offer}
+use Rattle.trust_rules.specs.Grants.{grants}
+use Rattle.trust_rules.specs.Runs.{with_trusted}
 use Rattle.sources.specs.Source.{Gives}
 use Rattle.client.specs.Answering.{IsHonest}
 use Rattle.client.specs.Behind.{IsBare, IsOlder, IsOlderSnapshot, IsOlderTimestamp}

@@ -16,9 +16,9 @@ use Rattle.metadata.specs.File.{Bytes, File, Name, IsFileOf, targets_form}
 use Rattle.document_parts.specs.Parts.{last_number}
 use Rattle.denials.specs.Orders.{given, holds, pass}
 use Rattle.delegations.specs.Rows.{HasHash, HasLength, Place, Rows, has_hash, has_length, named_row, row_at, same_place, value_at, with_row}
-use Rattle.machine.proofs.LinesGive.{needed}
-use Rattle.machine.specs.State.{IsBlob, IsShelfRow, NamesSnapshot, blob_at}
-use Rattle.machine.specs.Commands.{live_snapshot}
+use Rattle.trust_rules.proofs.LinesGive.{needed}
+use Rattle.trust_rules.specs.State.{IsBlob, IsShelfRow, NamesSnapshot, blob_at}
+use Rattle.trust_rules.specs.Offers.{live_snapshot}
 use Rattle.limits.specs.Limits.{blob_limit}
 
 pub some_one : {A : Type 0} (a b : A) → Some a ≡ Some b → a ≡ b

@@ -3,7 +3,7 @@ use Rattle.std.proofs.Common.{◌≡◌, ℕ, Option, Some, None, Ok, Err, sym, 
 use Rattle.std.specs.Borrow.{Bor}
 use Rattle.std.specs.Prelude.{option_map}
 use Rattle.metadata.specs.File.{Bytes}
-use Rattle.machine.specs.State.{State}
+use Rattle.trust_rules.specs.State.{State}
 use Rattle.sources.specs.Source.{Gives}
 use Rattle.sources.specs.declared.FetchFault.{FetchFault}
 use Rattle.sources.specs.declared.FetchFault.TheVariants.{OutOfMemory}

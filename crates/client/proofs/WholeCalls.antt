@@ -3,9 +3,9 @@ use Rattle.std.proofs.Common.{◌≡◌, ℕ, [], Result, Ok, Err, refl}
 use Rattle.std.specs.Prelude.{IfOk, None}
 use Rattle.path_patterns.specs.Grammar.{IsTargetPath}
 use Rattle.metadata.specs.File.{Bytes}
-use Rattle.machine.proofs.ShapedOnce.{Shapes}
-use Rattle.machine.specs.State.{IsState, State}
-use Rattle.machine.specs.Commands.{grants}
+use Rattle.trust_rules.proofs.ShapedOnce.{Shapes}
+use Rattle.trust_rules.specs.State.{IsState, State}
+use Rattle.trust_rules.specs.Grants.{grants}
 use Rattle.sources.specs.Source.{Gives}
 use Rattle.store.specs.Standing.{IsClean, Standing}
 use Rattle.client.specs.Agreement as agreement

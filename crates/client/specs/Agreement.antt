@@ -5,9 +5,10 @@ use Rattle.document_parts.specs.Documents.{Profile}
 use Rattle.metadata.specs.File.{Bytes}
 use Rattle.denials.specs.Orders as orders
 use Rattle.path_patterns.specs.Grammar.{IsTargetPath}
-use Rattle.machine.specs.State.{State, IsState, IsCoherent, blob_at, metadata_of, nothing}
-use Rattle.machine.specs.Commands.{Offer, RootOffer, TimestampOffer, SnapshotOffer, TargetsOffer, grants, init}
-use Rattle.machine.specs.Runs.{Command, OfferOne, PutBlob}
+use Rattle.trust_rules.specs.State.{State, IsState, IsCoherent, blob_at, metadata_of, nothing}
+use Rattle.trust_rules.specs.Offers.{Offer, RootOffer, TimestampOffer, SnapshotOffer, TargetsOffer, init}
+use Rattle.trust_rules.specs.Grants.{grants}
+use Rattle.trust_rules.specs.Runs.{Command, OfferOne, PutBlob}
 use Rattle.sources.specs.Source.{Gives}
 use Rattle.sources.specs.declared.FetchFault.{FetchFault}
 use Rattle.sources.specs.declared.FetchFault.TheVariants as fetches

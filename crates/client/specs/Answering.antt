@@ -4,8 +4,8 @@ use Rattle.std.specs.Prelude.{◌≡◌, ℕ, ◌≤◌, ◌<◌, ◌++◌, Opti
 use Rattle.metadata.specs.File.{Bytes}
 use Rattle.denials.specs.Orders as orders
 use Rattle.path_patterns.specs.Names.{Asks}
-use Rattle.machine.specs.State.{State, metadata_of}
-use Rattle.machine.specs.Commands.{grants}
+use Rattle.trust_rules.specs.State.{State, metadata_of}
+use Rattle.trust_rules.specs.Grants.{grants}
 use Rattle.sources.specs.Source.{Answer, Gives}
 use Rattle.sources.specs.declared.FetchFault.{FetchFault}
 use Rattle.sources.specs.declared.FetchFault.TheVariants.{TooLong, OutOfMemory}

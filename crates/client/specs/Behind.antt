@@ -4,8 +4,8 @@ use Rattle.std.specs.List.{AllByRecursion}
 use Rattle.document_parts.specs.Documents.{Profile, Timestamp, Snapshot, Targets, MetaFile}
 use Rattle.metadata.specs.File.{Bytes, Name, File}
 use Rattle.delegations.specs.Rows.{entry_of, row_at}
-use Rattle.machine.specs.State.{Trusted, State, NamesSnapshot, blob_at}
-use Rattle.machine.specs.Commands.{offer_root}
+use Rattle.trust_rules.specs.State.{Trusted, State, NamesSnapshot, blob_at}
+use Rattle.trust_rules.specs.Offers.{offer_root}
 
 -- what is trusted after these roots, offered in order, of each the bytes
 pub data AfterRoots : Trusted → List (Profile × Bytes) → Trusted → Type 0 where

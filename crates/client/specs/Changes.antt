@@ -1,5 +1,5 @@
 -- What a call makes of a store.
-use Rattle.machine.specs.State.{State}
+use Rattle.trust_rules.specs.State.{State}
 use Rattle.store.specs.Standing.{IsClean, Moves, Standing}
 
 -- For each state at which the store stood there is one at which it stands then, and this is so related to the first. Where a wrong answer

@@ -4,10 +4,10 @@ use Rattle.document_parts.specs.Documents.{Root}
 use Rattle.metadata.specs.File.{Bytes, Names, File, has_name}
 use Rattle.denials.specs.Numbers as no
 use Rattle.denials.specs.Orders as orders
-use Rattle.machine.specs.State.{State, IsSnapshotDue}
-use Rattle.machine.specs.Commands.{grants}
-use Rattle.machine.specs.Serving.{HasLayout, is_by_layout}
-use Rattle.machine.specs.Runs.{Command, Reply, Refused, Steps}
+use Rattle.trust_rules.specs.State.{State, IsSnapshotDue}
+use Rattle.trust_rules.specs.Grants.{grants}
+use Rattle.granting.specs.Serving.{HasLayout, is_by_layout}
+use Rattle.trust_rules.specs.Runs.{Command, Reply, Refused, Steps}
 use Rattle.sources.specs.Source.{Gives}
 use Rattle.sources.specs.declared.FetchFault.{FetchFault}
 use Rattle.sources.specs.declared.FetchFault.TheVariants.{TooLong}

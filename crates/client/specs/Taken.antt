@@ -1,8 +1,8 @@
 -- What a client's state is after its calls: commands made one after the other at one moment, each an offer or an upload.
 use Rattle.std.specs.Prelude.{ℕ, List, map, ⊤}
 use Rattle.std.specs.List.{AllByRecursion}
-use Rattle.machine.specs.State.{State}
-use Rattle.machine.specs.Runs.{Command, OfferOne, PutBlob, Reply, Runs}
+use Rattle.trust_rules.specs.State.{State}
+use Rattle.trust_rules.specs.Runs.{Command, OfferOne, PutBlob, Reply, Runs}
 
 -- an offer of one document, or an upload
 abbrev pub IsTaking : Command → Type 0

@@ -5,8 +5,8 @@ use Rattle.denials.specs.Orders.{Denial, RoleMissing, BlobMissing}
 use Rattle.limits.specs.Limits.{blob_limit, file_limit}
 use Rattle.path_patterns.specs.Grammar.{IsName}
 use Rattle.path_patterns.specs.Names.{Asks, dotted}
-use Rattle.machine.specs.Commands.{Offer, RootOffer, TimestampOffer, SnapshotOffer, TargetsOffer}
-use Rattle.machine.specs.Runs.{Command, OfferOne, PutBlob}
+use Rattle.trust_rules.specs.Offers.{Offer, RootOffer, TimestampOffer, SnapshotOffer, TargetsOffer}
+use Rattle.trust_rules.specs.Runs.{Command, OfferOne, PutBlob}
 
 -- the name at the source, the most bytes, and the command that is made with the answer
 pub record Wanted : Type 0 where

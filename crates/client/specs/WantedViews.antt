@@ -1,8 +1,8 @@
 -- What the code's wanted files stand for.
 use Rattle.std.specs.Prelude.{string_bytes}
 use Rattle.metadata.specs.File.{Bytes}
-use Rattle.machine.specs.Views.{offer_view}
-use Rattle.machine.specs.Runs.{Command, OfferOne, PutBlob}
+use Rattle.trusted_state.specs.Views.{offer_view}
+use Rattle.trust_rules.specs.Runs.{Command, OfferOne, PutBlob}
 use Rattle.client.specs.Wanted as plain
 use Rattle.client.specs.declared.wanted.Wanted.{Wanted}
 use Rattle.client.specs.declared.wanted.Use.{Use}

@@ -1,6 +1,6 @@
 //! Why a call of a client ends without what was wanted.
 ghost use Rattle.std.specs.Prelude.{◌≡◌, ◌≢◌};
-ghost use Rattle.tables.specs.declared.faults.StoreFault.TheVariants.{Damaged};
+ghost use Rattle.table_rows.specs.declared.faults.StoreFault.TheVariants.{Damaged};
 ghost use Rattle.client.specs.Session.{IsUnmade};
 ghost use Rattle.client.specs.Views.{fault_view};
 

@@ -2,7 +2,7 @@
 ghost use Rattle.std.specs.Prelude.{◌≡◌, ◌≤◌, ◌<◌, [], None, Ok, IfOk, IfErr, map, string_bytes, suc, vec_len};
 ghost use Rattle.sqlite.specs.Held.{state};
 ghost use Rattle.metadata.specs.File.{has_name};
-ghost use Rattle.machine.specs.Commands.{grants};
+ghost use Rattle.trust_rules.specs.Grants.{grants};
 ghost use Rattle.store.specs.Standing.{IsClean, seen};
 ghost use Rattle.store.specs.Views.{reply_view};
 ghost use Rattle.client.specs.Asking.{AsksOnce};

@@ -1,7 +1,7 @@
 //! Bringing a client up to date.
 ghost use Rattle.std.specs.Prelude.{◌≡◌, Some, option_map};
 ghost use Rattle.sqlite.specs.Held.{state};
-ghost use Rattle.machine.specs.State as trust;
+ghost use Rattle.trust_rules.specs.State as trust;
 ghost use Rattle.store.specs.Standing.{IsStateOf, seen};
 ghost use Rattle.client.specs.Asking.{AsksAtMost};
 ghost use Rattle.client.specs.Changes.{Changes};

@@ -1,8 +1,8 @@
 //! What a client fetches: names, limits, and what is made of the answers.
 ghost use Rattle.std.specs.Prelude.{◌≡◌, ◌++◌, IfOk, codes, string_bytes};
 ghost use Rattle.limits.specs.Limits.{file_limit};
-ghost use Rattle.machine.specs.Runs as steps;
-ghost use Rattle.machine.specs.Views.{offer_view};
+ghost use Rattle.trust_rules.specs.Runs as steps;
+ghost use Rattle.trusted_state.specs.Views.{offer_view};
 ghost use Rattle.path_patterns.specs.Names.{Asks, dotted};
 ghost use Rattle.client.specs.Wanted as plain;
 ghost use Rattle.client.specs.WantedViews.{wanted_view};

@@ -7,9 +7,9 @@ use Rattle.std.proofs.lemmas.Bool.Decides.{nat_tests}
 use Rattle.path_patterns.specs.Bytes.{is_name_start, is_name_byte}
 use Rattle.path_patterns.specs.Grammar.{IsName}
 use Rattle.std.specs.Borrow.{Bor}
-use Rattle.machine.specs.Commands.{Offer}
-use Rattle.machine.specs.Views.{offer_view}
-use Rattle.machine.specs.declared.outcome.Offer.{Offer as CodeOffer}
+use Rattle.trust_rules.specs.Offers.{Offer}
+use Rattle.trusted_state.specs.Views.{offer_view}
+use Rattle.trusted_state.specs.declared.outcome.Offer.{Offer as CodeOffer}
 use Rattle.commands.specs.Arguments.{AreDocuments, IsDocument}
 
 -- ---- the colon behind a name

@@ -1,7 +1,7 @@
 -- The arguments of `publish`.
 use Rattle.std.specs.Prelude.{◌≡◌, ℕ, ◌<◌, List, [], ◌∷◌, ◌++◌, Some, get_or, length, take}
 use Rattle.path_patterns.specs.Grammar.{IsName}
-use Rattle.machine.specs.Commands.{Offer, offer_of}
+use Rattle.trust_rules.specs.Offers.{Offer, offer_of}
 use Rattle.denials.specs.declared.denial.Denial.TheVariants as denials
 use Rattle.command_support.specs.declared.fault.Fault.{Fault}
 use Rattle.command_support.specs.declared.fault.Fault.TheVariants.{Denied, Memory}

@@ -1,7 +1,7 @@
 //! The arguments of `publish`.
 ghost use Rattle.std.specs.Prelude.{◌≡◌, ℕ, List, IfErr, IfNone, IfOk, IfSome, map, string_bytes};
-ghost use Rattle.machine.specs.Commands as commands;
-ghost use Rattle.machine.specs.Views.{offer_view};
+ghost use Rattle.trust_rules.specs.Offers as commands;
+ghost use Rattle.trusted_state.specs.Views.{offer_view};
 ghost use Rattle.commands.specs.Arguments.{AreDocuments, IsDocument, IsWhyNot};
 
 use crate::files::InputFile;

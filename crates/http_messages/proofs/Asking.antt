@@ -1,5 +1,6 @@
 -- Laws of what an input asks.
-use Rattle.std.proofs.Common.{◌≡◌, ◌<◌, inl, inr, Bool, ℕ, List, ◌++◌, drop, take, Option, Some, None, Err, refl, sym, ap, ◌∙◌, arith, subst}
+use Rattle.std.proofs.Common.{◌≡◌, ◌<◌, Bool, ℕ, List, ◌++◌, drop, map, take, Option, Some, None, Ok, Err, refl, sym, ap, ◌∙◌, arith, subst}
+use Rattle.httparse.specs.Spans.{name_and_value}
 use Rattle.std.specs.Io.KnownBytes.{Consumes}
 use Rattle.hex.specs.Hex.{encode_lower}
 use Rattle.httparse.specs.Grammar.{RequestHead}
@@ -10,59 +11,74 @@ use Rattle.httparse.proofs.GrammarLemmas.{ReadsRequest-append, request_unique}
 use Rattle.path_patterns.specs.Names.{IsDigest}
 use Rattle.http_messages.specs.declared.routes.Route.{Route}
 use Rattle.http_messages.specs.declared.routes.Route.TheVariants.{Batch, Blob, Metadata, Prune, Target}
-use Rattle.http_messages.specs.Head.{FoundHead, IsInput, left}
+use Rattle.http_messages.specs.Head.{FoundHead, Heads, IsInput, left}
 use Rattle.http_messages.specs.Sound.{OnNoMemory}
 use Rattle.http_messages.specs.declared.request.Received.{Received}
 use Rattle.http_messages.specs.declared.line.ReceiveFault.{ReceiveFault}
 use Rattle.http_messages.specs.declared.line.ReceiveFault.TheVariants.{Read, OutOfMemory}
-use Rattle.http_messages.specs.Request.{Request, batch, put_blob, Wanted, IsWanted, HasWantedOf, IsKept, HasKept, WantsMemoryOf, refused, wanted, of_head_to, OfBatch, framed, ill_framed, OfBlob, named, no_digest, OfBody, OfRest, AsksOf, by_head, by_none}
+use Rattle.http_messages.specs.declared.fields.Declared.{Declared}
+use Rattle.http_messages.specs.declared.reply.Method.{Method}
+use Rattle.http_messages.specs.Length.{declared}
+use Rattle.http_messages.specs.Orders.{Judged}
+use Rattle.http_messages.specs.RouteOf.{Routed}
+use Rattle.http_messages.specs.Request.{Request, Wanted, HasWantedOf, IsKept, WantsMemoryOf, IsRouted, HasLength, declares, is_empty, method_of, of_head, of_body, of_input, AsksOf}
+use Rattle.http_messages.specs.steps.Said.{said_of_head, IsOk, HasKept, OfRest}
+use Rattle.http_messages.proofs.DefiniteOrders.{Definite, line, check-definite, find-definite, give-definite, one-end}
+use Rattle.http_messages.proofs.SaidInOrder.{head-in-order, asks-by-head}
 use Rattle.http_messages.proofs.Frames.{one-batch}
 
 -- ---- one request for an input
 
-one-of-batch : (body : List ℕ) (a b : Request) → OfBatch body a → OfBatch body b → a ≡ b
-one-of-batch body a b (framed d x) (framed e y) = ap batch (one-batch body d e x y)
-one-of-batch body a b (framed d x) (ill_framed n) = absurd (n d x)
-one-of-batch body a b (ill_framed n) (framed d x) = absurd (n d x)
-one-of-batch body a b (ill_framed n) (ill_framed m) = refl
+one-length : (method : Method) (fields : Declared) (a b : ℕ) → HasLength method fields a → HasLength method fields b → a ≡ b
+one-length method fields a b declares declares = refl
+one-length method fields a b is_empty is_empty = refl
+
+abbrev routed_or : Routed → Option Routed → Routed
+routed_or at None = at
+routed_or at (Some other) = other
+
+one-route : (only : Bool) (target : List ℕ) (a b : Routed) → IsRouted only target a → IsRouted only target b → a ≡ b
+one-route only target a b x y = ap (routed_or a) (sym x.routed ∙ y.routed)
+
+of_head-definite : (only : Bool) (h : RequestHead) → Definite (of_head only h)
+of_head-definite only h =
+    line (check-definite _ _) (λ _.
+    line (find-definite _ _ (one-route only h.target)) (λ at.
+    line (check-definite _ _) (λ _.
+    line (find-definite _ _ (one-length (method_of at.0) (declared (map name_and_value h.fields)))) (λ len.
+    line (check-definite _ _) (λ _. give-definite _)))))
+
+one-parting : (input : List ℕ) (a b : RequestHead × List ℕ) → Heads input a.0 a.1 → Heads input b.0 b.1 → a ≡ b
+one-parting input (h, rest) (k, other) x y =
+    let (heads, rests) = request_unique input h k rest other x.reads y.reads in
+    let first : ◌≡◌ {A = RequestHead × List ℕ} (h, rest) (k, rest) = ap (λ z. (z, rest)) heads in
+    first ∙ ap (λ z. (k, z)) rests
 
 module _ (one_digest : (d e : List ℕ) → IsDigest d → IsDigest e → encode_lower d ≡ encode_lower e → d ≡ e) where
-  one-of-blob : (name body : List ℕ) (a b : Request) → OfBlob name body a → OfBlob name body b → a ≡ b
-  one-of-blob name body a b (named d x p) (named e y q) = ap (λ z. put_blob z body) (one_digest d e x y (sym p ∙ q))
-  one-of-blob name body a b (named d x p) (no_digest n) = absurd (n d x p)
-  one-of-blob name body a b (no_digest n) (named d x p) = absurd (n d x p)
-  one-of-blob name body a b (no_digest n) (no_digest m) = refl
+  of_body-definite : (route : Route) (name body : List ℕ) → Definite (of_body route name body)
+  of_body-definite Batch name body = line (find-definite _ _ (one-batch body)) (λ documents. give-definite _)
+  of_body-definite Blob name body = line (find-definite _ _ (λ d e x y. one_digest d e x.0 y.0 (sym x.1 ∙ y.1))) (λ digest. give-definite _)
+  of_body-definite Metadata name body = give-definite _
+  of_body-definite Prune name body = give-definite _
+  of_body-definite Target name body = give-definite _
 
-  one-of-body : (route : Route) (name body : List ℕ) (a b : Request) → OfBody route name body a → OfBody route name body b → a ≡ b
-  one-of-body Batch name body a b x y = one-of-batch body a b x y
-  one-of-body Blob name body a b x y = one-of-blob name body a b x y
-  one-of-body Metadata name body a b x y = x ∙ sym y
-  one-of-body Prune name body a b x y = x ∙ sym y
-  one-of-body Target name body a b x y = x ∙ sym y
+  of_input-definite : (only : Bool) (input : List ℕ) → Definite (of_input only input)
+  of_input-definite only input =
+      line (find-definite _ _ (one-parting input)) (λ at.
+      line (of_head-definite only at.0) (λ asked.
+      line (check-definite _ _) (λ _. of_body-definite asked.route asked.name (take asked.len at.1))))
 
-  one-of-rest : (w : Wanted) (rest : List ℕ) (a b : Request) → OfRest w rest a → OfRest w rest b → a ≡ b
-  one-of-rest (refused why) rest a b x y = x ∙ sym y
-  one-of-rest (wanted route name len) rest a b (inl x) (inl y) = x.1 ∙ sym y.1
-  one-of-rest (wanted route name len) rest a b (inl x) (inr y) = absurd (omega (arith, x.0, y.0))
-  one-of-rest (wanted route name len) rest a b (inr x) (inl y) = absurd (omega (arith, x.0, y.0))
-  one-of-rest (wanted route name len) rest a b (inr x) (inr y) = one-of-body route name (take len rest) a b x.1 y.1
-
-  pub one-request : (reads_only : Bool) (input : List ℕ) (a b : Request) → AsksOf reads_only input a → AsksOf reads_only input b → a ≡ b
-  one-request only input a b (by_head h r c x p) (by_head k q d y s) =
-      let (heads, rests) = request_unique input h k r q x.reads y.reads in
-      one-of-rest (of_head_to only k) q a b (subst (λ z. OfRest (of_head_to only k) z a) rests (subst (λ z. OfRest (of_head_to only z) r a) heads p)) s
-  one-request only input a b (by_head h r c x p) (by_none n) = absurd (n h r x)
-  one-request only input a b (by_none n) (by_head h r c x p) = absurd (n h r x)
-  one-request only input a b (by_none n) (by_none m) = refl
+  pub one-request : (only : Bool) (input : List ℕ) (a b : Request) → AsksOf only input a → AsksOf only input b → a ≡ b
+  one-request only input = one-end (of_input only input) (of_input-definite only input)
 
 -- ---- what was read
 
 -- what a head that was found says of the rest of the input is what the input asks
-pub asks-wanted : (only : Bool) (got known gave more : List ℕ) (headers : List HeaderSpan) (spans : RequestSpans) (said : Wanted) (request : Request)
-    → FoundHead got known headers (Some spans) → ((h : RequestHead) → IsRequestAt got headers spans h → said ≡ of_head_to only h)
+pub asks-wanted : (only : Bool) (got known gave more : List ℕ) (headers : List HeaderSpan) (spans : RequestSpans) (said : Judged Wanted) (request : Request)
+    → FoundHead got known headers (Some spans) → ((h : RequestHead) → IsRequestAt got headers spans h → said ≡ said_of_head only h)
     → OfRest said (drop spans.len got ++ gave ++ more) request → AsksOf only (got ++ gave ++ more) request
 asks-wanted only got known gave more headers spans said request (within, h, at, small) says rest =
-    by_head h (drop spans.len got ++ gave ++ more) request
+    asks-by-head only (got ++ gave ++ more) h (drop spans.len got ++ gave ++ more) request
     (record { reads = ReadsRequest-append (got ++ gave) h (drop spans.len got ++ gave) more (ReadsRequest-append got h (drop spans.len got) gave at.reads); small = small })
     (subst (λ w. OfRest w (drop spans.len got ++ gave ++ more) request) (says h at) rest)
 
@@ -72,10 +88,15 @@ input-is None new got h = tt
 input-is (Some x) None got h = absurd h
 input-is (Some x) (Some y) got h = sym h
 
+-- a head of which the code found this, and that refuses nothing
+ok-said : (only : Bool) (h : RequestHead) (said : Judged Wanted) → of_head only h said → IsOk said → (asked : Wanted) × of_head only h (Ok asked) × (said ≡ Ok asked)
+ok-said only h (Ok asked) says ok = (asked, says, refl)
+ok-said only h (Err why) says ok = absurd ok
+
 -- what has to be kept is of a head that refuses nothing
-kept-wanted : (w : Wanted) → HasKept w → IsWanted w
-kept-wanted (refused why) h = absurd h
-kept-wanted (wanted route name len) h = tt
+kept-ok : (said : Judged Wanted) → HasKept said → IsOk said
+kept-ok (Err why) h = absurd h
+kept-ok (Ok asked) h = tt
 
 -- a body that is not empty is kept whatever its length is
 pub kept-more : (route : Route) (len : ℕ) → IsKept route 0 → IsKept route len
@@ -93,29 +114,33 @@ kept-body Prune len h = h
 kept-body Target len h = tt
 
 -- a head that was found asks for what has to be kept
-pub wants-memory : (only : Bool) (got known : List ℕ) (headers : List HeaderSpan) (spans : RequestSpans) (said : Wanted)
-    → FoundHead got known headers (Some spans) → ((h : RequestHead) → IsRequestAt got headers spans h → said ≡ of_head_to only h) → HasKept said → WantsMemoryOf only (got ++ known)
+pub wants-memory : (only : Bool) (got known : List ℕ) (headers : List HeaderSpan) (spans : RequestSpans) (said : Judged Wanted)
+    → FoundHead got known headers (Some spans) → ((h : RequestHead) → IsRequestAt got headers spans h → said ≡ said_of_head only h) → HasKept said → WantsMemoryOf only (got ++ known)
 wants-memory only got known headers spans said (within, h, at, small) says keeps =
-    let kept : HasKept (of_head_to only h) = subst HasKept (says h at) keeps in
+    let kept : HasKept (said_of_head only h) = subst HasKept (says h at) keeps in
+    let (asked, asks, is) = ok-said only h (said_of_head only h) (head-in-order only h) (kept-ok (said_of_head only h) kept) in
     record {
       wants = record {
         head = h;
         rest = drop spans.len got ++ known;
+        asked = asked;
         heads = record { reads = ReadsRequest-append got h (drop spans.len got) known at.reads; small = small };
-        wants = kept-wanted (of_head_to only h) kept;
+        asks = asks;
       };
-      keeps = kept;
+      keeps = subst HasKept is kept;
     }
 
 -- a head that was found refuses nothing, where more was read behind it
-pub wanted-more : (only : Bool) (got known gave more : List ℕ) (headers : List HeaderSpan) (spans : RequestSpans) (said : Wanted)
-    → FoundHead got known headers (Some spans) → ((h : RequestHead) → IsRequestAt got headers spans h → said ≡ of_head_to only h) → IsWanted said → HasWantedOf only (got ++ gave ++ more)
+pub wanted-more : (only : Bool) (got known gave more : List ℕ) (headers : List HeaderSpan) (spans : RequestSpans) (said : Judged Wanted)
+    → FoundHead got known headers (Some spans) → ((h : RequestHead) → IsRequestAt got headers spans h → said ≡ said_of_head only h) → IsOk said → HasWantedOf only (got ++ gave ++ more)
 wanted-more only got known gave more headers spans said (within, h, at, small) says wants =
+    let (asked, asks, is) = ok-said only h (said_of_head only h) (head-in-order only h) (subst IsOk (says h at) wants) in
     record {
       head = h;
       rest = drop spans.len got ++ gave ++ more;
+      asked = asked;
       heads = record { reads = ReadsRequest-append (got ++ gave) h (drop spans.len got ++ gave) more (ReadsRequest-append got h (drop spans.len got) gave at.reads); small = small };
-      wants = subst IsWanted (says h at) wants;
+      asks = asks;
     }
 
 pub on-no-memory : (why : ReceiveFault) (P Q : Type 0) → (P → Q) → OnNoMemory {T = Received} (Err why) P → OnNoMemory {T = Received} (Err why) Q

@@ -1,9 +1,11 @@
 pub mod Answered
 pub mod Asking
+pub mod DefiniteOrders
 pub mod DenialText
 pub mod Frames
 pub mod HeadLemmas
 pub mod HeadText
 pub mod LengthLemmas
 pub mod RouteLemmas
+pub mod SaidInOrder
 pub mod TakenLemmas

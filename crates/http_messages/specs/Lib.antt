@@ -4,6 +4,7 @@ pub mod Faults
 pub mod Framing
 pub mod Head
 pub mod Length
+pub mod Orders
 pub mod Sound
 pub mod Taken
 pub mod Received

@@ -5,12 +5,12 @@ use Rattle.http_messages.specs.declared.request.Received.TheVariants.{Fault, Bat
 use Rattle.http_messages.specs.declared.request.Asked.{Asked}
 use Rattle.http_messages.specs.declared.request.Asked.TheVariants.{Fault as AFault, Batch as ABatch, PutBlob as APutBlob, Prune as APrune, Metadata as AMetadata, Target as ATarget}
 use Rattle.http_messages.specs.Framing.{Document, BeginsWithDocument}
-use Rattle.http_messages.specs.Request.{Request, fault, batch, put_blob, prune, metadata, target, OfBatch}
+use Rattle.http_messages.specs.Request.{Request, fault, batch, put_blob, prune, metadata, target, Ends, of_batch}
 
 -- what a request that was received asks, where the documents of a batch are not looked at yet
 abbrev pub Means : Received → Request → Type 0
 Means (Fault why) request = request ≡ fault why
-Means (Batch body) request = OfBatch body.items request
+Means (Batch body) request = Ends (of_batch body.items) request
 Means (PutBlob digest body) request = request ≡ put_blob digest.0 body.items
 Means Prune request = request ≡ prune
 Means (Metadata name) request = request ≡ metadata (string_bytes name)

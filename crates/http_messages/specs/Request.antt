@@ -1,22 +1,23 @@
--- What an input asks for: the parts of one command, or the first fault in the order in which they are judged.
-use Rattle.std.specs.Prelude.{◌≡◌, ◌⊎◌, ℕ, ◌<◌, ◌≤◌, List, length, take, map, Option, Some, None, Bool, true, false, cond, ◌&&◌, bytes_eq, nat_le, ⊤}
-use Rattle.std.specs.List.{list_all}
+-- What an input asks for: one command, or the fault of the first check that fails.
+-- (RFC 9110, sections 7 to 9 and 15.5; RFC 9112, sections 3 and 6)
+use Rattle.std.specs.Prelude.{◌≡◌, ℕ, ◌<◌, ◌≤◌, List, length, take, map, All, Some, Bool, true, false, Ok, Err, ⊤}
 use Rattle.httparse.specs.Grammar.{RequestHead}
 use Rattle.httparse.specs.Spans.{name_and_value}
 use Rattle.hex.specs.Hex.{encode_lower}
 use Rattle.limits.specs.Limits.{blob_limit}
 use Rattle.path_patterns.specs.Names.{IsDigest}
 use Rattle.http_messages.specs.declared.fields.Declared.{Declared}
-use Rattle.http_messages.specs.declared.fields.Declared.TheVariants.{Ill, Absent, Given}
+use Rattle.http_messages.specs.declared.fields.Declared.TheVariants.{Absent, Given}
 use Rattle.http_messages.specs.declared.faults.Fault.{Fault}
-use Rattle.http_messages.specs.declared.faults.Fault.TheVariants.{Head, Length, Size, Body, Digest, Route as NoRoute, Method as BadMethod, Batch as BadBatch}
+use Rattle.http_messages.specs.declared.faults.Fault.TheVariants as no
 use Rattle.http_messages.specs.declared.reply.Method.{Method}
 use Rattle.http_messages.specs.declared.reply.Method.TheVariants.{Get, Put, Post}
 use Rattle.http_messages.specs.declared.routes.Route.{Route}
 use Rattle.http_messages.specs.declared.routes.Route.TheVariants.{Batch, Blob, Metadata, Prune, Target}
 use Rattle.http_messages.specs.Framing.{Document, IsBatch}
-use Rattle.http_messages.specs.Head.{Heads, HasNoHead}
+use Rattle.http_messages.specs.Head.{Heads}
 use Rattle.http_messages.specs.Length.{declared}
+use Rattle.http_messages.specs.Orders.{Order, ◌>>=◌, ◌>>◌, give, check, find}
 use Rattle.http_messages.specs.RouteOf.{Routed, route_of}
 use Rattle.http_messages.specs.Text.{method_text}
 
@@ -35,14 +36,11 @@ pub data Request : Type 0 where
   -- the path of a target, perhaps with a digest in it
   target : List ℕ → Request
 
--- what the head alone says: a fault, or a route, what follows the route's prefix, and the length of the body
-pub data Wanted : Type 0 where
-  refused : Fault → Wanted
-  wanted : Route → List ℕ → ℕ → Wanted
-
--- a byte that may stand in a target: 0x21 to 0x7e
-abbrev pub is_visible : ℕ → Bool
-is_visible b = nat_le 33 b && nat_le b 126
+-- what a head asks for: a route, what follows the route's prefix, and the length of the body
+pub record Wanted : Type 0 where
+  pub route : Route
+  pub name : List ℕ
+  pub len : ℕ
 
 -- the one method of a route
 abbrev pub method_of : Route → Method
@@ -60,12 +58,6 @@ writes Metadata = false
 writes Prune = true
 writes Target = false
 
--- the routes that a server has: all of them, or, where it only reads, those by which nothing is changed
-abbrev pub served_route : Bool → Option Routed → Option Routed
-served_route false found = found
-served_route true None = None
-served_route true (Some routed) = cond (writes routed.0) None (Some routed)
-
 -- the most bytes of a body
 abbrev pub limit_of : Route → ℕ
 limit_of Batch = 4194304
@@ -74,44 +66,83 @@ limit_of Metadata = 0
 limit_of Prune = 0
 limit_of Target = 0
 
--- the length of the body: a GET that declares none has none, and a PUT or POST has to declare one
-abbrev pub length_for : Method → Declared → Option ℕ
-length_for method Ill = None
-length_for Get Absent = Some 0
-length_for Put Absent = None
-length_for Post Absent = None
-length_for method (Given n) = Some n
+-- a byte that may stand in a target
+abbrev pub IsVisible : ℕ → Type 0
+IsVisible b = (0x21 ≤ b) × (b ≤ 0x7e)
 
-abbrev pub of_length : Route → List ℕ → Option ℕ → Wanted
-of_length route name None = refused Length
-of_length route name (Some n) = cond (nat_le n (limit_of route)) (wanted route name n) (refused Size)
+-- the target has this route, and the server too: one that only reads has no route by which something may be changed
+pub record IsRouted (reads_only : Bool) (target : List ℕ) (at : Routed) : Type 0 where
+  pub routed : route_of target ≡ Some at
+  pub served : reads_only ≡ true → writes at.0 ≡ false
 
-abbrev pub of_route : List ℕ → Declared → Option Routed → Wanted
-of_route method fields None = refused NoRoute
-of_route method fields (Some routed) =
-    cond (bytes_eq method (method_text (method_of routed.0))) (of_length routed.0 routed.1 (length_for (method_of routed.0) fields))
-    (refused (BadMethod (method_of routed.0)))
+-- the body has the length that the fields declare, and that of a GET whose fields declare none is empty
+pub data HasLength : Method → Declared → ℕ → Type 0 where
+  declares : {method : Method} {len : ℕ} → HasLength method (Given len) len
+  is_empty : HasLength Get Absent 0
 
--- what a head says to a server of all routes, or to one that only reads, its faults judged in order: the target's bytes, the route, the
--- method, the length, the size
-unfoldable pub of_head_to : Bool → RequestHead → Wanted
-of_head_to reads_only h =
-    cond (list_all is_visible h.target) (of_route h.method (declared (map name_and_value h.fields)) (served_route reads_only (route_of h.target))) (refused Head)
+-- What a head asks for, of a server of all routes or of one that only reads. Its target has visible bytes alone, and a route; its
+-- method is the one of the route; its fields declare the length of the body, which is no more than the route takes.
+abbrev pub of_head : Bool → RequestHead → Order Wanted
+of_head reads_only h = do
+  check no.Head (All IsVisible h.target)
+  at ← find no.Route (IsRouted reads_only h.target)
+  check (no.Method (method_of at.0)) (h.method ≡ method_text (method_of at.0))
+  len ← find no.Length (HasLength (method_of at.0) (declared (map name_and_value h.fields)))
+  check no.Size (len ≤ limit_of at.0)
+  give (record { route = at.0; name = at.1; len = len })
 
-abbrev pub of_head : RequestHead → Wanted
-of_head = of_head_to false
+-- an upload: the name is the 64 hex digits of lower case of a digest
+abbrev pub of_blob : List ℕ → List ℕ → Order Request
+of_blob name body = do
+  digest ← find no.Digest (λ digest. IsDigest digest × (name ≡ encode_lower digest))
+  give (put_blob digest body)
 
--- the head alone refuses nothing
-abbrev pub IsWanted : Wanted → Type 0
-IsWanted (refused why) = ⊥
-IsWanted (wanted route name len) = ⊤
+-- a batch: the body is documents, each with its name and its length before it
+abbrev pub of_batch : List ℕ → Order Request
+of_batch body = do
+  documents ← find no.Batch (IsBatch body)
+  give (batch documents)
 
--- the input has a head that refuses nothing
+-- the command of a route, by what follows the route's prefix and the body
+abbrev pub of_body : Route → List ℕ → List ℕ → Order Request
+of_body Batch name body = of_batch body
+of_body Blob name body = of_blob name body
+of_body Metadata name body = give (metadata name)
+of_body Prune name body = give prune
+of_body Target name body = give (target name)
+
+-- The command of a head that refuses nothing: what follows it has the whole body at its front. What follows the body is not looked at.
+abbrev pub of_rest : Wanted → List ℕ → Order Request
+of_rest asked rest = do
+  check no.Body (asked.len ≤ length rest)
+  of_body asked.route asked.name (take asked.len rest)
+
+-- the command of an input: it has a head within the limits at its front, which refuses nothing, and then the body
+abbrev pub of_input : Bool → List ℕ → Order Request
+of_input reads_only input = do
+  at ← find no.Head (λ (at : RequestHead × List ℕ). Heads input at.0 at.1)
+  asked ← of_head reads_only at.0
+  of_rest asked at.1
+
+-- how an order ends: by a command, or by a fault
+pub data Ends (m : Order Request) : Request → Type 0 where
+  commands : {request : Request} → m (Ok request) → Ends m request
+  refuses : {why : Fault} → m (Err why) → Ends m (fault why)
+
+-- the input asks this, of a server of all routes or of one that only reads
+abbrev pub AsksOf : Bool → List ℕ → Request → Type 0
+AsksOf reads_only input = Ends (of_input reads_only input)
+
+abbrev pub Asks : List ℕ → Request → Type 0
+Asks = AsksOf false
+
+-- the input has a head that no check refuses
 pub record HasWantedOf (reads_only : Bool) (input : List ℕ) : Type 0 where
   pub head : RequestHead
   pub rest : List ℕ
+  pub asked : Wanted
   pub heads : Heads input head rest
-  pub wants : IsWanted (of_head_to reads_only head)
+  pub asks : of_head reads_only head (Ok asked)
 
 abbrev pub HasWanted : List ℕ → Type 0
 HasWanted = HasWantedOf false
@@ -124,48 +155,10 @@ IsKept Metadata len = ⊤
 IsKept Prune len = 0 < len
 IsKept Target len = ⊤
 
--- the head alone refuses nothing, and something has to be kept
-abbrev pub HasKept : Wanted → Type 0
-HasKept (refused why) = ⊥
-HasKept (wanted route name len) = IsKept route len
-
--- the input has a head that refuses nothing, and something has to be kept
+-- the input has a head that no check refuses, and something has to be kept
 pub record WantsMemoryOf (reads_only : Bool) (input : List ℕ) : Type 0 where
   pub wants : HasWantedOf reads_only input
-  pub keeps : HasKept (of_head_to reads_only wants.head)
+  pub keeps : IsKept wants.asked.route wants.asked.len
 
 abbrev pub WantsMemory : List ℕ → Type 0
 WantsMemory = WantsMemoryOf false
-
--- what the body of a batch asks
-pub data OfBatch (body : List ℕ) : Request → Type 0 where
-  framed : (documents : List Document) → IsBatch body documents → OfBatch body (batch documents)
-  ill_framed : ((documents : List Document) → IsBatch body documents → ⊥) → OfBatch body (fault BadBatch)
-
--- what the body of an upload asks, under a name: the name is the digest's 64 hex digits of lower case
-pub data OfBlob (name body : List ℕ) : Request → Type 0 where
-  named : (digest : List ℕ) → IsDigest digest → name ≡ encode_lower digest → OfBlob name body (put_blob digest body)
-  no_digest : ((digest : List ℕ) → IsDigest digest → name ≡ encode_lower digest → ⊥) → OfBlob name body (fault Digest)
-
--- what a whole body asks of a route, under what follows the route's prefix
-abbrev pub OfBody : Route → List ℕ → List ℕ → Request → Type 0
-OfBody Batch name body request = OfBatch body request
-OfBody Blob name body request = OfBlob name body request
-OfBody Metadata name body request = request ≡ metadata name
-OfBody Prune name body request = request ≡ prune
-OfBody Target name body request = request ≡ target name
-
--- what the head and what follows it ask: the body is the first bytes after the head, as many as it has, or the input ends before
-abbrev pub OfRest : Wanted → List ℕ → Request → Type 0
-OfRest (refused why) rest request = request ≡ fault why
-OfRest (wanted route name len) rest request =
-    ((length rest < len) × (request ≡ fault Body)) ⊎ ((len ≤ length rest) × OfBody route name (take len rest) request)
-
--- The input asks this, of a server of all routes or of one that only reads: what its head and the bytes after it say, or it has no head
--- within the limits. What follows the body is not looked at.
-pub data AsksOf (reads_only : Bool) (input : List ℕ) : Request → Type 0 where
-  by_head : (h : RequestHead) (rest : List ℕ) (request : Request) → Heads input h rest → OfRest (of_head_to reads_only h) rest request → AsksOf reads_only input request
-  by_none : HasNoHead input → AsksOf reads_only input (fault Head)
-
-abbrev pub Asks : List ℕ → Request → Type 0
-Asks = AsksOf false

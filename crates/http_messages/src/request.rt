@@ -12,8 +12,8 @@ ghost use Rattle.http_messages.specs.Sound.{ReadsSoundly, OnNoMemory};
 ghost use Rattle.http_messages.specs.Text.{method_text};
 ghost use Rattle.http_messages.specs.Received.{Means, IsOfBatch, HasDocument, request_of};
 ghost use Rattle.http_messages.specs.Framing.{BeginsWithDocument};
-ghost use Rattle.http_messages.specs.steps.Said.{wanted_by};
-ghost use Rattle.http_messages.specs.Request.{Request, Asks, AsksOf, IsWanted, HasWanted, HasWantedOf, IsKept, HasKept, WantsMemory, WantsMemoryOf, OfRest, OfBody, OfBlob, OfBatch, wanted, of_head_to, of_route as of_route_lem, of_length as of_length_lem, length_for as length_for_lem, method_of, limit_of, is_visible, served_route};
+ghost use Rattle.http_messages.specs.steps.Said.{HasKept, IsOk, OfBody, OfRest, is_visible, length_for as length_for_lem, said_of_head, said_of_length, said_of_route, served_route, wanted, wanted_by};
+ghost use Rattle.http_messages.specs.Request.{Request, Asks, AsksOf, Ends, HasWanted, HasWantedOf, IsKept, WantsMemory, WantsMemoryOf, of_batch as of_batch_lem, of_blob as of_blob_lem, method_of, limit_of};
 
 use crate::body::read_body;
 use crate::faults::Fault;
@@ -123,7 +123,7 @@ fn length_for(method: Method, fields: Declared) -> Option<u64>
 
 // What a head with this route says.
 fn of_length<'a>(route: Route, name: &'a str, len: Option<u64>) -> Said<'a>
-    ensures { wanted_by result ≡ of_length_lem route name.now len }
+    ensures { wanted_by result ≡ said_of_length route name.now len }
 {
     match len {
         None => Said::Refused(Fault::Length),
@@ -151,7 +151,7 @@ fn of_route<'a>(
     fields: Declared,
     target: &'a str,
 ) -> Said<'a>
-    ensures { wanted_by result ≡ of_route_lem method.now fields (served_route reads_only (route_of target.now)) }
+    ensures { wanted_by result ≡ said_of_route method.now fields (served_route reads_only (route_of target.now)) }
 {
     match find_served(routes, reads_only, target) {
         None => Said::Refused(Fault::Route),
@@ -174,7 +174,7 @@ fn of_spans<'a>(
     spans: RequestSpans,
 ) -> Said<'a>
     requires { IsRequestWithin got.now headers.now spans }
-    ensures { (h : RequestHead) → IsRequestAt got.now headers.now spans h → wanted_by result ≡ of_head_to reads_only h }
+    ensures { (h : RequestHead) → IsRequestAt got.now headers.now spans h → wanted_by result ≡ said_of_head reads_only h }
 {
     let target = spans.path.of(got);
     if !are_visible(target) {
@@ -209,7 +209,7 @@ fn of_body(alloc: Global, route: Route, name: &str, body: Vec<u8>) -> Result<Rec
 
 // What the body of an upload asks, under a name.
 fn of_blob(name: &str, body: Vec<u8>) -> Received
-    ensures { (request : Request) → Means result request → OfBlob name.now body.items request }
+    ensures { (request : Request) → Means result request → Ends (of_blob_lem name.now body.items) request }
 {
     one_digest();
     match Digest::read(name) {
@@ -248,7 +248,7 @@ fn read_said<R: Receive>(
 ) -> Result<Received, ReceiveFault>
     ensures asked { IfOk result (λ r. (gave : List ℕ) × Consumes (R.remaining reader.old) (R.remaining reader.new) gave
         × ((request : Request) → Means r request → OfRest (wanted_by said.entry) (front.now ++ gave ++ left (R.remaining reader.new)) request)) }
-    ensures batch { IfOk result (λ r. IsOfBatch r → IsWanted (wanted_by said.entry)) }
+    ensures batch { IfOk result (λ r. IsOfBatch r → IsOk (wanted_by said.entry)) }
     ensures sound { ReadsSoundly (R.sound reader.old) result (R.sound reader.new) }
     ensures memory { OnNoMemory result (HasKept (wanted_by said.entry)) }
 {
@@ -323,7 +323,7 @@ impl Received {
 
 // What the body of a batch asks for.
 fn asked_batch(alloc: Global, body: &[u8]) -> Result<Asked<'_>, AllocError>
-    ensures asked { IfOk result (λ a. OfBatch body.now (request_of a)) }
+    ensures asked { IfOk result (λ a. Ends (of_batch_lem body.now) (request_of a)) }
     ensures memory { OnErr result (BeginsWithDocument body.now) }
 {
     match read_batch(alloc, body)? {

@@ -2,10 +2,11 @@
 
 ghost use Rattle.std.specs.Prelude.{◌≡◌, option_map, IfErr};
 ghost use Rattle.matchit.specs.declared.error.InsertError.TheVariants.{OutOfMemory};
-ghost use Rattle.http_messages.specs.Request.{served_route, writes as writes_of};
+ghost use Rattle.http_messages.specs.Request.{writes as writes_of};
 ghost use Rattle.http_messages.specs.RouteOf.{Routed, route_of, after};
 ghost use Rattle.http_messages.specs.steps.Known.{all_routes};
 ghost use Rattle.http_messages.specs.steps.Prefixes.{prefix_of, with_rest};
+ghost use Rattle.http_messages.specs.steps.Said.{served_route};
 
 use matchit::{InsertError, Router};
 use std::alloc::{AllocError, Global};

@@ -1,8 +1,8 @@
 -- One response to an input.
 use Rattle.std.proofs.Common.{◌≡◌, ◌⊎◌, inl, inr, ℕ, List, [], ◌∷◌, ◌++◌, map, Option, None, Result, Ok, Err, refl, sym, ap, subst, ◌∙◌}
 use Rattle.path_patterns.specs.Names.{Asks as AsksPath}
-use Rattle.machine.specs.State.{State}
-use Rattle.machine.specs.Runs.{Command, Batch, PutBlob, Prune, Metadata, Target, Reply, Begun, Offered, BatchDone, Stored, Pruned, FileBytes, Absent, Refused, Steps, Outcome, Runs, done as ended, next}
+use Rattle.trust_rules.specs.State.{State}
+use Rattle.trust_rules.specs.Runs.{Command, Batch, PutBlob, Prune, Metadata, Target, Reply, Begun, Offered, BatchDone, Stored, Pruned, FileBytes, Absent, Refused, Steps, Outcome, Runs, done as ended, next}
 use Rattle.http_messages.specs.Request.{Request, fault, batch, put_blob, prune, metadata, target, Asks}
 use Rattle.http_messages.specs.Framing.{Document}
 use Rattle.http_messages.specs.Text.{response}
@@ -13,7 +13,7 @@ use Rattle.http_messages.specs.declared.reply.Kind.{Kind}
 use Rattle.http_messages.specs.declared.reply.Kind.TheVariants.{Json}
 use Rattle.http_messages.specs.declared.reply.Status.TheVariants.{Ok as Fine}
 use Rattle.http_serve.specs.Response.{IsCommand, offers, puts, prunes, names, asks, kind_of, denial_response, Says, done, stored, pruned, file, absent, denied, Answers, at_fault, by_step, Responds}
-use Rattle.machine.specs.Commands.{offer_of}
+use Rattle.trust_rules.specs.Offers.{offer_of}
 use Rattle.http_serve.specs.Serving as serving
 use Rattle.http_serve.specs.Serving.{Answered, Made, Ended, Line, Serves}
 use Rattle.store.specs.Standing.{IsClean, Keeps, Moves, Standing}

@@ -1,20 +1,14 @@
 -- A server that only reads changes nothing.
-use Rattle.std.proofs.Common.{◌≡◌, inl, inr, map, Bool, true, false, cond, bytes_eq, nat_le, ℕ, List, Option, Some, None, Ok, Err, refl, sym, ap, subst}
+use Rattle.std.proofs.Common.{◌≡◌, Bool, true, false, ℕ, List, Option, take, Ok, Err, refl, ap}
 use Rattle.std.specs.Bool.{⊤}
 use Rattle.denials.specs.Orders.{Judged, Same, Denied}
 use Rattle.httparse.specs.Grammar.{RequestHead}
-use Rattle.httparse.specs.Spans.{name_and_value}
-use Rattle.std.specs.List.{list_all}
-use Rattle.machine.specs.State.{State}
-use Rattle.machine.specs.Runs.{Command, Init, Batch, OfferOne, PutBlob, Prune, Metadata, Target, Reply, Begun, Offered, BatchDone, Stored, Pruned, FileBytes, Absent, Refused, Steps, Outcome, settled, leads}
-use Rattle.http_messages.specs.declared.fields.Declared.{Declared}
-use Rattle.http_messages.specs.declared.faults.Fault.TheVariants.{Head}
+use Rattle.trust_rules.specs.State.{State}
+use Rattle.trust_rules.specs.Runs.{Command, Init, Batch, OfferOne, PutBlob, Prune, Metadata, Target, Reply, Begun, Offered, BatchDone, Stored, Pruned, FileBytes, Absent, Refused, Steps, Outcome, settled, leads}
 use Rattle.http_messages.specs.declared.routes.Route.{Route}
 use Rattle.http_messages.specs.declared.routes.Route.TheVariants as routes
-use Rattle.http_messages.specs.Request.{Request, fault, batch, put_blob, prune, metadata, target, Wanted, refused, wanted, writes, served_route, of_length, of_route, of_head_to, length_for, limit_of, method_of, is_visible, OfRest, AsksOf, by_head, by_none}
-use Rattle.http_messages.specs.Length.{declared}
-use Rattle.http_messages.specs.RouteOf.{Routed, route_of}
-use Rattle.http_messages.specs.Text.{method_text}
+use Rattle.http_messages.specs.Orders.{pass, found, given}
+use Rattle.http_messages.specs.Request.{Request, fault, batch, put_blob, prune, metadata, target, Wanted, writes, of_head, of_body, AsksOf, commands, refuses}
 use Rattle.http_serve.specs.Response.{IsCommand, offers, puts, prunes, names, asks}
 use Rattle.http_serve.specs.Serving.{AnsweredBy, at_fault, by_command, unread, Made, by_step, no_memory, no_database}
 use Rattle.store.specs.Applies.{Replies}
@@ -22,11 +16,6 @@ use Rattle.store.specs.Standing.{IsClean, Moves, Standing}
 use Rattle.http_serve.proofs.OneResponse.{moved, unmoved}
 
 -- ---- what such a server is asked
-
--- no command that may change something
-abbrev OnlyReads : Wanted → Type 0
-OnlyReads (refused why) = ⊤
-OnlyReads (wanted route name len) = writes route ≡ false
 
 abbrev IsRead : Request → Type 0
 IsRead (fault why) = ⊤
@@ -45,43 +34,20 @@ IsReading Prune = ⊥
 IsReading (Metadata name) = ⊤
 IsReading (Target path asked) = ⊤
 
-one-of : (b : Bool) (w v : Wanted) → OnlyReads w → OnlyReads v → OnlyReads (cond b w v)
-one-of true w v h k = h
-one-of false w v h k = k
+head-reads : (h : RequestHead) (asked : Wanted) → of_head true h (Ok asked) → writes asked.route ≡ false
+head-reads h _ (pass visible (pass (found is) (pass method (pass length (pass size given))))) = is.served refl
 
-length-reads : (route : Route) (name : List ℕ) (o : Option ℕ) → writes route ≡ false → OnlyReads (of_length route name o)
-length-reads route name None h = tt
-length-reads route name (Some n) h = one-of (nat_le n (limit_of route)) (wanted route name n) (refused _) h tt
-
-found-reads : (method : List ℕ) (fields : Declared) (routed : Routed) (b : Bool) → writes routed.0 ≡ b → OnlyReads (of_route method fields (cond b None (Some routed)))
-found-reads method fields routed true h = tt
-found-reads method fields routed false h =
-    one-of (bytes_eq method (method_text (method_of routed.0))) (of_length routed.0 routed.1 (length_for (method_of routed.0) fields)) (refused _)
-    (length-reads routed.0 routed.1 (length_for (method_of routed.0) fields) h) tt
-
-route-reads : (method : List ℕ) (fields : Declared) (o : Option Routed) → OnlyReads (of_route method fields (served_route true o))
-route-reads method fields None = tt
-route-reads method fields (Some routed) = found-reads method fields routed (writes routed.0) refl
-
-head-reads : (h : RequestHead) → OnlyReads (of_head_to true h)
-unfolding of_head_to
-head-reads h =
-    let fields = declared (map name_and_value h.fields) in
-    let found = route_of h.target in
-    one-of (list_all is_visible h.target) (of_route h.method fields (served_route true found)) (refused Head) (route-reads h.method fields found) tt
-
-rest-reads : (w : Wanted) (rest : List ℕ) (request : Request) → OnlyReads w → OfRest w rest request → IsRead request
-rest-reads (refused why) rest request h is = subst IsRead (sym is) tt
-rest-reads (wanted route name len) rest request h (inl short) = subst IsRead (sym short.1) tt
-rest-reads (wanted routes.Batch name len) rest request h (inr body) = absurd (let e : true ≡ false = h in cc)
-rest-reads (wanted routes.Blob name len) rest request h (inr body) = absurd (let e : true ≡ false = h in cc)
-rest-reads (wanted routes.Metadata name len) rest request h (inr body) = subst IsRead (sym body.1) tt
-rest-reads (wanted routes.Prune name len) rest request h (inr body) = absurd (let e : true ≡ false = h in cc)
-rest-reads (wanted routes.Target name len) rest request h (inr body) = subst IsRead (sym body.1) tt
+body-reads : (route : Route) (name body : List ℕ) (request : Request) → writes route ≡ false → of_body route name body (Ok request) → IsRead request
+body-reads routes.Batch name body request reads says = absurd (let e : true ≡ false = reads in cc)
+body-reads routes.Blob name body request reads says = absurd (let e : true ≡ false = reads in cc)
+body-reads routes.Metadata name body _ reads given = tt
+body-reads routes.Prune name body request reads says = absurd (let e : true ≡ false = reads in cc)
+body-reads routes.Target name body _ reads given = tt
 
 asked-reads : (input : List ℕ) (request : Request) → AsksOf true input request → IsRead request
-asked-reads input request (by_head h rest r heads says) = rest-reads (of_head_to true h) rest request (head-reads h) says
-asked-reads input request (by_none n) = tt
+asked-reads input request (commands (pass {a = at} heads (pass {a = asked} head (pass whole body)))) =
+    body-reads asked.route asked.name (take asked.len at.1) request (head-reads at.0 asked head) body
+asked-reads input _ (refuses says) = tt
 
 command-reads : (request : Request) (command : Command) → IsRead request → IsCommand request command → IsReading command
 command-reads request command read (offers documents) = absurd read

@@ -1,6 +1,6 @@
 -- The answer to a request.
 use Rattle.std.proofs.Common.{◌≡◌, ℕ, List, [], ◌∷◌, map, Bor, Option, Result, Ok, Err, Bool, true, refl, sym, ap, subst}
-use Rattle.machine.specs.Runs.{Command, Batch}
+use Rattle.trust_rules.specs.Runs.{Command, Batch}
 use Rattle.http_messages.specs.Framing.{Document}
 use Rattle.http_messages.specs.Head.{IsInput}
 use Rattle.http_messages.specs.Request.{Request, fault, batch}
@@ -13,7 +13,7 @@ use Rattle.http_messages.specs.declared.faults.Fault.{Fault}
 use Rattle.http_messages.specs.declared.faults.Fault.TheVariants.{Memory}
 use Rattle.http_messages.specs.declared.line.Cut.{Cut}
 use Rattle.http_serve.specs.Response.{IsCommand, offers}
-use Rattle.machine.specs.Commands.{offer_of}
+use Rattle.trust_rules.specs.Offers.{offer_of}
 use Rattle.store.specs.Standing.{Standing, Keeps}
 use Rattle.http_serve.specs.Serving.{AnsweredBy, at_fault, by_command, unread, EndedBy, Line, Wrote}
 use Rattle.http_serve.specs.steps.Views.{HasEnded, offers_of, Performed, Responded}

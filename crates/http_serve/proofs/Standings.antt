@@ -2,12 +2,12 @@
 use Rattle.std.proofs.Common.{◌≡◌, inl, inr, ℕ, List, Option, None, Some, Result, Ok, Err, refl, sym, ap, subst}
 use Rattle.std.specs.Prelude.{OnOk, OnErr}
 use Rattle.std.specs.Io.KnownBytes.{Appends}
-use Rattle.machine.specs.State.{State}
-use Rattle.machine.specs.Runs.{Command, Batch, PutBlob, Prune, Metadata, Target, Init, OfferOne, Reply, Begun, BatchDone, Offered, Stored, Pruned, FileBytes, Absent, Refused, Steps, leads, Leads, settled, batch_outcome, Outcome, metadata_reply}
+use Rattle.trust_rules.specs.State.{State}
+use Rattle.trust_rules.specs.Runs.{Command, Batch, PutBlob, Prune, Metadata, Target, Init, OfferOne, Reply, Begun, BatchDone, Offered, Stored, Pruned, FileBytes, Absent, Refused, Steps, leads, Leads, settled, batch_outcome, Outcome, metadata_reply}
 use Rattle.denials.specs.Orders as orders
 use Rattle.store.specs.Applies.{Makes, Replies}
-use Rattle.tables.specs.declared.faults.StoreFault.{StoreFault}
-use Rattle.tables.specs.declared.faults.StoreFault.TheVariants.{OutOfMemory, Database, Damaged}
+use Rattle.table_rows.specs.declared.faults.StoreFault.{StoreFault}
+use Rattle.table_rows.specs.declared.faults.StoreFault.TheVariants.{OutOfMemory, Database, Damaged}
 use Rattle.store.specs.Views.{reply_view}
 use Rattle.store.specs.declared.command.Reply.{Reply as Answer}
 use Rattle.http_messages.specs.Faults.{fault_response}

@@ -1,7 +1,7 @@
 -- The bytes that say a reply.
 use Rattle.std.proofs.Common.{◌≡◌, inl, inr, ℕ, List, Option, None, Result, sym, ap, subst, ◌∙◌}
 use Rattle.denials.specs.Orders as orders
-use Rattle.machine.specs.Runs.{Reply, BatchDone, Stored, Pruned, FileBytes, Refused}
+use Rattle.trust_rules.specs.Runs.{Reply, BatchDone, Stored, Pruned, FileBytes, Refused}
 use Rattle.http_messages.specs.Bodies.{denial_text}
 use Rattle.http_messages.specs.Text.{response}
 use Rattle.http_messages.specs.declared.line.Cut.{Cut}

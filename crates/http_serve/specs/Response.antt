@@ -2,9 +2,9 @@
 use Rattle.std.specs.Prelude.{ℕ, List, Option, None, map, cond}
 use Rattle.denials.specs.Orders as orders
 use Rattle.path_patterns.specs.Names.{Asks as AsksPath}
-use Rattle.machine.specs.State.{State}
-use Rattle.machine.specs.Commands.{offer_of}
-use Rattle.machine.specs.Runs.{Command, Batch, PutBlob, Prune, Metadata, Target, Init, OfferOne, Reply, BatchDone, Stored, Pruned, FileBytes, Absent, Refused, Steps}
+use Rattle.trust_rules.specs.State.{State}
+use Rattle.trust_rules.specs.Offers.{offer_of}
+use Rattle.trust_rules.specs.Runs.{Command, Batch, PutBlob, Prune, Metadata, Target, Init, OfferOne, Reply, BatchDone, Stored, Pruned, FileBytes, Absent, Refused, Steps}
 use Rattle.http_messages.specs.Request.{Request, fault, batch, put_blob, prune, metadata, target, Asks}
 use Rattle.http_messages.specs.Text.{response}
 use Rattle.http_messages.specs.Bodies.{accepted_text, stored_text, pruned_text, denial_text}

@@ -1,7 +1,7 @@
 -- What serving does: one connection, and a list of them in order.
 use Rattle.std.specs.Prelude.{◌≡◌, ℕ, ◌+◌, List, [], ◌∷◌, Option, Result, Ok, Err, Bool, true, false}
 use Rattle.std.specs.Io.KnownBytes.{Appends, Keeps as KeepsBytes}
-use Rattle.machine.specs.Runs.{Command, Reply}
+use Rattle.trust_rules.specs.Runs.{Command, Reply}
 use Rattle.http_messages.specs.Head.{IsInput}
 use Rattle.http_messages.specs.Request.{Request, AsksOf, HasWantedOf, fault}
 use Rattle.http_messages.specs.Faults.{fault_response}

@@ -1,7 +1,7 @@
 // What follows from the definitions alone.
 ghost use Rattle.std.specs.Prelude.{◌≡◌, ◌⊎◌, ◌++◌, true, ℕ, List, Option};
-ghost use Rattle.machine.specs.State.{State};
-ghost use Rattle.machine.specs.Runs.{Command, Reply, Runs};
+ghost use Rattle.trust_rules.specs.State.{State};
+ghost use Rattle.trust_rules.specs.Runs.{Command, Reply, Runs};
 ghost use Rattle.http_messages.specs.Faults.{fault_response};
 ghost use Rattle.http_messages.specs.declared.faults.Fault.TheVariants.{Memory, Database};
 ghost use Rattle.http_serve.specs.Response.{Responds};

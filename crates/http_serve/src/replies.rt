@@ -2,7 +2,7 @@
 
 ghost use Rattle.std.specs.Prelude.{◌≡◌};
 ghost use Rattle.denials.specs.Views.{denial_view};
-ghost use Rattle.machine.specs.Runs.{Refused};
+ghost use Rattle.trust_rules.specs.Runs.{Refused};
 ghost use Rattle.store.specs.Views.{command_view, reply_view};
 ghost use Rattle.http_messages.specs.Sound.{StaysSound};
 ghost use Rattle.http_serve.specs.Response.{denial_status, kind_of as kind_of_lem};

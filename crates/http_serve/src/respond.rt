@@ -3,7 +3,7 @@
 ghost use Rattle.std.specs.Prelude.{◌≡◌, ◌≢◌, map};
 ghost use Rattle.sqlite.specs.Held.{state};
 ghost use Rattle.store.specs.Views.{command_view};
-ghost use Rattle.tables.specs.declared.faults.StoreFault.TheVariants.{Damaged};
+ghost use Rattle.table_rows.specs.declared.faults.StoreFault.TheVariants.{Damaged};
 ghost use Rattle.http_messages.specs.Framing.{Document};
 ghost use Rattle.http_messages.specs.Received.{request_of};
 ghost use Rattle.http_messages.specs.Request.{batch, target};

@@ -5,13 +5,13 @@ use Rattle.metadata.specs.File.{Bytes}
 use Rattle.denials.specs.Orders as orders
 use Rattle.denials.specs.Orders.{Judged}
 use Rattle.denials.specs.Views.{denial_view}
-use Rattle.machine.specs.Commands.{GrantAlike, grants}
-use Rattle.machine.specs.Serving.{IsFault, IsSameAnswer, Serves, denies, serves}
-use Rattle.machine.specs.State.{State, IsState}
-use Rattle.machine.specs.declared.serving.Served.{Served}
-use Rattle.machine.specs.declared.serving.GetFault.{GetFault}
-use Rattle.machine.specs.declared.serving.GetFault.TheVariants.{Denied, Load, OutOfMemory}
-use Rattle.machine.proofs.ServedFrom.{own_digest}
+use Rattle.trust_rules.specs.Grants.{GrantAlike, grants}
+use Rattle.granting.specs.Serving.{IsFault, IsSameAnswer, Serves, denies, serves}
+use Rattle.trust_rules.specs.State.{State, IsState}
+use Rattle.granting.specs.declared.serving.Served.{Served}
+use Rattle.granting.specs.declared.serving.GetFault.{GetFault}
+use Rattle.granting.specs.declared.serving.GetFault.TheVariants.{Denied, Load, OutOfMemory}
+use Rattle.granting.proofs.ServedFrom.{own_digest}
 
 -- each request for a target has one end
 abbrev pub OneEnd : Type 0

@@ -6,21 +6,21 @@ use Rattle.metadata.specs.File.{Bytes, Name}
 use Rattle.denials.specs.Orders as orders
 use Rattle.denials.specs.Orders.{Judged, Same, judges}
 use Rattle.denials.specs.Views.{denial_view}
-use Rattle.machine.specs.State.{IsCoherent, State, Trusted}
-use Rattle.machine.specs.Commands.{Batched, Ended, Offer, RootOffer, SnapshotOffer, TimestampOffer, batch, batch_from, coherent, going_on, incoherent, offer}
-use Rattle.machine.specs.Answers.{AnswersBatch, denied, done, undone}
-use Rattle.machine.specs.Effects.{brought}
-use Rattle.machine.specs.Resending.{IsAllSame, IsInOrder, at_most_one, of_roles}
-use Rattle.machine.specs.Runs.{Batch, BatchDone, Outcome, Refused, Steps, batch_outcome, leads, with_trusted}
-use Rattle.machine.specs.Views.{effects_view}
-use Rattle.machine.specs.declared.outcome.Batched as code
-use Rattle.machine.specs.declared.refusal.BatchRefusal.{BatchRefusal}
-use Rattle.machine.specs.declared.refusal.BatchRefusal.TheVariants as refusals
-use Rattle.machine.proofs.BatchOneByOne.{so_far}
-use Rattle.machine.proofs.CoherentSteps.{led}
-use Rattle.machine.proofs.OfferedAgain.{Holds, Left, ListsOnce, holds_itself, holds_through, root_again, snapshot_again, snapshot_leaves, stood, targets_again, targets_leave, timestamp_again, timestamp_leaves, took}
-use Rattle.machine.proofs.OneJudgement.{batch-definite}
-use Rattle.machine.proofs.ShapedOnce.{Shapes}
+use Rattle.trust_rules.specs.State.{IsCoherent, State, Trusted}
+use Rattle.trust_rules.specs.Offers.{Batched, Ended, Offer, RootOffer, SnapshotOffer, TimestampOffer, batch, batch_from, coherent, going_on, incoherent, offer}
+use Rattle.trusted_state.specs.Answers.{AnswersBatch, denied, done, undone, IsAllSame}
+use Rattle.trust_rules.specs.Effects.{brought}
+use Rattle.trust_rules.specs.Resending.{IsInOrder, at_most_one, of_roles}
+use Rattle.trust_rules.specs.Runs.{Batch, BatchDone, Outcome, Refused, Steps, batch_outcome, leads, with_trusted}
+use Rattle.state_parts.specs.Views.{effects_view}
+use Rattle.trusted_state.specs.declared.outcome.Batched as code
+use Rattle.trusted_state.specs.declared.refusal.BatchRefusal.{BatchRefusal}
+use Rattle.trusted_state.specs.declared.refusal.BatchRefusal.TheVariants as refusals
+use Rattle.judging.proofs.BatchOneByOne.{so_far}
+use Rattle.trust_rules.proofs.CoherentSteps.{led}
+use Rattle.trust_rules.proofs.OfferedAgain.{Holds, Left, ListsOnce, holds_itself, holds_through, root_again, snapshot_again, snapshot_leaves, stood, targets_again, targets_leave, timestamp_again, timestamp_leaves, took}
+use Rattle.trust_rules.proofs.OneJudgement.{batch-definite}
+use Rattle.trust_rules.proofs.ShapedOnce.{Shapes}
 
 -- ---- the offers of a batch, one after the other
 

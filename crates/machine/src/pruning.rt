@@ -5,29 +5,30 @@ ghost use Rattle.delegations.specs.Rows.{Rises};
 ghost use Rattle.delegations.specs.Views.{row_views};
 ghost use Rattle.metadata.specs.FileViews.{snapshot_file};
 ghost use Rattle.document_parts.specs.Views.{listing_view};
-ghost use Rattle.machine.specs.Answers.{Answers, ChangesNoGrant, CountsGone};
-ghost use Rattle.machine.specs.Commands as commands;
-ghost use Rattle.machine.specs.Commands.{kept_rows};
-ghost use Rattle.machine.specs.Effects.{no_effects, without};
-ghost use Rattle.machine.specs.Held.{OfEachState};
-ghost use Rattle.machine.specs.Knowing.{CarriesKnown, CarriesVerdicts, IsKnown};
-ghost use Rattle.machine.specs.Views.{digest_views, effects_view, gone_view, length_views};
-ghost use Rattle.machine.specs.steps.Pruning.{digests_of, gone_of, listed_rows, unlisted_places, without_listed};
+ghost use Rattle.trusted_state.specs.Answers.{Answers, ChangesNoGrant, CountsGone};
+ghost use Rattle.trust_rules.specs.Offers as commands;
+ghost use Rattle.trust_rules.specs.Offers.{kept_rows};
+ghost use Rattle.trust_rules.specs.Effects.{no_effects, without};
+ghost use Rattle.trust_rules.specs.Held.{OfEachState};
+ghost use Rattle.trusted_state.specs.Knowing.{CarriesKnown, CarriesVerdicts, IsKnown};
+ghost use Rattle.state_parts.specs.Views.{digest_views, effects_view, gone_view, length_views};
+ghost use Rattle.trust_rules.specs.steps.Pruning.{digests_of, gone_of, listed_rows, unlisted_places, without_listed};
 
-use crate::blobs::{is_same, length_of};
-use crate::effects::{Changes, Effects, Gone};
-use crate::held::Held;
-use crate::knowing::listed_verdicts;
-use crate::laws::{prune_keeps_answers, stays_valid};
-use crate::outcome::Outcome;
-use crate::parts::BlobLength;
-use crate::refusal::Refusal;
-use crate::state::State;
+use crate::laws::prune_keeps_answers;
 use delegations::Row;
 use denials::Denial;
 use metadata::{File, Listing, Snapshot};
 use path_patterns::{Digest, RoleName};
+use state_parts::effects::{Changes, Effects, Gone};
+use state_parts::finding::{is_same, length_of};
+use state_parts::parts::BlobLength;
 use std::alloc::{AllocError, Global};
+use trust_rules::stays_valid;
+use trusted_state::held::Held;
+use trusted_state::knowing::listed_verdicts;
+use trusted_state::outcome::Outcome;
+use trusted_state::refusal::Refusal;
+use trusted_state::state::State;
 
 /// Takes away the shelf rows at versions that the snapshot does not list, and the blobs that none of the rows that stay lists; without a
 /// snapshot, all of them. Each request for a target has the same end as before. Denial: no root is trusted.
@@ -38,25 +39,23 @@ pub fn prune(alloc: Global, state: &State) -> Result<Outcome, Refusal>
     ensures counts { CountsGone state.now.state result }
 {
     state.is_valid();
-    state.held().prune(alloc)
+    prune_on(alloc, state.held())
 }
 
-impl Held {
-    /// The same, where the blobs are elsewhere.
-    pub fn prune(&self, alloc: Global) -> Result<Outcome, Refusal>
-        ensures answers { OfEachState self.now.held (λ S. Answers S (commands.prune S) result) }
-        ensures known { CarriesVerdicts self.now.held.trusted result }
-        ensures alike { OfEachState self.now.held (λ S. ChangesNoGrant S result) }
-        ensures counts { OfEachState self.now.held (λ S. CountsGone S result) }
-    {
-        stays_valid();
-        prune_keeps_answers();
-        if self.trusted().root.is_none() {
-            return Err(Refusal::Denied(Denial::NoRoot));
-        }
-        let effects = pruning(alloc, self)?;
-        Ok(Outcome::Changed(effects))
+/// The same, where the blobs are elsewhere.
+pub fn prune_on(alloc: Global, held: &Held) -> Result<Outcome, Refusal>
+    ensures answers { OfEachState held.now.held (λ S. Answers S (commands.prune S) result) }
+    ensures known { CarriesVerdicts held.now.held.trusted result }
+    ensures alike { OfEachState held.now.held (λ S. ChangesNoGrant S result) }
+    ensures counts { OfEachState held.now.held (λ S. CountsGone S result) }
+{
+    stays_valid();
+    prune_keeps_answers();
+    if held.trusted().root.is_none() {
+        return Err(Refusal::Denied(Denial::NoRoot));
     }
+    let effects = pruning(alloc, held)?;
+    Ok(Outcome::Changed(effects))
 }
 
 // What goes, as the only change.

@@ -22,5 +22,5 @@ pub use laws::trees_tell_tables;
 pub use looking::has_rows;
 pub use making::make_rest;
 pub use numbering::take_rows;
-pub use shape::beginning_of;
+pub use shape::{beginning_of, has_no_rule, is_column};
 pub use stepping::{TakeRows, each_row};

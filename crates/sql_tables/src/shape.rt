@@ -17,8 +17,8 @@ use sqlite_schema::schema::{Column, Index, Kind, Reference, Schema, Stamps, Tabl
 use sqlite_value::keys::{Collation, Order};
 use sqlite_value::value::Value;
 
-// Whether the column is NOT NULL and has this name and this type.
-fn is_column(column: &Column, name: &[u8], kind: Kind) -> bool
+/// Whether the column is NOT NULL and has this name and this type, and nothing else is said of it.
+pub fn is_column(column: &Column, name: &[u8], kind: Kind) -> bool
     ensures same { IsTrue result → column.now ≡ required name.now kind }
     ensures other { column.now ≡ required name.now kind → IsTrue result }
 {
@@ -38,8 +38,8 @@ fn has_no_stamp(stamps: &Stamps) -> bool
     stamps.places.is_empty() && stamps.terms.roots.is_empty() && stamps.formats.is_empty()
 }
 
-// Whether there is no CHECK, no reference, no default that is computed, and no AUTOINCREMENT.
-fn has_no_rule(of: &Table) -> bool
+/// Whether there is no CHECK, no reference, no default that is computed, and no AUTOINCREMENT.
+pub fn has_no_rule(of: &Table) -> bool
     ensures same { IsTrue result → HasNoRule of.now }
     ensures other { HasNoRule of.now → IsTrue result }
 {

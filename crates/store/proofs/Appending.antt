@@ -1,12 +1,12 @@
 -- Changes one after the other.
 use Rattle.std.proofs.Common.{◌≡◌, ℕ, zero, suc, List, [], ◌∷◌, ◌++◌, map, length, Option, Some, refl, sym, ap, arith}
 use Rattle.std.specs.Prelude.{slice_index_or}
-use Rattle.machine.specs.Effects.{last_or}
+use Rattle.trust_rules.specs.Effects.{last_or}
 use Rattle.std.proofs.lemmas.List.{append-nil}
 use Rattle.std.proofs.Math.Seq.{append_snoc}
 use Rattle.delegations.specs.Rows.{Place}
 use Rattle.metadata.specs.File.{Bytes}
-use Rattle.tables.specs.Tables.{after, after_all}
+use Rattle.tables.specs.Changes.{after, after_all}
 use Rattle.contents.specs.Contents.{Contents}
 use Rattle.tables.specs.declared.change.Change.{Change}
 use Rattle.store.specs.steps.Changed.{more_blobs, more_roots, more_rows}

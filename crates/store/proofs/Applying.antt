@@ -7,32 +7,32 @@ use Rattle.sqlite_trees.specs.Tree.{Trees}
 use Rattle.metadata.specs.File.{Bytes}
 use Rattle.denials.specs.Orders as orders
 use Rattle.denials.specs.Orders.{Order, Same}
-use Rattle.machine.specs.State.{State, IsState, metadata_of}
-use Rattle.machine.specs.Commands as commands
-use Rattle.machine.specs.Effects.{applied, brought, on_state}
-use Rattle.machine.specs.Runs.{Command, Leads, Outcome, Reply, Steps, leads, settled, Init, Batch, OfferOne, PutBlob, Prune, Metadata, Target, Begun, BatchDone, Offered, Stored, Pruned, FileBytes, Absent, Refused}
-use Rattle.machine.specs.Answers.{Answers, CountsGone, changes, unchanged, refused, AnswersBatch, done, denied}
+use Rattle.trust_rules.specs.State.{State, IsState, metadata_of}
+use Rattle.trust_rules.specs.Offers as commands
+use Rattle.trust_rules.specs.Effects.{applied, brought, on_state}
+use Rattle.trust_rules.specs.Runs.{Command, Leads, Outcome, Reply, Steps, leads, settled, Init, Batch, OfferOne, PutBlob, Prune, Metadata, Target, Begun, BatchDone, Offered, Stored, Pruned, FileBytes, Absent, Refused}
+use Rattle.trusted_state.specs.Answers.{Answers, CountsGone, changes, unchanged, refused, AnswersBatch, done, denied}
 use Rattle.denials.specs.Views.{denial_view}
-use Rattle.machine.specs.Views.{effects_view}
-use Rattle.machine.specs.declared.effects.Effects.{Effects}
-use Rattle.machine.specs.declared.outcome.Outcome.TheVariants.{Changed}
-use Rattle.machine.specs.declared.outcome.Outcome.TheVariants as outcomes
-use Rattle.machine.specs.declared.outcome.Batched.{Batched}
-use Rattle.machine.specs.declared.refusal.Refusal.{Refusal}
-use Rattle.machine.specs.declared.refusal.Refusal.TheVariants as refusals
-use Rattle.machine.specs.declared.refusal.BatchRefusal.{BatchRefusal}
-use Rattle.machine.specs.declared.refusal.BatchRefusal.TheVariants as batches
+use Rattle.state_parts.specs.Views.{effects_view}
+use Rattle.state_parts.specs.declared.effects.Effects.{Effects}
+use Rattle.trusted_state.specs.declared.outcome.Outcome.TheVariants.{Changed}
+use Rattle.trusted_state.specs.declared.outcome.Outcome.TheVariants as outcomes
+use Rattle.trusted_state.specs.declared.outcome.Batched.{Batched}
+use Rattle.trusted_state.specs.declared.refusal.Refusal.{Refusal}
+use Rattle.trusted_state.specs.declared.refusal.Refusal.TheVariants as refusals
+use Rattle.trusted_state.specs.declared.refusal.BatchRefusal.{BatchRefusal}
+use Rattle.trusted_state.specs.declared.refusal.BatchRefusal.TheVariants as batches
 use Rattle.sql_tables.specs.Outliving.{Outlives}
 use Rattle.sql_tables.proofs.Outlived.{outlives_by, outlives_then, untouched}
-use Rattle.tables.specs.Tables.{HoldsWhole}
+use Rattle.table_rows.specs.Tables.{HoldsWhole}
 use Rattle.store.specs.Applies.{Replies}
 use Rattle.store.specs.Standing.{IsStateOf, StandsAt, seen}
 use Rattle.store.specs.steps.Doing.{Does, DoesAt}
 use Rattle.store.specs.steps.Replies.{IsBatchRefusal, IsCopied, copied, wanting, IsRefusal}
 use Rattle.store.specs.StateRows.{Kept, rows_of}
 use Rattle.store.specs.Views.{reply_view}
-use Rattle.tables.specs.declared.faults.StoreFault.{StoreFault}
-use Rattle.tables.specs.declared.faults.StoreFault.TheVariants.{Damaged, OutOfMemory}
+use Rattle.table_rows.specs.declared.faults.StoreFault.{StoreFault}
+use Rattle.table_rows.specs.declared.faults.StoreFault.TheVariants.{Damaged, OutOfMemory}
 use Rattle.store.specs.declared.command.Reply.{Reply as Answer}
 use Rattle.store.specs.declared.command.Reply.TheVariants as answers
 

@@ -5,9 +5,9 @@ use Rattle.std.specs.List.{AllByRecursion}
 use Rattle.sqlite_trees.specs.Tree.{Trees}
 use Rattle.document_parts.specs.Documents.{Profile, Root, first_profile, second_profile}
 use Rattle.metadata.specs.File.{Bytes, File}
-use Rattle.machine.specs.Contents.{profile_number, root_rows}
-use Rattle.machine.specs.State.{IsHeldUnder, IsRootChain, IsState, State, Trusted, first, kept_root, then}
-use Rattle.tables.specs.Tables.{HoldsFirst}
+use Rattle.trust_rules.specs.Contents.{profile_number, root_rows}
+use Rattle.trust_rules.specs.State.{IsHeldUnder, IsRootChain, IsState, State, Trusted, first, kept_root, then}
+use Rattle.table_rows.specs.Tables.{HoldsFirst}
 use Rattle.store.specs.StateRows.{rows_of}
 
 -- these rows of roots have profile 1

@@ -24,19 +24,19 @@ use Rattle.document_parts.specs.Documents.{Profile, Root, Timestamp, Snapshot, T
 use Rattle.metadata.specs.File.{Bytes, File, Form, IsFileOf, root_form, timestamp_form, snapshot_form, targets_form}
 use Rattle.delegations.specs.Delegation.{before}
 use Rattle.delegations.specs.Rows.{Place, Rises, Rows, place_before}
-use Rattle.machine.specs.State.{State, IsBlob, IsHeldUnder, IsRootChain, IsShelfRow, IsState, kept_root}
-use Rattle.machine.specs.Effects.{last_or}
-use Rattle.machine.specs.steps.Loading.{FollowOn, IsChain, laid}
-use Rattle.machine.specs.Contents.{contents_of, profile_number, root_row_of, shelf_rows}
+use Rattle.trust_rules.specs.State.{State, IsBlob, IsHeldUnder, IsRootChain, IsShelfRow, IsState, kept_root}
+use Rattle.trust_rules.specs.Effects.{last_or}
+use Rattle.trust_rules.specs.steps.Loading.{FollowOn, IsChain, laid}
+use Rattle.trust_rules.specs.Contents.{contents_of, profile_number, root_row_of, shelf_rows}
 use Rattle.contents.specs.Contents.{Contents}
-use Rattle.machine.specs.steps.Stored.{IsStored, Together}
-use Rattle.machine.proofs.RootChains.{chain_tells}
-use Rattle.machine.proofs.ShapedOnce.{Shapes}
-use Rattle.machine.proofs.RowsOfOneState.{FilesOf, files_of, stored_read, stored_rows}
-use Rattle.tables.proofs.Orders.{row_cmp_total}
+use Rattle.trust_rules.specs.steps.Stored.{IsStored, Together}
+use Rattle.trust_rules.proofs.RootChains.{chain_tells}
+use Rattle.trust_rules.proofs.ShapedOnce.{Shapes}
+use Rattle.trust_rules.proofs.RowsOfOneState.{FilesOf, files_of, stored_read, stored_rows}
+use Rattle.table_rows.proofs.Orders.{row_cmp_total}
 use Rattle.sqlite_trees.specs.Tree.{Trees}
-use Rattle.tables.proofs.SetLemmas.{one_stood}
-use Rattle.tables.specs.Tables.{AreRising, AreSame, HaveDigests, IsDigest, StandsFor, IsFit, IsVersion, row_cmp}
+use Rattle.table_rows.proofs.SetLemmas.{one_stood}
+use Rattle.table_rows.specs.Tables.{AreRising, AreSame, HaveDigests, IsDigest, StandsFor, IsFit, IsVersion, row_cmp}
 use Rattle.sql_tables.specs.Rows.{AreKeyed}
 use Rattle.store.specs.StateRows.{rows_of}
 

@@ -7,12 +7,13 @@ use Rattle.hex.specs.Hex.{encode_lower, encode_with, hex_digit_value, lower_digi
 use Rattle.hex.proofs.HexLemmas.{IsDigits-lower_digits}
 use Rattle.metadata.specs.File.{Bytes}
 use Rattle.delegations.specs.Rows.{Place, Rows, same_place}
-use Rattle.machine.specs.Contents.{shelf_rows}
-use Rattle.machine.specs.Effects.{without}
-use Rattle.machine.specs.State.{State}
-use Rattle.machine.proofs.GoneKeys.{filter_so, map_filter}
+use Rattle.trust_rules.specs.Contents.{shelf_rows}
+use Rattle.trust_rules.specs.Effects.{without}
+use Rattle.trust_rules.specs.State.{State}
+use Rattle.trust_rules.proofs.GoneKeys.{filter_so, map_filter}
 use Rattle.contents.specs.Contents.{Contents}
-use Rattle.tables.specs.Tables.{IsDigest, is_blob_of, is_row_of, without_row}
+use Rattle.table_rows.specs.Tables.{IsDigest}
+use Rattle.tables.specs.Changes.{is_blob_of, is_row_of, without_row}
 use Rattle.store.specs.StateRows.{rows_of}
 use Rattle.store.specs.steps.Changed.{blobs_gone, rows_gone}
 

@@ -3,10 +3,10 @@ use Rattle.std.proofs.Common.{List, subst₂}
 use Rattle.sqlite.specs.Order.{Row}
 use Rattle.sqlite.specs.State.{State}
 use Rattle.sqlite_trees.specs.Tree.{Trees}
-use Rattle.tables.specs.Rows.{root2_cells, current_cells, shelf_cells, blob_cells}
+use Rattle.table_rows.specs.Rows.{root2_cells, current_cells, shelf_cells, blob_cells}
 use Rattle.sql_tables.specs.Rows.{AreRows}
-use Rattle.tables.specs.Schema.{held}
-use Rattle.tables.specs.Tables.{AreSame, HoldsTables, HoldsWhole, IsStore, root_row, current_rows, shelf_row, blob_row}
+use Rattle.table_rows.specs.Schema.{held}
+use Rattle.table_rows.specs.Tables.{AreSame, HoldsTables, HoldsWhole, IsStore, root_row, current_rows, shelf_row, blob_row}
 use Rattle.contents.specs.Contents.{Contents}
 use Rattle.store.proofs.SameRows.{SameItems, same_map}
 

@@ -10,9 +10,9 @@ use Rattle.sqlite_rules.specs.Lists.{Has}
 use Rattle.hex.specs.Hex.{encode_lower}
 use Rattle.metadata.specs.File.{Bytes}
 use Rattle.contents.specs.Contents.{Contents}
-use Rattle.machine.specs.State.{State, IsBlob, IsState}
-use Rattle.tables.specs.Tables.{IsStore, blob_row}
-use Rattle.tables.proofs.One.{blobs_of}
+use Rattle.trust_rules.specs.State.{State, IsBlob, IsState}
+use Rattle.table_rows.specs.Tables.{IsStore, blob_row}
+use Rattle.table_rows.proofs.One.{blobs_of}
 use Rattle.sql_tables.proofs.RowLemmas.{has_map, map_has}
 use Rattle.sql_tables.specs.Rows.{AreKeyed}
 use Rattle.store.specs.StateRows.{rows_of}

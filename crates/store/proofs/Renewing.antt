@@ -8,12 +8,12 @@ use Rattle.sqlite.proofs.StateLemmas.{survives_then, survives_weaker}
 use Rattle.sqlite_trees.specs.Tree.{Trees}
 use Rattle.contents.specs.Contents.{Contents, no_rows}
 use Rattle.metadata.specs.File.{Bytes}
-use Rattle.machine.specs.State.{State, IsState, nothing}
+use Rattle.trust_rules.specs.State.{State, IsState, nothing}
 use Rattle.tables.specs.Migration.{IsEarlier}
 use Rattle.tables.specs.Opening.{StandsEmpty}
 use Rattle.sql_tables.specs.Rows.{AreRows}
-use Rattle.tables.specs.Rows.{root2_cells}
-use Rattle.tables.specs.Tables.{HoldsWhole, Stands, root_row}
+use Rattle.table_rows.specs.Rows.{root2_cells}
+use Rattle.table_rows.specs.Tables.{HoldsWhole, Stands, root_row}
 use Rattle.sqlite.specs.Order.{Row}
 use Rattle.store.specs.Standing.{IsStateOf}
 use Rattle.store.specs.StateRows.{Begins, Kept, rows_of}

@@ -7,20 +7,20 @@ use Rattle.sqlite.specs.State as database
 use Rattle.sqlite.specs.State.{IsLive}
 use Rattle.sqlite_trees.specs.Tree.{Trees}
 use Rattle.contents.specs.Contents.{Contents}
-use Rattle.machine.proofs.RowsOfOneState.{one_state}
-use Rattle.machine.proofs.ShapedOnce.{Shapes}
-use Rattle.machine.specs.Runs.{Command, Reply, Steps}
-use Rattle.machine.specs.State.{State, IsState}
+use Rattle.trust_rules.proofs.RowsOfOneState.{one_state}
+use Rattle.trust_rules.proofs.ShapedOnce.{Shapes}
+use Rattle.trust_rules.specs.Runs.{Command, Reply, Steps}
+use Rattle.trust_rules.specs.State.{State, IsState}
 use Rattle.sql_tables.proofs.Listed.{same_tables}
 use Rattle.sql_tables.specs.Opening.{IsSettled}
 use Rattle.sql_tables.specs.Schema.{is_there}
 use Rattle.sqlite.specs.Table.{Table}
 use Rattle.sqlite_schema.specs.Names.{same_name}
 use Rattle.std.specs.List.{position_from}
-use Rattle.tables.specs.Schema.{held, rows_at}
-use Rattle.tables.specs.Tables.{HoldsWhole, IsStore, StandsFor}
-use Rattle.tables.specs.declared.faults.StoreFault.{StoreFault}
-use Rattle.tables.specs.declared.faults.StoreFault.TheVariants as faults
+use Rattle.table_rows.specs.Schema.{held, rows_at}
+use Rattle.table_rows.specs.Tables.{HoldsWhole, IsStore, StandsFor}
+use Rattle.table_rows.specs.declared.faults.StoreFault.{StoreFault}
+use Rattle.table_rows.specs.declared.faults.StoreFault.TheVariants as faults
 use Rattle.store.proofs.Fitting.{one_stands, state_fits, state_rises}
 use Rattle.store.specs.Applies.{HoldsReply, HoldsStep, IsEither}
 use Rattle.store.specs.StateRows.{Begins, HoldsNoState, Reopens, RestsAt, TreesStand, rows_of}

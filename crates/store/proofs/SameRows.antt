@@ -9,10 +9,10 @@ use Rattle.document_parts.specs.Documents.{Root}
 use Rattle.metadata.specs.File.{Bytes, File}
 use Rattle.delegations.specs.Delegation.{before}
 use Rattle.delegations.specs.Rows.{Place, Rows, place_before, same_place, with_row, with_rows}
-use Rattle.machine.specs.State.{State, Trusted, IsState, kept_root}
-use Rattle.machine.specs.Effects.{Effects, applied, last_or, renewed, with_blobs, without}
-use Rattle.machine.specs.Contents.{contents_of, numbered, root_rows, shelf_rows}
-use Rattle.tables.specs.Tables.{AreSame}
+use Rattle.trust_rules.specs.State.{State, Trusted, IsState, kept_root}
+use Rattle.trust_rules.specs.Effects.{Effects, applied, last_or, renewed, with_blobs, without}
+use Rattle.trust_rules.specs.Contents.{contents_of, numbered, root_rows, shelf_rows}
+use Rattle.table_rows.specs.Tables.{AreSame}
 use Rattle.contents.specs.Contents.{Contents}
 use Rattle.sql_tables.proofs.RowLemmas.{has_map, map_has}
 use Rattle.store.proofs.Gone.{AreDigests, gone_rows}

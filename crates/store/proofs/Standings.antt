@@ -5,12 +5,12 @@ use Rattle.std.proofs.Math.Logic.{∥∥₁_map}
 use Rattle.sqlite.specs.State as database
 use Rattle.sqlite.specs.State.{HasCleanDisk}
 use Rattle.sqlite_trees.specs.Tree.{Trees}
-use Rattle.machine.specs.State.{State}
-use Rattle.machine.specs.Held.{Held, OfEachState}
-use Rattle.machine.specs.Runs.{Command}
-use Rattle.tables.specs.Tables.{HoldsWhole, IsStore}
-use Rattle.tables.specs.declared.faults.StoreFault.{StoreFault}
-use Rattle.tables.specs.declared.faults.StoreFault.TheVariants.{Damaged, Database, OutOfMemory}
+use Rattle.trust_rules.specs.State.{State}
+use Rattle.trust_rules.specs.Held.{Held, OfEachState}
+use Rattle.trust_rules.specs.Runs.{Command}
+use Rattle.table_rows.specs.Tables.{HoldsWhole, IsStore}
+use Rattle.table_rows.specs.declared.faults.StoreFault.{StoreFault}
+use Rattle.table_rows.specs.declared.faults.StoreFault.TheVariants.{Damaged, Database, OutOfMemory}
 use Rattle.store.specs.Applies.{Applies, HoldsReply, Makes}
 use Rattle.store.specs.Standing.{IsStateOf, StandsAt, seen}
 use Rattle.store.specs.StateRows.{Kept, rows_of}

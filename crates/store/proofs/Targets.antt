@@ -8,17 +8,17 @@ use Rattle.denials.specs.Orders as orders
 use Rattle.denials.specs.Orders.{Order}
 use Rattle.denials.specs.Views.{denial_view}
 use Rattle.denials.specs.declared.denial.Denial.{Denial}
-use Rattle.machine.specs.State.{State}
-use Rattle.machine.specs.Commands.{grants}
-use Rattle.machine.specs.Held.{Held}
-use Rattle.machine.specs.Runs.{Steps, Target, FileBytes, Refused, leads}
-use Rattle.machine.specs.Serving.{HasLayout, IsRefused, Refuses, Serves, by_layout, denies, serves, unread}
-use Rattle.machine.specs.declared.serving.Served.{Served}
-use Rattle.machine.specs.declared.serving.GetFault.{GetFault}
-use Rattle.machine.specs.declared.serving.GetFault.TheVariants as gets
-use Rattle.machine.specs.declared.serving.LoadFault.TheVariants as loads
-use Rattle.tables.specs.declared.faults.StoreFault.{StoreFault}
-use Rattle.tables.specs.declared.faults.StoreFault.TheVariants.{Damaged, Database, OutOfMemory}
+use Rattle.trust_rules.specs.State.{State}
+use Rattle.trust_rules.specs.Grants.{grants}
+use Rattle.trust_rules.specs.Held.{Held}
+use Rattle.trust_rules.specs.Runs.{Steps, Target, FileBytes, Refused, leads}
+use Rattle.granting.specs.Serving.{HasLayout, IsRefused, Refuses, Serves, by_layout, denies, serves, unread}
+use Rattle.granting.specs.declared.serving.Served.{Served}
+use Rattle.granting.specs.declared.serving.GetFault.{GetFault}
+use Rattle.granting.specs.declared.serving.GetFault.TheVariants as gets
+use Rattle.granting.specs.declared.serving.LoadFault.TheVariants as loads
+use Rattle.table_rows.specs.declared.faults.StoreFault.{StoreFault}
+use Rattle.table_rows.specs.declared.faults.StoreFault.TheVariants.{Damaged, Database, OutOfMemory}
 use Rattle.store.specs.Applies.{Replies}
 use Rattle.store.specs.Standing.{IsStateOf, StandsAt, seen}
 use Rattle.store.specs.StateRows.{Kept}

@@ -3,16 +3,16 @@ use Rattle.std.specs.Prelude.{◌≡◌, ◌⊎◌, ℕ, Result, Ok, Err, IsTrue
 use Rattle.sqlite.specs.State as database
 use Rattle.sqlite.specs.State.{HasCleanDisk}
 use Rattle.sqlite_trees.specs.Tree.{Trees}
-use Rattle.machine.specs.State.{State}
-use Rattle.machine.specs.Runs.{Command, Reply, Steps, Target, FileBytes, Refused}
-use Rattle.machine.specs.Serving.{HasLayout, is_by_layout}
+use Rattle.trust_rules.specs.State.{State}
+use Rattle.trust_rules.specs.Runs.{Command, Reply, Steps, Target, FileBytes, Refused}
+use Rattle.granting.specs.Serving.{HasLayout, is_by_layout}
 use Rattle.sql_tables.specs.Outliving.{StaysOpen}
-use Rattle.tables.specs.Tables.{HoldsWhole}
+use Rattle.table_rows.specs.Tables.{HoldsWhole}
 use Rattle.store.specs.Standing.{Holds, IsClean, Keeps, Moves, Standing, StandsAt, seen}
 use Rattle.store.specs.StateRows.{Kept, rows_of}
 use Rattle.store.specs.Views.{reply_view}
-use Rattle.tables.specs.declared.faults.StoreFault.{StoreFault}
-use Rattle.tables.specs.declared.faults.StoreFault.TheVariants.{Damaged, Database, OutOfMemory}
+use Rattle.table_rows.specs.declared.faults.StoreFault.{StoreFault}
+use Rattle.table_rows.specs.declared.faults.StoreFault.TheVariants.{Damaged, Database, OutOfMemory}
 use Rattle.store.specs.declared.command.Reply.{Reply as Answer}
 
 -- the trees hold the rows of the state that the command leaves, in all six tables

@@ -3,10 +3,10 @@ use Rattle.std.specs.Prelude.{◌≡◌, Bool, IsTrue, Ok}
 use Rattle.sqlite.specs.Effect.{Database}
 use Rattle.sqlite.specs.State as connection
 use Rattle.sqlite_trees.specs.View.{doubt}
-use Rattle.machine.specs.State.{State, IsState}
-use Rattle.machine.specs.Held.{held_of}
-use Rattle.tables.specs.Schema.{held, HasSix}
-use Rattle.tables.specs.Tables.{HoldsTables}
+use Rattle.trust_rules.specs.State.{State, IsState}
+use Rattle.trust_rules.specs.Held.{held_of}
+use Rattle.table_rows.specs.Schema.{held, HasSix}
+use Rattle.table_rows.specs.Tables.{HoldsTables}
 use Rattle.store.specs.StateRows.{Kept, OpensTo, rows_of}
 
 -- what a store keeps in memory, and what its connection shows of the database

@@ -2,17 +2,17 @@
 use Rattle.std.specs.Prelude.{◌≡◌, ◌≢◌, ⊤, false, [], refl, Result, Ok, Err, IfOk, IsTrue}
 use Rattle.std.specs.Coded.{Coded, code_by, coded×}
 use Rattle.sqlite.specs.Held.{Held as Connection, held_code}
-use Rattle.machine.specs.State.{State, IsState}
-use Rattle.machine.specs.Held.{Held}
-use Rattle.machine.specs.Room.{WithPlaces}
-use Rattle.machine.specs.Contents.{contents_of}
+use Rattle.trust_rules.specs.State.{State, IsState}
+use Rattle.trust_rules.specs.Held.{Held}
+use Rattle.trusted_state.specs.Room.{WithPlaces}
+use Rattle.trust_rules.specs.Contents.{contents_of}
 use Rattle.contents.specs.Contents.{Contents}
 use Rattle.sqlite.specs.Effect.{Database, IsDatabase}
 use Rattle.sqlite_trees.specs.Tree.{Trees}
-use Rattle.tables.specs.Schema.{IsBeginning}
-use Rattle.tables.specs.Tables.{HoldsWhole, Stands}
-use Rattle.tables.specs.declared.faults.StoreFault.{StoreFault}
-use Rattle.tables.specs.declared.faults.StoreFault.TheVariants as faults
+use Rattle.table_rows.specs.Schema.{IsBeginning}
+use Rattle.table_rows.specs.Tables.{HoldsWhole, Stands}
+use Rattle.table_rows.specs.declared.faults.StoreFault.{StoreFault}
+use Rattle.table_rows.specs.declared.faults.StoreFault.TheVariants as faults
 use Rattle.sqlite.specs.State as database
 
 -- what a store keeps in memory: its state but for the bytes of the target files

@@ -2,10 +2,10 @@
 use Rattle.std.specs.Prelude.{◌≡◌, ℕ, ◌+◌, ◌-◌, ◌≤◌}
 use Rattle.metadata.specs.File.{Bytes}
 use Rattle.delegations.specs.Verdicts.{Table}
-use Rattle.machine.specs.Knowing.{ChecksFew, IsKnown, WantsFew}
-use Rattle.machine.specs.Runs.{Command, Target}
-use Rattle.machine.specs.Serving.{HasLayout}
-use Rattle.machine.specs.State.{Trusted}
+use Rattle.trusted_state.specs.Knowing.{ChecksFew, IsKnown, WantsFew}
+use Rattle.trust_rules.specs.Runs.{Command, Target}
+use Rattle.granting.specs.Serving.{HasLayout}
+use Rattle.trust_rules.specs.State.{Trusted}
 
 -- From the old count to the new one. A target without a layout costs at most 512, of 32 documents with 16 signatures each, and at most as
 -- many as its search meets of which a true and complete table tells nothing. Where such a table holds all wanted pairs, none is checked.

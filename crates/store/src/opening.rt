@@ -4,13 +4,13 @@ ghost use Rattle.sqlite.specs.Held.{state};
 ghost use Rattle.sqlite.specs.State.{HasCleanDisk, IsLive, Survives};
 ghost use Rattle.sqlite_trees.specs.Tree.{Trees};
 ghost use Rattle.tables.specs.Opening.{IsSettled};
-ghost use Rattle.tables.specs.Schema.{IsBeginning};
+ghost use Rattle.table_rows.specs.Schema.{IsBeginning};
 ghost use Rattle.tables.specs.Migration.{IsEarlier};
-ghost use Rattle.tables.specs.Tables.{HoldsWhole, IsStore, Stands};
+ghost use Rattle.table_rows.specs.Tables.{HoldsWhole, IsStore, Stands};
 ghost use Rattle.store.specs.Standing.{IsStateOf, Opens, StandsAt, seen};
 ghost use Rattle.store.specs.StateRows.{Begins, OpensTo, rows_of};
-ghost use Rattle.machine.specs.State as trust;
-ghost use Rattle.machine.specs.State.{IsState};
+ghost use Rattle.trust_rules.specs.State as trust;
+ghost use Rattle.trust_rules.specs.State.{IsState};
 
 use crate::laws::leaves_committed;
 use crate::store::Store;

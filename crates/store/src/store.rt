@@ -5,16 +5,17 @@ ghost use Rattle.sqlite.specs.Held.{state};
 ghost use Rattle.sqlite.specs.State.{HasCleanDisk, Survives};
 ghost use Rattle.sqlite_trees.specs.Tree.{Trees};
 ghost use Rattle.sql_tables.specs.Outliving.{Outlives};
-ghost use Rattle.tables.specs.Tables.{HoldsWhole, IsStore};
-ghost use Rattle.machine.specs.State as trust;
-ghost use Rattle.machine.specs.State.{IsSnapshotDue, IsState};
-ghost use Rattle.machine.specs.Effects.{applied};
-ghost use Rattle.machine.specs.Held.{held_with};
-ghost use Rattle.machine.specs.Knowing.{IsKnown};
-ghost use Rattle.machine.specs.Views.{documents_view, effects_view, offer_view};
-ghost use Rattle.machine.specs.Runs as steps;
-ghost use Rattle.machine.specs.Commands as commands;
-ghost use Rattle.machine.specs.Serving.{Refuses, Serves};
+ghost use Rattle.table_rows.specs.Tables.{HoldsWhole, IsStore};
+ghost use Rattle.trust_rules.specs.Grants as granted;
+ghost use Rattle.trust_rules.specs.State as trust;
+ghost use Rattle.trust_rules.specs.State.{IsSnapshotDue, IsState};
+ghost use Rattle.trust_rules.specs.Effects.{applied};
+ghost use Rattle.trust_rules.specs.Held.{held_with};
+ghost use Rattle.trusted_state.specs.Knowing.{IsKnown};
+ghost use Rattle.state_parts.specs.Views.{effects_view};
+ghost use Rattle.trusted_state.specs.Views.{documents_view, offer_view};
+ghost use Rattle.trust_rules.specs.Runs as steps;
+ghost use Rattle.granting.specs.Serving.{Refuses, Serves};
 ghost use Rattle.delegations.specs.Verdicts.{Table};
 ghost use Rattle.store.specs.Ticks.{Ticks, TicksFew};
 ghost use Rattle.store.specs.Applies.{Applies};
@@ -29,7 +30,8 @@ use crate::command::{Command, Reply};
 use crate::stored_rows::StoredRows;
 use machine::{
     BatchRefusal, Batched, Effects, GetFault, Held, LoadFault, Offer, Outcome, Refusal, Served,
-    Steps, get_from_counted, held_follows, target_from_counted,
+    Steps, batch_on, get_from_counted, held_follows, init_on, offer_on, prune_on, put_blob_on,
+    target_from_counted,
 };
 use metadata::Moment;
 use path_patterns::{Digest, TargetPath};
@@ -52,9 +54,9 @@ impl<S: Alter> Model for Store<S> {
     ghost use Rattle.std.specs.Prelude.{◌≡◌, IsTrue};
     ghost use Rattle.sqlite.specs.Held.{state};
     ghost use Rattle.sqlite.specs.State.{HasCleanDisk};
-    ghost use Rattle.machine.specs.State as trust;
-    ghost use Rattle.tables.specs.Tables.{IsStore};
-    ghost use Rattle.machine.specs.contracts.held.Held as machine;
+    ghost use Rattle.trust_rules.specs.State as trust;
+    ghost use Rattle.table_rows.specs.Tables.{IsStore};
+    ghost use Rattle.trusted_state.specs.contracts.held.Held as machine;
     ghost use Rattle.store.specs.Standing.{IsStateOf};
     ghost use Rattle.store.specs.StateRows.{Shown, shown_code, rows_of};
 
@@ -137,10 +139,10 @@ impl<S: Alter> Store<S> {
     ) -> Result<Served, GetFault>
         requires { checks.old < 2 ^ 63 }
         ensures keeps { Keeps (seen self.old.kept (state S.Store self.old.conn)) (seen self.new.kept (state S.Store self.new.conn)) }
-        ensures denial { Refuses self.old.kept (λ U. commands.grants U path.now None now) path.now now (IsTrue (state S.Store self.old.conn).is_open → IsTrue (state S.Store self.new.conn).is_open)
+        ensures denial { Refuses self.old.kept (λ U. granted.grants U path.now None now) path.now now (IsTrue (state S.Store self.old.conn).is_open → IsTrue (state S.Store self.new.conn).is_open)
             (HasCleanDisk (state S.Store self.new.conn) → IsTrue (state S.Store self.new.conn).is_open) result }
         ensures answer { HasCleanDisk (state S.Store self.new.conn) → IsTrue (state S.Store self.new.conn).is_open → (U : trust.State) → StandsAt (seen self.old.kept (state S.Store self.old.conn)) U
-            → Serves U (commands.grants U path.now None now) result }
+            → Serves U (granted.grants U path.now None now) result }
         ensures digest { IfOk result (λ s. sha256 s.bytes.items ≡ s.digest.0) }
         ensures ticks { TicksFew self.old.kept.trusted path.now now checks.old checks.new }
     {
@@ -181,7 +183,7 @@ impl<S: Alter> Store<S> {
         ensures { DoesAt self.old.kept self.new.kept (state S.Store self.old.conn) (state S.Store self.new.conn) (steps.Init bytes.now) now result }
     {
         self.rests();
-        let effects = match self.held().init(self.alloc(), bytes) {
+        let effects = match init_on(self.alloc(), self.held(), bytes) {
             Ok(Outcome::Changed(effects)) => effects,
             Ok(Outcome::Same) => return Ok(Reply::Begun),
             Err(refusal) => return refused(refusal),
@@ -201,7 +203,7 @@ impl<S: Alter> Store<S> {
         ensures { DoesAt self.old.kept self.new.kept (state S.Store self.old.conn) (state S.Store self.new.conn) (steps.OfferOne (offer_view offered.now) bytes.now) now result }
     {
         self.rests();
-        let effects = match self.held().offer(self.alloc(), offered, bytes, now) {
+        let effects = match offer_on(self.alloc(), self.held(), offered, bytes, now) {
             Ok(Outcome::Changed(effects)) => effects,
             Ok(Outcome::Same) => return Ok(Reply::Offered { same: true }),
             Err(refusal) => return refused(refusal),
@@ -220,7 +222,7 @@ impl<S: Alter> Store<S> {
             effects,
             accepted,
             same,
-        } = match self.held().batch(self.alloc(), documents, now) {
+        } = match batch_on(self.alloc(), self.held(), documents, now) {
             Ok(batched) => batched,
             Err(refusal) => return refused_batch(refusal),
         };
@@ -234,7 +236,7 @@ impl<S: Alter> Store<S> {
         ensures { DoesAt self.old.kept self.new.kept (state S.Store self.old.conn) (state S.Store self.new.conn) (steps.PutBlob digest.0 bytes.now) now result }
     {
         self.rests();
-        let effects = match self.held().put_blob(self.alloc(), &digest, bytes) {
+        let effects = match put_blob_on(self.alloc(), self.held(), &digest, bytes) {
             Ok(Outcome::Changed(effects)) => effects,
             Ok(Outcome::Same) => return Ok(Reply::Stored(false)),
             Err(refusal) => return refused(refusal),
@@ -249,7 +251,7 @@ impl<S: Alter> Store<S> {
         ensures { DoesAt self.old.kept self.new.kept (state S.Store self.old.conn) (state S.Store self.new.conn) steps.Prune now result }
     {
         self.rests();
-        let effects = match self.held().prune(self.alloc()) {
+        let effects = match prune_on(self.alloc(), self.held()) {
             Ok(Outcome::Changed(effects)) => effects,
             Ok(Outcome::Same) => return Ok(Reply::Pruned { blobs: 0, rows: 0 }),
             Err(refusal) => return refused(refusal),
@@ -301,11 +303,11 @@ impl<S: Alter> Store<S> {
         requires { checks.old < 2 ^ 63 }
         ensures same { self.new.kept ≡ self.old.kept }
         ensures reads { ReadsOnly (state S.Store self.old.conn) (state S.Store self.new.conn) }
-        ensures denial { Refuses self.old.kept (λ U. commands.grants U path.now (option_map (λ d. d.0) asked) now) path.now now
+        ensures denial { Refuses self.old.kept (λ U. granted.grants U path.now (option_map (λ d. d.0) asked) now) path.now now
             (IsTrue (state S.Store self.old.conn).is_open → IsTrue (state S.Store self.new.conn).is_open) (HasCleanDisk (state S.Store self.new.conn) → IsTrue (state S.Store self.new.conn).is_open) result }
         ensures there { HasCleanDisk (state S.Store self.new.conn) → OnOk result (IsTrue (state S.Store self.new.conn).is_open) }
         ensures answer { HasCleanDisk (state S.Store self.new.conn) → IsTrue (state S.Store self.new.conn).is_open → (U : trust.State) → StandsAt (seen self.old.kept (state S.Store self.old.conn)) U
-            → Serves U (commands.grants U path.now (option_map (λ d. d.0) asked) now) result }
+            → Serves U (granted.grants U path.now (option_map (λ d. d.0) asked) now) result }
         ensures ticks { TicksFew self.old.kept.trusted path.now now checks.old checks.new }
     {
         self.held.is_known();

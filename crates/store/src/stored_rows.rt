@@ -4,12 +4,12 @@ ghost use Rattle.limits.specs.Limits.{most_held};
 ghost use Rattle.sqlite.specs.Held.{state};
 ghost use Rattle.sqlite.specs.State.{HasCleanDisk, Survives};
 ghost use Rattle.sqlite_trees.specs.Tree.{Trees};
-ghost use Rattle.machine.specs.State as trust;
-ghost use Rattle.machine.specs.State.{IsState};
-ghost use Rattle.machine.specs.Effects.{applied};
-ghost use Rattle.machine.specs.Views.{effects_view};
+ghost use Rattle.trust_rules.specs.State as trust;
+ghost use Rattle.trust_rules.specs.State.{IsState};
+ghost use Rattle.trust_rules.specs.Effects.{applied};
+ghost use Rattle.state_parts.specs.Views.{effects_view};
 ghost use Rattle.contents.specs.Contents.{Contents};
-ghost use Rattle.tables.specs.Tables.{HoldsWhole, IsStore};
+ghost use Rattle.table_rows.specs.Tables.{HoldsWhole, IsStore};
 ghost use Rattle.store.specs.StateRows.{rows_of};
 
 use crate::changes::write;
@@ -33,7 +33,7 @@ impl<S: Alter> Model for StoredRows<S> {
     ghost use Rattle.sqlite.specs.Held.{Held, held_code, state};
     ghost use Rattle.sqlite.specs.State.{HasCleanDisk};
     ghost use Rattle.contents.specs.Contents.{Contents};
-    ghost use Rattle.tables.specs.Tables.{IsStore};
+    ghost use Rattle.table_rows.specs.Tables.{IsStore};
 
     ghost Value = { Held S };
 

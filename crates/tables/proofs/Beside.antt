@@ -34,11 +34,11 @@ use Rattle.sql_tables.proofs.Insert.{deletes, inserts}
 use Rattle.sql_tables.proofs.References.{all_front, tree_below, unreferenced}
 use Rattle.sql_tables.proofs.Shapes.{at_each}
 use Rattle.sql_tables.proofs.Statements.{added}
-use Rattle.tables.specs.Rows.{root2_cells}
-use Rattle.tables.specs.Schema.{HasFive, HasSecond, HasSix, five, is_apart, root2_rows, root2_table}
+use Rattle.table_rows.specs.Rows.{root2_cells}
+use Rattle.table_rows.specs.Schema.{HasFive, HasSecond, HasSix, five, is_apart, root2_rows, root2_table}
 use Rattle.tables.specs.steps.Writing.{Cells, IsInside, listed}
-use Rattle.tables.proofs.Beginnings.{rows_second}
-use Rattle.tables.proofs.Resolved.{IsMeant}
+use Rattle.table_rows.proofs.Beginnings.{rows_second}
+use Rattle.table_rows.proofs.Resolved.{IsMeant}
 
 -- ---- no foreign key acts where a row of `root2` changes
 

@@ -7,12 +7,12 @@ use Rattle.sql_tables.specs.Described.{at_place, tree_from}
 use Rattle.sql_tables.specs.Inside.{shown_of, cells_at}
 use Rattle.sql_tables.specs.Rows.{AreRows}
 use Rattle.sql_tables.proofs.MakingLemmas.{no_rows}
-use Rattle.tables.specs.Rows.{root_cells, root2_cells, current_cells, shelf_cells, blob_cells, version_cells}
-use Rattle.tables.specs.Schema.{HasFive, five, held}
-use Rattle.tables.specs.Tables.{AreBare, HoldsFirst, HoldsTables}
+use Rattle.table_rows.specs.Rows.{root_cells, root2_cells, current_cells, shelf_cells, blob_cells, version_cells}
+use Rattle.table_rows.specs.Schema.{HasFive, five, held}
+use Rattle.table_rows.specs.Tables.{AreBare, HoldsFirst, HoldsTables}
 use Rattle.sqlite.specs.State.{State}
 use Rattle.tables.specs.steps.Writing.{Cells, IsInside, cells_of, listed}
-use Rattle.tables.proofs.Beginnings.{blob_held, current_held, none_held, root_held, shelf_held, version_held}
+use Rattle.table_rows.proofs.Beginnings.{blob_held, current_held, none_held, root_held, shelf_held, version_held}
 use Rattle.tables.specs.steps.Migrating.{HoldsCells, bare_cells, first_cells}
 
 pub cells_second : (trees : Trees) (t : Contents) → HoldsTables trees t → HoldsCells trees (cells_of t)

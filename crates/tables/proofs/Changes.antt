@@ -11,10 +11,11 @@ use Rattle.sqlite.specs.State.{IsRolledBack, KeepsCommit, State, Shows}
 use Rattle.tables.specs.declared.change.Change.{Change}
 use Rattle.contents.specs.Contents.{Contents}
 use Rattle.sql_tables.proofs.Editing.{same_inside}
-use Rattle.tables.specs.Schema.{HasSix, five, held}
+use Rattle.table_rows.specs.Schema.{HasSix, five, held}
 use Rattle.tables.specs.steps.Writing.{listed, Cells, IsInside, cells_of}
-use Rattle.tables.specs.Tables.{HoldsTables, HoldsWhole, IsStore, root_row, slot_row, slot_rows, current_rows, shelf_row, blob_row, with_root, with_row, with_blob, with_timestamp, with_snapshot, after, after_all}
-use Rattle.tables.proofs.Beginnings.{six_after}
+use Rattle.table_rows.specs.Tables.{HoldsTables, HoldsWhole, IsStore, root_row, slot_row, slot_rows, current_rows, shelf_row, blob_row}
+use Rattle.tables.specs.Changes.{with_root, with_row, with_blob, with_timestamp, with_snapshot, after, after_all}
+use Rattle.table_rows.proofs.Beginnings.{six_after}
 use Rattle.tables.proofs.CellLemmas.{cells_of_five, cells_second, five_of_cells}
 use Rattle.sql_tables.specs.Writing.{without_text}
 use Rattle.sql_tables.proofs.Statements.{text_test, turned, turned_back}

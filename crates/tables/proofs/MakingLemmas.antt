@@ -27,15 +27,16 @@ use Rattle.sql_tables.proofs.Editing.{adds}
 use Rattle.sql_tables.proofs.MakingLemmas.{all_more, all_then, makes, makes_sound}
 use Rattle.sql_tables.proofs.References.{all_front, tree_below}
 use Rattle.sql_tables.proofs.Shapes.{at_each}
-use Rattle.tables.specs.Rows.{root2_cells}
-use Rattle.tables.specs.Schema.{HasFive, HasSecond, HasSix, IsFree, are_alone, blob_table, current_table, five, held, is_apart, lacks_counters, root_table, root2_table, shelf_table, six, the_schema, version_table}
-use Rattle.tables.specs.Tables.{AreBare}
-use Rattle.tables.specs.steps.Migrating.{HasSome, HoldsCells, IsEarly, bare_cells}
+use Rattle.table_rows.specs.Rows.{root2_cells}
+use Rattle.table_rows.specs.Schema.{HasFive, HasSecond, HasSix, IsFree, are_alone, blob_table, current_table, five, held, is_apart, lacks_counters, root_table, root2_table, shelf_table, six, the_schema, version_table}
+use Rattle.table_rows.specs.Tables.{AreBare}
+use Rattle.table_rows.specs.Schema.{HasSome}
+use Rattle.tables.specs.steps.Migrating.{HoldsCells, IsEarly, bare_cells}
 use Rattle.tables.specs.steps.Writing.{Cells, IsInside, listed, no_cells}
-use Rattle.tables.proofs.Beginnings.{alone_six, root2_absent, rows_second}
+use Rattle.table_rows.proofs.Beginnings.{alone_six, root2_absent, rows_second}
 use Rattle.tables.proofs.Beside.{insert_stays}
 use Rattle.tables.proofs.CellLemmas.{cells_bare, five_of_cells, rows_of_cells}
-use Rattle.tables.proofs.Resolved.{create_is, make_root2}
+use Rattle.table_rows.proofs.Resolved.{create_is, make_root2}
 use Rattle.tables.proofs.SecondTexts.{insert_second, insert_second_is, second_news, second_values}
 use Rattle.tables.proofs.Statements.{sound_after}
 

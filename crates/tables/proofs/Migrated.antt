@@ -19,17 +19,18 @@ use Rattle.sql_tables.proofs.Editing.{adds, drops}
 use Rattle.sql_tables.proofs.ItemLemmas.{no_member}
 use Rattle.sql_tables.proofs.RowLemmas.{has_map}
 use Rattle.sql_tables.proofs.Statements.{cast_int, none_left}
-use Rattle.tables.specs.Rows.{root2_cells}
-use Rattle.tables.specs.Schema.{HasFirst, HasSix, IsFree, five, held, root2_table}
-use Rattle.tables.specs.Tables.{HoldsFirst, HoldsTables, root_row, version_row}
+use Rattle.table_rows.specs.Rows.{root2_cells}
+use Rattle.table_rows.specs.Schema.{HasFirst, HasSix, IsFree, five, held, root2_table}
+use Rattle.table_rows.specs.Tables.{HoldsFirst, HoldsTables, root_row, version_row}
 use Rattle.tables.specs.Migration.{IsEarlier}
 use Rattle.tables.specs.steps.Writing.{Cells, IsInside, cells_of, listed}
-use Rattle.tables.specs.steps.Migrating.{HasSome, IsEarly, brought, first_cells}
-use Rattle.tables.proofs.Beginnings.{not_most}
+use Rattle.table_rows.specs.Schema.{HasSome}
+use Rattle.tables.specs.steps.Migrating.{IsEarly, brought, first_cells}
+use Rattle.table_rows.proofs.Beginnings.{not_most}
 use Rattle.tables.proofs.Beside.{adds_second as in_root2, delete_stays, insert_stays}
 use Rattle.tables.proofs.CellLemmas.{cells_first, cells_second}
 use Rattle.tables.proofs.Statements.{sound_after}
-use Rattle.tables.proofs.Resolved.{first_values, insert_first, insert_first_is}
+use Rattle.table_rows.proofs.Resolved.{first_values, insert_first, insert_first_is}
 use Rattle.tables.proofs.SecondTexts.{second_values, delete_root, delete_root_is, delete_version, delete_version_is, insert_second, insert_second_is, second_news}
 
 -- ---- the statements

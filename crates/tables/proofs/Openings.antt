@@ -4,13 +4,13 @@ use Rattle.sqlite.specs.Effect.{Database}
 use Rattle.sqlite.specs.State.{State, HasCleanDisk, IsUnchanged, IsRolledBack, Survives}
 use Rattle.sqlite.proofs.StateLemmas.{survives_then}
 use Rattle.sqlite_trees.specs.Tree.{Trees}
-use Rattle.tables.specs.Schema.{HasSix, IsFree, held}
+use Rattle.table_rows.specs.Schema.{HasSix, IsFree, held}
 use Rattle.tables.specs.Migration.{IsEarlier}
-use Rattle.tables.specs.steps.Loading.{HoldsAs}
-use Rattle.tables.specs.steps.Migrating.{HasSome}
-use Rattle.tables.proofs.Beginnings.{none_held, root2_absent, six_after, some_after}
+use Rattle.table_rows.specs.Reading.{HoldsAs}
+use Rattle.table_rows.specs.Schema.{HasSome}
+use Rattle.table_rows.proofs.Beginnings.{none_held, root2_absent, six_after, some_after}
 use Rattle.contents.specs.Contents.{Contents, no_rows}
-use Rattle.tables.specs.Tables.{AreBare, HoldsFirst, HoldsTables, HoldsWhole, IsStore, StandsFor}
+use Rattle.table_rows.specs.Tables.{AreBare, HoldsFirst, HoldsTables, HoldsWhole, IsStore, StandsFor}
 
 pub loaded_store : (old new : State) (t : Contents) → IsUnchanged old new → old.now ≡ old.committed → HasSix old.now.schema → HoldsTables (held old.now.schema old.now.trees) t → IsStore new t
 loaded_store old new t same settled schema holds = record {
@@ -19,43 +19,6 @@ loaded_store old new t same settled schema holds = record {
   settled = same.0.now_is ∙ settled ∙ sym same.0.committed_is;
   holds = subst (λ (d : Database). HoldsTables (held d.schema d.trees) t) (sym same.0.now_is) holds;
 }
-
-store_same : (old new : State) (t : Contents) → IsUnchanged old new → IsStore old t → IsStore new t
-store_same old new t same is = record {
-  is_open = same.0.is_open;
-  schema = six_after same.0.now_is is.schema;
-  settled = same.0.now_is ∙ is.settled ∙ sym same.0.committed_is;
-  holds = subst (λ (d : Database). HoldsTables (held d.schema d.trees) t) (sym same.0.now_is) is.holds;
-}
-
-store_back : (old new : State) (t : Contents) → IsTrue new.is_open → IsRolledBack old new → IsStore old t → IsStore new t
-store_back old new t stays back is =
-    let both = back.undone stays in
-    let now : new.now ≡ old.now = both.0 ∙ sym is.settled in
-    record {
-      is_open = stays;
-      schema = six_after now is.schema;
-      settled = both.0 ∙ sym both.1;
-      holds = subst (λ (d : Database). HoldsTables (held d.schema d.trees) t) (sym now) is.holds;
-    }
-
--- two steps that change nothing
-pub unchanged_then : (a b c : State) → IsUnchanged a b → IsUnchanged b c → IsUnchanged a c
-unchanged_then a b c one two = (
-  record { was_open = one.0.was_open; is_open = two.0.is_open; now_is = two.0.now_is ∙ one.0.now_is; committed_is = two.0.committed_is ∙ one.0.committed_is; mode = two.0.mode ∙ one.0.mode },
-  record { changes = two.1.changes ∙ one.1.changes; last_rowid = two.1.last_rowid ∙ one.1.last_rowid },
-  two.2 ∙ one.2,
-)
-
--- two steps that commit nothing
-pub quiet_then : (a b c : State) → Survives a b (λ _. ⊥) → Survives b c (λ _. ⊥) → Survives a c (λ _. ⊥)
-quiet_then a b c one two = survives_then a b c (λ _. ⊥) (λ _. ⊥) (λ _. ⊥) (λ _ db none. none) (λ _ db none. none) one two
-
--- ---- one look at `schema`
-
-pub looked : (old new : State) (t : Contents) → IsTrue new.is_open → IsUnchanged old new ⊎ IsRolledBack old new → IsStore old t → IsStore new t
-looked old new t stays (inl same) is = store_same old new t same is
-looked old new t stays (inr back) is = store_back old new t stays back is
 
 -- ---- one answer, of which two facts are known
 

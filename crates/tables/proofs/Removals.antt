@@ -14,9 +14,10 @@ use Rattle.sqlite.specs.Order.{Row, column, value_cmp}
 use Rattle.sqlite.specs.State.{State, ExecutesInside}
 use Rattle.sqlite_trees.proofs.ListLemmas.{filter-map}
 use Rattle.contents.specs.Contents.{Contents}
-use Rattle.tables.specs.Schema.{five}
-use Rattle.tables.specs.Rows.{blob_cells, shelf_cells}
-use Rattle.tables.specs.Tables.{blob_row, is_blob_of, is_row_of, shelf_row, without_blob, without_row}
+use Rattle.table_rows.specs.Schema.{five}
+use Rattle.table_rows.specs.Rows.{blob_cells, shelf_cells}
+use Rattle.table_rows.specs.Tables.{blob_row, shelf_row}
+use Rattle.tables.specs.Changes.{is_blob_of, is_row_of, without_blob, without_row}
 use Rattle.tables.specs.steps.Writing.{Cells, IsInside, cells_of, listed}
 use Rattle.sql_tables.specs.Writing.{has_text, without_text}
 use Rattle.sql_tables.proofs.AnswerLemmas.{passes}
@@ -25,7 +26,8 @@ use Rattle.sql_tables.proofs.ItemLemmas.{int_nat}
 use Rattle.sql_tables.proofs.Statements.{and-true, text_test, true_if}
 use Rattle.tables.proofs.Beside.{delete_stays}
 use Rattle.tables.proofs.Statements.{sound_after}
-use Rattle.tables.proofs.Texts.{by_text, by_text_and_number, delete_blob, delete_blob_is, delete_row, delete_row_is}
+use Rattle.table_rows.proofs.One.{by_text, text_is}
+use Rattle.tables.proofs.Texts.{by_text_and_number, delete_blob, delete_blob_is, delete_row, delete_row_is}
 
 nat_test : (m n : ℕ) → is_eq (nat_cmp m n) ≡ (m == n)
 nat_test m n = grind arith
@@ -56,9 +58,6 @@ drops_row old new role version count c is h = record {
   root2 = (delete_stays 2 (omega arith) delete_row by_text_and_number delete_row_is old new _ count c.root2 h (is.six, is.root2)).1;
   sound = sound_after delete_row _ delete_row_is old new _ count is.tables.schema (λ text w. w.sound) h;
 }
-
-pub text_is : (text : List ℕ) (r : Row) → passes by_text (Text text ∷ []) r ≡ has_text text (blob_cells r)
-text_is text r = and-true _
 
 pub drops_blob : (old new : State) (digits : List ℕ) (count : ℕ) (c : Cells) → IsInside old c → ExecutesInside 0 delete_blob (Text digits ∷ []) old new (Ok count) → IsInside new (record c { blob = without_text digits c.blob })
 drops_blob old new digits count c is h = record {

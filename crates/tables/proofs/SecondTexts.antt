@@ -14,7 +14,7 @@ use Rattle.sqlite_trees.specs.Tree.{Trees}
 use Rattle.sql_tables.specs.Described.{table_of}
 use Rattle.sql_tables.proofs.AnswerLemmas.{plain_query}
 use Rattle.sql_tables.proofs.Editing.{Means}
-use Rattle.tables.specs.Schema.{five, version_table}
+use Rattle.table_rows.specs.Schema.{five, version_table}
 
 abbrev pub delete_root : List ℕ
 delete_root = codes "DELETE FROM root"

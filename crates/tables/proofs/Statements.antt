@@ -12,15 +12,16 @@ use Rattle.sqlite.specs.State.{State, ExecutesInside, Runs}
 use Rattle.sqlite.proofs.Callers.{runs_as}
 use Rattle.sql_tables.specs.Described.{followed, table_of}
 use Rattle.sql_tables.specs.Inside as of_list
-use Rattle.tables.specs.Schema.{HasFive, five, root2_table}
-use Rattle.tables.specs.Rows.{current_cells}
-use Rattle.tables.specs.Tables.{root_row, slot_row, shelf_row}
+use Rattle.table_rows.specs.Schema.{HasFive, five, root2_table}
+use Rattle.table_rows.specs.Rows.{current_cells}
+use Rattle.table_rows.specs.Tables.{root_row, slot_row, shelf_row}
 use Rattle.tables.specs.steps.Writing.{Cells, IsInside, listed}
 use Rattle.sql_tables.specs.Writing.{has_text, without_text}
 use Rattle.sql_tables.proofs.AnswerLemmas.{passes}
 use Rattle.tables.proofs.Beside.{adds_second, delete_stays, insert_stays}
-use Rattle.tables.proofs.Resolved.{insert_root, insert_root_is, root_values}
-use Rattle.tables.proofs.Texts.{two_values, three_values, by_text, insert_slot, insert_slot_is, insert_row, insert_row_is, insert_blob, insert_blob_is, delete_slot, delete_slot_is, delete_current, delete_current_is, delete_shelf, delete_shelf_is}
+use Rattle.table_rows.proofs.Resolved.{insert_root, insert_root_is, root_values}
+use Rattle.tables.proofs.Texts.{two_values, three_values, insert_slot, insert_slot_is, insert_row, insert_row_is, insert_blob, insert_blob_is, delete_slot, delete_slot_is, delete_current, delete_current_is, delete_shelf, delete_shelf_is}
+use Rattle.table_rows.proofs.One.{by_text}
 use Rattle.sql_tables.proofs.Statements.{and-true, cast_int, cast_null, none_left}
 use Rattle.sql_tables.proofs.Editing.{Means, adds, drops}
 

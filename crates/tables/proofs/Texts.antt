@@ -1,21 +1,18 @@
 -- What the texts mean, whatever stands behind the five tables.
-use Rattle.std.proofs.Common.{◌≡◌, List, ℕ, [], ◌∷◌, codes, refl, false}
+use Rattle.std.proofs.Common.{◌≡◌, List, ℕ, [], ◌∷◌, codes, refl}
 use Rattle.sqlite_tied.specs.Compute.{everything}
-use Rattle.sqlite.specs.Schema.{Schema}
-use Rattle.sql_tables.specs.Described.{followed}
 use Rattle.sql_tables.proofs.Editing.{Means}
-use Rattle.tables.specs.Schema.{five}
+use Rattle.table_rows.specs.Schema.{five}
+use Rattle.table_rows.proofs.One.{by_text}
 use Rattle.sqlite.specs.Term.{Term, lit, col, op1, op2}
 use Rattle.sqlite_sql.specs.declared.ops.UnaryOp.TheVariants.{ToNumeric}
 use Rattle.sqlite_sql.specs.declared.ops.BinaryOp.TheVariants.{Compare}
 use Rattle.sqlite_sql.specs.declared.ops.CompareOp.TheVariants.{Eq}
 use Rattle.sqlite_value.specs.declared.keys.Collation.TheVariants.{Binary}
 use Rattle.sqlite.specs.Source.TheVariants.{Values}
-use Rattle.sqlite.specs.Command.TheVariants.{Insert, Delete, Select}
+use Rattle.sqlite.specs.Command.TheVariants.{Insert, Delete}
 use Rattle.sqlite.specs.declared.types.Value.TheVariants.{Null}
-use Rattle.sqlite.specs.Listing.{understood, reads_listing}
-use Rattle.sqlite_resolve.specs.Compile.{first}
-use Rattle.sql_tables.specs.Asking.{IsQuiet}
+use Rattle.sqlite.specs.Listing.{understood}
 use Rattle.sql_tables.proofs.AnswerLemmas.{plain_query}
 
 -- ---- INSERT
@@ -48,10 +45,6 @@ unfolding understood everything
 insert_blob_is further = (refl, (refl, refl))
 
 -- ---- DELETE
-
--- the first column is the parameter
-abbrev pub by_text : List Term
-by_text = op2 (Compare Eq Binary) (col 1 1) (col 0 0) ∷ []
 
 abbrev pub delete_slot : List ℕ
 delete_slot = codes "DELETE FROM current WHERE slot = ?1"
@@ -91,20 +84,3 @@ delete_shelf = codes "DELETE FROM shelf"
 pub delete_shelf_is : Means five delete_shelf (Delete 2 (record { lets = []; body = plain_query 3 [] (col 1 0 ∷ []) [] }))
 unfolding understood everything
 delete_shelf_is further = (refl, (refl, refl))
-
--- ---- SELECT by a key
-
-abbrev pub select_one : List ℕ
-select_one = codes "SELECT bytes FROM blob WHERE digest = ?1"
-
-pub select_one_is : Means five select_one (Select (record { lets = []; body = plain_query 5 by_text (col 1 2 ∷ []) [] }) (codes "bytes" ∷ []))
-unfolding understood everything
-select_one_is further = (refl, (refl, refl))
-
-pub select_one_unlisted : (further : Schema) → reads_listing (followed five further) select_one ≡ false
-unfolding understood everything
-select_one_unlisted further = refl
-
-pub select_one_quiet : IsQuiet (first select_one)
-unfolding understood everything
-select_one_quiet = λ _ _. refl

@@ -1,7 +1,4 @@
-pub mod Schema
-pub mod Rows
-pub mod Tables
+pub mod Changes
 pub mod Opening
-pub mod Faults
-pub mod steps
 pub mod Migration
+pub mod steps

@@ -2,8 +2,8 @@
 use Rattle.std.specs.Prelude.{◌≡◌, ◌⊎◌, [], IsTrue}
 use Rattle.sqlite.specs.State.{State}
 use Rattle.contents.specs.Contents.{Contents}
-use Rattle.tables.specs.Schema.{held, HasSix, IsFree}
-use Rattle.tables.specs.Tables.{HoldsFirst, HoldsTables}
+use Rattle.table_rows.specs.Schema.{held, HasSix, IsFree}
+use Rattle.table_rows.specs.Tables.{HoldsFirst, HoldsTables}
 
 -- Between two transactions, the tables hold these rows and are not those of schema 2 yet. The five are there, and behind
 -- them `root2` can be made, or all six are; what is absent counts as empty. The row of `schema` is 1; or it is 2 and there is no root.

@@ -3,16 +3,16 @@ ghost use Rattle.std.specs.Prelude.{◌≡◌, ◌<◌, ◌≤◌, true, false, 
 ghost use Rattle.sqlite_trees.specs.Tree.{Trees};
 ghost use Rattle.sqlite.specs.State.{HasCleanDisk, IsUnchanged, KeepsCommit, Survives};
 ghost use Rattle.sqlite.specs.Held.{state};
-ghost use Rattle.tables.specs.Schema.{the_schema, beginning, held, six};
+ghost use Rattle.table_rows.specs.Schema.{the_schema, beginning, held, six};
 ghost use Rattle.sql_tables.specs.Described.{LacksRest};
 ghost use Rattle.contents.specs.Contents.{no_rows};
-ghost use Rattle.tables.specs.Tables.{AreBare, HoldsWhole, IsStore};
+ghost use Rattle.table_rows.specs.Tables.{AreBare, HoldsWhole, IsStore};
 ghost use Rattle.tables.specs.steps.Writing.{IsInside, no_cells};
 ghost use Rattle.sql_tables.specs.Making.{IsMade};
 
-use crate::described::six_tables;
 use crate::making::{make_rest, put_version};
 use sqlite::{Alter, Connection, Error, Transaction};
+use table_rows::six_tables;
 
 // Whether any of the six tables has a row.
 fn has_rows<S: Alter>(tx: &mut Transaction<'_, S>) -> Result<bool, Error>

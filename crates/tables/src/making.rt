@@ -3,19 +3,19 @@ ghost use Rattle.std.specs.Prelude.{◌≡◌, ◌≢◌, ◌<◌, ◌≤◌, �
 ghost use Rattle.sqlite.specs.State.{HasCleanDisk, KeepsCommit, Survives};
 ghost use Rattle.sqlite.specs.Held.{state};
 ghost use Rattle.sqlite_trees.specs.Tree.{Trees};
-ghost use Rattle.tables.specs.Schema.{the_schema, beginning, held, six, HasSix};
+ghost use Rattle.table_rows.specs.Schema.{the_schema, beginning, held, six, HasSix};
 ghost use Rattle.sql_tables.specs.Described.{LacksRest};
 ghost use Rattle.contents.specs.Contents.{no_rows};
-ghost use Rattle.tables.specs.Tables.{IsStore, HoldsWhole, AreBare};
+ghost use Rattle.table_rows.specs.Tables.{IsStore, HoldsWhole, AreBare};
 ghost use Rattle.tables.specs.steps.Writing.{Cells, IsInside, no_cells};
-ghost use Rattle.tables.specs.steps.Migrating.{HasSome, IsEarly, bare_cells};
+ghost use Rattle.table_rows.specs.Schema.{HasSome};
+ghost use Rattle.tables.specs.steps.Migrating.{IsEarly, bare_cells};
 ghost use Rattle.tables.specs.Opening.{IsSettled};
 ghost use Rattle.sql_tables.specs.Making.{IsMade, Makes};
 
-use crate::described::six_tables;
-use crate::faults::StoreFault;
 use sqlite::{Alter, Connection, Error, Transaction};
 use std::alloc::Global;
+use table_rows::{StoreFault, six_tables};
 
 // Makes the tables from this place on.
 pub(crate) fn make_rest<S: Alter>(tx: &mut Transaction<'_, S>, count: usize) -> Result<(), Error>

@@ -3,16 +3,15 @@ ghost use Rattle.std.specs.Prelude.{◌≡◌, ◌≢◌, ◌≤◌, ◌++◌, �
 ghost use Rattle.sqlite.specs.State.{HasCleanDisk, KeepsCommit, Survives};
 ghost use Rattle.sqlite.specs.Held.{state};
 ghost use Rattle.contents.specs.Contents.{Contents};
-ghost use Rattle.tables.specs.Schema.{HasFirst};
-ghost use Rattle.tables.specs.Tables.{HoldsWhole, IsStore, root_row, version_row};
+ghost use Rattle.table_rows.specs.Schema.{HasFirst};
+ghost use Rattle.table_rows.specs.Tables.{HoldsWhole, IsStore, root_row, version_row};
 ghost use Rattle.tables.specs.Migration.{IsEarlier};
 ghost use Rattle.tables.specs.steps.Writing.{Cells, IsInside};
 ghost use Rattle.tables.specs.steps.Migrating.{IsEarly, brought};
 
-use crate::faults::StoreFault;
 use crate::making::make_root2;
-use crate::shape::beginning_of;
 use sqlite::{Alter, Connection, Error, Transaction, params};
+use table_rows::{StoreFault, beginning_of};
 
 // No row of `root` stays.
 fn empty_root<S: Alter>(tx: &mut Transaction<'_, S>) -> Result<(), Error>

@@ -4,14 +4,15 @@ ghost use Rattle.sqlite.specs.State.{HasCleanDisk, KeepsCommit, Survives};
 ghost use Rattle.sqlite.specs.Held.{state};
 ghost use Rattle.sqlite.specs.declared.types.Value.TheVariants.{Text, Blob};
 ghost use Rattle.contents.specs.Contents.{Contents};
-ghost use Rattle.tables.specs.Tables.{IsStore, HoldsWhole, after, after_all, slot_row, with_root, with_row, with_blob, with_timestamp, with_snapshot, without_blob, without_row, emptied};
+ghost use Rattle.table_rows.specs.Tables.{IsStore, HoldsWhole, slot_row};
+ghost use Rattle.tables.specs.Changes.{after, after_all, with_root, with_row, with_blob, with_timestamp, with_snapshot, without_blob, without_row, emptied};
 ghost use Rattle.tables.specs.steps.Writing.{Cells, IsInside, cells_of};
 ghost use Rattle.sql_tables.specs.Writing.{without_text};
 
 use crate::change::Change;
-use crate::faults::StoreFault;
 use sqlite::{Alter, Connection, Error, Transaction, params};
 use sqlite_value::value::ValueRef;
+use table_rows::StoreFault;
 
 // A root more.
 fn put_root<S: Alter>(

@@ -3,9 +3,9 @@ use Rattle.std.specs.Prelude.{◌≡◌, ℕ, None, Result, Ok, Err, ⊤}
 use Rattle.metadata.specs.File.{Bytes}
 use Rattle.denials.specs.Orders as orders
 use Rattle.denials.specs.Views.{denial_view}
-use Rattle.machine.specs.State.{State}
-use Rattle.machine.specs.Commands.{grants}
-use Rattle.machine.specs.Runs.{Reply, FileBytes, Refused}
+use Rattle.trust_rules.specs.State.{State}
+use Rattle.trust_rules.specs.Grants.{grants}
+use Rattle.trust_rules.specs.Runs.{Reply, FileBytes, Refused}
 use Rattle.store.specs.Standing.{IsClean, Standing}
 use Rattle.store.specs.declared.command.Reply.{Reply as Answer}
 use Rattle.store.specs.declared.command.Reply.TheVariants as replies

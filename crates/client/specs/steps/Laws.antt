@@ -14,10 +14,11 @@ use Rattle.delegations.specs.Delegation.{before}
 use Rattle.delegations.specs.Missed.{IsMissed}
 use Rattle.delegations.specs.Rows.{HasHash, HasLength, entry_of, place_before, row_at, with_row}
 use Rattle.delegations.specs.Search.{Shelf, Vouched, search, shelf_of}
-use Rattle.machine.specs.State.{Trusted, State, FollowsRoot, MeetsTop, NamesSnapshot, blob_at, IsRootChain, IsTrusted, IsState, kept_root, metadata_of}
-use Rattle.machine.specs.Commands.{AfterRoot, Listed, NoDrop, NoRollback, Offer, RootOffer, SnapshotOffer, TargetsOffer, TimestampOffer, grants, listed, offer, put_blob}
-use Rattle.machine.specs.Misses.{IsPart, IsThere, MissesRole, MissesBlob, IsProperListing}
-use Rattle.machine.specs.Runs.{Command, Reply, Steps}
+use Rattle.trust_rules.specs.State.{Trusted, State, FollowsRoot, MeetsTop, NamesSnapshot, blob_at, IsRootChain, IsTrusted, IsState, kept_root, metadata_of}
+use Rattle.trust_rules.specs.Offers.{AfterRoot, NoDrop, NoRollback, Offer, RootOffer, SnapshotOffer, TargetsOffer, TimestampOffer, offer, put_blob}
+use Rattle.trust_rules.specs.Grants.{Listed, grants, listed}
+use Rattle.trust_rules.specs.Misses.{IsPart, IsThere, MissesRole, MissesBlob, IsProperListing}
+use Rattle.trust_rules.specs.Runs.{Command, Reply, Steps}
 
 -- of roots
 pub record RootLaws : Type 0 where

@@ -2,7 +2,7 @@
 use Rattle.std.specs.Prelude.{◌≡◌, ◌≤◌, ℕ, suc, Bool, true, false, length, Option, Some, None, Result, Ok, Err}
 use Rattle.std.proofs.Common.{Vec, Global}
 use Rattle.metadata.specs.File.{Bytes, Names}
-use Rattle.machine.specs.State.{State}
+use Rattle.trust_rules.specs.State.{State}
 use Rattle.sources.specs.Source.{Gives}
 use Rattle.store.specs.Standing.{IsClean, Standing}
 use Rattle.client.specs.Changes.{Changes}

@@ -1,12 +1,12 @@
 -- What the code's values stand for, and what its parts are asked.
 use Rattle.std.specs.Prelude.{◌≡◌, ◌⊎◌, ℕ, List, Option, Result, Ok, Err, Bool, map, ⊤}
 use Rattle.std.specs.Borrow.{Bor}
-use Rattle.machine.specs.Runs.{Command, Init, OfferOne, Batch, PutBlob, Prune, Metadata, Target, Reply, Begun, Offered, BatchDone, Stored, Pruned, FileBytes, Absent, Refused}
-use Rattle.machine.specs.Commands.{Offer, offer_of}
+use Rattle.trust_rules.specs.Runs.{Command, Init, OfferOne, Batch, PutBlob, Prune, Metadata, Target, Reply, Begun, Offered, BatchDone, Stored, Pruned, FileBytes, Absent, Refused}
+use Rattle.trust_rules.specs.Offers.{Offer, offer_of}
 use Rattle.http_messages.specs.Faults.{fault_response}
 use Rattle.http_messages.specs.Request.{Request, AsksOf}
-use Rattle.tables.specs.declared.faults.StoreFault.{StoreFault}
-use Rattle.tables.specs.declared.faults.StoreFault.TheVariants as store
+use Rattle.table_rows.specs.declared.faults.StoreFault.{StoreFault}
+use Rattle.table_rows.specs.declared.faults.StoreFault.TheVariants as store
 use Rattle.http_messages.specs.declared.faults.Fault.{Fault}
 use Rattle.http_messages.specs.declared.faults.Fault.TheVariants.{Memory, Database}
 use Rattle.http_messages.specs.declared.reply.Kind.{Kind}

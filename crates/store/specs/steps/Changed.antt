@@ -2,11 +2,11 @@
 use Rattle.std.specs.Prelude.{ℕ, ◌-◌, Bool, List, [], ◌∷◌, ◌++◌, cond, length, Option, Some, None, option_map, unwrap_or}
 use Rattle.metadata.specs.File.{Bytes, File}
 use Rattle.document_parts.specs.Documents.{Root}
-use Rattle.machine.specs.Contents.{numbered, profile_number, shelf_rows}
+use Rattle.trust_rules.specs.Contents.{numbered, profile_number, shelf_rows}
 use Rattle.contents.specs.Contents.{Contents}
 use Rattle.delegations.specs.Rows.{Place}
-use Rattle.machine.specs.Effects.{Effects, last_or}
-use Rattle.tables.specs.Tables.{emptied, without_blob, without_row}
+use Rattle.trust_rules.specs.Effects.{Effects, last_or}
+use Rattle.tables.specs.Changes.{emptied, without_blob, without_row}
 
 -- the rows of new roots: the last has its own version, and they rise by one
 abbrev pub new_roots : ℕ → List (File Root) → List (ℕ × (ℕ × Bytes))

@@ -3,16 +3,16 @@ use Rattle.std.specs.Prelude.{◌≡◌, ◌⊎◌, ℕ, Result, Err, IfOk, IsTr
 use Rattle.sqlite.specs.State as database
 use Rattle.sqlite.specs.State.{HasCleanDisk}
 use Rattle.sqlite_trees.specs.Tree.{Trees}
-use Rattle.machine.specs.State.{State}
-use Rattle.machine.specs.Runs.{Command}
+use Rattle.trust_rules.specs.State.{State}
+use Rattle.trust_rules.specs.Runs.{Command}
 use Rattle.sql_tables.specs.Outliving.{Outlives}
-use Rattle.tables.specs.Tables.{HoldsWhole}
+use Rattle.table_rows.specs.Tables.{HoldsWhole}
 use Rattle.store.specs.Applies.{HoldsStep, Replies}
 use Rattle.store.specs.Standing.{StandsAt, seen}
 use Rattle.store.specs.StateRows.{Kept, rows_of}
 use Rattle.store.specs.Views.{reply_view}
-use Rattle.tables.specs.declared.faults.StoreFault.{StoreFault}
-use Rattle.tables.specs.declared.faults.StoreFault.TheVariants.{Damaged}
+use Rattle.table_rows.specs.declared.faults.StoreFault.{StoreFault}
+use Rattle.table_rows.specs.declared.faults.StoreFault.TheVariants.{Damaged}
 use Rattle.store.specs.declared.command.Reply.{Reply as Answer}
 
 -- The command is the machine's step, or a fault that leaves the state as it was. A crash leaves the rows from before the

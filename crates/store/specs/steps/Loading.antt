@@ -8,8 +8,8 @@ use Rattle.sqlite.specs.State.{HasCleanDisk, Survives}
 use Rattle.sqlite.proofs.StateLemmas.{survives_then}
 use Rattle.sqlite_rules.specs.Lists.{Has}
 use Rattle.contents.specs.Contents.{Contents}
-use Rattle.tables.specs.Rows.{blob_cells}
-use Rattle.tables.specs.Tables.{IsStore, blob_row}
+use Rattle.table_rows.specs.Rows.{blob_cells}
+use Rattle.table_rows.specs.Tables.{IsStore, blob_row}
 
 -- it writes nothing
 pub record ReadsOnly (old new : database.State) : Type 0 where

@@ -1,18 +1,18 @@
 -- What the machine answers, as a reply of the store.
 use Rattle.std.specs.Prelude.{◌≡◌, ℕ, None, Some, Result, Ok, Err}
-use Rattle.tables.specs.declared.faults.StoreFault.{StoreFault}
-use Rattle.tables.specs.declared.faults.StoreFault.TheVariants.{Database, OutOfMemory}
+use Rattle.table_rows.specs.declared.faults.StoreFault.{StoreFault}
+use Rattle.table_rows.specs.declared.faults.StoreFault.TheVariants.{Database, OutOfMemory}
 use Rattle.store.specs.declared.command.Reply.{Reply as Answer}
 use Rattle.store.specs.declared.command.Reply.TheVariants as answers
 use Rattle.metadata.specs.File.{Bytes}
 use Rattle.std.proofs.Common.{Vec, Global}
-use Rattle.machine.specs.declared.refusal.BatchRefusal.{BatchRefusal}
-use Rattle.machine.specs.declared.refusal.BatchRefusal.TheVariants as batches
-use Rattle.machine.specs.declared.serving.GetFault.{GetFault}
-use Rattle.machine.specs.declared.serving.GetFault.TheVariants as gets
-use Rattle.machine.specs.declared.serving.LoadFault.TheVariants as loads
-use Rattle.machine.specs.declared.refusal.Refusal.{Refusal}
-use Rattle.machine.specs.declared.refusal.Refusal.TheVariants as refusals
+use Rattle.trusted_state.specs.declared.refusal.BatchRefusal.{BatchRefusal}
+use Rattle.trusted_state.specs.declared.refusal.BatchRefusal.TheVariants as batches
+use Rattle.granting.specs.declared.serving.GetFault.{GetFault}
+use Rattle.granting.specs.declared.serving.GetFault.TheVariants as gets
+use Rattle.granting.specs.declared.serving.LoadFault.TheVariants as loads
+use Rattle.trusted_state.specs.declared.refusal.Refusal.{Refusal}
+use Rattle.trusted_state.specs.declared.refusal.Refusal.TheVariants as refusals
 
 -- a refusal of the machine as an answer
 abbrev pub IsRefusal : Refusal → Result Answer StoreFault → Type 0

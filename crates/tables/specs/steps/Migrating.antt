@@ -1,19 +1,15 @@
 -- What the tables hold inside the transaction that brings them to schema 2, cell by cell.
-use Rattle.std.specs.Prelude.{◌≡◌, ◌⊎◌, ℕ, List, [], ◌∷◌, ◌++◌, map, IsTrue}
+use Rattle.std.specs.Prelude.{ℕ, List, [], ◌∷◌, ◌++◌, map, IsTrue}
 use Rattle.sqlite.specs.Effect.{IsDatabase}
 use Rattle.sqlite.specs.State.{State}
 use Rattle.sqlite.specs.Schema.{Schema}
 use Rattle.sqlite_trees.specs.Tree.{Trees}
 use Rattle.sql_tables.specs.Rows.{AreRows}
 use Rattle.contents.specs.Contents.{Contents}
-use Rattle.tables.specs.Rows.{root_cells, root2_cells, current_cells, shelf_cells, blob_cells, version_cells}
-use Rattle.tables.specs.Schema.{held, HasSix, IsFree}
-use Rattle.tables.specs.Tables.{first_row, root_row, version_row}
+use Rattle.table_rows.specs.Rows.{root_cells, root2_cells, current_cells, shelf_cells, blob_cells, version_cells}
+use Rattle.table_rows.specs.Schema.{held, HasSix, HasSome}
+use Rattle.table_rows.specs.Tables.{first_row, root_row, version_row}
 use Rattle.tables.specs.steps.Writing.{Cells, cells_of}
-
--- so many of the six tables are there: five, and `root2` can be made, or all
-abbrev pub HasSome : ℕ → Schema → Type 0
-HasSome count schema = ((count ≡ 5) × IsFree schema) ⊎ ((count ≡ 6) × HasSix schema)
 
 -- the trees of the six tables hold these cells, as sets
 pub record HoldsCells (trees : Trees) (c : Cells) : Type 0 where

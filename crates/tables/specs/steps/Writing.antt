@@ -4,11 +4,11 @@ use Rattle.sqlite.specs.Order.{Row}
 use Rattle.sqlite.specs.Effect.{IsDatabase}
 use Rattle.sqlite.specs.State.{State}
 use Rattle.sql_tables.specs.Rows.{AreRows}
-use Rattle.tables.specs.Rows.{root2_cells}
-use Rattle.tables.specs.Schema.{five, root2_rows, HasSix}
+use Rattle.table_rows.specs.Rows.{root2_cells}
+use Rattle.table_rows.specs.Schema.{five, root2_rows, HasSix}
 use Rattle.sql_tables.specs.Inside as of_list
 use Rattle.contents.specs.Contents.{Contents}
-use Rattle.tables.specs.Tables.{root_row, current_rows, shelf_row, blob_row, version_row}
+use Rattle.table_rows.specs.Tables.{root_row, current_rows, shelf_row, blob_row, version_row}
 
 pub record Cells : Type 0 where
   pub root : List Row

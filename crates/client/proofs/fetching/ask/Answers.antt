@@ -1,5 +1,5 @@
 use Rattle.std.proofs.Common.{None}
-use Rattle.machine.specs.Runs.{Target}
+use Rattle.trust_rules.specs.Runs.{Target}
 use Rattle.client.proofs.OneFile.{undamaged, unoffered}
 use Rattle.client.proofs.Replied.{target_asked, target_reply}
 use Rattle.client.proofs.fetching.ask.Goals as goal

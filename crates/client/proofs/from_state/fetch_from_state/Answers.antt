@@ -1,5 +1,5 @@
 use Rattle.std.proofs.Common.{refl}
-use Rattle.machine.proofs.ShapedOnce.{Shapes}
+use Rattle.trust_rules.proofs.ShapedOnce.{Shapes}
 use Rattle.client.specs.declared.from_state.StateSource.{StateSource}
 use Rattle.client.proofs.Composing.{becomes}
 use Rattle.client.proofs.StateSources.{IsAt, gives_of, honest_source}

@@ -1,4 +1,4 @@
-use Rattle.machine.proofs.ShapedOnce.{Shapes}
+use Rattle.trust_rules.proofs.ShapedOnce.{Shapes}
 use Rattle.client.proofs.Anchors as anchors
 use Rattle.client.proofs.laws.anchor_is_behind.Goals as goal
 

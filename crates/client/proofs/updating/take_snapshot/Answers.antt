@@ -1,5 +1,5 @@
 use Rattle.std.proofs.Common.{subst, ap}
-use Rattle.machine.specs.State.{IsSnapshotDue}
+use Rattle.trust_rules.specs.State.{IsSnapshotDue}
 use Rattle.client.specs.Session.{held, due, fails, unasked}
 use Rattle.client.specs.Views.{ended}
 use Rattle.client.proofs.Composing.{becomes_at, rests}

@@ -1,5 +1,5 @@
 use Rattle.std.proofs.Common.{◌≡◌, length, map, take}
-use Rattle.machine.specs.Views.{offer_view}
+use Rattle.trusted_state.specs.Views.{offer_view}
 use Rattle.commands.proofs.arguments.batch_of.Given as goal
 
 -- those that were taken, in order, and as many files

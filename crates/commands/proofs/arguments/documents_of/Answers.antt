@@ -1,7 +1,7 @@
 use Rattle.std.proofs.Common.{◌≡◌, ◌∙◌, ◌+◌, ◌++◌, ℕ, suc, List, [], ◌∷◌, ap, arith, length, map, get_or, string_bytes, subst, sym, take}
 use Rattle.std.proofs.lemmas.List.{get_or-map, length-map}
-use Rattle.machine.specs.Commands.{Offer}
-use Rattle.machine.specs.Views.{offer_view}
+use Rattle.trust_rules.specs.Offers.{Offer}
+use Rattle.trusted_state.specs.Views.{offer_view}
 use Rattle.commands.specs.Arguments.{AreDocuments, IsDocument}
 use Rattle.commands.proofs.Offering.{documents-next, shown-next}
 use Rattle.commands.proofs.arguments.documents_of.Goals as goal

@@ -1,5 +1,5 @@
 use Rattle.std.proofs.Common.{map, string_bytes, take}
-use Rattle.machine.specs.Views.{offer_view}
+use Rattle.trusted_state.specs.Views.{offer_view}
 use Rattle.commands.specs.Arguments.{AreDocuments}
 use Rattle.commands.proofs.arguments.documents_of.Given as goal
 

@@ -3,11 +3,12 @@ use Rattle.std.proofs.KnownBytes.{Consumes-trans}
 use Rattle.http_messages.specs.Head.{left, FoundHead, IsInput}
 use Rattle.http_messages.specs.Sound.{OnNoMemory}
 use Rattle.http_messages.specs.declared.request.Received.{Received}
-use Rattle.http_messages.specs.steps.Said.{wanted_by}
+use Rattle.http_messages.specs.steps.Said.{wanted_by, OfRest, HasKept}
 use Rattle.std.proofs.lemmas.List.{take_rest}
 use Rattle.std.proofs.lemmas.Result.{err_from_is_err_and}
-use Rattle.http_messages.specs.Request.{AsksOf, by_none, OfRest, HasKept, WantsMemoryOf}
+use Rattle.http_messages.specs.Request.{AsksOf, WantsMemoryOf}
 use Rattle.http_messages.proofs.Asking.{asks-wanted, wants-memory, wanted-more, input-is, on-no-memory}
+use Rattle.http_messages.proofs.SaidInOrder.{asks-by-none}
 use Rattle.http_messages.proofs.request.read_request_of.Goals as goal
 
 pub returns-in_default-clause-asked : goal.returns-in_default-clause-asked
@@ -17,7 +18,7 @@ returns-in_default-clause-asked g c =
       got,
       c.in_ok-filled.ensures.bytes,
       λ request e.
-          subst (AsksOf c.args.reads_only (got ++ more)) (sym e) (by_none (subst (FoundHead got more c.read_head.new.headers) c.in_default.is c.in_ok-filled.ensures.head)),
+          subst (AsksOf c.args.reads_only (got ++ more)) (sym e) (asks-by-none c.args.reads_only (got ++ more) (subst (FoundHead got more c.read_head.new.headers) c.in_default.is c.in_ok-filled.ensures.head)),
       λ is. absurd is,
     )
 

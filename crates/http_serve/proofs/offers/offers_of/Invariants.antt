@@ -1,5 +1,5 @@
 use Rattle.std.proofs.Common.{◌≡◌}
-use Rattle.machine.specs.Views.{documents_view}
+use Rattle.trusted_state.specs.Views.{documents_view}
 use Rattle.http_serve.specs.steps.Views.{offers_of}
 use Rattle.http_serve.proofs.offers.offers_of.Given as goal
 

@@ -1,7 +1,7 @@
 use Rattle.std.proofs.Common.{ap, subst, ◌∙◌}
 use Rattle.sqlite.specs.Held.{state}
-use Rattle.machine.specs.Runs.{Batch}
-use Rattle.machine.specs.Views.{documents_view}
+use Rattle.trust_rules.specs.Runs.{Batch}
+use Rattle.trusted_state.specs.Views.{documents_view}
 use Rattle.store.specs.Standing.{seen}
 use Rattle.http_serve.specs.steps.Views.{Performed}
 use Rattle.http_serve.proofs.Responding.{offered, served, wanting}

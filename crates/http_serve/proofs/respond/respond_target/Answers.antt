@@ -1,7 +1,7 @@
 use Rattle.std.proofs.Common.{subst}
 use Rattle.std.specs.Prelude.{option_map}
 use Rattle.sqlite.specs.Held.{state}
-use Rattle.machine.specs.Runs.{Target}
+use Rattle.trust_rules.specs.Runs.{Target}
 use Rattle.http_serve.specs.Response.{asks}
 use Rattle.store.specs.Standing.{seen}
 use Rattle.http_serve.specs.steps.Views.{Performed}

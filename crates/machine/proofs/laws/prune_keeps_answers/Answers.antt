@@ -1,5 +1,5 @@
 use Rattle.machine.proofs.PrunedAnswers.{answers_same}
-use Rattle.machine.proofs.PrunedStates.{prune_alike, prune_valid}
+use Rattle.trust_rules.proofs.PrunedStates.{prune_alike, prune_valid}
 use Rattle.machine.proofs.laws.prune_keeps_answers.Goals as goal
 
 pub returns-clause-grants : goal.returns-clause-grants

@@ -1,5 +1,5 @@
 use Rattle.machine.proofs.SentAgain.{answers_again, batch_again, offers_again, step_again}
-use Rattle.machine.proofs.ShapedOnce.{Shapes}
+use Rattle.trust_rules.proofs.ShapedOnce.{Shapes}
 use Rattle.machine.proofs.laws.sent_again.Goals as goal
 
 pub returns-clause-offers : goal.returns-clause-offers

@@ -5,9 +5,9 @@ use Rattle.std.proofs.lemmas.List.Kept.{AllPairs-filter}
 use Rattle.metadata.specs.File.{Bytes}
 use Rattle.delegations.specs.Delegation.{before}
 use Rattle.delegations.specs.Rows.{Rises}
-use Rattle.machine.specs.Held.{length_at}
-use Rattle.machine.specs.Views.{length_views}
-use Rattle.machine.proofs.GoneKeys.{map_filter, none_there}
+use Rattle.trust_rules.specs.Held.{length_at}
+use Rattle.state_parts.specs.Views.{length_views}
+use Rattle.trust_rules.proofs.GoneKeys.{map_filter, none_there}
 use Rattle.machine.proofs.pruning.leave_one_out.Goals as goal
 
 pub returns-in_default-clause-left : goal.returns-in_default-clause-left

@@ -2,9 +2,9 @@ use Rattle.std.proofs.Common.{◌≡◌, bytes_eq, length, map}
 use Rattle.document_parts.specs.Views.{listing_view}
 use Rattle.delegations.specs.Delegation.{before}
 use Rattle.delegations.specs.Rows.{Rises}
-use Rattle.machine.specs.Effects.{without}
-use Rattle.machine.specs.Views.{length_views}
-use Rattle.machine.specs.steps.Pruning.{digests_of}
+use Rattle.trust_rules.specs.Effects.{without}
+use Rattle.state_parts.specs.Views.{length_views}
+use Rattle.trust_rules.specs.steps.Pruning.{digests_of}
 use Rattle.machine.proofs.pruning.leave_out.Given as goal
 
 abbrev pub invariant-listings : goal.invariant-listings

@@ -1,7 +1,7 @@
 use Rattle.std.proofs.Common.{◌≡◌, ◌++◌, length, option_map}
 use Rattle.metadata.specs.FileViews.{snapshot_file}
 use Rattle.delegations.specs.Views.{row_views}
-use Rattle.machine.specs.steps.Pruning.{unlisted_places}
+use Rattle.trust_rules.specs.steps.Pruning.{unlisted_places}
 use Rattle.machine.proofs.pruning.unlisted_rows.Given as goal
 
 abbrev pub invariant-rows : goal.invariant-rows

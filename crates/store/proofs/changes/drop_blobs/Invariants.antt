@@ -1,6 +1,6 @@
 use Rattle.std.proofs.Common.{◌≡◌, length}
-use Rattle.machine.specs.Views.{digest_views}
-use Rattle.tables.specs.Tables.{after_all}
+use Rattle.state_parts.specs.Views.{digest_views}
+use Rattle.tables.specs.Changes.{after_all}
 use Rattle.contents.specs.Contents.{Contents}
 use Rattle.store.specs.steps.Changed.{blobs_gone}
 use Rattle.store.proofs.changes.drop_blobs.Given as goal

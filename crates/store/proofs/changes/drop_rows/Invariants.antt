@@ -1,5 +1,5 @@
 use Rattle.std.proofs.Common.{◌≡◌, length}
-use Rattle.tables.specs.Tables.{after_all}
+use Rattle.tables.specs.Changes.{after_all}
 use Rattle.contents.specs.Contents.{Contents}
 use Rattle.store.specs.steps.Changed.{rows_gone}
 use Rattle.store.proofs.changes.drop_rows.Given as goal

@@ -2,8 +2,8 @@ use Rattle.std.proofs.Common.{◌≡◌, ◌∙◌, ◌-◌, suc, length, List, 
 use Rattle.std.proofs.lemmas.List.{length-map}
 use Rattle.metadata.specs.File.{Bytes}
 use Rattle.metadata.specs.FileViews.{root_file}
-use Rattle.machine.specs.Contents.{profile_number}
-use Rattle.tables.specs.Tables.{after_all}
+use Rattle.trust_rules.specs.Contents.{profile_number}
+use Rattle.tables.specs.Changes.{after_all}
 use Rattle.store.specs.steps.Changed.{more_roots, new_roots}
 use Rattle.store.proofs.Appending.{after_more, roots_then}
 use Rattle.store.proofs.changes.put_roots_to.Goals as goal

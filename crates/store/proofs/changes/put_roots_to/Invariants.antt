@@ -1,7 +1,7 @@
 use Rattle.limits.specs.Limits.{most_held}
 use Rattle.std.proofs.Common.{◌≡◌, ◌≤◌, map, length}
 use Rattle.metadata.specs.FileViews.{root_file}
-use Rattle.tables.specs.Tables.{after_all}
+use Rattle.tables.specs.Changes.{after_all}
 use Rattle.contents.specs.Contents.{Contents}
 use Rattle.store.specs.steps.Changed.{more_roots, new_roots}
 use Rattle.store.proofs.changes.put_roots_to.Given as goal

@@ -1,9 +1,9 @@
 use Rattle.std.proofs.Common.{◌≡◌, ◌∙◌, List, ap, sym}
 use Rattle.metadata.specs.File.{Bytes}
 use Rattle.sqlite.specs.Held.{state}
-use Rattle.machine.proofs.ShapedOnce.{Shapes}
-use Rattle.machine.specs.State.{State, Trusted}
-use Rattle.tables.specs.Schema.{held}
+use Rattle.trust_rules.proofs.ShapedOnce.{Shapes}
+use Rattle.trust_rules.specs.State.{State, Trusted}
+use Rattle.table_rows.specs.Schema.{held}
 use Rattle.store.specs.StateRows.{rows_of}
 use Rattle.store.proofs.Fitting.{same_tables, state_fits, state_rises}
 use Rattle.store.proofs.laws.stands.Goals as goal

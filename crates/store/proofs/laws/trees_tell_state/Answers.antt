@@ -1,4 +1,4 @@
-use Rattle.machine.proofs.ShapedOnce.{Shapes}
+use Rattle.trust_rules.proofs.ShapedOnce.{Shapes}
 use Rattle.store.proofs.Reopening.{never_damaged, stands_once, whole_stands}
 use Rattle.store.proofs.laws.trees_tell_state.Goals as goal
 

@@ -4,12 +4,12 @@ use Rattle.std.proofs.lemmas.List.Elements.{All-from_recursion}
 use Rattle.sha2.specs.Sha256.{sha256}
 use Rattle.sqlite.specs.Held.{state}
 use Rattle.contents.specs.Contents.{Contents}
-use Rattle.machine.proofs.ShapedOnce.{Shapes}
-use Rattle.tables.specs.declared.faults.StoreFault.TheVariants.{Damaged}
+use Rattle.trust_rules.proofs.ShapedOnce.{Shapes}
+use Rattle.table_rows.specs.declared.faults.StoreFault.TheVariants.{Damaged}
 use Rattle.tables.specs.Migration.{IsEarlier}
-use Rattle.tables.specs.Tables.{IsStore, Stands}
+use Rattle.table_rows.specs.Tables.{IsStore, Stands}
 use Rattle.store.specs.Standing.{IsStateOf}
-use Rattle.tables.specs.Schema.{held}
+use Rattle.table_rows.specs.Schema.{held}
 use Rattle.store.specs.StateRows.{rows_of}
 use Rattle.store.proofs.Fitting.{one_stands, state_digests, state_fits, state_rises}
 use Rattle.store.proofs.Renewing.{prepares, renews}

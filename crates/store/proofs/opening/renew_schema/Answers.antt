@@ -1,8 +1,8 @@
 use Rattle.std.proofs.Common.{◌∙◌, map, ap, sym}
 use Rattle.sqlite.specs.Held.{state}
 use Rattle.sqlite.proofs.StateLemmas.{survives_weaker}
-use Rattle.machine.specs.Contents.{root_rows}
-use Rattle.machine.specs.Held.{Held}
+use Rattle.trust_rules.specs.Contents.{root_rows}
+use Rattle.trust_rules.specs.Held.{Held}
 use Rattle.store.specs.StateRows.{rows_of}
 use Rattle.store.proofs.Renewing.{early_first, with_ones}
 use Rattle.store.proofs.opening.renew_schema.Goals as goal

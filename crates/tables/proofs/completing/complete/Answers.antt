@@ -4,13 +4,13 @@ use Rattle.sqlite.specs.Held.{state}
 use Rattle.sqlite.specs.State.{HasCleanDisk, KeepsCommit, Survives}
 use Rattle.sqlite.proofs.StateLemmas.{survives_then}
 use Rattle.sqlite.proofs.Callers.{survives_begin}
-use Rattle.tables.specs.Schema.{beginning, held, six}
+use Rattle.table_rows.specs.Schema.{beginning, held, six}
 use Rattle.contents.specs.Contents.{no_rows}
-use Rattle.tables.specs.Tables.{AreBare, HoldsWhole, IsStore}
+use Rattle.table_rows.specs.Tables.{AreBare, HoldsWhole, IsStore}
 use Rattle.sql_tables.specs.Schema.{counted}
 use Rattle.sql_tables.specs.Making.{IsMade}
 use Rattle.sql_tables.proofs.Beginnings.{as_counted, lacks}
-use Rattle.tables.proofs.Beginnings.{held_few}
+use Rattle.table_rows.proofs.Beginnings.{held_few}
 use Rattle.tables.proofs.Changes.{committed, to_whole}
 use Rattle.sql_tables.proofs.Calls.{keeps_then}
 use Rattle.tables.proofs.completing.complete.Goals as goal

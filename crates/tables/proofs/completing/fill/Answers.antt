@@ -3,7 +3,7 @@ use Rattle.sqlite.specs.Held.{state}
 use Rattle.sqlite.specs.State.{HasCleanDisk}
 use Rattle.sql_tables.proofs.Beginnings.{bare_made}
 use Rattle.sql_tables.proofs.Calls.{made_same, keeps_then, unchanged_keeps}
-use Rattle.tables.specs.Schema.{the_schema}
+use Rattle.table_rows.specs.Schema.{the_schema}
 use Rattle.tables.proofs.MakingLemmas.{made_bare, made_six}
 use Rattle.tables.proofs.completing.fill.Goals as goal
 

@@ -5,9 +5,10 @@ use Rattle.sqlite.specs.State.{HasCleanDisk, Survives}
 use Rattle.sqlite.proofs.StateLemmas.{survives_then}
 use Rattle.sqlite.proofs.Callers.{survives_begin}
 use Rattle.contents.specs.Contents.{no_rows}
-use Rattle.tables.specs.Schema.{held}
-use Rattle.tables.specs.Tables.{AreBare, HoldsWhole, IsStore}
-use Rattle.tables.specs.steps.Migrating.{HasSome, IsEarly, bare_cells}
+use Rattle.table_rows.specs.Schema.{held}
+use Rattle.table_rows.specs.Tables.{AreBare, HoldsWhole, IsStore}
+use Rattle.table_rows.specs.Schema.{HasSome}
+use Rattle.tables.specs.steps.Migrating.{IsEarly, bare_cells}
 use Rattle.tables.proofs.CellLemmas.{cells_bare}
 use Rattle.tables.proofs.Changes.{committed, to_whole}
 use Rattle.tables.proofs.MakingLemmas.{early}

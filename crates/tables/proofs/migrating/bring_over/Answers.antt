@@ -7,7 +7,7 @@ use Rattle.sqlite.proofs.Callers.{survives_begin}
 use Rattle.contents.specs.Contents.{Contents}
 use Rattle.sql_tables.proofs.Calls.{OnOk_then}
 use Rattle.tables.specs.Migration.{IsEarlier}
-use Rattle.tables.specs.Tables.{HoldsWhole, IsStore}
+use Rattle.table_rows.specs.Tables.{HoldsWhole, IsStore}
 use Rattle.tables.specs.steps.Writing.{IsInside}
 use Rattle.tables.proofs.Changes.{committed, err_then, fails_back, to_whole}
 use Rattle.tables.proofs.Migrated.{Ready, first_back, ready}

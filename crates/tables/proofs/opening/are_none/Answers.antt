@@ -1,4 +1,4 @@
-use Rattle.tables.proofs.ItemLemmas.{read_some}
+use Rattle.table_rows.proofs.ItemLemmas.{read_some}
 use Rattle.tables.proofs.opening.are_none.Goals as goal
 
 pub returns-else-is_empty-clause-no : goal.returns-else-is_empty-clause-no

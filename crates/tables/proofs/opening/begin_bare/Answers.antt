@@ -2,10 +2,10 @@ use Rattle.std.proofs.Common.{◌≡◌, IsTrue, true}
 use Rattle.sqlite_trees.specs.Tree.{Trees}
 use Rattle.sqlite.specs.Held.{state}
 use Rattle.sqlite.proofs.StateLemmas.{survives_weaker}
-use Rattle.tables.specs.Schema.{held}
-use Rattle.tables.specs.steps.Migrating.{HasSome}
+use Rattle.table_rows.specs.Schema.{held}
+use Rattle.table_rows.specs.Schema.{HasSome}
 use Rattle.contents.specs.Contents.{no_rows}
-use Rattle.tables.specs.Tables.{AreBare, HoldsWhole}
+use Rattle.table_rows.specs.Tables.{AreBare, HoldsWhole}
 use Rattle.tables.proofs.opening.begin_bare.Goals as goal
 
 pub returns-in_err-begin-clause-crash : goal.returns-in_err-begin-clause-crash

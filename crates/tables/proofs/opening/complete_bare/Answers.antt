@@ -1,7 +1,7 @@
 use Rattle.std.proofs.Common.{refl}
 use Rattle.sqlite.specs.Held.{state}
-use Rattle.tables.proofs.Beginnings.{stands_bare}
-use Rattle.tables.proofs.ItemLemmas.{nothing_read}
+use Rattle.table_rows.proofs.Beginnings.{stands_bare}
+use Rattle.table_rows.proofs.ItemLemmas.{nothing_read}
 use Rattle.tables.proofs.opening.complete_bare.Goals as goal
 
 pub returns-then-branch-clause-empty : goal.returns-then-branch-clause-empty

@@ -3,11 +3,11 @@ use Rattle.sqlite.specs.Effect.{Database}
 use Rattle.sqlite.specs.Held.{state}
 use Rattle.sqlite.specs.State.{HasCleanDisk, KeepsCommit}
 use Rattle.contents.specs.Contents.{no_rows}
-use Rattle.tables.specs.Tables.{AreBare, IsStore}
+use Rattle.table_rows.specs.Tables.{AreBare, IsStore}
 use Rattle.sql_tables.proofs.Calls.{unchanged_keeps}
 use Rattle.sql_tables.proofs.Gathering.{handed_on}
-use Rattle.tables.proofs.Beginnings.{some_after}
-use Rattle.tables.specs.Schema.{held}
+use Rattle.table_rows.proofs.Beginnings.{some_after}
+use Rattle.table_rows.specs.Schema.{held}
 use Rattle.tables.proofs.Openings.{began, early_store, late_store, stands_as}
 use Rattle.tables.proofs.opening.load.Goals as goal
 
@@ -19,7 +19,7 @@ returns-in_err-rows-clause-kept g c clean schema is = c.in_err-rows.ensures.kept
 
 pub returns-in_err-begin_bare-clause-damaged : goal.returns-in_err-begin_bare-clause-damaged
 returns-in_err-begin_bare-clause-damaged g c clean schema live is t fit right stands =
-    let early : HasCleanDisk (state g.S.Store c.gather.new.conn) = omega (arith, clean, c.begin_bare.ensures.crash.clean) in
+    let early : HasCleanDisk (state g.S.Store c.read_tables.new.conn) = omega (arith, clean, c.begin_bare.ensures.crash.clean) in
     let it = c.in_ok-rows.ensures.read in
     let told = c.in_err-begin_bare.ensures.damaged (ap Err (handed_on c.from_residual-in_err-begin_bare.result c.from_residual-in_err-begin_bare.ensures.1 is)) in
     ((it.2 early schema live).1 c.if-is_begun.false).other (c.are_none.ensures.no told it.0 it.1) t stands
@@ -27,7 +27,7 @@ returns-in_err-begin_bare-clause-damaged g c clean schema live is t fit right st
 pub returns-in_err-begin_bare-clause-kept : goal.returns-in_err-begin_bare-clause-kept
 returns-in_err-begin_bare-clause-kept g c clean some is =
     let old = state g.S.Store c.args.conn.now in
-    let mid = state g.S.Store c.gather.new.conn in
+    let mid = state g.S.Store c.read_tables.new.conn in
     let early : HasCleanDisk mid = omega (arith, clean, c.begin_bare.ensures.crash.clean) in
     let other = c.in_err-begin_bare.ensures.damaged (ap Err (handed_on c.from_residual-in_err-begin_bare.result c.from_residual-in_err-begin_bare.ensures.1 is)) in
     subst (λ h. KeepsCommit old (state g.S.Store h)) (sym (c.begin_bare.ensures.told other).1) (unchanged_keeps old mid (c.in_ok-rows.ensures.unchanged early some))
@@ -35,22 +35,22 @@ returns-in_err-begin_bare-clause-kept g c clean some is =
 pub returns-in_err-begin_bare-clause-crash : goal.returns-in_err-begin_bare-clause-crash
 returns-in_err-begin_bare-clause-crash g c live =
     let it = c.in_ok-rows.ensures.read in
-    began c.args.count (state g.S.Store c.args.conn.now) (state g.S.Store c.gather.new.conn) (state g.S.Store c.begin_bare.new.conn) c.are_none.result c.in_ok-rows.ensures.unchanged
+    began c.args.count (state g.S.Store c.args.conn.now) (state g.S.Store c.read_tables.new.conn) (state g.S.Store c.begin_bare.new.conn) c.are_none.result c.in_ok-rows.ensures.unchanged
     (λ early schema yes. ((it.2 early schema live).1 c.if-is_begun.false).bare (c.are_none.ensures.yes yes it.0 it.1))
-    c.gather.ensures.survives c.begin_bare.ensures.crash
+    c.read_tables.ensures.survives c.begin_bare.ensures.crash
 
 pub returns-clause-crash : goal.returns-clause-crash
 returns-clause-crash g c live =
     let it = c.in_ok-rows.ensures.read in
-    began c.args.count (state g.S.Store c.args.conn.now) (state g.S.Store c.gather.new.conn) (state g.S.Store c.begin_bare.new.conn) c.are_none.result c.in_ok-rows.ensures.unchanged
+    began c.args.count (state g.S.Store c.args.conn.now) (state g.S.Store c.read_tables.new.conn) (state g.S.Store c.begin_bare.new.conn) c.are_none.result c.in_ok-rows.ensures.unchanged
     (λ early schema yes. ((it.2 early schema live).1 c.if-is_begun.false).bare (c.are_none.ensures.yes yes it.0 it.1))
-    c.gather.ensures.survives c.begin_bare.ensures.crash
+    c.read_tables.ensures.survives c.begin_bare.ensures.crash
 
 pub returns-then-is_begun-clause-loaded : goal.returns-then-is_begun-clause-loaded
 returns-then-is_begun-clause-loaded g c =
     let it = c.in_ok-rows.ensures.read in
     let old = state g.S.Store c.args.conn.now in
-    let new = state g.S.Store c.gather.new.conn in (
+    let new = state g.S.Store c.read_tables.new.conn in (
       it.0,
       it.1,
       λ clean settled some live.
@@ -69,7 +69,7 @@ returns-clause-loaded g c =
       it.0,
       it.1,
       λ clean settled some live.
-          let early : HasCleanDisk (state g.S.Store c.gather.new.conn) = omega (arith, clean, c.begin_bare.ensures.crash.clean) in
+          let early : HasCleanDisk (state g.S.Store c.read_tables.new.conn) = omega (arith, clean, c.begin_bare.ensures.crash.clean) in
           let none : it.0 ≡ no_rows = c.are_none.ensures.yes c.in_ok-begin_bare.ensures.bare it.0 it.1 in
           let bare = ((it.2 early some live).1 c.if-is_begun.false).bare none in
           let same = c.in_ok-rows.ensures.unchanged early some in

@@ -2,11 +2,11 @@ use Rattle.std.proofs.Common.{◌≡◌, ◌<◌, ◌∙◌, inr, false, refl, s
 use Rattle.sqlite.specs.Held.{state}
 use Rattle.sqlite.specs.State.{HasCleanDisk}
 use Rattle.contents.specs.Contents.{no_rows}
-use Rattle.tables.specs.Schema.{beginning, held}
-use Rattle.tables.specs.Opening.{IsReadAs}
-use Rattle.tables.specs.Tables.{AreBare, IsStore, StandsFor}
-use Rattle.tables.specs.steps.Migrating.{HasSome}
-use Rattle.tables.proofs.Beginnings.{are_most, are_some, begins_few, begins_some, not_most}
+use Rattle.table_rows.specs.Schema.{beginning, held}
+use Rattle.table_rows.specs.Reading.{IsReadAs}
+use Rattle.table_rows.specs.Tables.{AreBare, IsStore, StandsFor}
+use Rattle.table_rows.specs.Schema.{HasSome}
+use Rattle.table_rows.proofs.Beginnings.{are_most, are_some, begins_few, begins_some, not_most}
 use Rattle.sql_tables.proofs.Calls.{IfOk_then}
 use Rattle.tables.proofs.Openings.{both_ok}
 use Rattle.tables.proofs.opening.prepare.Goals as goal

@@ -1,7 +1,7 @@
 use Rattle.std.proofs.Common.{◌≡◌, List, ℕ, map, subst, rules}
 use Rattle.hex.specs.Hex.{encode_lower}
 use Rattle.sqlite.specs.Held.{state}
-use Rattle.tables.specs.Tables.{blob_row}
+use Rattle.table_rows.specs.Tables.{blob_row}
 use Rattle.tables.specs.steps.Writing.{IsInside, cells_of}
 use Rattle.sql_tables.specs.Writing.{without_text}
 use Rattle.tables.proofs.Removals.{shrunk_blob}

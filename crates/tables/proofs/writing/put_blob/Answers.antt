@@ -2,7 +2,7 @@ use Rattle.std.proofs.Common.{◌≡◌, ◌++◌, [], ◌∷◌, List, ℕ, map
 use Rattle.hex.specs.Hex.{encode_lower}
 use Rattle.sqlite.specs.Held.{state}
 use Rattle.sqlite.specs.declared.types.Value.TheVariants.{Text, Blob}
-use Rattle.tables.specs.Tables.{blob_row}
+use Rattle.table_rows.specs.Tables.{blob_row}
 use Rattle.tables.specs.steps.Writing.{IsInside, cells_of}
 use Rattle.tables.proofs.Changes.{grown_blob}
 use Rattle.tables.proofs.writing.put_blob.Goals as goal

@@ -7,7 +7,8 @@ use Rattle.sqlite.proofs.StateLemmas.{survives_then}
 use Rattle.tables.specs.declared.change.Change.{Change}
 use Rattle.tables.specs.declared.change.Change.TheVariants.{PutRoot}
 use Rattle.contents.specs.Contents.{Contents}
-use Rattle.tables.specs.Tables.{IsStore, HoldsWhole, after_all}
+use Rattle.table_rows.specs.Tables.{IsStore, HoldsWhole}
+use Rattle.tables.specs.Changes.{after_all}
 use Rattle.tables.specs.steps.Writing.{IsInside, cells_of}
 use Rattle.tables.proofs.Changes.{after_all_more, committed, err_then, fails_back, inside, kept_back, on_err, to_whole}
 use Rattle.sql_tables.proofs.Calls.{OnOk_then, keeps_then}

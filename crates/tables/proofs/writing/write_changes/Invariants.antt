@@ -1,7 +1,8 @@
 use Rattle.std.proofs.Common.{◌≡◌, take}
 use Rattle.sqlite.specs.State.{HasCleanDisk, KeepsCommit, Survives}
 use Rattle.sqlite.specs.Held.{state}
-use Rattle.tables.specs.Tables.{IsStore, after_all}
+use Rattle.table_rows.specs.Tables.{IsStore}
+use Rattle.tables.specs.Changes.{after_all}
 use Rattle.tables.specs.steps.Writing.{IsInside, cells_of}
 use Rattle.tables.proofs.writing.write_changes.Given as goal
 

@@ -1,10 +1,10 @@
 use Rattle.std.proofs.Common.{◌≡◌, ◌∙◌, inl, inr, ap, arith, sym, subst}
 use Rattle.std.specs.Prelude.{IsTrue}
 use Rattle.sqlite.specs.Held.{state}
-use Rattle.machine.specs.Effects.{Effects, applied}
-use Rattle.machine.specs.Held.{Held, IsHeld, held_of, held_with}
-use Rattle.machine.specs.State.{State}
-use Rattle.machine.specs.Views.{effects_view}
+use Rattle.trust_rules.specs.Effects.{Effects, applied}
+use Rattle.trust_rules.specs.Held.{Held, IsHeld, held_of, held_with}
+use Rattle.trust_rules.specs.State.{State}
+use Rattle.state_parts.specs.Views.{effects_view}
 use Rattle.store.specs.Standing.{IsStateOf, StandsAt, seen}
 use Rattle.store.specs.StateRows.{rows_of}
 use Rattle.store.proofs.Applying.{on_err}

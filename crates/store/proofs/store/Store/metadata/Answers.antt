@@ -1,8 +1,8 @@
 use Rattle.std.proofs.Common.{◌≡◌, ◌∙◌, None, Some, subst, sym}
 use Rattle.sqlite.specs.Held.{state}
-use Rattle.machine.specs.Held.{Held}
-use Rattle.machine.specs.State.{metadata_of}
-use Rattle.machine.specs.Runs.{Metadata}
+use Rattle.trust_rules.specs.Held.{Held}
+use Rattle.trust_rules.specs.State.{metadata_of}
+use Rattle.trust_rules.specs.Runs.{Metadata}
 use Rattle.store.proofs.Applying.{copy_sound, file_absent, file_found, still_at}
 use Rattle.store.proofs.store.Store.metadata.Goals as goal
 

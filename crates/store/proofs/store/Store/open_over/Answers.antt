@@ -1,13 +1,13 @@
 use Rattle.std.proofs.Common.{◌≡◌, ◌∙◌, Ok, Err, Result, refl, sym, subst, subst₂, ap, arith}
 use Rattle.std.specs.Prelude.{IsTrue}
-use Rattle.machine.specs.State.{State}
+use Rattle.trust_rules.specs.State.{State}
 use Rattle.sqlite.specs.Effect.{IsDatabase}
 use Rattle.sqlite.specs.Held.{state}
 use Rattle.sqlite.specs.State.{HasCleanDisk, Survives}
 use Rattle.sqlite_trees.specs.Tree.{Trees}
-use Rattle.tables.specs.declared.faults.StoreFault.{StoreFault}
-use Rattle.tables.specs.declared.faults.StoreFault.TheVariants.{Damaged, Database, OutOfMemory}
-use Rattle.tables.specs.Tables.{IsStore, Stands}
+use Rattle.table_rows.specs.declared.faults.StoreFault.{StoreFault}
+use Rattle.table_rows.specs.declared.faults.StoreFault.TheVariants.{Damaged, Database, OutOfMemory}
+use Rattle.table_rows.specs.Tables.{IsStore, Stands}
 use Rattle.store.specs.Standing.{IsStateOf, Opens, seen}
 use Rattle.store.specs.StateRows.{Begins, HoldsNoState, OpensTo, TreesStand, rows_of}
 use Rattle.store.proofs.Standings.{stands_at}

@@ -1,6 +1,6 @@
 use Rattle.std.proofs.Common.{◌≡◌, ◌∙◌, subst, sym}
 use Rattle.std.specs.Prelude.{option_map}
-use Rattle.machine.specs.Held.{Held}
+use Rattle.trust_rules.specs.Held.{Held}
 use Rattle.store.proofs.store.Store.root_version.Goals as goal
 
 pub returns : goal.returns

@@ -1,6 +1,6 @@
 use Rattle.std.proofs.Common.{◌∙◌, subst, sym}
-use Rattle.machine.specs.Held.{Held}
-use Rattle.machine.specs.State.{IsSnapshotDue}
+use Rattle.trust_rules.specs.Held.{Held}
+use Rattle.trust_rules.specs.State.{IsSnapshotDue}
 use Rattle.store.proofs.store.Store.snapshot_due.Goals as goal
 
 pub returns : goal.returns

@@ -1,7 +1,7 @@
 use Rattle.std.proofs.Common.{Ok, Err, OnErr, OnOk, Result, arith}
 use Rattle.sqlite.specs.Held.{state}
 use Rattle.contents.specs.Contents.{Contents}
-use Rattle.tables.specs.Tables.{IsStore}
+use Rattle.table_rows.specs.Tables.{IsStore}
 use Rattle.store.proofs.stored_rows.StoredRows.write.Goals as goal
 
 either : {A E : Type 0} {P : Type 0} (r : Result A E) → OnOk r P → OnErr r P → P

@@ -4,9 +4,9 @@ use Rattle.sqlite.specs.Held.{state}
 use Rattle.sqlite.specs.State.{HasCleanDisk}
 use Rattle.sha2.specs.Sha256.{sha256}
 use Rattle.contents.specs.Contents.{Contents}
-use Rattle.machine.specs.Serving.{Leaves}
-use Rattle.machine.specs.declared.serving.LoadFault.{LoadFault}
-use Rattle.tables.specs.Tables.{IsStore}
+use Rattle.granting.specs.Serving.{Leaves}
+use Rattle.granting.specs.declared.serving.LoadFault.{LoadFault}
+use Rattle.table_rows.specs.Tables.{IsStore}
 use Rattle.store.specs.steps.Loading.{HasFile}
 use Rattle.store.proofs.Loads.{file_of, row_of, same_files}
 use Rattle.store.proofs.stored_rows.StoredRowsBlobs.load.Goals.{in-Ok-true, in-Ok-false, in-Err-OutOfMemory, in-Err}

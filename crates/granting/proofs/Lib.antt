@@ -1,0 +1,5 @@
+pub mod GrantedFrom
+pub mod LoadedFiles
+pub mod ServedFrom
+pub mod ShortFiles
+pub mod TargetFiles

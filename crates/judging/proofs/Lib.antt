@@ -1,0 +1,4 @@
+pub mod AnswersMakeStates
+pub mod BatchOneByOne
+pub mod ChangesMake
+pub mod OneMoreBlob

@@ -1,0 +1,31 @@
+use Rattle.std.proofs.Common.{refl}
+use Rattle.std.proofs.lemmas.Result.{err_from_is_err_and}
+use Rattle.metadata.specs.FileViews.{root_file}
+use Rattle.denials.specs.Orders.{pass, decide}
+use Rattle.trusted_state.specs.steps.Judging.{takes, stays, ends}
+use Rattle.trust_rules.proofs.OrderLines.{needed, lacking}
+use Rattle.trusted_state.proofs.OrderSteps.{given_by, ends_in, ends_behind, ends_rejected, accepted, kept_same}
+use Rattle.judging.proofs.snapshots.offer_snapshot.Goals as goal
+
+pub returns-in_default-clause-ends : goal.returns-in_default-clause-ends
+returns-in_default-clause-ends c = ends (decide (lacking _ _ c.in_default.ensures))
+
+pub returns-in_err-new-clause-ends : goal.returns-in_err-new-clause-ends
+returns-in_err-new-clause-ends c =
+    let p = err_from_is_err_and c.from_residual.result c.from_residual.ensures.1 in
+    rw (p.1, p.2) (ends_behind _ (needed _ _ (root_file c.in-Some.root.now) c.in-Some.ensures) (ends_in c.in_err-new.ensures.shape))
+
+pub returns-clause-ends : goal.returns-clause-ends
+returns-clause-ends c =
+    rw (c.put_snapshot.ensures.view)
+    (takes (pass (needed _ _ (root_file c.in-Some.root.now) c.in-Some.ensures) (pass (given_by c.in_ok-new.ensures.shape) (accepted c.if-not-branch.false c.in_ok-judge_snapshot.ensures))))
+
+pub returns-then-not-branch-clause-ends : goal.returns-then-not-branch-clause-ends
+returns-then-not-branch-clause-ends c =
+    stays (pass (needed _ _ (root_file c.in-Some.root.now) c.in-Some.ensures) (pass (given_by c.in_ok-new.ensures.shape) (kept_same c.if-not-branch.true c.in_ok-judge_snapshot.ensures))) refl
+
+pub returns-in_err-judge_snapshot-clause-ends : goal.returns-in_err-judge_snapshot-clause-ends
+returns-in_err-judge_snapshot-clause-ends c =
+    let p = err_from_is_err_and c.from_residual-in_err-judge_snapshot.result c.from_residual-in_err-judge_snapshot.ensures.1 in
+    rw (p.1, p.2) (ends_behind _ (needed _ _ (root_file c.in-Some.root.now) c.in-Some.ensures)
+    (ends_behind _ (given_by c.in_ok-new.ensures.shape) (ends_rejected c.in_err-judge_snapshot.ensures)))

@@ -1,5 +1,0 @@
-use Rattle.machine.proofs.ChangesMake.{coherent_as}
-use Rattle.machine.proofs.batches.is_coherent.Goals as goal
-
-pub returns : goal.returns
-returns c = coherent_as c.timestamp.ensures c.snapshot.ensures c.rows.ensures.view c.are_coherent.ensures

@@ -1,5 +1,0 @@
-use Rattle.machine.proofs.Carrying.{same_answers}
-use Rattle.machine.proofs.held.Held.put_blob.Goals as goal
-
-pub returns-clause-answers : goal.returns-clause-answers
-returns-clause-answers c S valid is = same_answers c.in_ok-outcome.outcome c.with_verdicts.result (c.in_ok-outcome.ensures.answers S valid is) c.with_verdicts.ensures.same

@@ -1,8 +1,0 @@
-use Rattle.machine.proofs.RootChains as chains
-use Rattle.machine.proofs.ShapedOnce.{Shapes}
-use Rattle.machine.proofs.laws.one_chain.Goals as goal
-
-pub returns : goal.returns
-returns c =
-    let law : Shapes = record { document = c.one_document.ensures; none = c.one_shape.ensures.none; one = c.one_shape.ensures.one } in
-    chains.one_chain law

@@ -1,9 +1,0 @@
-use Rattle.machine.specs.Answers.{gives}
-use Rattle.machine.proofs.TargetFiles.{refused_as}
-use Rattle.machine.proofs.listing.find.Goals as goal
-
-pub returns-in-Ok-clause-answer : goal.returns-in-Ok-clause-answer
-returns-in-Ok-clause-answer c = gives c.in-Ok.ensures.answer
-
-pub returns-in-Err-clause-answer : goal.returns-in-Err-clause-answer
-returns-in-Err-clause-answer c = refused_as c.in-Err.ensures.answer c.search_refusal.ensures

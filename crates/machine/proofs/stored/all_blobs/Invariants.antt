@@ -1,6 +1,0 @@
-use Rattle.std.proofs.Common.{◌≡◌, map}
-use Rattle.machine.specs.Views.{blob_views}
-use Rattle.machine.proofs.stored.all_blobs.Given as goal
-
-abbrev pub invariant-rows : goal.invariant-rows
-invariant-rows l = blob_views l.blobs.items ≡ map (λ b. (b.0, b.1.items)) l.yielded

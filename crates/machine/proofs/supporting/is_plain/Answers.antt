@@ -1,5 +1,0 @@
-use Rattle.machine.proofs.TargetFiles.{no_layout_tells}
-use Rattle.machine.proofs.supporting.is_plain.Goals as goal
-
-pub returns : goal.returns
-returns c = no_layout_tells _ c.args.listing.now.layout _ c.is_none.ensures

@@ -1,6 +1,0 @@
-use Rattle.std.proofs.Common.{sym, ◌∙◌}
-use Rattle.machine.proofs.PutInRoom.{none_before}
-use Rattle.machine.proofs.taking.is_before.Goals as goal
-
-pub returns : goal.returns
-returns c = sym (none_before c.bytes.left.now c.bytes.right.now c.in_default.ensures.cases) ∙ c.bytes.invariant

@@ -1,0 +1,13 @@
+use Rattle.std.proofs.Common.{sym}
+use Rattle.delegations.specs.Delegation.{before}
+use Rattle.state_parts.specs.declared.effects.Blob.{Blob}
+use Rattle.trust_rules.proofs.PutInRoom.{at_first, at_none}
+use Rattle.state_parts.proofs.taking.blob_place.Goals as goal
+
+pub returns-in-Some-clause-place : goal.returns-in-Some-clause-place
+returns-in-Some-clause-place c =
+    at_first {X = Blob} (λ b. before c.args.digest.now.0 b.digest.0) c.args.blobs.now c.in-Some.at (sym c.in-Some.ensures)
+
+pub returns-in-None-clause-place : goal.returns-in-None-clause-place
+returns-in-None-clause-place c =
+    at_none {X = Blob} (λ b. before c.args.digest.now.0 b.digest.0) c.args.blobs.now (sym c.in-None.ensures)

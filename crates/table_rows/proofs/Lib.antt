@@ -1,0 +1,14 @@
+pub mod Absent
+pub mod Beginnings
+pub mod Orders
+pub mod Slots
+pub mod Selects
+pub mod FileLemmas
+pub mod Singles
+pub mod ItemLemmas
+pub mod FourLemmas
+pub mod SetLemmas
+pub mod One
+pub mod Resolved
+pub mod Selecting
+pub mod Looking

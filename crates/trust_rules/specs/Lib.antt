@@ -1,0 +1,12 @@
+pub mod Before
+pub mod Contents
+pub mod Effects
+pub mod Grants
+pub mod Held
+pub mod Misses
+pub mod Offers
+pub mod Ready
+pub mod Resending
+pub mod Runs
+pub mod State
+pub mod steps

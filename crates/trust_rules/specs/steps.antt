@@ -1,0 +1,4 @@
+pub mod Loading
+pub mod NamedFiles
+pub mod Pruning
+pub mod Stored
