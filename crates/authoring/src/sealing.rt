@@ -1,7 +1,6 @@
 //! `draft seal`: the next snapshot and timestamp.
 use command_line::Drafting;
 use command_support::{Fault, Notes, Slip};
-use commands::forgets;
 use drafting::{draft_snapshot, draft_timestamp};
 use drafting_commands::{Before, drafted, terms_of};
 use drafts::{
@@ -12,6 +11,7 @@ use metadata::{Kind, Moment, SignedFile, read_signed};
 use overview_rows::lacks_targets;
 use std::alloc::Global;
 use std::io::Write;
+use subcommands::forgets;
 
 // The days that first ones are valid.
 const SNAPSHOT_DAYS: u64 = 30;

@@ -2,13 +2,13 @@
 use crate::publishing::batch_in;
 use command_line::Showing;
 use command_support::{Fault, Notes, moment, print};
-use commands::{Work, worked};
 use drafts::Folder;
 use keys_roles::KeyId;
 use machine::{BatchRefusal, would_take};
 use metadata::Moment;
 use overview_rows::{drafts_in, put, show_standing};
 use overviews::{Drafts, drafts_as_json, drafts_as_lines, drafts_as_page};
+use repository_work::{Work, worked};
 use sqlite::Alter;
 use std::alloc::{AllocError, Global};
 use std::io::{IsTerminal, Write};

@@ -5,7 +5,7 @@ use drafting_commands::last_segment;
 use drafts::{Folder, ListedFile, kind_of, read_said, version_in};
 use limits::BLOB_LIMIT;
 use metadata::{Digest, Kind, RoleName};
-use signing::{JoinFault, join};
+use signer::{JoinFault, join};
 use std::alloc::Global;
 use std::fs;
 use std::io::Write;

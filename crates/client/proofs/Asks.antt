@@ -6,7 +6,7 @@ use Rattle.std.proofs.lemmas.List.Folds.{list_any-append}
 use Rattle.std.proofs.lemmas.Slice.Eq.{bytes_eq-Decides}
 use Rattle.metadata.specs.File.{Bytes, Names, has_name}
 use Rattle.trust_rules.specs.State.{State}
-use Rattle.sources.specs.Source.{Gives, Asked, none, one}
+use Rattle.fetch.specs.Source.{Gives, Asked, none, one}
 use Rattle.client.specs.Asking.{AreDistinct, AsksAtMost, AsksOnce}
 use Rattle.client.specs.Session as session
 use Rattle.client.specs.Session.{Takes, TakesRoots, TakesSnapshot, TakesTimestamp, Updates, Fetches}

@@ -3,8 +3,8 @@ use Rattle.std.proofs.Common.{◌≡◌, ℕ, Err, Ok, subst}
 use Rattle.denials.specs.Orders as orders
 use Rattle.denials.specs.declared.denial.Denial.{Denial}
 use Rattle.trust_rules.specs.State.{State}
-use Rattle.sources.specs.Source.{Gives}
-use Rattle.sources.specs.declared.FetchFault.{FetchFault}
+use Rattle.fetch.specs.Source.{Gives}
+use Rattle.fetch.specs.declared.FetchFault.{FetchFault}
 use Rattle.client.specs.Agreement as agreement
 use Rattle.client.specs.Agreement.{Brings}
 use Rattle.client.specs.Session.{Updates}

@@ -7,7 +7,7 @@ use Rattle.denials.specs.Orders as orders
 use Rattle.delegations.specs.Rows.{Rows, entry_of, row_at}
 use Rattle.trust_rules.proofs.ShapedOnce.{Shapes}
 use Rattle.trust_rules.specs.State.{IsCoherent, IsState, State, blob_at}
-use Rattle.sources.specs.Source.{Gives}
+use Rattle.fetch.specs.Source.{Gives}
 use Rattle.client.specs.Agreement.{Agrees, Brings, BringsAndFetches, ClientAgrees}
 use Rattle.client.specs.Agreement as agreement
 use Rattle.client.specs.Answering.{IsHonest}

@@ -3,7 +3,7 @@ use Rattle.std.proofs.Common.{◌≡◌, ◌⊎◌, inl, inr, ℕ, ◌<◌, ◌�
 use Rattle.std.specs.Prelude.{codes}
 use Rattle.limits.specs.Limits.{blob_limit}
 use Rattle.path_patterns.specs.Grammar.{IsTargetPath}
-use Rattle.path_patterns.specs.Names.{Asks, dotted}
+use Rattle.path_patterns.specs.Names.{IsNameOf, dotted}
 use Rattle.keys_roles.proofs.Elements.{any_in}
 use Rattle.metadata.specs.File.{Bytes, Name, Names, has_name}
 use Rattle.denials.specs.Orders as orders
@@ -16,9 +16,9 @@ use Rattle.trust_rules.specs.Grants.{grants}
 use Rattle.trust_rules.specs.Runs.{PutBlob, with_trusted}
 use Rattle.delegations.specs.Delegation.{before}
 use Rattle.delegations.specs.Rows.{with_row}
-use Rattle.sources.specs.Source.{Gives}
-use Rattle.sources.specs.declared.FetchFault.{FetchFault}
-use Rattle.sources.specs.declared.FetchFault.TheVariants as fetches
+use Rattle.fetch.specs.Source.{Gives}
+use Rattle.fetch.specs.declared.FetchFault.{FetchFault}
+use Rattle.fetch.specs.declared.FetchFault.TheVariants as fetches
 use Rattle.client.specs.Agreement.{Agrees}
 use Rattle.client.specs.Answering.{IsHeldAs, IsHonest}
 use Rattle.client.specs.Session as session
@@ -124,7 +124,7 @@ module _ (news : NewLaws) (grant : GrantLaws) (step : StepLaws) (shapes : Shapes
 
   -- ---- a file
   module _ (D : State) (names : Names) (level : Level S D path now names) (at digest : Bytes) (len : ℕ) (h : grants D path None now (Err (orders.Denied (BlobMissing at digest len))))
-      (text : Bytes) (asks : Asks text at (Some digest)) where
+      (text : Bytes) (asks : IsNameOf text at (Some digest)) where
     abbrev Has : Option Bytes → Type 0
     Has = IsHeldAs S now (codes "targets/" ++ text)
 

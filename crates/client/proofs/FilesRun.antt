@@ -3,12 +3,12 @@ use Rattle.std.proofs.Common.{◌≡◌, ℕ, Bool, [], ◌++◌, Option, Some, 
 use Rattle.std.specs.Prelude.{IfSome, codes, length}
 use Rattle.metadata.specs.File.{Bytes, Names}
 use Rattle.denials.specs.Orders as orders
-use Rattle.path_patterns.specs.Names.{Asks, dotted}
+use Rattle.path_patterns.specs.Names.{IsNameOf, dotted}
 use Rattle.trust_rules.specs.State.{State, blob_at}
 use Rattle.trust_rules.specs.Offers.{Offer, RootOffer, SnapshotOffer, TargetsOffer, TimestampOffer}
 use Rattle.trust_rules.specs.Grants.{Listed, grants, listed}
 use Rattle.trust_rules.specs.Runs.{Command}
-use Rattle.sources.specs.Source.{Gives}
+use Rattle.fetch.specs.Source.{Gives}
 use Rattle.client.specs.Agreement.{Brings, BringsAndFetches, IsFileOf, IsPlaceOf, updated, denied}
 use Rattle.client.specs.Agreement as agreement
 use Rattle.client.specs.Answering.{IsAnswer, IsHeldAs, IsHonest, gives}
@@ -37,7 +37,7 @@ module _ (law : Granted) {Src : Type 0} (from : Gives Src) (Is : Src → Type 0)
       let h = answer_is _ (IsHeldAs S now (codes "metadata/" ++ file)) b (honest.answers s t _ _ (Ok (Some b)) is g) in
       (file, place, sym (h.metadata file refl))
 
-  blob_file : (text path digest : Bytes) (len : ℕ) → Asks text path (Some digest) → IsFile (wanted_blob text digest len)
+  blob_file : (text path digest : Bytes) (len : ℕ) → IsNameOf text path (Some digest) → IsFile (wanted_blob text digest len)
   blob_file text path digest len asks s t b is g =
       let h = answer_is _ (IsHeldAs S now (codes "targets/" ++ text)) b (honest.answers s t _ _ (Ok (Some b)) is g) in
       let granted = law S path b (Some digest) now (h.target text path (Some digest) refl asks) in

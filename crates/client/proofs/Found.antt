@@ -9,10 +9,10 @@ use Rattle.denials.specs.declared.denial.Denial.{Denial}
 use Rattle.trusted_state.specs.Answers.{Gives, denies, gives}
 use Rattle.trusted_state.specs.declared.refusal.Refusal.{Refusal}
 use Rattle.trusted_state.specs.declared.refusal.Refusal.TheVariants.{Denied}
-use Rattle.path_patterns.specs.Names.{Asks}
+use Rattle.path_patterns.specs.Names.{IsNameOf}
 use Rattle.trust_rules.specs.State.{State}
 use Rattle.trust_rules.specs.Grants.{grants}
-use Rattle.sources.specs.Source.{Answer}
+use Rattle.fetch.specs.Source.{Answer}
 use Rattle.client.specs.Answering as answering
 use Rattle.client.specs.Answering.{IsAnswer, IsHeldAs, IsServed}
 
@@ -21,20 +21,20 @@ first_byte [] = 0
 first_byte (x ∷ xs) = x
 
 abbrev AsksOnce : Type 0
-AsksOnce = (text p q : List ℕ) (d e : Option (List ℕ)) → Asks text p d → Asks text q e → (p ≡ q) × (d ≡ e)
+AsksOnce = (text p q : List ℕ) (d e : Option (List ℕ)) → IsNameOf text p d → IsNameOf text q e → (p ≡ q) × (d ≡ e)
 
-pub served : AsksOnce → (S : State) (now : ℕ) (name text path : Bytes) (asked found : Option Bytes) → name ≡ codes "targets/" ++ text → Asks text path asked → IsServed S path asked now found
+pub served : AsksOnce → (S : State) (now : ℕ) (name text path : Bytes) (asked found : Option Bytes) → name ≡ codes "targets/" ++ text → IsNameOf text path asked → IsServed S path asked now found
     → IsHeldAs S now name found
 served once S now name text path asked found is asks h = record {
   metadata = λ file e. let k : 109 ≡ 116 = ap first_byte (sym e ∙ is) in absurd (omega (arith, k));
   target = λ other p d e a.
       let same : text ≡ other = append_cancel_left (codes "targets/") text other (sym is ∙ e) in
-      let one = once text path p asked d asks (subst (λ (t : Bytes). Asks t p d) (sym same) a) in
+      let one = once text path p asked d asks (subst (λ (t : Bytes). IsNameOf t p d) (sym same) a) in
       subst (λ (q : Bytes). IsServed S q d now found) one.0 (subst (λ (q : Option Bytes). IsServed S path q now found) one.1 h);
   other = λ m t. absurd (t text is);
 }
 
-module _ (once : AsksOnce) (S : State) (now : ℕ) (name text path given : Bytes) (asked : Option Bytes) (is : name ≡ codes "targets/" ++ text) (same : given ≡ path) (asks : Asks text path asked) where
+module _ (once : AsksOnce) (S : State) (now : ℕ) (name text path given : Bytes) (asked : Option Bytes) (is : name ≡ codes "targets/" ++ text) (same : given ≡ path) (asks : IsNameOf text path asked) where
   bytes_of : (b : Bor Bytes) → Gives (grants S given asked now) (λ c. c.now) (Ok b) → grants S given asked now (Ok b.now)
   bytes_of b (gives h) = h
 

@@ -8,9 +8,9 @@ use Rattle.denials.specs.Orders.{Judged, Same, Denied}
 use Rattle.trust_rules.specs.State.{IsState, State, Trusted, metadata_of}
 use Rattle.trust_rules.specs.Offers.{Offer, offer, put_blob}
 use Rattle.trust_rules.specs.Runs.{Command, OfferOne, PutBlob, Outcome, Leads, leads, Reply, Offered, Stored, Refused, settled, with_trusted}
-use Rattle.sources.specs.Source.{Gives}
-use Rattle.sources.specs.declared.FetchFault.{FetchFault}
-use Rattle.sources.specs.declared.FetchFault.TheVariants as fetches
+use Rattle.fetch.specs.Source.{Gives}
+use Rattle.fetch.specs.declared.FetchFault.{FetchFault}
+use Rattle.fetch.specs.declared.FetchFault.TheVariants as fetches
 use Rattle.client.specs.Agreement.{Agrees}
 use Rattle.client.specs.Answering as answering
 use Rattle.client.specs.Answering.{AnswersFrom, IsAnswer, IsHeldAs, IsHonest}

@@ -9,7 +9,7 @@ use Rattle.std.proofs.lemmas.Slice.Eq.{bytes_eq-Decides}
 use Rattle.sha2.specs.Sha256.{sha256}
 use Rattle.limits.specs.Limits.{blob_limit, most_held}
 use Rattle.path_patterns.specs.Grammar.{IsName, IsTargetPath}
-use Rattle.path_patterns.specs.Names.{Asks, IsDigest, dotted}
+use Rattle.path_patterns.specs.Names.{IsNameOf, IsDigest, dotted}
 use Rattle.keys_roles.proofs.Elements.{each_more, fewer, for_each, of_each}
 use Rattle.keys_roles.specs.Plain.{look_up}
 use Rattle.keys_roles.specs.Rules.{AreDistinct}
@@ -55,7 +55,7 @@ pub record HeldFile (blobs : List (Bytes × Bytes)) (name : Bytes) : Type 0 wher
   pub path : Bytes
   pub digest : Bytes
   pub is : name ≡ codes "targets/" ++ text
-  pub asks : Asks text path (Some digest)
+  pub asks : IsNameOf text path (Some digest)
   pub there : IsSome (blob_at blobs digest)
 
 abbrev pub IsHeldName : Rows → List (Bytes × Bytes) → Bytes → Type 0
@@ -386,7 +386,7 @@ module _ (news : NewLaws) (grant : GrantLaws) (step : StepLaws) (shapes : Shapes
         by (inr there) = support lack.listing.listing.layout proper.2 there
 
     -- some name asks for it
-    pub some_text : (text : Bytes) × Asks text at (Some digest)
+    pub some_text : (text : Bytes) × IsNameOf text at (Some digest)
     some_text = grant.asked_by_some at digest at_path (subst IsDigest lack.its_digest (grant.proper S at now lack.own sure lack.lists_own).1)
 
     -- bytes that the server grants there are its blob
@@ -431,7 +431,7 @@ module _ (news : NewLaws) (grant : GrantLaws) (step : StepLaws) (shapes : Shapes
           subst (λ (d : Bytes). put_blob D d b (Ok (record D { blobs = with_row before D.blobs d b }))) is.2
           (news.blobs D known.0 b known.1 is.3 (is_none _ (subst (λ (d : Bytes). blob_at D.blobs d ≡ None) (sym is.2) lack.absent)) blob_room)
 
-      module _ (names : Names) (level : Level S D path now names) (text : Bytes) (asks : Asks text at (Some digest)) where
+      module _ (names : Names) (level : Level S D path now names) (text : Bytes) (asks : IsNameOf text at (Some digest)) where
         kept : (d : Bytes) → IsSome (blob_at D.blobs d) → IsSome (blob_at (with_row before D.blobs digest b) d)
         kept d there = still_there before bytes_eq same_blob D.blobs digest b d lack.absent there
 
@@ -516,7 +516,7 @@ module _ (news : NewLaws) (grant : GrantLaws) (step : StepLaws) (shapes : Shapes
           let n = level.few in
           omega (arith, e, f, p, n)
 
-      pub blob_new : (text : Bytes) → Asks text at (Some digest) → IsIn names (codes "targets/" ++ text) → ⊥
+      pub blob_new : (text : Bytes) → IsNameOf text at (Some digest) → IsIn names (codes "targets/" ++ text) → ⊥
       blob_new text asks asked = by (of_each (IsHeldName D.trusted.shelf D.blobs) names (codes "targets/" ++ text) level.held asked)
         where
           some_digest : (d e : Bytes) → Some d ≡ Some e → d ≡ e
@@ -526,5 +526,5 @@ module _ (news : NewLaws) (grant : GrantLaws) (step : StepLaws) (shapes : Shapes
           by (inl d) = apart (dotted d.version d.role) text (sym d.is)
           by (inr f) =
               let same = append_cancel_left (codes "targets/") text f.text f.is in
-              let one = grant.asks_once text at f.path (Some digest) (Some f.digest) asks (subst (λ (t : Bytes). Asks t f.path (Some f.digest)) (sym same) f.asks) in
+              let one = grant.asks_once text at f.path (Some digest) (Some f.digest) asks (subst (λ (t : Bytes). IsNameOf t f.path (Some f.digest)) (sym same) f.asks) in
               none_there (blob_at D.blobs digest) lack.absent (subst (λ (d : Bytes). IsSome (blob_at D.blobs d)) (sym (some_digest digest f.digest one.1)) f.there)

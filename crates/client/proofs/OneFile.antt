@@ -3,7 +3,7 @@ use Rattle.std.proofs.Common.{◌≡◌, ℕ, Bool, Some, Result, Ok, Err, sym, 
 use Rattle.metadata.specs.File.{Bytes, Name}
 use Rattle.denials.specs.Orders.{RoleMissing, BlobMissing}
 use Rattle.path_patterns.specs.Grammar.{IsName}
-use Rattle.path_patterns.specs.Names.{Asks}
+use Rattle.path_patterns.specs.Names.{IsNameOf}
 use Rattle.trust_rules.specs.State.{State}
 use Rattle.trust_rules.specs.Runs.{Command, Init, Batch, OfferOne, PutBlob, Prune, Metadata, Target, Reply, Begun, Offered, BatchDone, Stored, Pruned, FileBytes, Absent, Refused, Steps}
 use Rattle.table_rows.specs.declared.faults.StoreFault.{StoreFault}
@@ -13,7 +13,7 @@ use Rattle.store.specs.Applies as applied
 use Rattle.store.specs.Standing.{Standing}
 use Rattle.store.specs.Views.{reply_view}
 use Rattle.store.specs.declared.command.Reply.{Reply as Said}
-use Rattle.sources.specs.Source.{Answer, Gives}
+use Rattle.fetch.specs.Source.{Answer, Gives}
 use Rattle.client.specs.Changes.{Changes}
 use Rattle.client.specs.Session.{Takes, Makes, accepted, denied, unmade, IsUnmade, IsJudged}
 use Rattle.client.specs.Taken.{IsTaking}
@@ -31,7 +31,7 @@ gave gives s t n m limit r a h e k = subst (λ x. gives s x limit a t) e (subst 
 pub misses_role : (name read : Name) (version : ℕ) (w : Wanted) → read ≡ name → IsName name → w ≡ wanted_row read version → Misses (RoleMissing name version) w
 misses_role name read version w e is h = subst (Misses (RoleMissing name version)) (sym (h ∙ ap (λ n. wanted_row n version) e)) (role is)
 
-pub misses_blob : (text path digest : Bytes) (len : ℕ) (w : Wanted) → Asks text path (Some digest) → w ≡ wanted_blob text digest len → Misses (BlobMissing path digest len) w
+pub misses_blob : (text path digest : Bytes) (len : ℕ) (w : Wanted) → IsNameOf text path (Some digest) → w ≡ wanted_blob text digest len → Misses (BlobMissing path digest len) w
 misses_blob text path digest len w asks h = subst (Misses (BlobMissing path digest len)) (sym h) (blob asks)
 
 -- ---- a command that was replied to

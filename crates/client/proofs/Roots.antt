@@ -6,7 +6,7 @@ use Rattle.metadata.specs.File.{File}
 use Rattle.denials.specs.Numbers as no
 use Rattle.denials.specs.Orders as orders
 use Rattle.trust_rules.specs.State.{State}
-use Rattle.sources.specs.Source.{Gives}
+use Rattle.fetch.specs.Source.{Gives}
 use Rattle.store.specs.Standing.{IsStateOf, Standing}
 use Rattle.client.specs.Changes.{Changes}
 use Rattle.client.specs.Session.{Takes, TakesRoots, max_version, enough, rootless, highest, newest, stops, further, unasked}

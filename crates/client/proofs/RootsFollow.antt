@@ -12,7 +12,7 @@ use Rattle.denials.specs.Orders.{Judged, Denied, Same}
 use Rattle.trust_rules.specs.State.{FollowsRoot, IsHeldUnder, IsRootChain, IsState, IsTrusted, State, Trusted, first, kept_root, metadata_of, nothing_trusted, then}
 use Rattle.trust_rules.specs.Offers.{AfterRoot, RootOffer, kept, offer, rotated}
 use Rattle.trust_rules.specs.Runs.{with_trusted}
-use Rattle.sources.specs.Source.{Gives}
+use Rattle.fetch.specs.Source.{Gives}
 use Rattle.client.specs.Answering.{IsHonest}
 use Rattle.client.specs.Behind as behind
 use Rattle.client.specs.Behind.{AfterRoots}

@@ -7,7 +7,7 @@ use Rattle.denials.specs.Views.{denial_view}
 use Rattle.denials.specs.declared.denial.Denial.{Denial as Code}
 use Rattle.trust_rules.specs.State.{State}
 use Rattle.trust_rules.specs.Grants.{grants}
-use Rattle.sources.specs.Source.{Gives}
+use Rattle.fetch.specs.Source.{Gives}
 use Rattle.store.specs.Standing.{IsClean, Standing}
 use Rattle.client.specs.Changes.{Changes}
 use Rattle.client.specs.Session.{Fetches, IsKnown, IsUnmade, Takes, granted, denied, again, enough, absent, fails, further, unanswered}

@@ -7,7 +7,7 @@ use Rattle.denials.specs.Orders as orders
 use Rattle.trust_rules.specs.State.{State}
 use Rattle.trust_rules.specs.Grants.{grants}
 use Rattle.trust_rules.specs.Runs.{Command, Reply, Runs, Steps, done, next}
-use Rattle.sources.specs.Source.{Gives}
+use Rattle.fetch.specs.Source.{Gives}
 use Rattle.client.specs.Session as session
 use Rattle.client.specs.Session.{Makes, accepted, denied, unmade, Takes, TakesRoots, TakesSnapshot, TakesTimestamp, Updates, Fetches}
 use Rattle.client.specs.Views.{Fault}

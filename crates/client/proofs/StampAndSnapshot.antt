@@ -19,7 +19,7 @@ use Rattle.trust_rules.specs.State.{AreCoherent, HoldsAll, IsCoherent, IsHeldUnd
 use Rattle.trust_rules.specs.Offers.{NoDrop, NoRollback, Offer, after_snapshot, after_timestamp, SnapshotOffer, TimestampOffer, live_snapshot, live_timestamp, offer}
 use Rattle.trust_rules.specs.Grants.{grants}
 use Rattle.trust_rules.specs.Runs.{with_trusted}
-use Rattle.sources.specs.Source.{Gives}
+use Rattle.fetch.specs.Source.{Gives}
 use Rattle.client.specs.Answering.{IsHonest}
 use Rattle.client.specs.Behind.{IsBare, IsOlder, IsOlderSnapshot, IsOlderTimestamp}
 use Rattle.client.specs.Session as session

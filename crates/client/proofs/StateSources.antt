@@ -4,9 +4,9 @@ use Rattle.std.specs.Borrow.{Bor}
 use Rattle.std.specs.Prelude.{option_map}
 use Rattle.metadata.specs.File.{Bytes}
 use Rattle.trust_rules.specs.State.{State}
-use Rattle.sources.specs.Source.{Gives}
-use Rattle.sources.specs.declared.FetchFault.{FetchFault}
-use Rattle.sources.specs.declared.FetchFault.TheVariants.{OutOfMemory}
+use Rattle.fetch.specs.Source.{Gives}
+use Rattle.fetch.specs.declared.FetchFault.{FetchFault}
+use Rattle.fetch.specs.declared.FetchFault.TheVariants.{OutOfMemory}
 use Rattle.client.specs.Answering.{AnswersFrom, IsAnswer, IsHeldAs, IsHonest, has_none, lacks_memory}
 use Rattle.client.proofs.Found.{copy_answers}
 

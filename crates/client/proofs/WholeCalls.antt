@@ -6,7 +6,7 @@ use Rattle.metadata.specs.File.{Bytes}
 use Rattle.trust_rules.proofs.ShapedOnce.{Shapes}
 use Rattle.trust_rules.specs.State.{IsState, State}
 use Rattle.trust_rules.specs.Grants.{grants}
-use Rattle.sources.specs.Source.{Gives}
+use Rattle.fetch.specs.Source.{Gives}
 use Rattle.store.specs.Standing.{IsClean, Standing}
 use Rattle.client.specs.Agreement as agreement
 use Rattle.client.specs.Agreement.{Brings, BringsAndFetches, FetchesFrom}

@@ -9,9 +9,9 @@ use Rattle.trust_rules.specs.State.{State, IsState, IsCoherent, blob_at, metadat
 use Rattle.trust_rules.specs.Offers.{Offer, RootOffer, TimestampOffer, SnapshotOffer, TargetsOffer, init}
 use Rattle.trust_rules.specs.Grants.{grants}
 use Rattle.trust_rules.specs.Runs.{Command, OfferOne, PutBlob}
-use Rattle.sources.specs.Source.{Gives}
-use Rattle.sources.specs.declared.FetchFault.{FetchFault}
-use Rattle.sources.specs.declared.FetchFault.TheVariants as fetches
+use Rattle.fetch.specs.Source.{Gives}
+use Rattle.fetch.specs.declared.FetchFault.{FetchFault}
+use Rattle.fetch.specs.declared.FetchFault.TheVariants as fetches
 use Rattle.client.specs.Answering.{IsHonest}
 use Rattle.client.specs.Behind.{Behind}
 use Rattle.client.specs.Session.{Fetches, Updates}

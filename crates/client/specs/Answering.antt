@@ -3,12 +3,12 @@ use Rattle.std.specs.Borrow.{Bor}
 use Rattle.std.specs.Prelude.{◌≡◌, ℕ, ◌≤◌, ◌<◌, ◌++◌, Option, Some, None, Result, Ok, Err, codes, length, option_map}
 use Rattle.metadata.specs.File.{Bytes}
 use Rattle.denials.specs.Orders as orders
-use Rattle.path_patterns.specs.Names.{Asks}
+use Rattle.path_patterns.specs.Names.{IsNameOf}
 use Rattle.trust_rules.specs.State.{State, metadata_of}
 use Rattle.trust_rules.specs.Grants.{grants}
-use Rattle.sources.specs.Source.{Answer, Gives}
-use Rattle.sources.specs.declared.FetchFault.{FetchFault}
-use Rattle.sources.specs.declared.FetchFault.TheVariants.{TooLong, OutOfMemory}
+use Rattle.fetch.specs.Source.{Answer, Gives}
+use Rattle.fetch.specs.declared.FetchFault.{FetchFault}
+use Rattle.fetch.specs.declared.FetchFault.TheVariants.{TooLong, OutOfMemory}
 
 -- a file of which this is so, within the limit; none, where it is so of none; or that it is longer than the limit. Or there was no memory
 pub data IsAnswer (limit : ℕ) (Has : Option Bytes → Type 0) : Answer → Type 0 where
@@ -25,7 +25,7 @@ IsServed S path digest now None = (d : orders.Denial) × grants S path digest no
 -- `metadata/F` is the metadata file F, `targets/P` the target that P asks for, and no other name has a file
 pub record IsHeldAs (S : State) (now : ℕ) (name : Bytes) (found : Option Bytes) : Type 0 where
   pub metadata : (file : Bytes) → name ≡ codes "metadata/" ++ file → found ≡ metadata_of S.trusted file
-  pub target : (text path : Bytes) (digest : Option Bytes) → name ≡ codes "targets/" ++ text → Asks text path digest → IsServed S path digest now found
+  pub target : (text path : Bytes) (digest : Option Bytes) → name ≡ codes "targets/" ++ text → IsNameOf text path digest → IsServed S path digest now found
   pub other : ((file : Bytes) → name ≡ codes "metadata/" ++ file → ⊥) → ((text : Bytes) → name ≡ codes "targets/" ++ text → ⊥) → found ≡ None
 
 abbrev pub AnswersFrom : State → ℕ → Bytes → ℕ → Answer → Type 0

@@ -1,7 +1,7 @@
 -- What a client asks of a source: few names, each once.
 use Rattle.std.specs.Prelude.{◌≡◌, ℕ, ◌≤◌, false, List, [], ◌∷◌, map, length}
 use Rattle.metadata.specs.File.{Bytes, Names, has_name}
-use Rattle.sources.specs.Source.{Gives, Asked}
+use Rattle.fetch.specs.Source.{Gives, Asked}
 
 -- no name is there twice
 abbrev pub AreDistinct : Names → Type 0

@@ -8,9 +8,9 @@ use Rattle.trust_rules.specs.State.{State, IsSnapshotDue}
 use Rattle.trust_rules.specs.Grants.{grants}
 use Rattle.granting.specs.Serving.{HasLayout, is_by_layout}
 use Rattle.trust_rules.specs.Runs.{Command, Reply, Refused, Steps}
-use Rattle.sources.specs.Source.{Gives}
-use Rattle.sources.specs.declared.FetchFault.{FetchFault}
-use Rattle.sources.specs.declared.FetchFault.TheVariants.{TooLong}
+use Rattle.fetch.specs.Source.{Gives}
+use Rattle.fetch.specs.declared.FetchFault.{FetchFault}
+use Rattle.fetch.specs.declared.FetchFault.TheVariants.{TooLong}
 use Rattle.client.specs.Views.{Fault, Denied, Fetch, Database, OutOfMemory}
 use Rattle.client.specs.Wanted.{Wanted, Misses, wanted_root, wanted_timestamp, wanted_snapshot}
 

@@ -4,8 +4,8 @@ use Rattle.std.proofs.Common.{Vec, Global}
 use Rattle.metadata.specs.File.{Bytes}
 use Rattle.denials.specs.Orders as orders
 use Rattle.denials.specs.Views.{denial_view}
-use Rattle.sources.specs.Source.{items_of}
-use Rattle.sources.specs.declared.FetchFault.{FetchFault}
+use Rattle.fetch.specs.Source.{items_of}
+use Rattle.fetch.specs.declared.FetchFault.{FetchFault}
 use Rattle.client.specs.declared.fault.ClientFault.{ClientFault}
 use Rattle.client.specs.declared.fault.ClientFault.TheVariants as faults
 

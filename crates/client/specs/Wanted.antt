@@ -4,7 +4,7 @@ use Rattle.metadata.specs.File.{Bytes, Name}
 use Rattle.denials.specs.Orders.{Denial, RoleMissing, BlobMissing}
 use Rattle.limits.specs.Limits.{blob_limit, file_limit}
 use Rattle.path_patterns.specs.Grammar.{IsName}
-use Rattle.path_patterns.specs.Names.{Asks, dotted}
+use Rattle.path_patterns.specs.Names.{IsNameOf, dotted}
 use Rattle.trust_rules.specs.Offers.{Offer, RootOffer, TimestampOffer, SnapshotOffer, TargetsOffer}
 use Rattle.trust_rules.specs.Runs.{Command, OfferOne, PutBlob}
 
@@ -36,4 +36,4 @@ wanted_blob text digest len = record { name = codes "targets/" ++ text; limit = 
 -- a denial says that this file is missing
 pub data Misses : Denial → Wanted → Type 0 where
   role : {role : Name} {version : ℕ} → IsName role → Misses (RoleMissing role version) (wanted_row role version)
-  blob : {text path digest : Bytes} {len : ℕ} → Asks text path (Some digest) → Misses (BlobMissing path digest len) (wanted_blob text digest len)
+  blob : {text path digest : Bytes} {len : ℕ} → IsNameOf text path (Some digest) → Misses (BlobMissing path digest len) (wanted_blob text digest len)

@@ -4,7 +4,7 @@ ghost use Rattle.table_rows.specs.declared.faults.StoreFault.TheVariants.{Damage
 ghost use Rattle.client.specs.Session.{IsUnmade};
 ghost use Rattle.client.specs.Views.{fault_view};
 
-use sources::FetchFault;
+use fetch::FetchFault;
 use std::alloc::AllocError;
 use store::{Denial, StoreFault};
 use thiserror::Error;

@@ -12,9 +12,9 @@ mod updating;
 mod wanted;
 
 pub use fault::ClientFault;
+pub use fetch::{FetchFault, Source};
 pub use fetching::fetch_target;
 pub use from_state::fetch_from_state;
 pub use laws::anchor_is_behind;
-pub use sources::{FetchFault, Source};
 pub use store::{Denial, Moment, Store, TargetPath};
 pub use updating::update;

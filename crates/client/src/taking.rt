@@ -10,8 +10,8 @@ ghost use Rattle.client.specs.WantedViews.{command_of, wanted_view};
 
 use crate::fault::{ClientFault, unmade};
 use crate::wanted::{Use, Wanted};
+use fetch::{FetchFault, Source};
 use metadata::Moment;
-use sources::{FetchFault, Source};
 use sqlite::Alter;
 use std::alloc::Global;
 use store::{Command, Reply, Store};

@@ -3,7 +3,7 @@ ghost use Rattle.std.specs.Prelude.{◌≡◌, ◌++◌, IfOk, codes, string_byt
 ghost use Rattle.limits.specs.Limits.{file_limit};
 ghost use Rattle.trust_rules.specs.Runs as steps;
 ghost use Rattle.trusted_state.specs.Views.{offer_view};
-ghost use Rattle.path_patterns.specs.Names.{Asks, dotted};
+ghost use Rattle.path_patterns.specs.Names.{IsNameOf, dotted};
 ghost use Rattle.client.specs.Wanted as plain;
 ghost use Rattle.client.specs.WantedViews.{wanted_view};
 
@@ -67,7 +67,7 @@ impl Wanted {
         digest: Digest,
         length: u32,
     ) -> Result<Wanted, NoMemory>
-        ensures { IfOk result (λ w. (text : _) × Asks text path.now (Some digest.0) × (wanted_view w ≡ plain.wanted_blob text digest.0 length)) }
+        ensures { IfOk result (λ w. (text : _) × IsNameOf text path.now (Some digest.0) × (wanted_view w ≡ plain.wanted_blob text digest.0 length)) }
     {
         let text = consistent_name(alloc, path, &digest)?;
         let mut name = String::from_str(alloc, "targets/")?;

@@ -4,8 +4,8 @@ use Rattle.command_support.specs.declared.fault.Fault.{Fault}
 use Rattle.command_support.specs.declared.fault.Fault.TheVariants.{Denied, Memory, Database, Network}
 use Rattle.client.specs.declared.fault.ClientFault.{ClientFault}
 use Rattle.client.specs.declared.fault.ClientFault.TheVariants as client_faults
-use Rattle.sources.specs.declared.FetchFault.{FetchFault}
-use Rattle.sources.specs.declared.FetchFault.TheVariants as fetch_faults
+use Rattle.fetch.specs.declared.FetchFault.{FetchFault}
+use Rattle.fetch.specs.declared.FetchFault.TheVariants as fetch_faults
 
 abbrev pub fault_of_fetch : FetchFault → Fault
 fault_of_fetch fetch_faults.TooLong = Network

@@ -2,13 +2,13 @@
 //! warns. A question that gets no answer costs its warning, and nothing else.
 use crate::wire::{Wire, connected, host};
 use command_support::{FILE_LIMIT, Notes};
-use commands::{
-    FORGETS, FORGOTTEN, HeldFiles, NOT_TAKEN, Offer, forgets, root_version_of, tell_listed,
-};
 use connections::Port;
 use http_fetch::fetch_over;
 use std::alloc::Global;
 use std::io::Write;
+use subcommands::{
+    FORGETS, FORGOTTEN, HeldFiles, NOT_TAKEN, Offer, forgets, root_version_of, tell_listed,
+};
 
 // An answer has so many seconds.
 const ANSWER_SECONDS: u64 = 10;

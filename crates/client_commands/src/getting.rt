@@ -6,9 +6,9 @@ use client::fetch_target;
 use command_support::{
     Denial, Fault, Notes, OWNER_ALONE, are_one_file, file_fault, moment, print, put_in_place,
 };
-use commands::{Work, worked};
 use metadata::Moment;
 use path_patterns::TargetPath;
+use repository_work::{Work, worked};
 use sqlite::Alter;
 use std::alloc::AllocError;
 use std::io::Write;

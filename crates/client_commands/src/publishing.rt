@@ -2,11 +2,11 @@
 use crate::asking::Asking;
 use crate::sending::Sending;
 use command_support::{Denial, Fault, Notes, print, read_at_most};
-use commands::{InputFile, Offered, batch_of, documents_of, read_all, told};
 use http_fetch::{Method, read_accepted, read_pruned};
 use http_messages::{BATCH_LIMIT, BLOB_LIMIT, stored_body};
 use metadata::digest_of;
 use std::io::Write;
+use subcommands::{InputFile, Offered, batch_of, documents_of, read_all, tell_argument};
 
 /// Offers the documents to the server, together, and prints how many were accepted and how many were held already, as `publish` over a
 /// database does. Documents that are together longer than a server takes are a fault of a file, before it is asked. What `publish` over a
@@ -18,7 +18,7 @@ pub fn publish_at<O: Write, E: Write>(
     out: &mut O,
     notes: &mut Notes<'_, E>,
 ) -> Result<(), Fault> {
-    let documents = told(documents_of(rt.alloc(), arguments), arguments, notes)?;
+    let documents = tell_argument(documents_of(rt.alloc(), arguments), arguments, notes)?;
     let files = read_all(rt, &documents, notes)?;
     let body = batch_body(rt, arguments, &files, notes)?;
     let batch = batch_of(rt.alloc(), documents, &files)?;
@@ -37,7 +37,7 @@ pub fn publish_at<O: Write, E: Write>(
         batch: &batch,
     };
     tell_why(&mut asking, &sent, offered, notes);
-    let reply = told(sent, arguments, notes)?;
+    let reply = tell_argument(sent, arguments, notes)?;
     let Some((_, same)) = read_accepted(&reply) else {
         return Err(sending.unknown(Fault::Network, notes));
     };

@@ -360,26 +360,26 @@ pub fn fault(alloc: Global, text: &str) -> Unread {
 
 // An argument that has to be there and is not.
 fn missing(alloc: Global, id: &str) -> Unread {
-    told(format!(in alloc;
+    unread_of(format!(in alloc;
         "error: the following required arguments were not provided:\n  --{id}\n\nFor more information, try '--help'.\n"
     ))
 }
 
 // An argument that stands more often than it may.
 fn out_of_bounds(alloc: Global, id: &str, most: usize) -> Unread {
-    told(format!(in alloc;
+    unread_of(format!(in alloc;
         "error: '{id}' may stand 1 to {most} times\n\nFor more information, try '--help'.\n"
     ))
 }
 
 // Two arguments that exclude one another.
 fn beside_another(alloc: Global, id: &str, beside: &str) -> Unread {
-    told(format!(in alloc;
+    unread_of(format!(in alloc;
         "error: the argument '{id}' cannot be used with '{beside}'\n\nFor more information, try '--help'.\n"
     ))
 }
 
-fn told(text: Result<String, AllocError>) -> Unread {
+fn unread_of(text: Result<String, AllocError>) -> Unread {
     match text {
         Ok(text) => Unread::Text(text),
         Err(_) => Unread::OutOfMemory,

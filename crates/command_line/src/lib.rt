@@ -74,7 +74,7 @@ fn named_task(alloc: Global, name: &str, given: &ArgMatches<'_>) -> Result<Task,
     ensures { IfOk result (IsTask name.now (rows_of (found_of given.now))) }
 {
     let at = moment_of(alloc, given)?;
-    let subcommand = asked(alloc, name, given)?;
+    let subcommand = subcommand_of(alloc, name, given)?;
     Ok(Task {
         at,
         verbose: is_given(given, "verbose"),
@@ -82,7 +82,7 @@ fn named_task(alloc: Global, name: &str, given: &ArgMatches<'_>) -> Result<Task,
     })
 }
 
-fn asked(alloc: Global, name: &str, given: &ArgMatches<'_>) -> Result<Subcommand, Unread>
+fn subcommand_of(alloc: Global, name: &str, given: &ArgMatches<'_>) -> Result<Subcommand, Unread>
     ensures { IfOk result (IsAsked name.now (rows_of (found_of given.now))) }
 {
     match name {

@@ -5,10 +5,10 @@ use Rattle.command_support.specs.declared.fault.Fault.{Fault}
 use Rattle.command_support.specs.declared.fault.Fault.TheVariants.{Usage, Help, Denied, Refused, Slip, Due, LeavesSpent, UnknownKey, Memory, Database, Damaged, Network, File, Clock}
 use Rattle.command_line.specs.declared.tasks.Usage.{Usage as Usages}
 use Rattle.command_line.specs.declared.tasks.Usage.TheVariants as usages
-use Rattle.canon.specs.declared.CanonFault.{CanonFault}
+use Rattle.loose_json.specs.declared.CanonFault.{CanonFault}
 use Rattle.document_parts.specs.declared.documents.ShapeFault.{ShapeFault}
 use Rattle.document_parts.specs.declared.documents.ShapeFault.TheVariants as shapes
-use Rattle.canon.specs.declared.CanonFault.TheVariants as canon_faults
+use Rattle.loose_json.specs.declared.CanonFault.TheVariants as canon_faults
 
 -- help is no fault: it is printed as asked
 abbrev pub status_of : Fault → ℕ

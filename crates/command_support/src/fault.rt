@@ -2,9 +2,9 @@
 ghost use Rattle.std.specs.Prelude.{◌≡◌};
 ghost use Rattle.command_support.specs.Statuses.{status_of};
 
-use canon::CanonFault;
 use command_line::Usage;
 use denials::Denial;
+use loose_json::CanonFault;
 use metadata::ShapeFault;
 use std::alloc::{AllocError, AllocFailed};
 use std::{fmt, io};

@@ -9,13 +9,13 @@ mod moments;
 mod notes;
 mod placing;
 
-pub use canon::CanonFault;
 pub use command_line::Usage;
 pub use databases::connected;
 pub use denials::Denial;
 pub use fault::{Fault, Slip, file_fault};
 pub use files::{print, read, read_at_most};
 pub use limits::FILE_LIMIT;
+pub use loose_json::CanonFault;
 pub use moments::moment;
 pub use notes::Notes;
 pub use placing::{OWNER_ALONE, are_one_file, put_in_place};

@@ -5,7 +5,7 @@ use Rattle.canonical_json.specs.Json.{Json, array, HasMember}
 use Rattle.canonical_json.specs.View.{items_of, items_view, view}
 use Rattle.canonical_json.specs.declared.Value.{Value}
 use Rattle.document_parts.specs.declared.documents.Kind.TheVariants as kinds
-use Rattle.delegation_drafting.specs.Delegations.{AreIn, Changes, Delegated, DraftsDelegations, IsTo, PutsEach, Stands, StandsOrGoes, by_role, delegation_names, key_rows, name_rows}
+use Rattle.delegation_drafting.specs.Delegations.{AreIn, Changes, Delegated, DraftsDelegations, IsTo, PutsEach, HoldsDelegations, HoldsOrLacks, by_role, delegation_names, key_rows, name_rows}
 use Rattle.drafting.specs.Drafts.{File, Follows, IsBase, IsNext}
 use Rattle.drafting.specs.Members.{IsNoneOf, AlikeBut, Drops, IsListAt, IsObjectAt, Puts, Rows, without}
 use Rattle.drafting.specs.Roots.{PutsTable}
@@ -39,7 +39,7 @@ are_in delegations found ms at same named = record {
 
 -- delegations come into a signed part, beside what else `delegations` has, and nothing else changes
 pub record PutsStanding (delegated : List Delegated) (rows : Rows) (inner before after : Json) : Type 0 where
-  pub stands : Stands delegated rows inner before after
+  pub stands : HoldsDelegations delegated rows inner before after
   pub others : AlikeBut delegation_names before after
 
 pub standing : (delegated : List Delegated) (ms : List Row) (i j k b c d : Json) (vs : List Value) → PutsOne (codes "keys") (key_rows delegated) (shown ms) i j
@@ -94,7 +94,7 @@ put_any delegated (r ∷ rows) inner a b some p = record { stands = p.stands; ot
 
 -- what the delegations and the signed part were before their members were taken out
 moved : (delegated : List Delegated) (rows : Rows) (old inner a b c : Json) → AlikeBut (codes "roles" ∷ []) old inner → AlikeBut (codes "delegations" ∷ []) a b
-    → StandsOrGoes delegated rows inner b c → StandsOrGoes delegated rows old a c
+    → HoldsOrLacks delegated rows inner b c → HoldsOrLacks delegated rows old a c
 moved delegated [] old inner a b c p q s = s
 moved delegated (r ∷ rows) old inner a b c p q s = record {
   new = s.new;
@@ -151,8 +151,8 @@ delegations_put changes old inner a b c first between last was alike listed insi
 other_delegations : IsNoneOf (codes "version" ∷ codes "expires" ∷ codes "term" ∷ []) (codes "delegations")
 other_delegations = other_head (codes "delegations") (λ (e : 118 ≡ 100). omega (arith, e)) (λ (e : 101 ≡ 100). omega (arith, e)) (λ (e : 116 ≡ 100). omega (arith, e))
 
-stays : (delegated : List Delegated) (rows : Rows) (version : ℕ) (terms : Terms) (old a b c : Json) → Follows version terms [] b c → StandsOrGoes delegated rows old a b
-    → StandsOrGoes delegated rows old a c
+stays : (delegated : List Delegated) (rows : Rows) (version : ℕ) (terms : Terms) (old a b c : Json) → Follows version terms [] b c → HoldsOrLacks delegated rows old a b
+    → HoldsOrLacks delegated rows old a c
 stays delegated [] version terms old a b c f s =
     ((λ x h. s.0 x (f.others.no_more (codes "delegations") x other_delegations h)), λ x h. s.1 x (f.others.no_more (codes "names") x other_names h))
 stays delegated (r ∷ rows) version terms old a b c f s = record {

@@ -99,7 +99,7 @@ PutsEach [] old new = new ≡ old
 PutsEach (said ∷ more) old new = (next : Rows) × PutsDelegation said old next × PutsEach more next new
 
 -- the delegations stand in `delegations`, with the keys that they have, and the names of these in `names`
-pub record Stands (delegated : List Delegated) (rows : Rows) (old before after : Json) : Type 0 where
+pub record HoldsDelegations (delegated : List Delegated) (rows : Rows) (old before after : Json) : Type 0 where
   pub new : Json
   pub has : HasMember after (codes "delegations") new
   pub roles : HasMember new (codes "roles") (array (list_of rows))
@@ -108,9 +108,9 @@ pub record Stands (delegated : List Delegated) (rows : Rows) (old before after :
   pub names : PutsTable (codes "names") (name_rows delegated) (by_role rows) before after
 
 -- where there are none, neither member is there
-abbrev pub StandsOrGoes : List Delegated → Rows → Json → Json → Json → Type 0
-StandsOrGoes delegated [] old before after = HasNone after (codes "delegations") × HasNone after (codes "names")
-StandsOrGoes delegated (r ∷ rows) old before after = Stands delegated (r ∷ rows) old before after
+abbrev pub HoldsOrLacks : List Delegated → Rows → Json → Json → Json → Type 0
+HoldsOrLacks delegated [] old before after = HasNone after (codes "delegations") × HasNone after (codes "names")
+HoldsOrLacks delegated (r ∷ rows) old before after = HoldsDelegations delegated (r ∷ rows) old before after
 
 -- what was delegated, without what is undelegated, and with what is put: this stands in the end
 pub record ChangesDelegations (changes : Changes) (before after : Json) : Type 0 where
@@ -122,7 +122,7 @@ pub record ChangesDelegations (changes : Changes) (before after : Json) : Type 0
   pub listed : AreIn old first
   pub undelegates : Undelegates changes.undelegated first between
   pub puts : PutsEach changes.delegated between last
-  pub stands : StandsOrGoes changes.delegated last old before after
+  pub stands : HoldsOrLacks changes.delegated last old before after
 
 -- the names of the members that a draft of delegations changes
 abbrev pub delegation_names : List (List ℕ)

@@ -1,6 +1,6 @@
 //! Layouts and links as targets (this project's profile of TUF 1.0, section 4.5, custom).
 use crate::said::{Said, read_said_of};
-use crate::vouching::{Vouching, copied};
+use crate::vouching::{Vouching, vouching_of};
 use command_support::{Fault, Notes};
 use draft_folders::{Folder, kind_of};
 use drafting::{Look, look_at};
@@ -75,7 +75,7 @@ fn referred_by(
     said: &[u8],
     layout: &LayoutReference,
 ) -> Result<Referred, AllocError> {
-    let owners = copied(alloc, &layout.owners, &layout.keys, said)?;
+    let owners = vouching_of(alloc, &layout.owners, &layout.keys, said)?;
     let path = String::from_str(alloc, layout.path.as_str())?;
     let links = texts_of(alloc, &layout.links)?;
     let product = String::from_str(alloc, layout.product.as_str())?;

@@ -88,7 +88,7 @@ fn add_of_document(
 ) -> Result<(), AllocError> {
     match &document.body {
         Body::Root(root) => {
-            let vouching = copied(alloc, rule_in(root, role), &root.keys, document.signed)?;
+            let vouching = vouching_of(alloc, rule_in(root, role), &root.keys, document.signed)?;
             rules.push(vouching)?;
         }
         Body::Targets(targets) => {
@@ -158,7 +158,7 @@ fn add_of_list(
 ) -> Result<(), AllocError> {
     for delegation in &delegations.roles {
         if delegation.name.as_str() == role {
-            let vouching = copied(alloc, &delegation.rule, &delegations.keys, said)?;
+            let vouching = vouching_of(alloc, &delegation.rule, &delegations.keys, said)?;
             rules.push(vouching)?;
         }
     }
@@ -166,7 +166,7 @@ fn add_of_list(
 }
 
 /// A rule with its keys.
-pub(crate) fn copied(
+pub(crate) fn vouching_of(
     alloc: Global,
     rule: &RoleRule,
     keys: &KeyTable,

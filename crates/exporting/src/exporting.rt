@@ -1,8 +1,8 @@
 //! `export`: the repository as files that any web server can send.
 use crate::files::Exporting;
 use command_support::{Fault, Notes, moment, print};
-use commands::{Work, worked};
 use metadata::Moment;
+use repository_work::{Work, worked};
 use sqlite::Alter;
 use std::io::Write;
 use store::Store;

@@ -1,11 +1,11 @@
 //! The files of a repository in a folder, under the names that clients ask for.
 use command_support::{Denial, Fault, Notes, file_fault, put_in_place};
-use commands::fault_of_store;
 use limits::BLOB_LIMIT;
 use metadata::{
     Body, Kind, Listing, Moment, ShapeFault, Snapshot, Targets, digest_of, read_document,
 };
 use path_patterns::{consistent_name, metadata_name};
+use repository_work::fault_of_store;
 use sqlite::Alter;
 use std::alloc::{AllocError, Global};
 use std::fs::{self, File, Metadata};
@@ -176,7 +176,7 @@ impl<'a, S: Alter> Exporting<'a, S> {
             return Ok(());
         }
         let command = Command::Target(listing.path.as_str(), Some(listing.digest));
-        let reply = self.asked(command, notes)?;
+        let reply = self.ask(command, notes)?;
         self.write_reply(place.as_str(), listing, &reply, notes)
     }
 
@@ -291,13 +291,13 @@ impl<'a, S: Alter> Exporting<'a, S> {
         name: &str,
         notes: &mut Notes<'_, E>,
     ) -> Result<Option<Vec<u8>>, Fault> {
-        match self.asked(Command::Metadata(name), notes)? {
+        match self.ask(Command::Metadata(name), notes)? {
             Reply::Bytes(bytes) => Ok(Some(bytes)),
             _ => Ok(None),
         }
     }
 
-    fn asked<E: Write>(
+    fn ask<E: Write>(
         &mut self,
         command: Command<'_>,
         notes: &mut Notes<'_, E>,

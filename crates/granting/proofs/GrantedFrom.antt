@@ -15,7 +15,7 @@ use Rattle.delegations.proofs.KeyOrder.{sorts_bytes, under}
 use Rattle.trust_rules.specs.Held.{Held, StandsFor, held_of}
 use Rattle.granting.specs.Serving.{HasLayout, Refuses, Serves, by_layout, denies, fails, forgoes, unread}
 use Rattle.trust_rules.specs.State.{State, IsState, blob_at}
-use Rattle.granting.specs.steps.Permitting.{Finds, IsLoaded, Stands, at_once, by_bytes}
+use Rattle.granting.specs.steps.Permitting.{Finds, IsLoaded, FindsLoaded, at_once, by_bytes}
 use Rattle.granting.specs.steps.Permitting as found
 use Rattle.granting.specs.declared.serving.Served.{Served}
 use Rattle.granting.specs.declared.serving.GetFault.{GetFault}
@@ -31,7 +31,7 @@ denied_so : {A : Type 0} {m : Order Bytes} {view : A → Bytes} (d : Denial) →
 denied_so d (found.denies h) = h
 
 pub refuses_so : {A : Type 0} {H : Held} {honest : Type 0} {Holds : Bytes → Bytes → Type 0} {unloaded loaded : Type 0} {m : State → Order Bytes} {view : State → A → Bytes} (path : Bytes) (now : ℕ) (f : GetFault)
-    → Stands H honest Holds unloaded (loaded × HasLayout H.trusted path now) m view (Err f) → Refuses H m path now unloaded loaded (Err f)
+    → FindsLoaded H honest Holds unloaded (loaded × HasLayout H.trusted path now) m view (Err f) → Refuses H m path now unloaded loaded (Err f)
 refuses_so path now (Denied d) (at_once u h) = unread u (λ S v is. denied_so d (h S v is))
 refuses_so path now (Denied d) (by_bytes t h) = by_layout t.0.0 t.0.1 t.1
 refuses_so path now (Load fault) s = tt

@@ -17,7 +17,7 @@ use Rattle.trust_rules.specs.Held.{Held, StandsFor, held_of, length_at}
 use Rattle.granting.specs.Serving.{is_by_layout}
 use Rattle.trust_rules.specs.State.{State, IsState}
 use Rattle.trust_rules.specs.Grants.{read_as}
-use Rattle.granting.specs.steps.Permitting.{Finds, IsFaultOf, IsLayoutAnswer, IsLentSo, IsLoaded, IsRefusedSo, IsShapeAnswer, Reads, Stands, Told, ToldFault, at_once, by_bytes, denies, fails, finds, forgoes}
+use Rattle.granting.specs.steps.Permitting.{Finds, IsFaultOf, IsLayoutAnswer, IsLentSo, IsLoaded, IsRefusedSo, IsShapeAnswer, Reads, FindsLoaded, Told, ToldFault, at_once, by_bytes, denies, fails, finds, forgoes}
 use Rattle.trusted_state.specs.declared.refusal.Refusal.{Refusal}
 use Rattle.trusted_state.specs.declared.refusal.Refusal.TheVariants as refusals
 use Rattle.granting.specs.declared.serving.GetFault.{GetFault}
@@ -68,17 +68,17 @@ module _ {H : Held} {honest : Type 0} {Holds : Bytes → Bytes → Type 0} {unlo
   -- an answer by another
   pub stands_by : {A B X Y : Type 0} {more : Type 0} {m : State → Order A} {n : State → Order B} {view : State → X → A} {wide : State → Y → B} (r : Result X GetFault) (q : Result Y GetFault)
       → (Told loaded r → Told more q) → ((S : State) → IsState S → held_of S ≡ H → Finds (m S) (view S) r → Finds (n S) (wide S) q)
-      → Stands H honest Holds unloaded loaded m view r → Stands H honest Holds unloaded more n wide q
+      → FindsLoaded H honest Holds unloaded loaded m view r → FindsLoaded H honest Holds unloaded more n wide q
   stands_by r q told so (at_once u h) = at_once u (λ S v is. so S v is (h S v is))
   stands_by r q told so (by_bytes t h) = by_bytes (told t) (λ true_so S stands. so S stands.valid stands.held (h true_so S stands))
 
   pub stands_in : {A B X Y : Type 0} {m : State → Order A} {k : State → A → Order B} {view : State → X → A} {wide : State → Y → B} (f : GetFault)
-      → Stands H honest Holds unloaded loaded m view (Err f) → Stands H honest Holds unloaded loaded (λ S. m S >>= k S) wide (Err f)
+      → FindsLoaded H honest Holds unloaded loaded m view (Err f) → FindsLoaded H honest Holds unloaded loaded (λ S. m S >>= k S) wide (Err f)
   stands_in f stands = stands_by (Err f) (Err f) (told_err f (λ l. l)) (λ S v is h. finds_in h) stands
 
   -- what it is of a state for which the bytes stand
   pub stands_so : {A B : Type 0} {m : State → Order B} {view : State → A → B} {r : Result A GetFault} (S : State)
-      → Stands H honest Holds unloaded loaded m view r → honest → StandsFor H Holds S → Finds (m S) (view S) r
+      → FindsLoaded H honest Holds unloaded loaded m view r → honest → StandsFor H Holds S → Finds (m S) (view S) r
   stands_so S (at_once u h) true_so stands = h S stands.valid stands.held
   stands_so S (by_bytes t h) true_so stands = h true_so S stands
 

@@ -6,7 +6,7 @@ use Rattle.std.specs.List.{AllByRecursion, list_all}
 use Rattle.std.specs.Prelude.{option_map, unwrap_or}
 use Rattle.metadata.specs.File.{Bytes}
 use Rattle.denials.specs.Orders as orders
-use Rattle.denials.specs.Orders.{Judged, Order, Plain, check, fails}
+use Rattle.denials.specs.Orders.{Judged, Order}
 use Rattle.denials.specs.Views.{denial_view}
 use Rattle.path_patterns.specs.declared.Digest.{Digest}
 use Rattle.layouts.proofs.DefiniteOrders.{Definite}

@@ -6,7 +6,7 @@ use Rattle.document_parts.specs.Covers.{requires_layout}
 use Rattle.document_parts.specs.Documents.{LayoutReference, Listing, Root, Snapshot}
 use Rattle.metadata.specs.File.{Bytes, File}
 use Rattle.denials.specs.Orders as orders
-use Rattle.denials.specs.Orders.{Order, ◌>>=◌, ◌>>◌, pass, decide, holds, given, each, judges, stopped, check, give}
+use Rattle.denials.specs.Orders.{Order, ◌>>=◌, ◌>>◌, pass, holds, given, each, judges, stopped}
 use Rattle.path_patterns.specs.Grammar.{IsTargetPath}
 use Rattle.delegations.specs.Rows.{Rows}
 use Rattle.delegations.specs.Search.{Found, Shelf, shelf_of}

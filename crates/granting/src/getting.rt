@@ -8,7 +8,7 @@ ghost use Rattle.trusted_state.specs.Knowing.{ChecksFew, WantsFew};
 ghost use Rattle.granting.specs.Serving.{HasLayout, Refuses, RefusesLong, Serves};
 ghost use Rattle.trust_rules.specs.State as trust;
 ghost use Rattle.trust_rules.specs.State.{blob_at};
-ghost use Rattle.granting.specs.steps.Permitting.{IsLentSo, Reads, Stands};
+ghost use Rattle.granting.specs.steps.Permitting.{IsLentSo, Reads, FindsLoaded};
 
 use crate::listing::{find_listing, is_asked, listed_digest};
 use crate::serving::{Blobs, GetFault, Served, load};
@@ -205,7 +205,7 @@ fn permitted_text<B: Blobs>(
     checks: &mut Steps,
 ) -> Result<Digest, GetFault>
     requires { checks.old < 2 ^ 63 }
-    ensures stands { Stands held.now.held (B.IsHonest blobs.new) (B.Holds blobs.old) (blobs.new ≡ blobs.old) (B.HasLoaded blobs.new × HasLayout held.now.held.trusted path.now now)
+    ensures stands { FindsLoaded held.now.held (B.IsHonest blobs.new) (B.Holds blobs.old) (blobs.new ≡ blobs.old) (B.HasLoaded blobs.new × HasLayout held.now.held.trusted path.now now)
         (λ S. granted.grants S path.now (option_map (λ d. d.0) asked) now) (λ S d. bytes_at S d.0) result }
     ensures reads { Reads B.IsHonest B.Holds B.MayBecome blobs.old blobs.new }
     ensures long { RefusesLong held.now.held path.now now (blobs.new ≡ blobs.old) result }
@@ -234,7 +234,7 @@ fn permitted<B: Blobs>(
     checks: &mut Steps,
 ) -> Result<Digest, GetFault>
     requires { checks.old < 2 ^ 63 }
-    ensures stands { Stands held.now.held (B.IsHonest blobs.new) (B.Holds blobs.old) (blobs.new ≡ blobs.old) (B.HasLoaded blobs.new × HasLayout held.now.held.trusted path.now now)
+    ensures stands { FindsLoaded held.now.held (B.IsHonest blobs.new) (B.Holds blobs.old) (blobs.new ≡ blobs.old) (B.HasLoaded blobs.new × HasLayout held.now.held.trusted path.now now)
         (λ S. granted.grants S path.now (option_map (λ d. d.0) asked) now) (λ S d. bytes_at S d.0) result }
     ensures reads { Reads B.IsHonest B.Holds B.MayBecome blobs.old blobs.new }
     ensures long { RefusesLong held.now.held path.now now (blobs.new ≡ blobs.old) result }

@@ -8,7 +8,7 @@ ghost use Rattle.delegations.specs.Views as searches;
 ghost use Rattle.denials.specs.Orders as orders;
 ghost use Rattle.document_parts.specs.Views.{listing_view, root_view};
 ghost use Rattle.path_patterns.specs.Grammar.{IsTargetPath};
-ghost use Rattle.contents.specs.Contents.{lengths_of};
+ghost use Rattle.repository_rows.specs.Contents.{lengths_of};
 ghost use Rattle.trusted_state.specs.Answers.{Gives};
 ghost use Rattle.trust_rules.specs.Grants as granted;
 ghost use Rattle.trust_rules.specs.Held.{OfEachState, length_at, bytes_at};

@@ -1,7 +1,7 @@
 //! The files that a target's layout needs, and whether the layout allows the target (in-toto 1.0, section 5.2).
 ghost use Rattle.std.specs.Prelude.{◌≡◌, ◌↔◌, ◌≤◌, ◌∷◌, false, map, IfOk, IsNone, IsSome, IsTrue};
 ghost use Rattle.std.specs.List.{AllByRecursion, list_all};
-ghost use Rattle.contents.specs.Contents.{lengths_of};
+ghost use Rattle.repository_rows.specs.Contents.{lengths_of};
 ghost use Rattle.delegations.specs.Delegation.{before};
 ghost use Rattle.delegations.specs.Rows.{Rises};
 ghost use Rattle.delegations.specs.Verdicts.{AreFew, AreTrue, IsComplete};
@@ -18,7 +18,7 @@ ghost use Rattle.granting.specs.Serving.{IsShapeDenial};
 ghost use Rattle.trust_rules.specs.State as trust;
 ghost use Rattle.trust_rules.specs.Grants as granted;
 ghost use Rattle.state_parts.specs.Views.{length_views};
-ghost use Rattle.granting.specs.steps.Permitting.{Finds, IsShapeAnswer, IsSupportOf, Reads, Stands, Told, all_bytes_at, is_short_in, names_missing};
+ghost use Rattle.granting.specs.steps.Permitting.{Finds, IsShapeAnswer, IsSupportOf, Reads, FindsLoaded, Told, all_bytes_at, is_short_in, names_missing};
 
 use crate::listing::{Listed, find_needed, listed_digest};
 use crate::serving::{Blobs, GetFault, load};
@@ -48,7 +48,7 @@ pub(crate) fn judge_layout<B: Blobs>(
     checks: &mut Steps,
 ) -> Result<(), GetFault>
     requires { AreTrue (shelf_view at.now.shelf).rows held.now.verdicts }
-    ensures stands { Stands held.now.held (B.IsHonest blobs.new) (B.Holds blobs.old) (blobs.new ≡ blobs.old) (B.HasLoaded blobs.new × IsSome at.now.listing.now.layout)
+    ensures stands { FindsLoaded held.now.held (B.IsHonest blobs.new) (B.Holds blobs.old) (blobs.new ≡ blobs.old) (B.HasLoaded blobs.new × IsSome at.now.listing.now.layout)
         (λ S. granted.reference_allows S (root_view at.now.root.now) (shelf_view at.now.shelf) now (listing_view at.now.listing.now) (listing_view at.now.listing.now).layout) (λ S u. u) result }
     ensures reads { Reads B.IsHonest B.Holds B.MayBecome blobs.old blobs.new }
     ensures long { OfEachState held.now.held (λ S. granted.HasLongSupport S (root_view at.now.root.now) (shelf_view at.now.shelf) now (listing_view at.now.listing.now).layout → (blobs.new ≡ blobs.old) × IsShapeDenial result) }
@@ -233,7 +233,7 @@ fn judge_files<B: Blobs>(
 ) -> Result<(), GetFault>
     requires layout { IsSome (length_at held.now.held.blobs files.0.0) }
     requires links { AllByRecursion (λ d. IsSome (length_at held.now.held.blobs d.0)) files.1.now }
-    ensures stands { Stands held.now.held (B.IsHonest blobs.new) (B.Holds blobs.old) (blobs.new ≡ blobs.old) (B.HasLoaded blobs.new)
+    ensures stands { FindsLoaded held.now.held (B.IsHonest blobs.new) (B.Holds blobs.old) (blobs.new ≡ blobs.old) (B.HasLoaded blobs.new)
         (λ S. granted.files_hold (listing_view listing.now) (reference_view reference.now) now (bytes_at S files.entry.0.0) (all_bytes_at S files.entry.1.now)) (λ S u. u) result }
     ensures reads { Reads B.IsHonest B.Holds B.MayBecome blobs.old blobs.new }
     ensures long { list_all (is_short_in held.now.held.blobs) (files.entry.0 ∷ files.entry.1.now) ≡ false → (blobs.new ≡ blobs.old) × IsShapeDenial result }

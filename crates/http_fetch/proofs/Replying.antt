@@ -8,11 +8,11 @@ use Rattle.httparse.specs.Grammar.{ResponseHead, print_response, HasNoResponse}
 use Rattle.httparse.specs.Spans.{ResponseOverflows}
 use Rattle.httparse.specs.declared.spans.ResponseSpans.{ResponseSpans}
 use Rattle.http_messages.specs.Head.{IsInput, left}
-use Rattle.sources.specs.Source.{Answer}
-use Rattle.sources.specs.declared.FetchFault.{FetchFault}
-use Rattle.sources.specs.declared.FetchFault.TheVariants.{TooLong, Broken, OutOfMemory}
+use Rattle.fetch.specs.Source.{Answer}
+use Rattle.fetch.specs.declared.FetchFault.{FetchFault}
+use Rattle.fetch.specs.declared.FetchFault.TheVariants.{TooLong, Broken, OutOfMemory}
 use Rattle.http_fetch.specs.Reply as replies
-use Rattle.http_fetch.specs.Reply.{Answers, Fetched, Heads, HasNoHead, TookWithin, headless, replied}
+use Rattle.http_fetch.specs.Reply.{Yields, Fetched, Heads, HasNoHead, TookWithin, headless, replied}
 use Rattle.http_fetch.specs.steps.Found.{IsFound, ReadsBody, ReadsRest, TookBody, found, passes, absent, other, cut, wanting}
 
 -- a text that is `p` and then something, of which `front` is a front long enough, has `p` at the front
@@ -130,7 +130,7 @@ pub replied_by : (old new : Option (List ℕ)) (was is : Bool) (got : List ℕ) 
     → ReadsBody new is spans.code front limit answer → Fetched old (was ≡ true) limit answer
 replied_by old new was is got spans front limit _ read (h, at) e stays (found more code input few) =
     replied (input_then old new got more read input)
-    (subst (λ l. Answers (got ++ more) limit (Ok (Some (l ++ more)))) (sym e)
+    (subst (λ l. Yields (got ++ more) limit (Ok (Some (l ++ more)))) (sym e)
     (replies.found (heads_more got more (drop spans.len got) h at.heads) (at.code ∙ code) (subst (λ l. length (l ++ more) ≤ limit) e few)))
 replied_by old new was is got spans front limit _ read (h, at) e stays (passes more code input long) =
     replied (input_then old new got more read input)

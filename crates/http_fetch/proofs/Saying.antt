@@ -5,8 +5,8 @@ use Rattle.httparse.specs.Grammar.{ResponseHead}
 use Rattle.httparse.specs.declared.spans.ResponseSpans.{ResponseSpans}
 use Rattle.http_messages.specs.Head.{left}
 use Rattle.http_messages.specs.Taken.{TookSome}
-use Rattle.sources.specs.declared.FetchFault.{FetchFault}
-use Rattle.sources.specs.declared.FetchFault.TheVariants.{TooLong, Broken, OutOfMemory}
+use Rattle.fetch.specs.declared.FetchFault.{FetchFault}
+use Rattle.fetch.specs.declared.FetchFault.TheVariants.{TooLong, Broken, OutOfMemory}
 use Rattle.http_fetch.specs.Reply.{HasNoHead}
 use Rattle.http_fetch.specs.Sent.{Answered, cut, headless, passes, reply, said, wanting}
 use Rattle.http_fetch.specs.steps.Found.{IsFound, ReadsRest}

@@ -2,8 +2,8 @@
 use Rattle.std.specs.Prelude.{ℕ, ◌≤◌, ◌<◌, List, length, Option, Result, Ok, Err, ⊤}
 use Rattle.httparse.specs.Grammar.{ResponseHead, status_code}
 use Rattle.http_messages.specs.Head.{IsInput}
-use Rattle.sources.specs.declared.FetchFault.{FetchFault}
-use Rattle.sources.specs.declared.FetchFault.TheVariants.{TooLong, Broken, OutOfMemory}
+use Rattle.fetch.specs.declared.FetchFault.{FetchFault}
+use Rattle.fetch.specs.declared.FetchFault.TheVariants.{TooLong, Broken, OutOfMemory}
 use Rattle.http_fetch.specs.Reply.{Heads, HasNoHead}
 use Rattle.http_fetch.specs.declared.sending.Reply.{Reply as Replies}
 use Rattle.http_fetch.specs.declared.sending.SendFault.{SendFault}

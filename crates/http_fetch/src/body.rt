@@ -4,8 +4,8 @@ ghost use Rattle.std.specs.Io.KnownBytes.{Consumes, IsAtEnd, Keeps};
 ghost use Rattle.http_messages.specs.Sound.{StaysSound};
 ghost use Rattle.http_fetch.specs.steps.Found.{ReadsRest};
 
+use fetch::FetchFault;
 use http_messages::Receive;
-use sources::FetchFault;
 use std::alloc::Global;
 use std::io;
 

@@ -2,7 +2,7 @@
 ghost use Rattle.std.specs.Prelude.{◌≡◌, OnOk, true};
 ghost use Rattle.std.specs.Io.KnownBytes.{Appends};
 ghost use Rattle.http_messages.specs.Taken.{TookSome};
-ghost use Rattle.sources.specs.Source.{answered};
+ghost use Rattle.fetch.specs.Source.{answered};
 ghost use Rattle.http_fetch.specs.Reply.{Fetched, TookWithin};
 ghost use Rattle.http_fetch.specs.Request.{request};
 ghost use Rattle.http_fetch.specs.steps.Found.{ReadsBody, TookBody};
@@ -10,8 +10,8 @@ ghost use Rattle.http_fetch.specs.steps.Found.{ReadsBody, TookBody};
 use crate::body::read_rest;
 use crate::head::read_head;
 use crate::request::request_of;
+use fetch::FetchFault;
 use http_messages::{HEAD_LIMIT, Receive, Transmit, send_all};
-use sources::FetchFault;
 use std::alloc::Global;
 
 /// Reads a reply to its end: the body where the status is 200, `None` where it is 403 or 404. The body is all that stands behind the

@@ -10,8 +10,8 @@ ghost use Rattle.http_fetch.specs.Sent.{Answered, SaysWhereSent, WhereSent, repl
 use crate::body::read_rest;
 use crate::head::read_head;
 use crate::message::{Message, head_of};
+use fetch::FetchFault;
 use http_messages::{HEAD_LIMIT, Receive, Transmit, send_both};
-use sources::FetchFault;
 use std::alloc::Global;
 
 /// A reply: its status (RFC 9110, section 15), and its body.

@@ -1,6 +1,6 @@
 -- One response to an input.
 use Rattle.std.proofs.Common.{◌≡◌, ◌⊎◌, inl, inr, ℕ, List, [], ◌∷◌, ◌++◌, map, Option, None, Result, Ok, Err, refl, sym, ap, subst, ◌∙◌}
-use Rattle.path_patterns.specs.Names.{Asks as AsksPath}
+use Rattle.path_patterns.specs.Names.{IsNameOf}
 use Rattle.trust_rules.specs.State.{State}
 use Rattle.trust_rules.specs.Runs.{Command, Batch, PutBlob, Prune, Metadata, Target, Reply, Begun, Offered, BatchDone, Stored, Pruned, FileBytes, Absent, Refused, Steps, Outcome, Runs, done as ended, next}
 use Rattle.http_messages.specs.Request.{Request, fault, batch, put_blob, prune, metadata, target, Asks}
@@ -12,7 +12,7 @@ use Rattle.http_messages.specs.declared.faults.Fault.TheVariants.{Name, Memory, 
 use Rattle.http_messages.specs.declared.reply.Kind.{Kind}
 use Rattle.http_messages.specs.declared.reply.Kind.TheVariants.{Json}
 use Rattle.http_messages.specs.declared.reply.Status.TheVariants.{Ok as Fine}
-use Rattle.http_serve.specs.Response.{IsCommand, offers, puts, prunes, names, asks, kind_of, denial_response, Says, done, stored, pruned, file, absent, denied, Answers, at_fault, by_step, Responds}
+use Rattle.http_serve.specs.Response.{IsCommand, offers, puts, prunes, names, asks, kind_of, denial_response, Says, done, stored, pruned, file, absent, denied, RespondsTo, at_fault, by_step, Responds}
 use Rattle.trust_rules.specs.Offers.{offer_of}
 use Rattle.http_serve.specs.Serving as serving
 use Rattle.http_serve.specs.Serving.{Answered, Made, Ended, Line, Serves}
@@ -49,7 +49,7 @@ CommandOf (batch documents) c = c ≡ Batch (map (λ (d : Document). (offer_of d
 CommandOf (put_blob digest bytes) c = c ≡ PutBlob digest bytes
 CommandOf prune c = c ≡ Prune
 CommandOf (metadata name) c = c ≡ Metadata name
-CommandOf (target text) c = (path : List ℕ) × (digest : Option (List ℕ)) × AsksPath text path digest × (c ≡ Target path digest)
+CommandOf (target text) c = (path : List ℕ) × (digest : Option (List ℕ)) × IsNameOf text path digest × (c ≡ Target path digest)
 
 command-of : (request : Request) (c : Command) → IsCommand request c → CommandOf request c
 command-of request c (offers documents) = refl
@@ -59,7 +59,7 @@ command-of request c (names name) = refl
 command-of request c (asks text path digest h) = (path, digest, h, refl)
 
 abbrev OnePath : Type 0
-OnePath = (text p q : List ℕ) (d e : Option (List ℕ)) → AsksPath text p d → AsksPath text q e → (p ≡ q) × (d ≡ e)
+OnePath = (text p q : List ℕ) (d e : Option (List ℕ)) → IsNameOf text p d → IsNameOf text q e → (p ≡ q) × (d ≡ e)
 
 abbrev OneStep : Type 0
 OneStep = (S : State) (c : Command) (now : ℕ) (r q : Outcome) → Steps S c now r → Steps S c now q → r ≡ q
@@ -84,7 +84,7 @@ module _ (one_path : OnePath) (one_step : OneStep) where
         ap (λ (o : Outcome). o.0) steps,
       )
 
-  one-answer : (S : State) (now : ℕ) (r q : Request) (t u : List ℕ) (T U : State) → r ≡ q → Answers S now r t T → Answers S now q u U → (t ≡ u) × (T ≡ U)
+  one-answer : (S : State) (now : ℕ) (r q : Request) (t u : List ℕ) (T U : State) → r ≡ q → RespondsTo S now r t T → RespondsTo S now q u U → (t ≡ u) × (T ≡ U)
   one-answer S now r q t u T U e (at_fault why) (at_fault other) = let same : why ≡ other = cc in (ap fault_response same, refl)
   one-answer S now r q t u T U e (at_fault why) (by_step request c reply text V is steps says) = absurd (subst (λ x. CommandOf x c) (sym e) (command-of q c is))
   one-answer S now r q t u T U e (by_step request c reply text V is steps says) (at_fault why) = absurd (subst (λ x. CommandOf x c) e (command-of r c is))

@@ -1,7 +1,7 @@
 -- The response of a release repository: from a state, a request and a moment to the bytes that are written and the state that is left.
 use Rattle.std.specs.Prelude.{ℕ, List, Option, None, map, cond}
 use Rattle.denials.specs.Orders as orders
-use Rattle.path_patterns.specs.Names.{Asks as AsksPath}
+use Rattle.path_patterns.specs.Names.{IsNameOf}
 use Rattle.trust_rules.specs.State.{State}
 use Rattle.trust_rules.specs.Offers.{offer_of}
 use Rattle.trust_rules.specs.Runs.{Command, Batch, PutBlob, Prune, Metadata, Target, Init, OfferOne, Reply, BatchDone, Stored, Pruned, FileBytes, Absent, Refused, Steps}
@@ -22,7 +22,7 @@ pub data IsCommand : Request → Command → Type 0 where
   puts : (digest bytes : List ℕ) → IsCommand (put_blob digest bytes) (PutBlob digest bytes)
   prunes : IsCommand prune Prune
   names : (name : List ℕ) → IsCommand (metadata name) (Metadata name)
-  asks : (text path : List ℕ) (digest : Option (List ℕ)) → AsksPath text path digest → IsCommand (target text) (Target path digest)
+  asks : (text path : List ℕ) (digest : Option (List ℕ)) → IsNameOf text path digest → IsCommand (target text) (Target path digest)
 
 -- the type of the files that a command is answered with
 abbrev pub kind_of : Command → Kind
@@ -53,13 +53,13 @@ pub data Says (kind : Kind) : Reply → List ℕ → Type 0 where
 
 -- A request is answered at a moment: a fault by its own text and with no change, and a command by what the trust machine replies, with
 -- the state that its step leaves.
-pub data Answers (S : State) (now : ℕ) : Request → List ℕ → State → Type 0 where
-  at_fault : (why : Fault) → Answers S now (fault why) (fault_response why) S
+pub data RespondsTo (S : State) (now : ℕ) : Request → List ℕ → State → Type 0 where
+  at_fault : (why : Fault) → RespondsTo S now (fault why) (fault_response why) S
   by_step : (request : Request) (command : Command) (reply : Reply) (text : List ℕ) (T : State)
-      → IsCommand request command → Steps S command now (T, reply) → Says (kind_of command) reply text → Answers S now request text T
+      → IsCommand request command → Steps S command now (T, reply) → Says (kind_of command) reply text → RespondsTo S now request text T
 
 -- the response to an input, and the state that is left
 pub record Responds (S : State) (input : List ℕ) (now : ℕ) (text : List ℕ) (T : State) : Type 0 where
   pub request : Request
   pub asks : Asks input request
-  pub answers : Answers S now request text T
+  pub answers : RespondsTo S now request text T

@@ -2,10 +2,10 @@
 use Rattle.std.proofs.Common.{◌≡◌, ℕ, zero, suc, ◌+◌, ◌<◌, Bool, true, false, cond, not, List, [], ◌∷◌, length, drop, slice_index_or, Result, Ok, Err, refl, sym, ap, ◌∙◌, subst, arith, ◌≤◌, Bor}
 use Rattle.metadata.specs.File.{Bytes}
 use Rattle.denials.specs.Orders as orders
-use Rattle.denials.specs.Orders.{judges, Same, Plain}
+use Rattle.denials.specs.Orders.{judges}
 use Rattle.trust_rules.specs.State.{Trusted, State}
 use Rattle.trust_rules.specs.Offers as commands
-use Rattle.trust_rules.specs.Offers.{Ended, coherent, incoherent, batch_from, batch, offer}
+use Rattle.trust_rules.specs.Offers.{Ended, batch_from, batch, offer}
 use Rattle.trusted_state.specs.Answers.{AnswersBatch, denied, undone}
 use Rattle.trusted_state.specs.steps.Judging.{Ends, takes, stays, ends, gives_up, IsDeniedAt, IsRefusedAt}
 use Rattle.denials.specs.Views.{denial_view}

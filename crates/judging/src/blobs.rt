@@ -1,8 +1,6 @@
 //! The files of targets, which are held under their digests.
 ghost use Rattle.std.specs.Prelude.{◌≡◌, ◌↔◌, ◌<◌, ◌≤◌, ◌∷◌, [], IfOk, IsSome, IsTrue, bytes_eq, length, option_map, true, false};
-ghost use Rattle.sha2.specs.Sha256.{sha256};
 ghost use Rattle.delegations.specs.Delegation.{before};
-ghost use Rattle.std.specs.List.Sorted.{IsPartitionPoint};
 ghost use Rattle.delegations.specs.Rows.{Rises, with_row};
 ghost use Rattle.trusted_state.specs.Answers.{Answers};
 ghost use Rattle.trust_rules.specs.Held.{OfEachState, length_at};
@@ -11,9 +9,8 @@ ghost use Rattle.trusted_state.specs.steps.Carrying.{LeavesTrusted};
 ghost use Rattle.trusted_state.specs.steps.Judging.{Judges};
 ghost use Rattle.trust_rules.specs.Offers as commands;
 ghost use Rattle.trust_rules.specs.Effects.{no_effects};
-ghost use Rattle.trust_rules.specs.State.{blob_at};
-ghost use Rattle.limits.specs.Limits.{blob_limit, most_held};
-ghost use Rattle.state_parts.specs.Views.{blob_views, effects_view, length_views};
+ghost use Rattle.limits.specs.Limits.{most_held};
+ghost use Rattle.state_parts.specs.Views.{effects_view, length_views};
 
 use denials::Denial;
 use limits::MOST_HELD;

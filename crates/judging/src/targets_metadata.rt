@@ -1,6 +1,5 @@
 //! Targets metadata: the order of its checks.
 ghost use Rattle.std.specs.Prelude.{◌≡◌, IfOk};
-ghost use Rattle.std.specs.Option.{option_map};
 ghost use Rattle.metadata.specs.FileViews.{root_file, targets_file};
 ghost use Rattle.document_parts.specs.Views.{meta_view};
 ghost use Rattle.delegations.specs.Rows.{with_row, place_before};

@@ -11,7 +11,7 @@ use Rattle.sql_tables.proofs.Shapes.{has_all_alone}
 use Rattle.leaf_book.specs.Schema.{HasBoth, the_schema, two}
 use Rattle.leaf_book.specs.steps.Loading.{AreLeaves, AreSigners, three_cells}
 use Rattle.leaf_book.specs.steps.Making.{nowhere}
-use Rattle.leaf_plans.specs.Book.{AreSame, Book, IsBook, Kept, Signer, no_book}
+use Rattle.leaf_plans.specs.Book.{AreSame, Book, IsBook, LeafRow, Signer, no_book}
 use Rattle.leaf_book.specs.Rows.{AreRowsOf, HoldsBook, HoldsWhole, IsLeafFrom, IsRecorded, IsSignerFrom}
 use Rattle.leaf_book.proofs.ReadLemmas.{leaf_is, signer_is}
 
@@ -56,7 +56,7 @@ module _ {V : Type 0} (Answered Stored : Row → V → Type 0) (there : (r : Row
     all = λ v h. let it = are.all v h in (three_cells it.0, loaded.each it.0 it.1, back it.0 v it.2);
   }
 
-pub book_right : (ss : List Signer) (es : List Kept) → AreSigners ss → AreLeaves ss es → IsBook (record { signers = ss; leaves = es })
+pub book_right : (ss : List Signer) (es : List LeafRow) → AreSigners ss → AreLeaves ss es → IsBook (record { signers = ss; leaves = es })
 book_right ss es signers leaves = record { ids = signers.ids; one_signer = signers.one; known = leaves.known; one_message = leaves.one_message; one_leaf = leaves.one_leaf }
 
 pub signers_right : (b : Book) → IsBook b → AreSigners b.signers

@@ -14,7 +14,7 @@ use Rattle.lms.specs.declared.Params.{Params}
 use Rattle.lms.specs.Parameters.{height, ots_code, signing_type}
 use Rattle.lms.specs.Keys.{leaf_count}
 use Rattle.leaf_book.specs.declared.reading.Place.TheVariants.{New}
-use Rattle.leaf_plans.specs.Book.{Book, IsBook, IsKeyId, Kept, Signer}
+use Rattle.leaf_plans.specs.Book.{Book, IsBook, IsKeyId, LeafRow, Signer}
 use Rattle.leaf_book.specs.Rows.{AreRowsOf, IsLeafFrom, IsSignerFrom}
 use Rattle.leaf_book.specs.steps.Loading.{AreLeaves, AreSigners, Clashes, IsAddedLeaf, IsAddedSigner, IsPlace}
 
@@ -62,7 +62,7 @@ signer_is n x s t a b =
     let params : s.params ≡ t.params = params_one s.params t.params (same_number _ _ (sym a.1 ∙ b.1)) (same_number _ _ (sym a.2 ∙ b.2)) in
     ap (λ k. record { key = k; params = s.params }) key ∙ ap (λ p. record { key = t.key; params = p }) params
 
-pub leaf_is : (n : ℕ) (x : Row) (e f : Kept) → IsLeafFrom n x e → IsLeafFrom n x f → e ≡ f
+pub leaf_is : (n : ℕ) (x : Row) (e f : LeafRow) → IsLeafFrom n x e → IsLeafFrom n x f → e ≡ f
 leaf_is n x e f a b =
     let key : e.key ≡ f.key = same_text e.key f.key (sym a.0 ∙ b.0) in
     let leaf : e.leaf ≡ f.leaf = same_number _ _ (sym a.1 ∙ b.1) in
@@ -156,21 +156,21 @@ signer_read rows row s was now are is id (inr new) = (
 pub no_leaves : (ss : List Signer) → AreLeaves ss []
 no_leaves ss = record { known = λ e none. absurd none; one_message = λ e f none. absurd none; one_leaf = λ e f none. absurd none }
 
-pub leaves_more : (ss : List Signer) (es : List Kept) (e : Kept) → AreLeaves ss es → ((params : Params) × Has ss (record { key = e.key; params = params }) × (e.leaf < leaf_count params)) → IsPlace es e New → AreLeaves ss (es ++ e ∷ [])
+pub leaves_more : (ss : List Signer) (es : List LeafRow) (e : LeafRow) → AreLeaves ss es → ((params : Params) × Has ss (record { key = e.key; params = params }) × (e.leaf < leaf_count params)) → IsPlace es e New → AreLeaves ss (es ++ e ∷ [])
 leaves_more ss es e are known new = record {
   known = λ f h. elim (has_either es (e ∷ []) f h) [
     | inl was ↦ are.known f was
-    | inr (inl here) ↦ subst (λ (g : Kept). (params : Params) × Has ss (record { key = g.key; params = params }) × (g.leaf < leaf_count params)) (sym here) known
+    | inr (inl here) ↦ subst (λ (g : LeafRow). (params : Params) × Has ss (record { key = g.key; params = params }) × (g.leaf < leaf_count params)) (sym here) known
     | inr (inr none) ↦ absurd none
   ];
   one_message = λ f g h k key leaf. elim (has_either es (e ∷ []) f h) [
     | inl was ↦ elim (has_either es (e ∷ []) g k) [
       | inl too ↦ are.one_message f g was too key leaf
-      | inr (inl here) ↦ absurd ((new f was (key ∙ ap (λ (v : Kept). v.key) here)).0 (leaf ∙ ap (λ (v : Kept). v.leaf) here))
+      | inr (inl here) ↦ absurd ((new f was (key ∙ ap (λ (v : LeafRow). v.key) here)).0 (leaf ∙ ap (λ (v : LeafRow). v.leaf) here))
       | inr (inr none) ↦ absurd none
     ]
     | inr (inl here) ↦ elim (has_either es (e ∷ []) g k) [
-      | inl too ↦ absurd ((new g too (sym key ∙ ap (λ (v : Kept). v.key) here)).0 (sym leaf ∙ ap (λ (v : Kept). v.leaf) here))
+      | inl too ↦ absurd ((new g too (sym key ∙ ap (λ (v : LeafRow). v.key) here)).0 (sym leaf ∙ ap (λ (v : LeafRow). v.leaf) here))
       | inr (inl there) ↦ here ∙ sym there
       | inr (inr none) ↦ absurd none
     ]
@@ -179,11 +179,11 @@ leaves_more ss es e are known new = record {
   one_leaf = λ f g h k key message. elim (has_either es (e ∷ []) f h) [
     | inl was ↦ elim (has_either es (e ∷ []) g k) [
       | inl too ↦ are.one_leaf f g was too key message
-      | inr (inl here) ↦ absurd ((new f was (key ∙ ap (λ (v : Kept). v.key) here)).1 (message ∙ ap (λ (v : Kept). v.message) here))
+      | inr (inl here) ↦ absurd ((new f was (key ∙ ap (λ (v : LeafRow). v.key) here)).1 (message ∙ ap (λ (v : LeafRow). v.message) here))
       | inr (inr none) ↦ absurd none
     ]
     | inr (inl here) ↦ elim (has_either es (e ∷ []) g k) [
-      | inl too ↦ absurd ((new g too (sym key ∙ ap (λ (v : Kept). v.key) here)).1 (sym message ∙ ap (λ (v : Kept). v.message) here))
+      | inl too ↦ absurd ((new g too (sym key ∙ ap (λ (v : LeafRow). v.key) here)).1 (sym message ∙ ap (λ (v : LeafRow). v.message) here))
       | inr (inl there) ↦ here ∙ sym there
       | inr (inr none) ↦ absurd none
     ]
@@ -191,7 +191,7 @@ leaves_more ss es e are known new = record {
   ];
 }
 
-pub leaf_read : (ss : List Signer) (rows : List Row) (row : Row) (e : Kept) (was now : List Kept) → AreRowsOf (IsLeafFrom 0) rows was × AreLeaves ss was → IsLeafFrom 0 row e
+pub leaf_read : (ss : List Signer) (rows : List Row) (row : Row) (e : LeafRow) (was now : List LeafRow) → AreRowsOf (IsLeafFrom 0) rows was × AreLeaves ss was → IsLeafFrom 0 row e
     → ((params : Params) × Has ss (record { key = e.key; params = params }) × (e.leaf < leaf_count params)) → IsAddedLeaf was e now → AreRowsOf (IsLeafFrom 0) (rows ++ row ∷ []) now × AreLeaves ss now
 leaf_read ss rows row e was now are is known (inl same) = (
   subst (AreRowsOf (IsLeafFrom 0) (rows ++ row ∷ [])) (sym same.1) (rows_again (IsLeafFrom 0) rows was row e are.0 is same.0),
@@ -207,12 +207,12 @@ few_leaves signing.H5 = omega arith
 few_leaves signing.H10 = omega arith
 
 -- no row of a book in order is one that is not read
-pub leaf_fits : (b : Book) (e : Kept) → IsBook b → Has b.leaves e → IsKeyId e.key × (e.leaf < 2 ^ 32)
+pub leaf_fits : (b : Book) (e : LeafRow) → IsBook b → Has b.leaves e → IsKeyId e.key × (e.leaf < 2 ^ 32)
 leaf_fits b e is h =
     let known = is.known e h in
     (is.ids (record { key = e.key; params = known.0 }) known.1, omega (arith, known.2, few_leaves known.0.height))
 
 -- no book in order has two entries that clash
-pub no_clash : (b : Book) (e f : Kept) → IsBook b → Has b.leaves f → Has b.leaves e → Clashes f e → ⊥
-no_clash b e f is there here (key, inl clash) = clash.1 (ap (λ (g : Kept). g.message) (is.one_message f e there here key clash.0))
-no_clash b e f is there here (key, inr clash) = clash.0 (ap (λ (g : Kept). g.leaf) (is.one_leaf f e there here key clash.1))
+pub no_clash : (b : Book) (e f : LeafRow) → IsBook b → Has b.leaves f → Has b.leaves e → Clashes f e → ⊥
+no_clash b e f is there here (key, inl clash) = clash.1 (ap (λ (g : LeafRow). g.message) (is.one_message f e there here key clash.0))
+no_clash b e f is there here (key, inr clash) = clash.0 (ap (λ (g : LeafRow). g.leaf) (is.one_leaf f e there here key clash.1))

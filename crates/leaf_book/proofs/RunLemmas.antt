@@ -7,7 +7,7 @@ use Rattle.lms.specs.declared.Seed.{Seed}
 use Rattle.lms.specs.Keys.{leaf_count}
 use Rattle.leaf_book.specs.declared.faults.BookFault.{BookFault}
 use Rattle.leaf_book.specs.declared.faults.BookFault.TheVariants.{LeavesSpent, UnknownKey, Damaged, Database, OutOfMemory}
-use Rattle.leaf_plans.specs.Book.{Book, IsBook, IsKeyId, IsLeastUnused, IsRegistered, Kept, Keeps, LacksMessage, Signer, with_leaf, with_signer}
+use Rattle.leaf_plans.specs.Book.{Book, IsBook, IsKeyId, IsLeastUnused, IsRegistered, LeafRow, Keeps, LacksMessage, Signer, with_leaf, with_signer}
 use Rattle.leaf_book.specs.Calls.{Registers, Reserved, Reserves, signature_by}
 use Rattle.leaf_book.specs.Runs.{Event, Happens, NeverTwice, Runs, Signed, World, begun, crash, crash_in_register, crash_in_reserve, more_reserved, register, reopen, reserve, sign}
 use Rattle.leaf_book.proofs.ReadLemmas.{leaves_more, signers_more}
@@ -30,7 +30,7 @@ with_signer_right b key params is id new =
 
 pub with_leaf_right : (b : Book) (key : List ℕ) (leaf : ℕ) (message : List ℕ) (params : Params) → IsBook b → IsRegistered b key params → leaf < leaf_count params → LacksMessage b key message → IsLeastUnused b key leaf → IsBook (with_leaf key leaf message b)
 with_leaf_right b key leaf message params is registered below lacks least =
-    let e : Kept = record { key = key; leaf = leaf; message = message } in
+    let e : LeafRow = record { key = key; leaf = leaf; message = message } in
     let es : AreLeaves b.signers (b.leaves ++ e ∷ []) = leaves_more b.signers b.leaves e (record { known = is.known; one_message = is.one_message; one_leaf = is.one_leaf }) (params, registered, below) (λ f h same. (
       λ l. least.unused f.message (subst (λ n. Has b.leaves (record { key = key; leaf = n; message = f.message })) l (subst (λ k. Has b.leaves (record { key = k; leaf = f.leaf; message = f.message })) same h)),
       λ m. lacks f.leaf (subst (λ t. Has b.leaves (record { key = key; leaf = f.leaf; message = t })) m (subst (λ k. Has b.leaves (record { key = k; leaf = f.leaf; message = f.message })) same h)),
@@ -46,7 +46,7 @@ with_leaf_right b key leaf message params is registered below lacks least =
 -- nothing goes
 pub record Grows (b c : Book) : Type 0 where
   pub signers : (s : Signer) → Has b.signers s → Has c.signers s
-  pub leaves : (e : Kept) → Has b.leaves e → Has c.leaves e
+  pub leaves : (e : LeafRow) → Has b.leaves e → Has c.leaves e
 
 same_grows : (b c : Book) → c ≡ b → Grows b c
 same_grows b c is = record { signers = λ s h. subst (λ (d : Book). Has d.signers s) (sym is) h; leaves = λ e h. subst (λ (d : Book). Has d.leaves e) (sym is) h }
@@ -178,8 +178,8 @@ runs_right v w (e ∷ es) is (u, first, rest) =
 pub twice_never : (v w : World) → IsWorld w → Grows v.book w.book → NeverTwice v w
 twice_never v w is grows = record {
   grows = λ key leaf message h. grows.leaves _ h;
-  one_message = λ key leaf m n a b. ap (λ (e : Kept). e.message) (is.right.one_message _ _ a b refl refl);
-  one_leaf = λ key k l message a b. ap (λ (e : Kept). e.leaf) (is.right.one_leaf _ _ a b refl refl);
+  one_message = λ key leaf m n a b. ap (λ (e : LeafRow). e.message) (is.right.one_message _ _ a b refl refl);
+  one_leaf = λ key k l message a b. ap (λ (e : LeafRow). e.leaf) (is.right.one_leaf _ _ a b refl refl);
   kept = λ s h. let it = is.signed s h in (it.0.1, it.1);
   same_message = same_message;
   same_bytes = λ s t a b key leaf seed.
@@ -196,4 +196,4 @@ twice_never v w is grows = record {
 }
   where
     same_message : (s t : Signed) → Has w.signed s → Has w.signed t → s.leaf.key ≡ t.leaf.key → s.leaf.leaf ≡ t.leaf.leaf → s.leaf.message ≡ t.leaf.message
-    same_message s t a b key leaf = ap (λ (e : Kept). e.message) (is.right.one_message _ _ (is.signed s a).0.1 (is.signed t b).0.1 key leaf)
+    same_message s t a b key leaf = ap (λ (e : LeafRow). e.message) (is.right.one_message _ _ (is.signed s a).0.1 (is.signed t b).0.1 key leaf)

@@ -22,7 +22,7 @@ use Rattle.sql_tables.proofs.References.{unreferenced}
 use Rattle.sql_tables.proofs.Statements.{cast_int, cast_null}
 use Rattle.lms.specs.declared.Params.{Params}
 use Rattle.lms.specs.Parameters.{height, ots_code, signing_type}
-use Rattle.leaf_plans.specs.Book.{Book, Kept, Signer, with_leaf, with_signer}
+use Rattle.leaf_plans.specs.Book.{Book, LeafRow, Signer, with_leaf, with_signer}
 use Rattle.leaf_book.specs.Rows.{AreRowsOf, HoldsBook, HoldsWhole, IsLeafFrom, IsRecorded, IsSignerFrom}
 use Rattle.leaf_book.specs.Schema.{HasBoth, leaf_table, signer_table, two}
 use Rattle.leaf_book.proofs.Autocommit.{commits_as, left_by_error}
@@ -65,7 +65,7 @@ puts_leaf limit before after key leaf message t tally b has holds does =
     let free = unreferenced two has.0 1 (omega arith) has.2 in
     let a = inserts_by (followed two has.0) 1 _ _ _ _ _ 2 refl free limit before after (leaf_params key leaf message) three_values 4 t tally has.1 does in
     let db = before.trees in
-    let e : Kept = record { key = key; leaf = leaf; message = message } in
+    let e : LeafRow = record { key = key; leaf = leaf; message = message } in
     let row : Row = Int (next_rowid (db 2)) ∷ leaf_params key leaf message in
     let edit = edit_of db (table_of leaf_table 2) [] Chosen 0 ((Null ∷ leaf_params key leaf message) ∷ []) in
     let news : edit.news ≡ row ∷ [] = rw (cast_null, cast_int (pos leaf)) refl in

@@ -8,7 +8,7 @@ use Rattle.sqlite_trees.specs.Tree.{Trees}
 use Rattle.sqlite_rules.specs.Lists.{Has}
 pub use Rattle.sql_tables.specs.Opening.{IsSettled}
 use Rattle.lms.specs.Parameters.{height, ots_code, signing_type}
-use Rattle.leaf_plans.specs.Book.{AreSame, Book, IsBook, Kept, Signer, no_book}
+use Rattle.leaf_plans.specs.Book.{AreSame, Book, IsBook, LeafRow, Signer, no_book}
 use Rattle.leaf_book.specs.declared.faults.BookFault.{BookFault}
 use Rattle.leaf_book.specs.declared.faults.BookFault.TheVariants.{LeavesSpent, UnknownKey, Damaged, Database as Faulty, OutOfMemory}
 use Rattle.leaf_book.specs.Faults.{IsOutside}
@@ -19,7 +19,7 @@ abbrev pub IsSignerFrom : ℕ → Row → Signer → Type 0
 IsSignerFrom n x s = (column x n ≡ Text s.key) × (column x (n + 1) ≡ Int (pos (ots_code s.params.ots))) × (column x (n + 2) ≡ Int (pos (height (signing_type s.params.height))))
 
 -- the same of a leaf: the key id, the leaf's number, the message
-abbrev pub IsLeafFrom : ℕ → Row → Kept → Type 0
+abbrev pub IsLeafFrom : ℕ → Row → LeafRow → Type 0
 IsLeafFrom n x e = (column x n ≡ Text e.key) × (column x (n + 1) ≡ Int (pos e.leaf)) × (column x (n + 2) ≡ Blob e.message)
 
 -- each row is that of one of the values, and each value has its row

@@ -22,7 +22,7 @@ use crate::faults::BookFault;
 use crate::leaf::Leaf;
 use crate::writing::{check_open, put_leaf, put_signer};
 use keys_roles::{Key, KeyId, key_id};
-use leaf_plans::{Kept, Plan, Signer, params_of, plan_for, same_params};
+use leaf_plans::{LeafRow, Plan, Signer, params_of, plan_for, same_params};
 use lms::{KeyPair, Params, Seed, public_of};
 use sqlite::{Alter, Connection};
 use std::alloc::Global;
@@ -34,7 +34,7 @@ use std::marker::Model;
 pub struct Book<S: Alter> {
     conn: Connection<S>,
     signers: Vec<Signer>,
-    leaves: Vec<Kept>,
+    leaves: Vec<LeafRow>,
     alloc: Global,
 }
 
@@ -62,7 +62,7 @@ impl<S: Alter> Book<S> {
         alloc: Global,
         conn: Connection<S>,
         signers: Vec<Signer>,
-        leaves: Vec<Kept>,
+        leaves: Vec<LeafRow>,
     ) -> Book<S>
         requires right { IsBook (book_view signers.items leaves.items) }
         requires rows { HasCleanDisk (state S.Store conn) → IsTrue (state S.Store conn).is_open → IsRecorded (state S.Store conn) (book_view signers.items leaves.items) }
@@ -152,7 +152,7 @@ impl<S: Alter> Book<S> {
     }
 
     /// The leaf history: each leaf that is kept, with its key and its message. It takes no memory.
-    pub fn kept(&self) -> &[Kept]
+    pub fn kept(&self) -> &[LeafRow]
         ensures { map kept_view result.now ≡ self.now.book.leaves }
     {
         self.leaves.as_slice()
@@ -220,7 +220,7 @@ impl<S: Alter> Book<S> {
         ensures fault { IfErr result IsOutside }
     {
         self.rests();
-        let kept = Kept {
+        let kept = LeafRow {
             key: *key,
             leaf,
             message: copied(self.alloc, message)?,

@@ -8,11 +8,11 @@ ghost use Rattle.leaf_book.specs.Faults.{IsOutside};
 ghost use Rattle.leaf_book.specs.Rows.{HoldsBook};
 ghost use Rattle.leaf_book.specs.Schema.{HasBoth};
 ghost use Rattle.leaf_plans.specs.Views.{book_view};
-ghost use Rattle.leaf_book.specs.steps.Loading.{AreAnswers, three_cells};
+ghost use Rattle.leaf_book.specs.steps.Loading.{AreQueried, three_cells};
 
 use crate::faults::BookFault;
 use crate::reading::{leaves_of, signers_of};
-use leaf_plans::{Kept, Signer};
+use leaf_plans::{LeafRow, Signer};
 use sqlite::{Alter, Connection, Row};
 use std::alloc::Global;
 
@@ -40,14 +40,14 @@ fn leaf_rows<S: Alter>(conn: &mut Connection<S>) -> Result<Vec<Row>, BookFault>
 
 // The rows of both tables.
 #[derive(Drop)]
-pub(crate) struct Answers {
+pub(crate) struct QueriedRows {
     pub signers: Vec<Row>,
     pub leaves: Vec<Row>,
 }
 
 // Asks for the rows of both tables.
-pub(crate) fn ask<S: Alter>(conn: &mut Connection<S>) -> Result<Answers, BookFault>
-    ensures rows { HasCleanDisk (state S.Store conn.new) → HasBoth (state S.Store conn.old).now.schema → IfOk result (AreAnswers (state S.Store conn.old).now.trees) }
+pub(crate) fn ask<S: Alter>(conn: &mut Connection<S>) -> Result<QueriedRows, BookFault>
+    ensures rows { HasCleanDisk (state S.Store conn.new) → HasBoth (state S.Store conn.old).now.schema → IfOk result (AreQueried (state S.Store conn.old).now.trees) }
     ensures unchanged { HasCleanDisk (state S.Store conn.new) → HasBoth (state S.Store conn.old).now.schema → OnOk result (IsUnchanged (state S.Store conn.old) (state S.Store conn.new)) }
     ensures fault { IfErr result IsOutside }
     ensures mode { conn.old.in_transaction ≡ false → conn.new.in_transaction ≡ false }
@@ -55,14 +55,17 @@ pub(crate) fn ask<S: Alter>(conn: &mut Connection<S>) -> Result<Answers, BookFau
 {
     let signers = signer_rows(conn)?;
     let leaves = leaf_rows(conn)?;
-    Ok(Answers { signers, leaves })
+    Ok(QueriedRows { signers, leaves })
 }
 
 // What the rows hold.
-pub(crate) fn read(alloc: Global, answers: &Answers) -> Result<(Vec<Signer>, Vec<Kept>), BookFault>
+pub(crate) fn read(
+    alloc: Global,
+    answers: &QueriedRows,
+) -> Result<(Vec<Signer>, Vec<LeafRow>), BookFault>
     ensures right { IfOk result (λ p. IsBook (book_view p.0.items p.1.items)) }
-    ensures held { IfOk result (λ p. (trees : _) → AreAnswers trees answers.now → HoldsBook trees (book_view p.0.items p.1.items)) }
-    ensures damaged { result ≡ Err BookFault.Damaged → (trees : _) → AreAnswers trees answers.now → (b : Book) → IsBook b → HoldsBook trees b → ⊥ }
+    ensures held { IfOk result (λ p. (trees : _) → AreQueried trees answers.now → HoldsBook trees (book_view p.0.items p.1.items)) }
+    ensures damaged { result ≡ Err BookFault.Damaged → (trees : _) → AreQueried trees answers.now → (b : Book) → IsBook b → HoldsBook trees b → ⊥ }
     ensures fault { IfErr result (λ f. (f ≡ BookFault.Damaged) ⊎ (f ≡ BookFault.OutOfMemory)) }
 {
     let signers = match signers_of(alloc, answers.signers.as_slice()) {

@@ -14,7 +14,7 @@ use crate::described::beginning_of;
 use crate::faults::BookFault;
 use crate::loading::{ask, read};
 use crate::making::{make_book, renew};
-use leaf_plans::{Kept, Signer};
+use leaf_plans::{LeafRow, Signer};
 use sqlite::{Alter, Connection};
 use std::alloc::Global;
 
@@ -85,7 +85,7 @@ impl<S: Alter + Drop> Book<S> {
 fn load<S: Alter>(
     alloc: Global,
     conn: &mut Connection<S>,
-) -> Result<(Vec<Signer>, Vec<Kept>), BookFault>
+) -> Result<(Vec<Signer>, Vec<LeafRow>), BookFault>
     ensures mode { conn.old.in_transaction ≡ false → conn.new.in_transaction ≡ false }
     ensures right { IfOk result (λ p. IsBook (book_view p.0.items p.1.items)) }
     ensures loaded { HasCleanDisk (state S.Store conn.new) → conn.old.in_transaction ≡ false → IsSettled (state S.Store conn.old) → HasBoth (state S.Store conn.old).now.schema
@@ -106,7 +106,7 @@ fn load<S: Alter>(
 fn prepare<S: Alter>(
     alloc: Global,
     conn: &mut Connection<S>,
-) -> Result<(Vec<Signer>, Vec<Kept>), BookFault>
+) -> Result<(Vec<Signer>, Vec<LeafRow>), BookFault>
     requires { conn.old.in_transaction ≡ false }
     ensures autocommit { conn.new.in_transaction ≡ false }
     ensures live { IsLive (state S.Store conn.old) }

@@ -15,7 +15,8 @@ use crate::cells::{copied, id_of};
 use crate::faults::BookFault;
 use keys_roles::same_id;
 use leaf_plans::{
-    Kept, Signer, height_of, is_same, leaves_of as leaves_of_tree, ots_of, params_of, same_params,
+    LeafRow, Signer, height_of, is_same, leaves_of as leaves_of_tree, ots_of, params_of,
+    same_params,
 };
 use lms::Params;
 use sql_tables::{blob_at, number_at, text_at};
@@ -90,9 +91,9 @@ pub(crate) fn signers_of(alloc: Global, rows: &[Row]) -> Result<Vec<Signer>, Boo
 }
 
 // The leaf of a row.
-fn leaf_of(alloc: Global, row: &Row) -> Result<Kept, BookFault>
+fn leaf_of(alloc: Global, row: &Row) -> Result<LeafRow, BookFault>
     ensures read { IfOk result (λ e. IsLeafFrom 0 row.now (kept_view e)) }
-    ensures damaged { result ≡ Err BookFault.Damaged → (e : plain.Kept) → IsKeyId e.key → e.leaf < 2 ^ 32 → IsLeafFrom 0 row.now e → ⊥ }
+    ensures damaged { result ≡ Err BookFault.Damaged → (e : plain.LeafRow) → IsKeyId e.key → e.leaf < 2 ^ 32 → IsLeafFrom 0 row.now e → ⊥ }
     ensures fault { IfErr result (λ f. (f ≡ BookFault.Damaged) ⊎ (f ≡ BookFault.OutOfMemory)) }
 {
     let Some(text) = text_at(row, 0) else {
@@ -108,13 +109,13 @@ fn leaf_of(alloc: Global, row: &Row) -> Result<Kept, BookFault>
         return Err(BookFault::Damaged);
     };
     match copied(alloc, message) {
-        Ok(message) => Ok(Kept { key, leaf, message }),
+        Ok(message) => Ok(LeafRow { key, leaf, message }),
         Err(_) => Err(BookFault::OutOfMemory),
     }
 }
 
 // Whether the entry is a leaf of one of the keys.
-fn is_known(signers: &[Signer], kept: &Kept) -> bool
+fn is_known(signers: &[Signer], kept: &LeafRow) -> bool
     ensures { MatchBool result ((params : Params) × Has (map signer_view signers.now) (record { key = (kept_view kept.now).key; params = params }) × (kept.now.leaf < leaf_count params))
         (AreSigners (map signer_view signers.now) → (params : Params) → Has (map signer_view signers.now) (record { key = (kept_view kept.now).key; params = params }) → kept.now.leaf < leaf_count params → ⊥) }
 {
@@ -125,7 +126,7 @@ fn is_known(signers: &[Signer], kept: &Kept) -> bool
 }
 
 // Where an entry stands to one other.
-fn beside(other: &Kept, kept: &Kept) -> Place
+fn beside(other: &LeafRow, kept: &LeafRow) -> Place
     ensures { IsPlace (kept_view other.now ∷ []) (kept_view kept.now) result }
 {
     if !same_id(&other.key, &kept.key) {
@@ -146,7 +147,7 @@ fn beside(other: &Kept, kept: &Kept) -> Place
 }
 
 // Where an entry stands to others.
-fn place_of(leaves: &[Kept], kept: &Kept) -> Place
+fn place_of(leaves: &[LeafRow], kept: &LeafRow) -> Place
     ensures { IsPlace (map kept_view leaves.now) (kept_view kept.now) result }
 {
     let mut rest = leaves;
@@ -162,7 +163,7 @@ fn place_of(leaves: &[Kept], kept: &Kept) -> Place
 }
 
 // Puts an entry behind the others, unless it is one of them.
-fn add_leaf(leaves: &mut Vec<Kept>, kept: Kept) -> Result<(), BookFault>
+fn add_leaf(leaves: &mut Vec<LeafRow>, kept: LeafRow) -> Result<(), BookFault>
     ensures added { OnOk result (IsAddedLeaf (map kept_view leaves.old.items) (kept_view kept) (map kept_view leaves.new.items)) }
     ensures damaged { result ≡ Err BookFault.Damaged → IsPlace (map kept_view leaves.old.items) (kept_view kept) Place.Clash }
     ensures fault { IfErr result (λ f. (f ≡ BookFault.Damaged) ⊎ (f ≡ BookFault.OutOfMemory)) }
@@ -182,7 +183,7 @@ pub(crate) fn leaves_of(
     alloc: Global,
     signers: &[Signer],
     rows: &[Row],
-) -> Result<Vec<Kept>, BookFault>
+) -> Result<Vec<LeafRow>, BookFault>
     requires { AreSigners (map signer_view signers.now) }
     ensures read { IfOk result (λ v. AreRowsOf (IsLeafFrom 0) rows.now (map kept_view v.items)) }
     ensures right { IfOk result (λ v. AreLeaves (map signer_view signers.now) (map kept_view v.items)) }

@@ -1,7 +1,7 @@
 // A book over two files in memory, each of which stops at each of its calls in turn, and is opened again after the crash.
 use leaf_book::{Book, BookFault};
 use lms::{KeyPair, OtsType, Params, Seed, SigningHeight};
-use signing::sign_message;
+use signer::sign_message;
 use sqlite::types::ValueRef;
 use sqlite::{Connection, FileStore, Files, Row};
 use sqlite_disk::{Crash, Fuse, Memory};
@@ -151,7 +151,7 @@ fn opened_over(
 }
 
 // The same over these files.
-fn opened(
+fn open_book(
     alloc: Global,
     files: Files<Fuse<Memory>>,
     frames: usize,
@@ -175,7 +175,7 @@ fn run(
     files: Files<Fuse<Memory>>,
     frames: usize,
 ) -> (Made, Option<Files<Fuse<Memory>>>) {
-    match opened(alloc, files, frames) {
+    match open_book(alloc, files, frames) {
         Ok(book) => {
             let (made, files) = made_over(alloc, book, pair);
             (made, Some(files))
@@ -287,7 +287,7 @@ fn is_whole_after(
 ) -> bool {
     files.log.crash();
     files.db.crash();
-    match opened(alloc, files, frames) {
+    match open_book(alloc, files, frames) {
         Ok(book) => is_whole(alloc, book, pair, made),
         Err(_) => false,
     }

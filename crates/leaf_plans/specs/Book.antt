@@ -16,7 +16,7 @@ pub record Signer : Type 0 where
   pub params : Params
 
 -- a leaf of a key, by its number, and the message that it is kept for
-pub record Kept : Type 0 where
+pub record LeafRow : Type 0 where
   pub key : List ℕ
   pub leaf : ℕ
   pub message : List ℕ
@@ -24,7 +24,7 @@ pub record Kept : Type 0 where
 -- both as sets
 pub record Book : Type 0 where
   pub signers : List Signer
-  pub leaves : List Kept
+  pub leaves : List LeafRow
 
 abbrev pub no_book : Book
 no_book = record { signers = []; leaves = [] }
@@ -66,14 +66,14 @@ IsKeyId key = (digest : List ℕ) × (length digest ≡ 32) × AllByRecursion (�
 pub record IsBook (b : Book) : Type 0 where
   pub ids : (s : Signer) → Has b.signers s → IsKeyId s.key
   pub one_signer : (s t : Signer) → Has b.signers s → Has b.signers t → s.key ≡ t.key → s ≡ t
-  pub known : (e : Kept) → Has b.leaves e → (params : Params) × IsRegistered b e.key params × (e.leaf < leaf_count params)
-  pub one_message : (e f : Kept) → Has b.leaves e → Has b.leaves f → e.key ≡ f.key → e.leaf ≡ f.leaf → e ≡ f
-  pub one_leaf : (e f : Kept) → Has b.leaves e → Has b.leaves f → e.key ≡ f.key → e.message ≡ f.message → e ≡ f
+  pub known : (e : LeafRow) → Has b.leaves e → (params : Params) × IsRegistered b e.key params × (e.leaf < leaf_count params)
+  pub one_message : (e f : LeafRow) → Has b.leaves e → Has b.leaves f → e.key ≡ f.key → e.leaf ≡ f.leaf → e ≡ f
+  pub one_leaf : (e f : LeafRow) → Has b.leaves e → Has b.leaves f → e.key ≡ f.key → e.message ≡ f.message → e ≡ f
 
 -- the same keys and the same leaf history, in any order
 pub record AreSame (b c : Book) : Type 0 where
   pub signers : (s : Signer) → (Has b.signers s → Has c.signers s) × (Has c.signers s → Has b.signers s)
-  pub leaves : (e : Kept) → (Has b.leaves e → Has c.leaves e) × (Has c.leaves e → Has b.leaves e)
+  pub leaves : (e : LeafRow) → (Has b.leaves e → Has c.leaves e) × (Has c.leaves e → Has b.leaves e)
 
 -- ---- what becomes of a book
 

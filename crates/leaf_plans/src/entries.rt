@@ -11,7 +11,7 @@ pub struct Signer {
 
 /// A leaf of a key, by its number, and the message that it is kept for.
 #[derive(Drop)]
-pub struct Kept {
+pub struct LeafRow {
     pub key: KeyId,
     pub leaf: u32,
     pub message: Vec<u8>,

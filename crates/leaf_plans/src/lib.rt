@@ -7,7 +7,7 @@ mod parameters;
 mod planning;
 
 pub use compared::is_same;
-pub use entries::{Kept, Signer};
+pub use entries::{LeafRow, Signer};
 pub use keys_roles::KeyId;
 pub use lms::{OtsType, Params, SigningHeight};
 pub use parameters::{code_of, height_of, leaves_of, number_of, ots_of, same_params};

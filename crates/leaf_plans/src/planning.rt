@@ -8,7 +8,7 @@ ghost use Rattle.leaf_plans.specs.Views.{book_view, kept_view, signer_view};
 ghost use Rattle.leaf_plans.specs.Planning.{IsPlan};
 
 use crate::compared::is_same;
-use crate::entries::{Kept, Signer};
+use crate::entries::{LeafRow, Signer};
 use crate::parameters::leaves_of;
 use keys_roles::{KeyId, same_id};
 use lms::Params;
@@ -29,7 +29,7 @@ pub fn params_of(signers: &[Signer], key: &KeyId) -> Option<Params>
 }
 
 // The leaf of the key that is kept for the message.
-fn leaf_for(leaves: &[Kept], key: &KeyId, message: &[u8]) -> Option<u32>
+fn leaf_for(leaves: &[LeafRow], key: &KeyId, message: &[u8]) -> Option<u32>
     ensures { MatchOption result ((leaf : ℕ) → Has (map kept_view leaves.now) (record { key = id_text key.now; leaf = leaf; message = message.now }) → ⊥)
         (λ leaf. Has (map kept_view leaves.now) (record { key = id_text key.now; leaf = leaf; message = message.now })) }
 {
@@ -44,7 +44,7 @@ fn leaf_for(leaves: &[Kept], key: &KeyId, message: &[u8]) -> Option<u32>
 }
 
 // Whether the leaf is one of the key, kept for the message.
-fn is_for(kept: &Kept, key: &KeyId, message: &[u8]) -> bool
+fn is_for(kept: &LeafRow, key: &KeyId, message: &[u8]) -> bool
     ensures { MatchBool result (kept_view kept.now ≡ record { key = id_text key.now; leaf = kept.now.leaf; message = message.now })
         ((leaf : ℕ) → kept_view kept.now ≡ record { key = id_text key.now; leaf = leaf; message = message.now } → ⊥) }
 {
@@ -52,7 +52,7 @@ fn is_for(kept: &Kept, key: &KeyId, message: &[u8]) -> bool
 }
 
 // Whether the entry is one of the key's leaf.
-fn is_of(kept: &Kept, key: &KeyId, leaf: u32) -> bool
+fn is_of(kept: &LeafRow, key: &KeyId, leaf: u32) -> bool
     ensures { MatchBool result (kept_view kept.now ≡ record { key = id_text key.now; leaf = leaf; message = kept.now.message.items })
         ((message : List ℕ) → kept_view kept.now ≡ record { key = id_text key.now; leaf = leaf; message = message } → ⊥) }
 {
@@ -60,7 +60,7 @@ fn is_of(kept: &Kept, key: &KeyId, leaf: u32) -> bool
 }
 
 // Whether the leaf of the key is kept for some message.
-fn is_used(leaves: &[Kept], key: &KeyId, leaf: u32) -> bool
+fn is_used(leaves: &[LeafRow], key: &KeyId, leaf: u32) -> bool
     ensures { MatchBool result ((message : List ℕ) × Has (map kept_view leaves.now) (record { key = id_text key.now; leaf = leaf; message = message }))
         ((message : List ℕ) → Has (map kept_view leaves.now) (record { key = id_text key.now; leaf = leaf; message = message }) → ⊥) }
 {
@@ -75,7 +75,7 @@ fn is_used(leaves: &[Kept], key: &KeyId, leaf: u32) -> bool
 }
 
 // The least leaf of the key below `count` that is not used.
-fn least_unused(leaves: &[Kept], key: &KeyId, count: u32) -> Option<u32>
+fn least_unused(leaves: &[LeafRow], key: &KeyId, count: u32) -> Option<u32>
     ensures { MatchOption result ((n : ℕ) → n < count → (message : List ℕ) × Has (map kept_view leaves.now) (record { key = id_text key.now; leaf = n; message = message }))
         (λ leaf. (leaf < count) × ((message : List ℕ) → Has (map kept_view leaves.now) (record { key = id_text key.now; leaf = leaf; message = message }) → ⊥)
         × ((n : ℕ) → n < leaf → (message : List ℕ) × Has (map kept_view leaves.now) (record { key = id_text key.now; leaf = n; message = message }))) }
@@ -102,7 +102,7 @@ pub enum Plan {
 }
 
 /// Where the message has a leaf it is that one, else the least that is not used.
-pub fn plan_for(signers: &[Signer], leaves: &[Kept], key: &KeyId, message: &[u8]) -> Plan
+pub fn plan_for(signers: &[Signer], leaves: &[LeafRow], key: &KeyId, message: &[u8]) -> Plan
     requires { IsBook (book_view signers.now leaves.now) }
     ensures { IsPlan (book_view signers.now leaves.now) (id_text key.now) message.now result }
 {

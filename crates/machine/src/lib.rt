@@ -4,7 +4,6 @@
 mod laws;
 mod pruning;
 
-pub use contents::{Contents, MetadataRows};
 pub use delegations::{
     File, Moment, RoleName, Root, Row, Snapshot, Steps, TargetPath, Targets, Verdicts,
 };
@@ -19,6 +18,7 @@ pub use judging::{
 pub use laws::{prune_keeps_answers, sent_again};
 pub use metadata::{Digest, Timestamp};
 pub use pruning::{prune, prune_on};
+pub use repository_rows::{Contents, MetadataRows};
 pub use state_parts::effects::{Blob, Changes, Effects, Gone};
 pub use state_parts::parts::BlobLength;
 pub use trust_rules::{

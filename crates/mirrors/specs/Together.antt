@@ -1,8 +1,8 @@
 -- What several mirrors answer together that are asked for a file one behind the other.
 use Rattle.std.specs.Prelude.{◌≡◌, ◌⊎◌, List, [], ◌∷◌, ◌++◌, Bool, true, false, Some, None, Ok, Err}
 use Rattle.std.specs.List.{AllByRecursion}
-use Rattle.sources.specs.Source.{Answer}
-use Rattle.sources.specs.declared.FetchFault.TheVariants.{TooLong, Broken, OutOfMemory}
+use Rattle.fetch.specs.Source.{Answer}
+use Rattle.fetch.specs.declared.FetchFault.TheVariants.{TooLong, Broken, OutOfMemory}
 
 -- behind this answer no other mirror is asked: the file is there, or memory was refused
 abbrev pub settles : Answer → Bool

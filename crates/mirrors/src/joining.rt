@@ -1,10 +1,10 @@
 //! What several mirrors answer together.
 ghost use Rattle.std.specs.Prelude.{◌≡◌, [], ◌∷◌, ◌++◌, List, false};
-ghost use Rattle.sources.specs.Source.{Answer, answered};
+ghost use Rattle.fetch.specs.Source.{Answer, answered};
 ghost use Rattle.mirrors.specs.Together.{Together, settles};
 ghost use Rattle.mirrors.specs.steps.Joined.{with_none};
 
-use sources::FetchFault;
+use fetch::FetchFault;
 
 /// Whether an answer settles it, so that no other mirror is asked: the file is there, or memory was refused.
 pub fn is_settled(answer: &Result<Option<Vec<u8>>, FetchFault>) -> bool

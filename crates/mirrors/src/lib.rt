@@ -5,5 +5,5 @@ mod address;
 mod joining;
 
 pub use address::{Mirror, read_mirror};
+pub use fetch::FetchFault;
 pub use joining::{is_settled, together};
-pub use sources::FetchFault;

@@ -1,9 +1,9 @@
 //! What a folder of drafts follows: the documents that a database holds.
 use command_support::{Denial, Fault, Notes};
-use commands::{Work, worked};
 use drafts::{Folder, kind_of, read_said, version_in};
 use metadata::{Kind, Moment};
 use path_patterns::metadata_name;
+use repository_work::{Work, worked};
 use sqlite::Alter;
 use std::alloc::Global;
 use std::io::Write;

@@ -10,7 +10,7 @@ use Rattle.std.specs.List.{list_all}
 use Rattle.hex.specs.Hex.{encode_lower}
 use Rattle.path_patterns.specs.Bytes.{is_hex}
 use Rattle.path_patterns.specs.Grammar.{IsTargetPath}
-use Rattle.path_patterns.specs.Names.{IsDigest, IsCutAtLast, IsConsistentName, Asks}
+use Rattle.path_patterns.specs.Names.{IsDigest, IsCutAtLast, IsConsistentName, IsNameOf}
 use Rattle.path_patterns.proofs.Digits.{digits_of_digest, bytes_at, digits_one}
 use Rattle.path_patterns.proofs.LastSegment.{NoSlash, no_slash_joined, no_slash_behind, one_cut, last_segment}
 
@@ -79,13 +79,13 @@ asks_same text p q d e a b =
       digits_one d e (bytes_at d a.is_digest.1) (bytes_at e b.is_digest.1) front,
     )
 
-pub asks_once : (text p q : List ℕ) (d e : Option (List ℕ)) → Asks text p d → Asks text q e → (p ≡ q) × (d ≡ e)
+pub asks_once : (text p q : List ℕ) (d e : Option (List ℕ)) → IsNameOf text p d → IsNameOf text q e → (p ≡ q) × (d ≡ e)
 asks_once text p q (Some d) (Some e) a b = let same = asks_same text p q d e a b in (same.0, ap (λ (x : List ℕ). Some x) same.1)
 asks_once text p q (Some d) None a b = absurd (b.1 p d a)
 asks_once text p q None (Some e) a b = absurd (a.1 q e b)
 asks_once text p q None None a b = (a.0 ∙ sym b.0, refl)
 
-pub asked_by_one : (s t path digest : List ℕ) → Asks s path (Some digest) → Asks t path (Some digest) → s ≡ t
+pub asked_by_one : (s t path digest : List ℕ) → IsNameOf s path (Some digest) → IsNameOf t path (Some digest) → s ≡ t
 asked_by_one s t path d a b =
     let cut = one_cut path a.folder a.name b.folder b.name (path_cut s path d a) (path_cut t path d b) in
     a.with_digest
@@ -110,7 +110,7 @@ names path folder name d is cut digest =
       without = cut.whole;
     }
 
-pub asked_by_some : (path digest : List ℕ) → IsTargetPath path → IsDigest digest → (text : List ℕ) × Asks text path (Some digest)
+pub asked_by_some : (path digest : List ℕ) → IsTargetPath path → IsDigest digest → (text : List ℕ) × IsNameOf text path (Some digest)
 asked_by_some path d is digest =
     let l = last_segment path is in
     (l.folder ++ (encode_lower d ++ 46 ∷ l.name), names path l.folder l.name d is l.cut digest)

@@ -31,9 +31,9 @@ pub record IsConsistentName (text path digest : List ℕ) : Type 0 where
   pub without : path ≡ folder ++ name
 
 -- which path a text asks for, and with which digest
-abbrev pub Asks : List ℕ → List ℕ → Option (List ℕ) → Type 0
-Asks text path (Some digest) = IsConsistentName text path digest
-Asks text path None = (path ≡ text) × ((p d : List ℕ) → IsConsistentName text p d → ⊥)
+abbrev pub IsNameOf : List ℕ → List ℕ → Option (List ℕ) → Type 0
+IsNameOf text path (Some digest) = IsConsistentName text path digest
+IsNameOf text path None = (path ≡ text) × ((p d : List ℕ) → IsConsistentName text p d → ⊥)
 
 -- the name of the metadata file of this version and role: VERSION.ROLE.json
 abbrev pub dotted : ℕ → List ℕ → List ℕ

@@ -2,7 +2,7 @@
 ghost use Rattle.std.specs.Prelude.{◌≡◌, ◌≢◌, ◌<◌, ◌∷◌, ◌++◌, ℕ, List, Some, Option, IfOk, IfSome, IfNone, length, option_map, string_bytes};
 ghost use Rattle.hex.specs.Hex.{encode_lower};
 ghost use Rattle.path_patterns.specs.Grammar.{IsTargetPath};
-ghost use Rattle.path_patterns.specs.Names.{IsDigest, IsCutAtLast, Asks, dotted};
+ghost use Rattle.path_patterns.specs.Names.{IsDigest, IsCutAtLast, IsNameOf, dotted};
 
 use crate::{Digest, NoMemory, TargetPath};
 use std::alloc::Global;
@@ -14,7 +14,7 @@ use std::alloc::Global;
 ///
 /// Any text may be asked. Whether the path is a target path is not judged.
 pub fn read_asked(alloc: Global, text: &str) -> Result<(String, Option<Digest>), NoMemory>
-    ensures { IfOk result (λ r. Asks text.now (string_bytes r.0) (option_map (λ d. d.0) r.1)) }
+    ensures { IfOk result (λ r. IsNameOf text.now (string_bytes r.0) (option_map (λ d. d.0) r.1)) }
 {
     let (folder, last) = cut_at_last(text);
     match cut_off_digest(last) {
@@ -37,7 +37,7 @@ pub fn consistent_name(
     path: &TargetPath,
     digest: &Digest,
 ) -> Result<String, NoMemory>
-    ensures { IfOk result (λ s. Asks (string_bytes s) path.now (Some digest.now.0)) }
+    ensures { IfOk result (λ s. IsNameOf (string_bytes s) path.now (Some digest.now.0)) }
 {
     let (folder, name) = cut_at_last(path.as_str());
     let digits = digest.text(alloc)?;
@@ -88,8 +88,8 @@ fn cut_off_digest(last: &str) -> Option<(Digest, &str)>
 /// looks like a consistent name itself. A text asks for one path with one digest or with none; a path with a digest is
 /// asked for by one text, and every target path with a digest by some text.
 pub fn names_undo()
-    ensures asks_once { (text p q : List ℕ) (d e : Option (List ℕ)) → Asks text p d → Asks text q e → (p ≡ q) × (d ≡ e) }
-    ensures asked_by_one { (s t path digest : List ℕ) → Asks s path (Some digest) → Asks t path (Some digest) → s ≡ t }
+    ensures asks_once { (text p q : List ℕ) (d e : Option (List ℕ)) → IsNameOf text p d → IsNameOf text q e → (p ≡ q) × (d ≡ e) }
+    ensures asked_by_one { (s t path digest : List ℕ) → IsNameOf s path (Some digest) → IsNameOf t path (Some digest) → s ≡ t }
     ensures asked_by_some { (path digest : List ℕ) → IsTargetPath path → IsDigest digest
-        → (text : List ℕ) × Asks text path (Some digest) }
+        → (text : List ℕ) × IsNameOf text path (Some digest) }
 {}

@@ -1,8 +1,9 @@
 //! `init`: begins the trust with a first root.
 use command_support::{FILE_LIMIT, Fault, Notes, moment, print, read_at_most};
-use commands::{applied, refused, tell_first_root};
+use repository_work::{applied, refused};
 use std::io::Write;
 use store::{Command, Reply};
+use subcommands::tell_first_root;
 
 /// Begins the trust of the repository in the database file with the root metadata in the other file, and prints `begun`.
 pub fn init<O: Write, E: Write>(

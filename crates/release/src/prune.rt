@@ -2,8 +2,8 @@
 use client_commands::prune_at;
 use command_line::Place;
 use command_support::{Fault, Notes, moment, print};
-use commands::{applied, refused};
 use http_messages::pruned_body;
+use repository_work::{applied, refused};
 use std::io::Write;
 use store::{Command, Reply};
 

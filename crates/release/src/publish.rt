@@ -4,17 +4,18 @@ use authoring::{complete_batch_in, empty, waiting_files};
 use client_commands::publish_at;
 use command_line::Place;
 use command_support::{Fault, Notes, moment, print};
-use commands::{
-    FORGETS, FORGOTTEN, Holding, NOT_TAKEN, Offer, Offered, Work, batch_of, documents_of,
-    fault_of_store, forgets, read_all, refused, tell_listed, told, worked,
-};
 use drafts::Folder;
 use http_messages::accepted_body;
 use metadata::Moment;
+use repository_work::{Work, fault_of_store, refused, worked};
 use sqlite::Alter;
 use std::alloc::Global;
 use std::io::Write;
 use store::{Command, Reply, Store};
+use subcommands::{
+    FORGETS, FORGOTTEN, Holding, NOT_TAKEN, Offer, Offered, batch_of, documents_of, forgets,
+    read_all, tell_argument, tell_listed,
+};
 
 /// Offers the documents to the repository in the database file or behind the port, and prints how many were accepted and how many were
 /// held already. Each argument is a role's name, a colon and a file.
@@ -63,7 +64,7 @@ fn publish_in<O: Write, E: Write>(
     notes: &mut Notes<'_, E>,
 ) -> Result<(), Fault> {
     let now = moment(rt, at)?;
-    let documents = told(documents_of(rt.alloc(), arguments), arguments, notes)?;
+    let documents = tell_argument(documents_of(rt.alloc(), arguments), arguments, notes)?;
     let files = read_all(rt, &documents, notes)?;
     let batch = batch_of(rt.alloc(), documents, &files)?;
     let mut offering = Offering {
@@ -78,7 +79,7 @@ fn publish_in<O: Write, E: Write>(
             print(out, &accepted_body(accepted, same), notes)?;
             print(out, b"\n", notes)
         }
-        other => told(Err(refused(other)), arguments, notes),
+        other => tell_argument(Err(refused(other)), arguments, notes),
     }
 }
 

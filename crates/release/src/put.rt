@@ -2,9 +2,9 @@
 use client_commands::put_at;
 use command_line::Place;
 use command_support::{Fault, Notes, moment, print, read_at_most};
-use commands::{applied, refused};
 use http_messages::BLOB_LIMIT;
 use metadata::digest_of;
+use repository_work::{applied, refused};
 use std::io::Write;
 use store::{Command, Digest, Reply};
 

@@ -5,11 +5,11 @@ use crate::publish::{publish, publish_in_folder};
 use crate::put::put;
 use crate::serve::Server;
 use authoring::{draft, show};
-use canon::canon;
 use client_commands::{Getting, Server as Remote, get, update};
 use command_line::{Subcommand, Task, task};
 use command_support::{Fault, Notes, moment, print, read};
 use exporting::export;
+use loose_json::canon;
 use signing_commands::{Signing, SigningIn, leaves_of, make_keys, print_key, sign, sign_in};
 use std::io::Write;
 

@@ -1,17 +1,18 @@
 //! `serve`: answers HTTP requests from the repository.
 use command_support::{Fault, Notes, moment, print};
-use commands::{Work, is_shut, tell_standing, worked};
 use connections::{
     Beginning, Incoming, Outgoing, Timer, answer_unavailable, end, listen, next_stream,
     tell_connection,
 };
 use http_serve::{Routes, serve_list, serve_list_reading};
 use metadata::Moment;
+use repository_work::{Work, is_shut, worked};
 use sqlite::Alter;
 use std::io::Write;
 use std::net::{TcpListener, TcpStream};
 use std::slice;
 use store::Store;
+use subcommands::tell_standing;
 
 /// A server: the database file of its repository, its port on 127.0.0.1, after how many connections it ends, whether it only reads, and
 /// the moment that was handed in.

@@ -1,12 +1,11 @@
 //! A client that fetches from the state of the case's server, in place of its source.
 use crate::client_runs::end_text;
-use crate::failure::LineFault;
-use crate::files::File;
 use crate::replies::{bytes_text, denial_text};
-use crate::server_state::state_of;
 use crate::session::Session;
+use case_databases::state_of;
 use client::{ClientFault, FetchFault, fetch_from_state};
 use machine::{Moment, Refusal, State, TargetPath, get};
+use script_words::{File, LineFault};
 use std::alloc::Global;
 
 // How a fetch ended.

@@ -1,11 +1,10 @@
 //! Runs of a client over the source of the case.
-use crate::failure::LineFault;
-use crate::files::File;
-use crate::replies::{bytes_text, denial_text, told};
+use crate::replies::{bytes_text, denial_text, text_of};
 use crate::session::Session;
 use crate::source::{Asked, Mirror, fetch_text};
 use client::{ClientFault, FetchFault, fetch_target, update};
 use machine::TargetPath;
+use script_words::{File, LineFault};
 use std::alloc::{AllocError, Global};
 
 // What a client is to do.
@@ -49,15 +48,15 @@ pub fn end_text(
     end: &Result<Option<Vec<u8>>, ClientFault>,
 ) -> Result<String, AllocError> {
     match end {
-        Ok(None) => told(alloc, "updated"),
+        Ok(None) => text_of(alloc, "updated"),
         Ok(Some(bytes)) => bytes_text(alloc, files, bytes),
         Err(ClientFault::Denied(denial)) => denial_text(alloc, denial, None),
         Err(ClientFault::Fetch(fault)) => {
             let text = fetch_text(*fault);
             format!(in alloc; "fault {text}")
         }
-        Err(ClientFault::Database) => told(alloc, "fault database"),
-        Err(ClientFault::OutOfMemory) => told(alloc, "fault memory"),
+        Err(ClientFault::Database) => text_of(alloc, "fault database"),
+        Err(ClientFault::OutOfMemory) => text_of(alloc, "fault memory"),
     }
 }
 
@@ -123,7 +122,7 @@ impl Session {
         self.refusals = self.refusals.saturating_add(1);
         let again = self.run_once(wish)?;
         if !is_kept(&first.asked, &again.asked) {
-            return Ok(told(alloc, "what was taken is asked for again")?);
+            return Ok(text_of(alloc, "what was taken is asked for again")?);
         }
         let mut text = lines_without(alloc, &first.asked, &again.asked)?;
         text.push_str(again.text(alloc, &self.files)?.as_str())?;

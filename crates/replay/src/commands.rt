@@ -1,17 +1,12 @@
 //! Commands over the store, each answered by one line.
-use crate::cold::cold_search;
-use crate::descriptions::kind_named;
-use crate::escapes::with_literals;
-use crate::failure::LineFault;
-use crate::files::find;
-use crate::replies::{fault_text, reply_text, row_text, told};
+use crate::replies::{fault_text, reply_text, row_text, text_of};
 use crate::session::Session;
-use crate::words::{digest_word, key_of};
+use case_databases::{Command, Reply, StoreFault, cold_search};
 use machine::{Offer, Steps, TargetPath};
 use metadata::Kind;
 use path_patterns::RoleName;
+use script_words::{LineFault, digest_word, find, key_of, kind_named, with_literals};
 use std::alloc::Global;
-use store::{Command, Reply, StoreFault};
 
 /// What a document is offered as: `root`, `timestamp`, `snapshot`, or the name of another role.
 fn offer_of(alloc: Global, role: &str) -> Result<Offer, LineFault> {
@@ -68,7 +63,7 @@ impl Session {
     fn ask_again(&mut self, command: Command<'_>) -> Result<String, LineFault> {
         self.refusals = self.refusals.saturating_add(1);
         if !self.has_rows_of_before()? {
-            return Ok(told(self.alloc, "rows are changed by a refusal")?);
+            return Ok(text_of(self.alloc, "rows are changed by a refusal")?);
         }
         let answer = self.base.apply(command, self.now);
         self.rows = None;
@@ -153,11 +148,11 @@ impl Session {
     pub fn due(&mut self) -> Result<String, LineFault> {
         let alloc = self.alloc;
         let Some(store) = self.base.store() else {
-            return Ok(told(alloc, "shut")?);
+            return Ok(text_of(alloc, "shut")?);
         };
         let mut text = match store.root_version() {
             Some(version) => format!(in alloc; "root {version}")?,
-            None => told(alloc, "no root")?,
+            None => text_of(alloc, "no root")?,
         };
         if let Some(version) = store.snapshot_due() {
             let due = format!(in alloc; " snapshot {version} is due")?;
@@ -174,7 +169,7 @@ impl Session {
             return Err(LineFault::NotUnderstood);
         };
         let Some(store) = self.base.store() else {
-            return Ok(told(alloc, "shut")?);
+            return Ok(text_of(alloc, "shut")?);
         };
         let mut checks = Steps::new();
         let _ = store.get_counted(&path, now, &mut checks);
@@ -189,10 +184,10 @@ impl Session {
             return Err(LineFault::NotUnderstood);
         };
         let Some(store) = self.base.store() else {
-            return Ok(told(alloc, "shut")?);
+            return Ok(text_of(alloc, "shut")?);
         };
         let Some(version) = store.root_version() else {
-            return Ok(told(alloc, "no root")?);
+            return Ok(text_of(alloc, "no root")?);
         };
         let (checks, visits) = cold_search(alloc, store.held(), version, &path, self.now)?;
         Ok(format!(in alloc; "{checks} checks, {visits} visits")?)
@@ -204,7 +199,7 @@ impl Session {
             return Err(LineFault::NotUnderstood);
         };
         let is_same = find(&self.files, first)?.bytes == find(&self.files, second)?.bytes;
-        Ok(told(self.alloc, if is_same { "equal" } else { "different" })?)
+        Ok(text_of(self.alloc, if is_same { "equal" } else { "different" })?)
     }
 
     /// `key KEY`: the id of the key, and the key.
@@ -225,8 +220,8 @@ impl Session {
         }
         self.rows = None;
         match opened {
-            Ok(()) => Ok(told(self.alloc, line)?),
-            Err(fault) => Ok(told(self.alloc, fault_text(fault))?),
+            Ok(()) => Ok(text_of(self.alloc, line)?),
+            Err(fault) => Ok(text_of(self.alloc, fault_text(fault))?),
         }
     }
 
@@ -244,7 +239,7 @@ impl Session {
             Ok(()) => "opened",
             Err(fault) => fault_text(fault),
         };
-        Ok(told(self.alloc, text)?)
+        Ok(text_of(self.alloc, text)?)
     }
 
     /// `sql TEXT`: changes the tables behind the store's back.
@@ -252,7 +247,7 @@ impl Session {
         let text = with_literals(self.alloc, &self.files, text)?;
         self.rows = None;
         let done = self.base.execute(text.as_str());
-        Ok(told(self.alloc, if done.is_ok() { "done" } else { "failed" })?)
+        Ok(text_of(self.alloc, if done.is_ok() { "done" } else { "failed" })?)
     }
 
     /// `rows`: a line for each row of the six tables.
@@ -264,7 +259,7 @@ impl Session {
         let Ok(rows) = rows else {
             return Err(LineFault::OutOfMemory);
         };
-        let mut text = told(self.alloc, "rows")?;
+        let mut text = text_of(self.alloc, "rows")?;
         for line in &rows {
             text.push_str("\n  ")?;
             text.push_str(row_text(self.alloc, &self.files, line.as_str())?.as_str())?;

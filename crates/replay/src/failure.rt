@@ -48,31 +48,3 @@ impl<T: Drop> From<AllocFailed<T>> for Failure {
         Failure::Memory
     }
 }
-
-/// Why a line is not answered.
-#[derive(Clone, Copy, PartialEq, Eq)]
-pub enum LineFault {
-    NotUnderstood,
-    OutOfMemory,
-}
-
-impl From<AllocError> for LineFault {
-    fn from(_: AllocError) -> Self {
-        LineFault::OutOfMemory
-    }
-}
-
-impl<T: Drop> From<AllocFailed<T>> for LineFault {
-    fn from(_: AllocFailed<T>) -> Self {
-        LineFault::OutOfMemory
-    }
-}
-
-impl From<signed_files::Fault> for LineFault {
-    fn from(fault: signed_files::Fault) -> Self {
-        match fault {
-            signed_files::Fault::OutOfMemory => LineFault::OutOfMemory,
-            _ => LineFault::NotUnderstood,
-        }
-    }
-}

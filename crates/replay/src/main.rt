@@ -5,24 +5,15 @@
 #![tactic(auto)]
 
 mod agreement;
-mod base;
 mod client_runs;
-mod cold;
 mod commands;
-mod descriptions;
-mod escapes;
 mod failure;
-mod files;
 mod filling;
-mod layout_words;
 mod replies;
 mod requests;
-mod roots;
 mod script;
-mod server_state;
 mod session;
 mod source;
-mod words;
 
 use failure::Failure;
 use std::io::{self, BufReader, BufWriter};

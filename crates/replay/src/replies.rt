@@ -1,17 +1,13 @@
 //! Replies as text.
-ghost use Rattle.std.specs.Prelude.{◌≤◌, length};
-
-use crate::escapes::{bytes_of_hex, push_escaped};
-use crate::failure::LineFault;
-use crate::files::{File, name_of};
+use case_databases::{Reply, StoreFault};
 use machine::Denial;
 use metadata::digest_of;
+use script_words::{File, LineFault, bytes_of_hex, name_of, push_escaped};
 use std::alloc::{AllocError, Global};
 use std::fmt::Write;
-use store::{Reply, StoreFault};
 
 /// A fixed text.
-pub fn told(alloc: Global, text: &str) -> Result<String, AllocError> {
+pub fn text_of(alloc: Global, text: &str) -> Result<String, AllocError> {
     String::from_str(alloc, text)
 }
 
@@ -32,19 +28,19 @@ pub fn reply_text(
 ) -> Result<String, AllocError> {
     match answer {
         Ok(reply) => done_text(alloc, files, reply),
-        Err(fault) => told(alloc, fault_text(*fault)),
+        Err(fault) => text_of(alloc, fault_text(*fault)),
     }
 }
 
 fn done_text(alloc: Global, files: &[File], reply: &Reply) -> Result<String, AllocError> {
     match reply {
-        Reply::Begun => told(alloc, "begun"),
+        Reply::Begun => text_of(alloc, "begun"),
         Reply::Batch { accepted, same } => format!(in alloc; "accepted {accepted} same {same}"),
-        Reply::Offered { same } => told(alloc, if *same { "same" } else { "taken" }),
-        Reply::Stored(new) => told(alloc, if *new { "stored" } else { "held" }),
+        Reply::Offered { same } => text_of(alloc, if *same { "same" } else { "taken" }),
+        Reply::Stored(new) => text_of(alloc, if *new { "stored" } else { "held" }),
         Reply::Pruned { blobs, rows } => format!(in alloc; "blobs {blobs} rows {rows}"),
         Reply::Bytes(bytes) => bytes_text(alloc, files, bytes),
-        Reply::Absent => told(alloc, "absent"),
+        Reply::Absent => text_of(alloc, "absent"),
         Reply::Denied(denial, index) => denial_text(alloc, denial, *index),
     }
 }
@@ -90,34 +86,33 @@ pub fn denial_text(
 /// A line of a row: its table and its key, and its bytes as the name of their file, or else their number and their digest.
 pub fn row_text(alloc: Global, files: &[File], line: &str) -> Result<String, LineFault> {
     let Some((head, digits)) = line.rsplit_once(' ') else {
-        return Ok(told(alloc, line)?);
+        return Ok(text_of(alloc, line)?);
     };
     if digits.is_empty() {
-        return Ok(told(alloc, head)?);
+        return Ok(text_of(alloc, head)?);
     }
     let bytes = bytes_of_hex(alloc, digits)?;
     let bytes = bytes_text(alloc, files, &bytes)?;
     Ok(format!(in alloc; "{head} {bytes}")?)
 }
 
-/// Where the body of a response begins.
-pub fn body_of(response: &[u8]) -> usize
-    ensures { result ≤ length response.now }
-{
-    let mut at = 0usize;
-    for window in response.windows(4) {
-        at = at.saturating_add(1);
-        if window == b"\r\n\r\n".as_slice() {
-            return at.saturating_add(3).min(response.len());
+/// The head of a response, with the blank line, and its body.
+pub fn head_and_body(response: &[u8]) -> (&[u8], &[u8]) {
+    let mut rest = response;
+    for at in 4..=response.len() {
+        match rest {
+            [b'\r', b'\n', b'\r', b'\n', ..] => return response.split_at(at),
+            [_, others @ ..] => rest = others,
+            [] => {}
         }
     }
-    response.len()
+    (response, &[])
 }
 
 /// A response in escapes. A body that is a file of more than 64 bytes is told by its name, `{NAME}`.
 pub fn response_text(alloc: Global, files: &[File], response: &[u8]) -> Result<String, AllocError> {
     let mut text = String::new(alloc);
-    let (head, body) = response.split_at(body_of(response));
+    let (head, body) = head_and_body(response);
     push_escaped(&mut text, head)?;
     match name_of(files, body) {
         Some(name) if body.len() > 64 => write!(text, "{{{name}}}")?,

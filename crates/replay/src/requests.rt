@@ -1,13 +1,12 @@
 //! Requests over HTTP, each answered by its whole response in one line.
-use crate::escapes::expanded;
-use crate::failure::LineFault;
-use crate::replies::{response_text, told};
+use crate::replies::{response_text, text_of};
 use crate::session::Session;
+use case_databases::Store;
 use http_serve::{Routes, serve_one};
 use metadata::Moment;
+use script_words::{LineFault, expanded};
 use sqlite::MemStore;
 use std::alloc::Global;
-use store::Store;
 
 /// The response to a request. A writer that is a list takes all but for want of memory, which is not the store's.
 pub fn response(
@@ -57,7 +56,7 @@ impl Session {
     fn respond_again(&mut self, request: &[u8]) -> Result<String, LineFault> {
         self.refusals = self.refusals.saturating_add(1);
         if !self.has_rows_of_before()? {
-            return Ok(told(self.alloc, "rows are changed by a refusal")?);
+            return Ok(text_of(self.alloc, "rows are changed by a refusal")?);
         }
         let given = self.answer(request)?;
         self.rows = None;

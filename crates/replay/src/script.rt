@@ -1,8 +1,8 @@
 //! A script, line by line.
-use crate::failure::{Failure, LineFault};
-use crate::replies::told;
+use crate::failure::Failure;
+use crate::replies::text_of;
 use crate::session::Session;
-use crate::words::number_of;
+use script_words::{LineFault, number_of};
 use std::alloc::Global;
 use std::io::{BufRead, Write};
 
@@ -187,5 +187,5 @@ fn set(session: &mut Session, word: &str, rest: &str) -> Result<String, LineFaul
         "source" => session.answer_for(rest)?,
         _ => return Err(LineFault::NotUnderstood),
     }
-    Ok(told(session.alloc, "")?)
+    Ok(text_of(session.alloc, "")?)
 }

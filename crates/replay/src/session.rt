@@ -1,14 +1,12 @@
 //! What a script works on.
-use crate::base::{Base, exchange};
-use crate::descriptions::{described, leaves_of, signed_by};
-use crate::escapes::{bytes_of_hex, expanded};
-use crate::failure::LineFault;
-use crate::files::{File, find, put};
 use crate::source::{Answer, said_by};
-use crate::words::number_of;
+use case_databases::{Base, exchange};
 use http_serve::Routes;
 use metadata::{Kind, Moment, read_date_time};
-use signed_files::{Keys, OtsType};
+use script_words::{
+    File, Keys, LineFault, OtsType, bytes_of_hex, described, expanded, find, leaves_of, number_of,
+    put, signed_by,
+};
 use std::alloc::{AllocError, Global};
 
 /// Lines that are replayed by one name.

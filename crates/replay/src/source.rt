@@ -1,14 +1,13 @@
 //! A client's source: what the server of the case would answer, but for the names whose answers a script says.
-use crate::failure::LineFault;
-use crate::files::{File, find};
-use crate::replies::{body_of, bytes_text, told};
+use crate::replies::{bytes_text, head_and_body, text_of};
 use crate::requests::{NO_MEMORY, response};
+use case_databases::Store;
 use client::{FetchFault, Source};
 use http_serve::Routes;
 use metadata::Moment;
+use script_words::{File, LineFault, find};
 use sqlite::MemStore;
 use std::alloc::{AllocError, Global};
-use store::Store;
 
 /// What is answered in place of what the server would.
 #[derive(Drop)]
@@ -112,7 +111,7 @@ impl Mirror<'_> {
         if !given.starts_with(b"HTTP/1.1 200 ") {
             return Ok(None);
         }
-        let (_, body) = given.split_at(body_of(&given));
+        let (_, body) = head_and_body(&given);
         Ok(Some(Vec::from_slice(alloc, body)?))
     }
 }
@@ -140,8 +139,8 @@ fn asked_of(
 ) -> Result<Asked, AllocError> {
     let text = match answer {
         Ok(Some(bytes)) => bytes_text(alloc, files, bytes)?,
-        Ok(None) => told(alloc, "none")?,
-        Err(fault) => told(alloc, fetch_text(*fault))?,
+        Ok(None) => text_of(alloc, "none")?,
+        Err(fault) => text_of(alloc, fetch_text(*fault))?,
     };
     Ok(Asked {
         name: String::from_str(alloc, name)?,

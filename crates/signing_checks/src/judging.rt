@@ -7,7 +7,7 @@ use drafts::{
 use keys_roles::KeyId;
 use metadata::{Kind, Moment, SignedFile, read_signed};
 use reasons::place_of;
-use signing::{Book, keeps, leaf_of};
+use signer::{Book, keeps, leaf_of};
 use sqlite::Alter;
 use std::alloc::Global;
 use std::io::Write;

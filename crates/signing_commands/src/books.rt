@@ -1,6 +1,6 @@
 //! The book of a key in its file. One function opens and closes it; what is done over it borrows.
 use command_support::{Fault, Notes, connected};
-use signing::{Book, BookFault};
+use signer::{Book, BookFault};
 use sqlite::{Alter, Connection, FileStore};
 use sqlite_disk::Disk;
 use std::alloc::Global;

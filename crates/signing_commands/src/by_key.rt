@@ -9,7 +9,7 @@ use drafts::{
 use keys_roles::KeyId;
 use lms::KeyPair;
 use metadata::{Moment, SignedFile, read_signed};
-use signing::{Book, SignFileFault, SignOnceFault, leaf_of, sign_file_once, sign_file_with};
+use signer::{Book, SignFileFault, SignOnceFault, leaf_of, sign_file_once, sign_file_with};
 use signing_checks::{Judged, have_key};
 use sqlite::Alter;
 use std::alloc::Global;

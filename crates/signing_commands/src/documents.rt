@@ -7,7 +7,7 @@ use keys_roles::{Key, KeyId, key_id};
 use lms::{KeyPair, Params, SigningHeight};
 use metadata::read_signed;
 use reasons::place_of;
-use signing::{Book, Seed, SignFileFault, sign_file_with};
+use signer::{Book, Seed, SignFileFault, sign_file_with};
 use sqlite::Alter;
 use std::alloc::Global;
 use std::io::{IsTerminal, Write};
@@ -143,7 +143,7 @@ fn signed_with<S: Alter, E: Write>(
     }
     match signed {
         Ok(signed) => Ok(signed),
-        Err(fault) => Err(told(fault, asked, notes)),
+        Err(fault) => Err(tell_fault(fault, asked, notes)),
     }
 }
 
@@ -159,7 +159,11 @@ pub fn tell_of_tree<E: Write>(rt: &HostRuntime, params: Params, notes: &mut Note
 }
 
 // What a fault of signing comes to. It is told with the file that it is about.
-fn told<E: Write>(fault: SignFileFault, asked: Signing<'_>, notes: &mut Notes<'_, E>) -> Fault {
+fn tell_fault<E: Write>(
+    fault: SignFileFault,
+    asked: Signing<'_>,
+    notes: &mut Notes<'_, E>,
+) -> Fault {
     match fault {
         SignFileFault::Denied(denial) => {
             notes.tell(&asked.file, &"denied");

@@ -6,7 +6,7 @@ use command_support::{Fault, Notes, OWNER_ALONE, Slip, file_fault, moment, print
 use drafts::{KEY_FILE_LIMIT, key_in};
 use keys_roles::{Key, KeyId, key_id, key_object};
 use lms::{KeyPair, OtsType, Params, SigningHeight, public_of};
-use signing::{Book, Seed};
+use signer::{Book, Seed};
 use sqlite::Alter;
 use std::alloc::{AllocError, Global};
 use std::fs::{self, File};

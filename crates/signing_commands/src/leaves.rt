@@ -3,7 +3,7 @@ use crate::books::{BookAt, BookWork, has_bytes, worked_over};
 use crate::files::{PublicHalf, book_place};
 use command_support::{Fault, Notes, Slip};
 use keys_roles::KeyId;
-use signing::Book;
+use signer::Book;
 use sqlite::Alter;
 use std::io::Write;
 

@@ -1,6 +1,6 @@
 //! Seed files.
 use command_support::{Fault, Notes, file_fault};
-use signing::{Seed, read_seed};
+use signer::{Seed, read_seed};
 use std::fs::File;
 use std::io::{self, Read, Write};
 use std::os::unix::fs::PermissionsExt;
@@ -21,7 +21,7 @@ pub fn seed_at<E: Write>(
     path: &str,
     notes: &mut Notes<'_, E>,
 ) -> Result<Seed, Fault> {
-    let (bytes, mode) = match opened(rt, path) {
+    let (bytes, mode) = match open_seed(rt, path) {
         Ok(read) => read,
         Err(error) => {
             notes.tell(&path, &error);
@@ -42,7 +42,7 @@ pub fn seed_at<E: Write>(
 }
 
 // What a seed file begins with, and its mode.
-fn opened(rt: &HostRuntime, path: &str) -> io::Result<(Vec<u8>, u32)> {
+fn open_seed(rt: &HostRuntime, path: &str) -> io::Result<(Vec<u8>, u32)> {
     let file = File::open(rt, path)?;
     let mode = file.metadata()?.permissions().mode();
     let mut bytes = Vec::new(rt.alloc());

@@ -16,7 +16,7 @@ use Rattle.sqlite.specs.Schema.{Schema}
 use Rattle.sqlite.specs.Table.{Table}
 use Rattle.sqlite.specs.Term.{Term}
 use Rattle.sqlite.proofs.Callers.{IsPlain, command_of}
-use Rattle.sql_tables.specs.Making.{Asks, AsksBy, IsMade, every_row}
+use Rattle.sql_tables.specs.Making.{Queries, QueriesBy, IsMade, every_row}
 use Rattle.sql_tables.proofs.AnswerLemmas.{cells_of}
 use Rattle.sql_tables.proofs.Queries.{Reads, loads, loads_same}
 use Rattle.sqlite_value.specs.declared.keys.Key.{Key}
@@ -29,11 +29,11 @@ record Parts (tree : ℕ) (r : Result Compiled CompileError) : Type 0 where
   pub reads : command_of r ≡ Select (record { lets = []; body = every_row tree terms }) names
   pub plain : IsPlain r
 
-parts : (tree : ℕ) (r : Result Compiled CompileError) → AsksBy tree r → Parts tree r
+parts : (tree : ℕ) (r : Result Compiled CompileError) → QueriesBy tree r → Parts tree r
 parts tree (Ok c) a = record { terms = a.0; names = a.1; reads = a.2; plain = (a.3, a.4) }
 parts tree (Err e) a = absurd a
 
-module _ (schema : Schema) (sql : List ℕ) (tree : ℕ) (asks : Asks schema sql tree) (old new : State) (rows : List Row) (has : old.now.schema ≡ schema) (shown : Shown sql [] old new rows) where
+module _ (schema : Schema) (sql : List ℕ) (tree : ℕ) (asks : Queries schema sql tree) (old new : State) (rows : List Row) (has : old.now.schema ≡ schema) (shown : Shown sql [] old new rows) where
   pub asked_none : rows ≡ [] → old.now.trees tree ≡ []
   asked_none none =
       let it = parts tree (understood schema sql) asks.0 in

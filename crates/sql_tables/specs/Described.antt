@@ -14,7 +14,7 @@ use Rattle.sql_tables.specs.declared.described.Described.{Described}
 use Rattle.sql_tables.specs.declared.described.Key.{Key}
 use Rattle.sql_tables.specs.declared.described.Key.TheVariants.{Rowid, FirstUnique, Absent}
 use Rattle.sql_tables.specs.Schema.{required, table, unique_index}
-use Rattle.sql_tables.specs.Making.{Makes, Asks}
+use Rattle.sql_tables.specs.Making.{Makes, Queries}
 
 -- what `Described` of the code says, and its doc explains
 pub record Description : Type 0 where
@@ -139,7 +139,7 @@ AllMake ds = (n : ℕ) → n < length ds → Makes (beginning ds n) (at_place ds
 
 -- where all are there, each text asks for the rows of its table
 abbrev pub AllLook : List Description → Type 0
-AllLook ds = (n : ℕ) → n < length ds → Asks (schema_of ds) (at_place ds n).look (tree_from 0 ds n)
+AllLook ds = (n : ℕ) → n < length ds → Queries (schema_of ds) (at_place ds n).look (tree_from 0 ds n)
 
 -- no table behind the first ones has a row
 abbrev pub LacksRest : List Description → ℕ → Trees → Type 0

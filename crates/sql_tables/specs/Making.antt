@@ -46,10 +46,10 @@ every_row tree terms = record {
   offset = lit (Int (pos 0));
 }
 
-abbrev pub AsksBy : ℕ → Result Compiled CompileError → Type 0
-AsksBy tree (Ok c) = (terms : List Term) × (names : List (List ℕ)) × (c.command ≡ Select (record { lets = []; body = every_row tree terms }) names) × (c.returning ≡ None) × (c.formats ≡ [])
-AsksBy tree (Err e) = ⊥
+abbrev pub QueriesBy : ℕ → Result Compiled CompileError → Type 0
+QueriesBy tree (Ok c) = (terms : List Term) × (names : List (List ℕ)) × (c.command ≡ Select (record { lets = []; body = every_row tree terms }) names) × (c.returning ≡ None) × (c.formats ≡ [])
+QueriesBy tree (Err e) = ⊥
 
 -- under this schema the text asks for all rows of the tree
-abbrev pub Asks : Schema → List ℕ → ℕ → Type 0
-Asks schema sql tree = AsksBy tree (understood schema sql) × (reads_listing schema sql ≡ false)
+abbrev pub Queries : Schema → List ℕ → ℕ → Type 0
+Queries schema sql tree = QueriesBy tree (understood schema sql) × (reads_listing schema sql ≡ false)

@@ -2,7 +2,7 @@
 ghost use Rattle.std.specs.Prelude.{◌≡◌, ◌≢◌, false, [], map, IsTrue, IfOk, OnOk};
 ghost use Rattle.sqlite.specs.State.{HasCleanDisk, IsUnchanged, Survives};
 ghost use Rattle.sqlite.specs.Held.{state};
-ghost use Rattle.sql_tables.specs.Making.{Asks};
+ghost use Rattle.sql_tables.specs.Making.{Queries};
 ghost use Rattle.sql_tables.specs.Described.{AllLook, AreEmpty, described_view, schema_of};
 
 use crate::described::Described;
@@ -19,9 +19,9 @@ fn is_any(rows: &[Row]) -> bool
 // Whether the table that the text asks for has a row.
 fn has_row<S: Alter>(tx: &mut Transaction<'_, S>, sql: &str) -> Result<bool, Error>
     ensures same_reference { tx.new.conn.ghost_name ≡ tx.old.conn.ghost_name }
-    ensures rows { HasCleanDisk (state S.Store tx.new.conn.now) → (tree : _) → Asks (state S.Store tx.old.conn.now).now.schema sql.now tree
+    ensures rows { HasCleanDisk (state S.Store tx.new.conn.now) → (tree : _) → Queries (state S.Store tx.old.conn.now).now.schema sql.now tree
         → IfOk result (λ some. (some ≡ false → (state S.Store tx.old.conn.now).now.trees tree ≡ []) × (IsTrue some → (state S.Store tx.old.conn.now).now.trees tree ≢ [])) }
-    ensures unchanged { HasCleanDisk (state S.Store tx.new.conn.now) → (tree : _) → Asks (state S.Store tx.old.conn.now).now.schema sql.now tree → OnOk result (IsUnchanged (state S.Store tx.old.conn.now) (state S.Store tx.new.conn.now)) }
+    ensures unchanged { HasCleanDisk (state S.Store tx.new.conn.now) → (tree : _) → Queries (state S.Store tx.old.conn.now).now.schema sql.now tree → OnOk result (IsUnchanged (state S.Store tx.old.conn.now) (state S.Store tx.new.conn.now)) }
     ensures was_open { HasCleanDisk (state S.Store tx.new.conn.now) → OnOk result (IsTrue (state S.Store tx.old.conn.now).is_open) }
     ensures survives { Survives (state S.Store tx.old.conn.now) (state S.Store tx.new.conn.now) (λ _. ⊥) }
 {

@@ -3,11 +3,11 @@ ghost use Rattle.std.specs.Prelude.{◌≡◌, ◌↔◌, ◌<◌, ◌≤◌, �
 ghost use Rattle.sha2.specs.Sha256.{sha256};
 ghost use Rattle.delegations.specs.Delegation.{before};
 ghost use Rattle.std.specs.List.Sorted.{IsPartitionPoint};
-ghost use Rattle.delegations.specs.Rows.{Rises, with_row};
-ghost use Rattle.trust_rules.specs.Held.{OfEachState, length_at};
+ghost use Rattle.delegations.specs.Rows.{Rises};
+ghost use Rattle.trust_rules.specs.Held.{length_at};
 ghost use Rattle.trust_rules.specs.State.{blob_at};
-ghost use Rattle.limits.specs.Limits.{blob_limit, most_held};
-ghost use Rattle.state_parts.specs.Views.{blob_views, effects_view, length_views};
+ghost use Rattle.limits.specs.Limits.{blob_limit};
+ghost use Rattle.state_parts.specs.Views.{blob_views, length_views};
 
 use crate::checks::are_same;
 use crate::effects::Blob;

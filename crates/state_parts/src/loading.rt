@@ -1,5 +1,5 @@
 //! What the rows of a database have to be, to be those of a state.
-ghost use Rattle.std.specs.Prelude.{◌≡◌, ◌↔◌, ◌≤◌, [], map, None, Some, All, IfOk, IfSome, IfNone, IsTrue, option_map};
+ghost use Rattle.std.specs.Prelude.{◌≡◌, ◌↔◌, ◌≤◌, [], map, None, Some, All, IfSome, IfNone, IsTrue, option_map};
 ghost use Rattle.metadata.specs.File.{IsFileOf, root_form, targets_form};
 ghost use Rattle.metadata.specs.FileViews.{root_file, timestamp_file, snapshot_file, targets_file};
 ghost use Rattle.delegations.specs.Delegation.{before};

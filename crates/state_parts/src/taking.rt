@@ -8,7 +8,7 @@ ghost use Rattle.delegations.specs.Rows.{same_place, with_row, with_rows, place_
 ghost use Rattle.delegations.specs.Views.{row_views};
 ghost use Rattle.trust_rules.specs.Effects.{brought, last_or, renewed, with_blobs, without};
 ghost use Rattle.state_parts.specs.Views.{parts_view, effects_view, blob_views, digest_views, changes_view, last_kept, length_views, trusted_view};
-ghost use Rattle.contents.specs.Contents.{lengths_of};
+ghost use Rattle.repository_rows.specs.Contents.{lengths_of};
 ghost use Rattle.trust_rules.specs.Held.{with_lengths};
 ghost use Rattle.trust_rules.specs.State.{kept_root};
 ghost use Rattle.trust_rules.specs.steps.Loading.{laid};

@@ -6,9 +6,9 @@ use Rattle.std.proofs.lemmas.List.{append-nil}
 use Rattle.std.proofs.Math.Seq.{append_snoc}
 use Rattle.delegations.specs.Rows.{Place}
 use Rattle.metadata.specs.File.{Bytes}
-use Rattle.tables.specs.Changes.{after, after_all}
-use Rattle.contents.specs.Contents.{Contents}
-use Rattle.tables.specs.declared.change.Change.{Change}
+use Rattle.repository_tables.specs.Changes.{after, after_all}
+use Rattle.repository_rows.specs.Contents.{Contents}
+use Rattle.repository_tables.specs.declared.change.Change.{Change}
 use Rattle.store.specs.steps.Changed.{more_blobs, more_roots, more_rows}
 
 pub after_more : (cs : List Change) (c : Change) (t : Contents) → after_all (cs ++ c ∷ []) t ≡ after c (after_all cs t)

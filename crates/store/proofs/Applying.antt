@@ -29,7 +29,8 @@ use Rattle.store.specs.Applies.{Replies}
 use Rattle.store.specs.Standing.{IsStateOf, StandsAt, seen}
 use Rattle.store.specs.steps.Doing.{Does, DoesAt}
 use Rattle.store.specs.steps.Replies.{IsBatchRefusal, IsCopied, copied, wanting, IsRefusal}
-use Rattle.store.specs.StateRows.{Kept, rows_of}
+use Rattle.trust_rules.specs.Held.{Held}
+use Rattle.store.specs.StateRows.{rows_of}
 use Rattle.store.specs.Views.{reply_view}
 use Rattle.table_rows.specs.declared.faults.StoreFault.{StoreFault}
 use Rattle.table_rows.specs.declared.faults.StoreFault.TheVariants.{Damaged, OutOfMemory}
@@ -101,7 +102,7 @@ abbrev Left : State → database.State → Type 0
 Left S old = HasCleanDisk old → IsTrue old.is_open → (trees : Trees) → old.may_leave trees → HoldsWhole trees (rows_of S)
 
 -- what rests of each state at which a store stands
-abbrev pub Resting : Kept → database.State → Type 0
+abbrev pub Resting : Held → database.State → Type 0
 Resting kept old =
     HasCleanDisk old → IsTrue old.is_open → (U : State) → StandsAt (seen kept old) U → (trees : Trees) → old.may_leave trees → HoldsWhole trees (rows_of U)
 
@@ -151,16 +152,16 @@ unmade S T old new c now e reply fault is step sound tidy crash outlives = recor
 
 -- ---- the same for each state at which a store stands
 
-pub still_at : (kept : Kept) (old : database.State) (c : Command) (now : ℕ) (r : Result Answer StoreFault) → Resting kept old
+pub still_at : (kept : Held) (old : database.State) (c : Command) (now : ℕ) (r : Result Answer StoreFault) → Resting kept old
     → ((S : State) → IsStateOf kept S → IfOk r (λ reply. Steps S c now (S, reply_view reply))) → (r ≡ Err Damaged → ⊥) → DoesAt kept kept old old c now r
 still_at kept old c now r rests step sound S at = (S, at, still S old c now r (λ clean there. rests clean there S at) (step S at.state) sound)
 
-abbrev CrashAt : Kept → database.State → database.State → Effects → Type 0
+abbrev CrashAt : Held → database.State → database.State → Effects → Type 0
 CrashAt kept old new e =
     HasCleanDisk new → IsTrue old.is_open → (U : State) → StandsAt (seen kept old) U → (trees : Trees) → new.may_leave trees
     → HoldsWhole trees (rows_of U) ⊎ HoldsWhole trees (rows_of (applied U (effects_view e)))
 
-pub made_at : (kept left : Kept) (old new : database.State) (c : Command) (now : ℕ) (e : Effects) (reply : Answer)
+pub made_at : (kept left : Held) (old new : database.State) (c : Command) (now : ℕ) (e : Effects) (reply : Answer)
     → ((S : State) → StandsAt (seen kept old) S → StandsAt (seen left new) (applied S (effects_view e)))
     → ((S : State) → IsStateOf kept S → Steps S c now (applied S (effects_view e), reply_view reply))
     → (HasCleanDisk new → HasCleanDisk old) → (HasCleanDisk new → IsTrue old.is_open → IsTrue new.is_open) → CrashAt kept old new e → Outlives old new
@@ -171,7 +172,7 @@ made_at kept left old new c now e reply leaves steps tidy live crash outlives S 
   made S (applied S (effects_view e)) old new c now e reply refl (steps S at.state) tidy live (λ clean there. crash clean there S at) outlives,
 )
 
-pub unmade_at : (kept left : Kept) (old new : database.State) (c : Command) (now : ℕ) (e : Effects) (reply : Reply) (fault : StoreFault)
+pub unmade_at : (kept left : Held) (old new : database.State) (c : Command) (now : ℕ) (e : Effects) (reply : Reply) (fault : StoreFault)
     → ((S : State) → StandsAt (seen kept old) S → StandsAt (seen left new) S) → ((S : State) → IsStateOf kept S → Steps S c now (applied S (effects_view e), reply))
     → (fault ≡ Damaged → ⊥) → (HasCleanDisk new → HasCleanDisk old) → CrashAt kept old new e → Outlives old new → DoesAt kept left old new c now (Err fault)
 unmade_at kept left old new c now e reply fault stays steps sound tidy crash outlives S at =

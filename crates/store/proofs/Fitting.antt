@@ -28,7 +28,7 @@ use Rattle.trust_rules.specs.State.{State, IsBlob, IsHeldUnder, IsRootChain, IsS
 use Rattle.trust_rules.specs.Effects.{last_or}
 use Rattle.trust_rules.specs.steps.Loading.{FollowOn, IsChain, laid}
 use Rattle.trust_rules.specs.Contents.{contents_of, profile_number, root_row_of, shelf_rows}
-use Rattle.contents.specs.Contents.{Contents}
+use Rattle.repository_rows.specs.Contents.{Contents}
 use Rattle.trust_rules.specs.steps.Stored.{IsStored, Together}
 use Rattle.trust_rules.proofs.RootChains.{chain_tells}
 use Rattle.trust_rules.proofs.ShapedOnce.{Shapes}

@@ -11,9 +11,9 @@ use Rattle.trust_rules.specs.Contents.{shelf_rows}
 use Rattle.trust_rules.specs.Effects.{without}
 use Rattle.trust_rules.specs.State.{State}
 use Rattle.trust_rules.proofs.GoneKeys.{filter_so, map_filter}
-use Rattle.contents.specs.Contents.{Contents}
+use Rattle.repository_rows.specs.Contents.{Contents}
 use Rattle.table_rows.specs.Tables.{IsDigest}
-use Rattle.tables.specs.Changes.{is_blob_of, is_row_of, without_row}
+use Rattle.repository_tables.specs.Changes.{is_blob_of, is_row_of, without_row}
 use Rattle.store.specs.StateRows.{rows_of}
 use Rattle.store.specs.steps.Changed.{blobs_gone, rows_gone}
 

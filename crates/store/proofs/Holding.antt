@@ -7,7 +7,7 @@ use Rattle.table_rows.specs.Rows.{root2_cells, current_cells, shelf_cells, blob_
 use Rattle.sql_tables.specs.Rows.{AreRows}
 use Rattle.table_rows.specs.Schema.{held}
 use Rattle.table_rows.specs.Tables.{AreSame, HoldsTables, HoldsWhole, IsStore, root_row, current_rows, shelf_row, blob_row}
-use Rattle.contents.specs.Contents.{Contents}
+use Rattle.repository_rows.specs.Contents.{Contents}
 use Rattle.store.proofs.SameRows.{SameItems, same_map}
 
 rows_as : (shown : Row → Row) (rows cells others : List Row) → SameItems cells others → AreRows shown rows cells → AreRows shown rows others

@@ -5,11 +5,10 @@ use Rattle.std.specs.List.{AllByRecursion}
 use Rattle.std.proofs.lemmas.List.Elements.{All-from_recursion, All-head, All-tail}
 use Rattle.sha2.specs.Sha256.{sha256}
 use Rattle.sqlite.specs.State as database
-use Rattle.sqlite.specs.State.{HasCleanDisk}
 use Rattle.sqlite_rules.specs.Lists.{Has}
 use Rattle.hex.specs.Hex.{encode_lower}
 use Rattle.metadata.specs.File.{Bytes}
-use Rattle.contents.specs.Contents.{Contents}
+use Rattle.repository_rows.specs.Contents.{Contents}
 use Rattle.trust_rules.specs.State.{State, IsBlob, IsState}
 use Rattle.table_rows.specs.Tables.{IsStore, blob_row}
 use Rattle.table_rows.proofs.One.{blobs_of}

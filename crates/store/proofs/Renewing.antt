@@ -6,24 +6,25 @@ use Rattle.sqlite.specs.State as database
 use Rattle.sqlite.specs.State.{HasCleanDisk, Survives}
 use Rattle.sqlite.proofs.StateLemmas.{survives_then, survives_weaker}
 use Rattle.sqlite_trees.specs.Tree.{Trees}
-use Rattle.contents.specs.Contents.{Contents, no_rows}
+use Rattle.repository_rows.specs.Contents.{Contents, no_rows}
 use Rattle.metadata.specs.File.{Bytes}
 use Rattle.trust_rules.specs.State.{State, IsState, nothing}
-use Rattle.tables.specs.Migration.{IsEarlier}
-use Rattle.tables.specs.Opening.{StandsEmpty}
+use Rattle.repository_tables.specs.Migration.{IsEarlier}
+use Rattle.repository_tables.specs.Opening.{StandsEmpty}
 use Rattle.sql_tables.specs.Rows.{AreRows}
 use Rattle.table_rows.specs.Rows.{root2_cells}
 use Rattle.table_rows.specs.Tables.{HoldsWhole, Stands, root_row}
 use Rattle.sqlite.specs.Order.{Row}
 use Rattle.store.specs.Standing.{IsStateOf}
-use Rattle.store.specs.StateRows.{Begins, Kept, rows_of}
+use Rattle.trust_rules.specs.Held.{Held}
+use Rattle.store.specs.StateRows.{Begins, rows_of}
 
 -- the tables that stood without a row hold the rows of the empty state
 abbrev pub Prepared : database.State → Trees → Type 0
 Prepared s trees = IsTrue s.is_open × StandsEmpty s × HoldsWhole trees no_rows
 
 -- the earlier tables of a state hold its rows
-abbrev pub Renewed : Kept → database.State → Bool → Trees → Type 0
+abbrev pub Renewed : Held → database.State → Bool → Trees → Type 0
 Renewed kept s is_earlier trees = (is_earlier ≡ true) × ((U : State) → IsStateOf kept U → IsEarlier s (rows_of U) → HoldsWhole trees (rows_of U))
 
 module _ (valid : IsState nothing) where
@@ -33,7 +34,7 @@ module _ (valid : IsState nothing) where
   pub prepares : (old new : database.State) → Survives old new (Prepared old) → Survives old new (Begins old)
   prepares old new one = survives_weaker old new (Prepared old) (Begins old) (λ _ trees made. begins_empty old trees made) one
 
-  pub renews : (kept : Kept) (is_earlier : Bool) (old mid new : database.State) (U : State) → IsStateOf kept U
+  pub renews : (kept : Held) (is_earlier : Bool) (old mid new : database.State) (U : State) → IsStateOf kept U
       → (HasCleanDisk mid → IsTrue old.is_open × Stands old.now (rows_of U) × (is_earlier ≡ true → IsEarlier mid (rows_of U)))
       → Survives old mid (Prepared old) → Survives mid new (Renewed kept mid is_earlier) → Survives old new (Begins old)
   renews kept is_earlier old mid new U is found one two =

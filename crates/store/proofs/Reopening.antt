@@ -6,7 +6,7 @@ use Rattle.sqlite.specs.Effect.{Database, IsDatabase}
 use Rattle.sqlite.specs.State as database
 use Rattle.sqlite.specs.State.{IsLive}
 use Rattle.sqlite_trees.specs.Tree.{Trees}
-use Rattle.contents.specs.Contents.{Contents}
+use Rattle.repository_rows.specs.Contents.{Contents}
 use Rattle.trust_rules.proofs.RowsOfOneState.{one_state}
 use Rattle.trust_rules.proofs.ShapedOnce.{Shapes}
 use Rattle.trust_rules.specs.Runs.{Command, Reply, Steps}

@@ -13,7 +13,7 @@ use Rattle.trust_rules.specs.State.{State, Trusted, IsState, kept_root}
 use Rattle.trust_rules.specs.Effects.{Effects, applied, last_or, renewed, with_blobs, without}
 use Rattle.trust_rules.specs.Contents.{contents_of, numbered, root_rows, shelf_rows}
 use Rattle.table_rows.specs.Tables.{AreSame}
-use Rattle.contents.specs.Contents.{Contents}
+use Rattle.repository_rows.specs.Contents.{Contents}
 use Rattle.sql_tables.proofs.RowLemmas.{has_map, map_has}
 use Rattle.store.proofs.Gone.{AreDigests, gone_rows}
 use Rattle.store.specs.StateRows.{rows_of}

@@ -13,7 +13,7 @@ use Rattle.table_rows.specs.declared.faults.StoreFault.{StoreFault}
 use Rattle.table_rows.specs.declared.faults.StoreFault.TheVariants.{Damaged, Database, OutOfMemory}
 use Rattle.store.specs.Applies.{Applies, HoldsReply, Makes}
 use Rattle.store.specs.Standing.{IsStateOf, StandsAt, seen}
-use Rattle.store.specs.StateRows.{Kept, rows_of}
+use Rattle.store.specs.StateRows.{rows_of}
 use Rattle.store.specs.Views.{reply_view}
 use Rattle.store.specs.declared.command.Reply.{Reply as Answer}
 use Rattle.store.specs.steps.Doing.{DoesAt}
@@ -21,13 +21,13 @@ use Rattle.store.specs.steps.Loading.{ReadsOnly}
 use Rattle.store.proofs.Applying.{replies_step}
 
 -- a store stands at a state of which it keeps what is held, and whose rows its tables hold
-pub stands_at : (kept : Kept) (db : database.State) (S : State) → IsStateOf kept S → (HasCleanDisk db → IsTrue db.is_open → IsStore db (rows_of S)) → StandsAt (seen kept db) S
+pub stands_at : (kept : Held) (db : database.State) (S : State) → IsStateOf kept S → (HasCleanDisk db → IsTrue db.is_open → IsStore db (rows_of S)) → StandsAt (seen kept db) S
 stands_at kept db S of rows = record {
   state = of;
   rows = λ clean there. let is = rows clean there in record { schema = is.schema; settled = is.settled; holds = is.holds };
 }
 
-pub store_at : (kept : Kept) (db : database.State) (S : State) → StandsAt (seen kept db) S → HasCleanDisk db → IsTrue db.is_open → IsStore db (rows_of S)
+pub store_at : (kept : Held) (db : database.State) (S : State) → StandsAt (seen kept db) S → HasCleanDisk db → IsTrue db.is_open → IsStore db (rows_of S)
 store_at kept db S at clean there = let is = at.rows clean there in record { is_open = there; schema = is.schema; settled = is.settled; holds = is.holds }
 
 -- what is so of each state that a store may keep, from what is so of each that what it holds may be
@@ -35,7 +35,7 @@ pub each : (H kept : Held) (P : State → Type 0) → H ≡ kept → OfEachState
 each H kept P same told S of = told S of.valid (of.held ∙ sym same)
 
 -- reading leaves a store where it stands
-pub stands_on : (kept left : Kept) (old new : database.State) → left ≡ kept → ReadsOnly old new → (S : State) → StandsAt (seen kept old) S → StandsAt (seen left new) S
+pub stands_on : (kept left : Held) (old new : database.State) → left ≡ kept → ReadsOnly old new → (S : State) → StandsAt (seen kept old) S → StandsAt (seen left new) S
 stands_on kept left old new same reads S at =
     stands_at left new S (subst (λ k. IsStateOf k S) (sym same) at.state)
     (λ clean there. reads.kept clean there (rows_of S) (store_at kept old S at (omega (arith, clean, reads.survives.clean)) (reads.was_open clean there)))
@@ -59,7 +59,7 @@ pub reads_if : {K : Type 0} (shows : K → database.State) (old new : K) → (ne
 reads_if shows old new (inl same) = subst (λ k. ReadsOnly (shows old) (shows k)) (sym same) (reads_nothing (shows old))
 reads_if shows old new (inr reads) = reads
 
-makes : (kept left : Kept) (old new : database.State) (c : Command) (now : ℕ) (r : Result Answer StoreFault) → DoesAt kept left old new c now r
+makes : (kept left : Held) (old new : database.State) (c : Command) (now : ℕ) (r : Result Answer StoreFault) → DoesAt kept left old new c now r
     → (HasCleanDisk new → OnOk r (IsTrue old.is_open)) → (S : State) × StandsAt (seen kept old) S → Makes (seen kept old) (seen left new) c now r
 makes kept left old new c now (Ok reply) does there (S, at) =
     let (T, to, here) = does S at in (
@@ -73,7 +73,7 @@ makes kept left old new c now (Err Database) does there (S, at) =
 makes kept left old new c now (Err Damaged) does there (S, at) = let (T, to, here) = does S at in here.sound refl
 
 -- what a call does to what is kept, as it is said to callers
-pub applies : (kept left : Kept) (old new : database.State) (c : Command) (now : ℕ) (r : Result Answer StoreFault) → DoesAt kept left old new c now r
+pub applies : (kept left : Held) (old new : database.State) (c : Command) (now : ℕ) (r : Result Answer StoreFault) → DoesAt kept left old new c now r
     → (HasCleanDisk new → OnOk r (IsTrue old.is_open)) → (S : State) × StandsAt (seen kept old) S
     → (HasCleanDisk new → IsTrue new.is_open → (T : State) → StandsAt (seen left new) T → (trees : Trees) → new.may_leave trees → HoldsWhole trees (rows_of T))
     → Applies kept left old new c now r
@@ -85,7 +85,7 @@ applies kept left old new c now r does there stands rests = record {
 }
 
 -- what a call that replied leaves for the next open
-pub replied : (kept left : Kept) (old new : database.State) (c : Command) (now : ℕ) (r : Result Answer StoreFault) → Applies kept left old new c now r → HasCleanDisk new
+pub replied : (kept left : Held) (old new : database.State) (c : Command) (now : ℕ) (r : Result Answer StoreFault) → Applies kept left old new c now r → HasCleanDisk new
     → (U : State) → StandsAt (seen kept old) U → (trees : Trees) → ∥ new.may_leave trees ∥₁ → IfOk r (λ reply. ∥ HoldsReply U c now (reply_view reply) trees ∥₁)
 replied kept left old new c now (Ok reply) applies clean U at trees may =
     let (V, to, steps) = applies.makes.0 U at in

@@ -21,7 +21,6 @@ use Rattle.table_rows.specs.declared.faults.StoreFault.{StoreFault}
 use Rattle.table_rows.specs.declared.faults.StoreFault.TheVariants.{Damaged, Database, OutOfMemory}
 use Rattle.store.specs.Applies.{Replies}
 use Rattle.store.specs.Standing.{IsStateOf, StandsAt, seen}
-use Rattle.store.specs.StateRows.{Kept}
 use Rattle.store.specs.Views.{reply_view}
 use Rattle.store.specs.declared.command.Reply.{Reply as Answer}
 use Rattle.store.specs.declared.command.Reply.TheVariants as answers
@@ -36,7 +35,7 @@ serves_step : (S : State) (path : Bytes) (asked : Option Bytes) (now : ℕ) (s :
 serves_step S path asked now s (serves h blob) = leads (Ok s.bytes.items) h
 
 -- the file was loaded
-pub served : (kept left : Kept) (old new : database.State) (path : Bytes) (asked : Option Bytes) (now : ℕ) (s : Served) → Resting kept old
+pub served : (kept left : Held) (old new : database.State) (path : Bytes) (asked : Option Bytes) (now : ℕ) (s : Served) → Resting kept old
     → left ≡ kept → ReadsOnly old new → (HasCleanDisk new → IsTrue new.is_open)
     → (HasCleanDisk new → IsTrue new.is_open → (U : State) → StandsAt (seen kept old) U → Serves U (grants U path asked now) (Ok s))
     → DoesAt kept left old new (Target path asked) now (Ok (answers.Bytes s.bytes))
@@ -61,7 +60,7 @@ denied_step : (S : State) (path : Bytes) (asked : Option Bytes) (now : ℕ) (d :
 denied_step S path asked now d (denies h) = leads (Err (orders.Denied (denial_view d))) h
 
 -- what is denied before anything is loaded is denied whatever the disk answers
-denied_reply : (trusted : Type 0) (kept : Kept) (S : State) (path : Bytes) (asked : Option Bytes) (now : ℕ) (d : Denial) {P Q : Type 0} → IsStateOf kept S
+denied_reply : (trusted : Type 0) (kept : Held) (S : State) (path : Bytes) (asked : Option Bytes) (now : ℕ) (d : Denial) {P Q : Type 0} → IsStateOf kept S
     → IsRefused kept (λ U. grants U path asked now) path now P Q d → (trusted → Q → Serves S (grants S path asked now) (Err (gets.Denied d)))
     → Replies trusted S (Target path asked) now S (Refused (denial_view d) None)
 denied_reply trusted kept S path asked now d at (unread u h) served = (refl, λ sure. leads (Err (orders.Denied (denial_view d))) (h S at.valid at.held))
@@ -76,7 +75,7 @@ no_damage (gets.Load loads.OutOfMemory) r is same = let k : ◌≡◌ {A = Resul
 no_damage gets.OutOfMemory r is same = let k : ◌≡◌ {A = Result Answer StoreFault} (Err OutOfMemory) (Err Damaged) = sym is ∙ same in cc
 
 -- what a denial leaves open
-leaves_open : (old new : database.State) (kept : Kept) (path : Bytes) (asked : Option Bytes) (now : ℕ) (d : Denial)
+leaves_open : (old new : database.State) (kept : Held) (path : Bytes) (asked : Option Bytes) (now : ℕ) (d : Denial)
     → IsRefused kept (λ U. grants U path asked now) path now (IsTrue old.is_open → IsTrue new.is_open) (HasCleanDisk new → IsTrue new.is_open) d → HasCleanDisk new → IsTrue old.is_open → IsTrue new.is_open
 leaves_open old new kept path asked now d (unread u h) clean was = u was
 leaves_open old new kept path asked now d (by_layout l has by) clean was = l clean
@@ -88,7 +87,7 @@ refuses_map H m path now P Q P' Q' (Err (gets.Denied d)) f g (by_layout l has by
 refuses_map H m path now P Q P' Q' (Err (gets.Load fault)) f g h = tt
 refuses_map H m path now P Q P' Q' (Err gets.OutOfMemory) f g h = tt
 
-module _ (kept : Kept) (old new : database.State) (path : Bytes) (asked : Option Bytes) (now : ℕ) where
+module _ (kept : Held) (old new : database.State) (path : Bytes) (asked : Option Bytes) (now : ℕ) where
   abbrev pub RefusedAt : Result Served GetFault → Type 0
   RefusedAt r = Refuses kept (λ U. grants U path asked now) path now (IsTrue old.is_open → IsTrue new.is_open) (HasCleanDisk new → IsTrue new.is_open) r
 
@@ -113,7 +112,7 @@ module _ (kept : Kept) (old new : database.State) (path : Bytes) (asked : Option
   stays_open gets.OutOfMemory r is h clean was = subst (λ (x : Result Answer StoreFault). OnOk x (IsTrue new.is_open)) (sym is) tt
 
   -- nothing was served
-  pub unserved : (left : Kept) (fault : GetFault) (r : Result Answer StoreFault) → Resting kept old → left ≡ kept → ReadsOnly old new → RefusedAt (Err fault) → AnsweredAt (Err fault) → IsGetFault fault r
+  pub unserved : (left : Held) (fault : GetFault) (r : Result Answer StoreFault) → Resting kept old → left ≡ kept → ReadsOnly old new → RefusedAt (Err fault) → AnsweredAt (Err fault) → IsGetFault fault r
       → DoesAt kept left old new (Target path asked) now r
   unserved left fault r rests same reads refused answer is S at = (
     S,

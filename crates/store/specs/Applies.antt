@@ -9,7 +9,8 @@ use Rattle.granting.specs.Serving.{HasLayout, is_by_layout}
 use Rattle.sql_tables.specs.Outliving.{StaysOpen}
 use Rattle.table_rows.specs.Tables.{HoldsWhole}
 use Rattle.store.specs.Standing.{Holds, IsClean, Keeps, Moves, Standing, StandsAt, seen}
-use Rattle.store.specs.StateRows.{Kept, rows_of}
+use Rattle.trust_rules.specs.Held.{Held}
+use Rattle.store.specs.StateRows.{rows_of}
 use Rattle.store.specs.Views.{reply_view}
 use Rattle.table_rows.specs.declared.faults.StoreFault.{StoreFault}
 use Rattle.table_rows.specs.declared.faults.StoreFault.TheVariants.{Damaged, Database, OutOfMemory}
@@ -45,7 +46,7 @@ Makes A B command now (Err Damaged) = ⊥
 
 -- A command is made, and the store may be used on. A crash inside the call leaves the rows from before it or those from after it, and a crash after the call those of
 -- the state at which the store then stands, each in trees that list all six tables.
-pub record Applies (kept left : Kept) (old new : database.State) (command : Command) (now : ℕ) (r : Result Answer StoreFault) : Type 0 where
+pub record Applies (kept left : Held) (old new : database.State) (command : Command) (now : ℕ) (r : Result Answer StoreFault) : Type 0 where
   pub makes : Makes (seen kept old) (seen left new) command now r
   pub stays : StaysOpen old new
   pub crash : HasCleanDisk new → IsTrue old.is_open → (S : State) → StandsAt (seen kept old) S

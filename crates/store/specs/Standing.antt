@@ -4,14 +4,14 @@ use Rattle.sqlite.specs.Effect.{Database}
 use Rattle.sqlite.specs.State as connection
 use Rattle.sqlite_trees.specs.View.{doubt}
 use Rattle.trust_rules.specs.State.{State, IsState}
-use Rattle.trust_rules.specs.Held.{held_of}
+use Rattle.trust_rules.specs.Held.{Held, held_of}
 use Rattle.table_rows.specs.Schema.{held, HasSix}
 use Rattle.table_rows.specs.Tables.{HoldsTables}
-use Rattle.store.specs.StateRows.{Kept, OpensTo, rows_of}
+use Rattle.store.specs.StateRows.{OpensTo, rows_of}
 
 -- what a store keeps in memory, and what its connection shows of the database
 pub record Standing : Type 0 where
-  pub kept : Kept
+  pub kept : Held
   -- as the connection sees it, and as the last commit left it
   pub database : Database
   pub committed : Database
@@ -19,14 +19,14 @@ pub record Standing : Type 0 where
   -- no wrong answer of the disk was taken as true
   pub is_clean : Bool
 
-abbrev pub seen : Kept → connection.State → Standing
+abbrev pub seen : Held → connection.State → Standing
 seen kept s = record { kept = kept; database = s.now; committed = s.committed; is_open = s.is_open; is_clean = s.is_clean }
 
 abbrev pub IsClean : Standing → Type 0
 IsClean A = doubt A.is_clean ≡ 0
 
 -- what is kept is that of this state, whatever the bytes of its target files are
-pub record IsStateOf (kept : Kept) (S : State) : Type 0 where
+pub record IsStateOf (kept : Held) (S : State) : Type 0 where
   pub valid : IsState S
   pub held : held_of S ≡ kept
 

@@ -6,7 +6,7 @@ use Rattle.trust_rules.specs.State.{State, IsState}
 use Rattle.trust_rules.specs.Held.{Held}
 use Rattle.trusted_state.specs.Room.{WithPlaces}
 use Rattle.trust_rules.specs.Contents.{contents_of}
-use Rattle.contents.specs.Contents.{Contents}
+use Rattle.repository_rows.specs.Contents.{Contents}
 use Rattle.sqlite.specs.Effect.{Database, IsDatabase}
 use Rattle.sqlite_trees.specs.Tree.{Trees}
 use Rattle.table_rows.specs.Schema.{IsBeginning}
@@ -15,14 +15,10 @@ use Rattle.table_rows.specs.declared.faults.StoreFault.{StoreFault}
 use Rattle.table_rows.specs.declared.faults.StoreFault.TheVariants as faults
 use Rattle.sqlite.specs.State as database
 
--- what a store keeps in memory: its state but for the bytes of the target files
-abbrev pub Kept : Type 0
-Kept = Held
-
--- what a caller sees of a store: its connection, and what it keeps
+-- what a caller sees of a store: its connection, and what it keeps in memory, its state but for the bytes of the target files
 pub record Shown (S : Type 0) : Type 0 where
   pub conn : Connection S
-  pub kept : Kept
+  pub kept : Held
 
 abbrev pub shown_code : {S : Type 0} → Coded S → Coded WithPlaces → Coded (Shown S)
 shown_code {S} store kept =

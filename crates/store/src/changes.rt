@@ -11,8 +11,8 @@ ghost use Rattle.trust_rules.specs.State as trust;
 ghost use Rattle.trust_rules.specs.State.{IsState};
 ghost use Rattle.trust_rules.specs.Effects.{applied};
 ghost use Rattle.table_rows.specs.Tables.{HoldsWhole, IsStore};
-ghost use Rattle.tables.specs.Changes.{after_all};
-ghost use Rattle.contents.specs.Contents.{Contents};
+ghost use Rattle.repository_tables.specs.Changes.{after_all};
+ghost use Rattle.repository_rows.specs.Contents.{Contents};
 ghost use Rattle.store.specs.StateRows.{rows_of};
 ghost use Rattle.store.specs.steps.Changed.{blobs_gone, changed, emptied_if, last_version, more_blobs, more_roots, more_rows, new_roots, new_snapshot, new_timestamp, rows_gone};
 
@@ -20,9 +20,9 @@ use delegations::Row;
 use machine::{Blob, Effects, profile_number, rows_stay};
 use metadata::{File, Root, Snapshot, Timestamp};
 use path_patterns::{Digest, RoleName};
+use repository_tables::{Change, StoreFault, write_all};
 use sqlite::{Alter, Connection};
 use std::alloc::{AllocError, Global};
-use tables::{Change, StoreFault, write_all};
 
 /// The changes of the rows, in the order in which they are made.
 pub(crate) fn changes_of(alloc: Global, effects: &Effects) -> Result<Vec<Change<'_>>, AllocError>

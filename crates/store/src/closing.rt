@@ -20,11 +20,11 @@ use crate::opening::Unopened;
 use crate::store::Store;
 use machine::stays_valid;
 use metadata::Moment;
+use repository_tables::StoreFault;
 use sql_tables::close;
 use sqlite::{Connection, FileStore, Files};
 use sqlite_disk::Disk;
 use std::alloc::Global;
-use tables::StoreFault;
 
 /// Makes a command at a moment, as `Store::apply` does, and hands back the two files. Whatever a crash leaves of them, inside the
 /// call or after it, the next open finds the rows of the state before the command or of the state after it, and after a reply

@@ -1,7 +1,7 @@
 //! What is known of the state that a store stands for, and of what a crash leaves.
 ghost use Rattle.std.specs.Prelude.{◌≡◌, ◌↔◌, ◌≤◌, false, codes, nat_eq, option_map, ℕ, IsTrue, Option};
 ghost use Rattle.path_patterns.specs.Names.{dotted};
-ghost use Rattle.contents.specs.Contents.{Contents};
+ghost use Rattle.repository_rows.specs.Contents.{Contents};
 ghost use Rattle.sqlite.specs.Held.{state};
 ghost use Rattle.sqlite.specs.State.{HasCleanDisk, IsLive};
 ghost use Rattle.sqlite_trees.specs.Tree.{Trees};
@@ -13,7 +13,7 @@ ghost use Rattle.trust_rules.specs.State as trust;
 ghost use Rattle.trust_rules.specs.State.{IsState, metadata_of};
 ghost use Rattle.metadata.specs.File.{Bytes};
 ghost use Rattle.document_parts.specs.Parts.{last_number};
-ghost use Rattle.tables.specs.Opening.{IsSettled};
+ghost use Rattle.repository_tables.specs.Opening.{IsSettled};
 ghost use Rattle.table_rows.specs.Tables.{HoldsFirst, HoldsWhole, IsStore};
 ghost use Rattle.store.specs.Standing.{StandsAt, seen};
 ghost use Rattle.store.specs.StateRows.{HoldsNoState, TreesStand, rows_of};
@@ -21,8 +21,8 @@ ghost use Rattle.store.specs.StateRows.{HoldsNoState, TreesStand, rows_of};
 use crate::store::Store;
 use machine::{first_profile_as_before, names_find};
 use metadata::{one_document, one_shape};
+use repository_tables::one_contents;
 use sqlite::{Alter, Connection};
-use tables::one_contents;
 
 /// A law, which does nothing: a store stands at a state, which is a valid one; and while the connection is open, and unless a wrong
 /// answer of the disk was taken as true, at one only.

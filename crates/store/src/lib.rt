@@ -16,5 +16,5 @@ pub use machine::{
     Denial, Digest, Held, Moment, Offer, RoleName, State, TargetPath, get, metadata_file,
 };
 pub use opening::Unopened;
+pub use repository_tables::StoreFault;
 pub use store::Store;
-pub use tables::StoreFault;

@@ -3,9 +3,9 @@ ghost use Rattle.std.specs.Prelude.{◌≡◌, ◌≢◌, true, false, Err, Matc
 ghost use Rattle.sqlite.specs.Held.{state};
 ghost use Rattle.sqlite.specs.State.{HasCleanDisk, IsLive, Survives};
 ghost use Rattle.sqlite_trees.specs.Tree.{Trees};
-ghost use Rattle.tables.specs.Opening.{IsSettled};
+ghost use Rattle.repository_tables.specs.Opening.{IsSettled};
 ghost use Rattle.table_rows.specs.Schema.{IsBeginning};
-ghost use Rattle.tables.specs.Migration.{IsEarlier};
+ghost use Rattle.repository_tables.specs.Migration.{IsEarlier};
 ghost use Rattle.table_rows.specs.Tables.{HoldsWhole, IsStore, Stands};
 ghost use Rattle.store.specs.Standing.{IsStateOf, Opens, StandsAt, seen};
 ghost use Rattle.store.specs.StateRows.{Begins, OpensTo, rows_of};
@@ -17,9 +17,9 @@ use crate::store::Store;
 use crate::stored_rows::StoredRows;
 use machine::{Held, nothing_is_valid};
 use metadata::{one_document, one_shape};
+use repository_tables::{StoreFault, migrate, prepare, renew};
 use sqlite::{Alter, Connection};
 use std::alloc::Global;
-use tables::{StoreFault, migrate, prepare, renew};
 
 /// Why no store was opened, and the connection, where there still is one.
 #[derive(Drop)]

@@ -35,10 +35,10 @@ use machine::{
 };
 use metadata::Moment;
 use path_patterns::{Digest, TargetPath};
+use repository_tables::StoreFault;
 use sqlite::{Alter, Connection};
 use std::alloc::Global;
 use std::marker::Model;
-use tables::StoreFault;
 
 /// What a state of the trust machine holds beside the bytes of its target files, and the connection to the tables that hold its rows. A
 /// clause sees the connection, and the states that the store stands for. While the connection is open, and unless a wrong answer of the

@@ -8,7 +8,7 @@ ghost use Rattle.trust_rules.specs.State as trust;
 ghost use Rattle.trust_rules.specs.State.{IsState};
 ghost use Rattle.trust_rules.specs.Effects.{applied};
 ghost use Rattle.state_parts.specs.Views.{effects_view};
-ghost use Rattle.contents.specs.Contents.{Contents};
+ghost use Rattle.repository_rows.specs.Contents.{Contents};
 ghost use Rattle.table_rows.specs.Tables.{HoldsWhole, IsStore};
 ghost use Rattle.store.specs.StateRows.{rows_of};
 
@@ -16,10 +16,10 @@ use crate::changes::write;
 use crate::laws::leaves_rows;
 use machine::{Blobs, Effects, LoadFault};
 use path_patterns::Digest;
+use repository_tables::{StoreFault, check_open, load_blob};
 use sqlite::{Alter, Connection};
 use std::alloc::Global;
 use std::marker::Model;
-use tables::{StoreFault, check_open, load_blob};
 
 /// A connection between two transactions. While it is open, and unless a wrong answer of the disk was taken as true, it is one to the
 /// six tables.
@@ -32,7 +32,7 @@ impl<S: Alter> Model for StoredRows<S> {
     ghost use Rattle.std.specs.Prelude.{◌≡◌, false, IsTrue};
     ghost use Rattle.sqlite.specs.Held.{Held, held_code, state};
     ghost use Rattle.sqlite.specs.State.{HasCleanDisk};
-    ghost use Rattle.contents.specs.Contents.{Contents};
+    ghost use Rattle.repository_rows.specs.Contents.{Contents};
     ghost use Rattle.table_rows.specs.Tables.{IsStore};
 
     ghost Value = { Held S };

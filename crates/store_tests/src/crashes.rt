@@ -71,7 +71,7 @@ struct Left {
 }
 
 // The store of these files, or the files.
-fn opened(
+fn open_store(
     alloc: Global,
     files: Files<Fuse<Memory>>,
 ) -> Result<Store<Disks>, Option<Files<Fuse<Memory>>>> {
@@ -99,7 +99,7 @@ fn run<'a>(
     documents: &'a [Document<'a>],
     now: Moment,
 ) -> Result<Left, Fail> {
-    let mut store = match opened(alloc, files) {
+    let mut store = match open_store(alloc, files) {
         Ok(store) => store,
         Err(Some(files)) => return Ok(Left { made: 0, files }),
         Err(None) => return Err(Fail::from("no files")),
@@ -120,7 +120,7 @@ fn run<'a>(
 fn rows_after(alloc: Global, mut files: Files<Fuse<Memory>>) -> Result<Vec<Row>, Fail> {
     files.log.crash();
     files.db.crash();
-    let Ok(store) = opened(alloc, files) else {
+    let Ok(store) = open_store(alloc, files) else {
         return Err(Fail::from("no store"));
     };
     let mut conn = store.into_connection();
@@ -310,7 +310,7 @@ fn migrated(
     alloc: Global,
     files: Files<Fuse<Memory>>,
 ) -> Result<(bool, Files<Fuse<Memory>>), Fail> {
-    match opened(alloc, files) {
+    match open_store(alloc, files) {
         Ok(store) => Ok((true, store.into_connection().into_store().close())),
         Err(Some(files)) => Ok((false, files)),
         Err(None) => Err(Fail::from("no files")),

@@ -7,7 +7,7 @@ use Rattle.sqlite.specs.Schema.{Schema}
 use Rattle.sqlite_rules.specs.Lists.{Has}
 use Rattle.sqlite_schema.specs.Names.{same_name, table_named}
 use Rattle.sqlite_trees.specs.Tree.{Trees}
-use Rattle.contents.specs.Contents.{Contents}
+use Rattle.repository_rows.specs.Contents.{Contents}
 use Rattle.sql_tables.specs.Described as listed
 use Rattle.sql_tables.specs.Described.{table_of}
 use Rattle.sql_tables.specs.Rows.{AreRows}

@@ -5,7 +5,7 @@ use Rattle.hex.specs.Hex.{encode_lower}
 use Rattle.sha2.specs.Sha256.{sha256}
 use Rattle.sqlite.specs.Order.{Row}
 use Rattle.sqlite_rules.specs.Lists.{Has}
-use Rattle.contents.specs.Contents.{lengths_of}
+use Rattle.repository_rows.specs.Contents.{lengths_of}
 use Rattle.table_rows.specs.steps.Loading.{AreSingle, FitsBlob, FitsLength, IsBlobRow, IsLengthRow}
 use Rattle.sql_tables.specs.Loading.{AreRead, AreSpoiled}
 

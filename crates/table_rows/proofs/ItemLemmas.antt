@@ -16,10 +16,10 @@ use Rattle.sqlite_rules.specs.Lists.{Has}
 use Rattle.sqlite_rules.proofs.ListLemmas.{all_has, all_from}
 use Rattle.table_rows.specs.Rows.{root_cells, root2_cells, current_cells, shelf_cells, blob_cells, version_cells}
 use Rattle.sql_tables.specs.Rows.{AreRows, AreKeyed}
-use Rattle.contents.specs.declared.MetadataRows.{MetadataRows}
-use Rattle.contents.specs.Contents.{Contents, contents_with, lengths_of, no_rows}
+use Rattle.repository_rows.specs.declared.MetadataRows.{MetadataRows}
+use Rattle.repository_rows.specs.Contents.{Contents, contents_with, lengths_of, no_rows}
 use Rattle.table_rows.specs.Tables.{HaveDigests, AreBare, StandsFor, IsFit, IsDigest, AreRising, first_row, root_row, slot_row, current_rows, shelf_row, blob_row, version_row, row_cmp}
-use Rattle.table_rows.specs.steps.Loading.{AllComeOnce, Answers, AreAnswers, AreVersions, length_shows, root_shows, AreItems, AreSorted, AreDamaged, root, current, shelf, blob, root2, mixed, crossed, IsFirstRow, FitsFirst, IsRootRow, FitsRoot, IsSlotRow, FitsSlot, IsShelfRow, FitsShelf, IsBlobRow, FitsBlob, IsLengthRow, FitsLength, IsOf, AreContents, AreRoots, Tell, AreSingle, current_items}
+use Rattle.table_rows.specs.steps.Loading.{AllComeOnce, QueriedRows, AreQueried, AreVersions, length_shows, root_shows, AreItems, AreSorted, AreDamaged, root, current, shelf, blob, root2, mixed, crossed, IsFirstRow, FitsFirst, IsRootRow, FitsRoot, IsSlotRow, FitsSlot, IsShelfRow, FitsShelf, IsBlobRow, FitsBlob, IsLengthRow, FitsLength, IsOf, AreContents, AreRoots, Tell, AreSingle, current_items}
 use Rattle.table_rows.specs.Reading.{HoldsAs, IsUnbegun}
 use Rattle.table_rows.specs.Reading.{IsReadAs}
 use Rattle.table_rows.proofs.FileLemmas.{FitsFile, digests_are, files_fit, files_of, files_read, keys_are, lengths_are, spoiled_files}
@@ -108,7 +108,7 @@ blob_ordered : (stored rows : List Row) → AreLoaded (with_rowid blob_cells) (r
 blob_ordered stored rows l before r s rest x y e rx sy fx fy less =
     true≢false (sym (after_less _ _ (text_less (column s 0) (column r 0) _ _ sy.1.0 rx.1.0 ∙ digits_less y.0 x.0 fy.1 fx.1 less)) ∙ l.sorted before r s rest e)
 
-pub all_sorted : (trees : Trees) (a : Answers) → AreAnswers trees a → AreSorted a
+pub all_sorted : (trees : Trees) (a : QueriedRows) → AreQueried trees a → AreSorted a
 all_sorted trees a is = record { root = first_ordered _ _ is.root; shelf = shelf_ordered _ _ is.shelf; blob = blob_ordered _ _ is.blob; root2 = root_ordered _ _ is.root2 }
 
 -- ---- the items are what is held
@@ -138,15 +138,15 @@ version_rows n stored rows l ones some ids = record {
     go (r ∷ rs) some from ones c (inr none) = absurd none
 
 -- the tables of which the two schemas hold the same
-held_current : (trees : Trees) (a : Answers) (t : Contents) → AllComeOnce a → AreAnswers trees a → AreRead IsSlotRow FitsSlot a.current (current_items t.timestamp t.snapshot) → AreRows current_cells (trees 1) (current_rows t.timestamp t.snapshot)
+held_current : (trees : Trees) (a : QueriedRows) (t : Contents) → AllComeOnce a → AreQueried trees a → AreRead IsSlotRow FitsSlot a.current (current_items t.timestamp t.snapshot) → AreRows current_cells (trees 1) (current_rows t.timestamp t.snapshot)
 held_current trees a t n is read = subst (AreRows current_cells (trees 1)) (items_rows t.timestamp t.snapshot)
     (read_all IsSlotRow FitsSlot (λ x. slot_row x.0 x.1) (with_rowid current_cells) current_cells _ _ _ is.current slot_are _ read (numbered_by (with_rowid current_cells) 3 (λ r. refl) _ _ is.current.once n.current))
 
-held_shelf : (trees : Trees) (a : Answers) (t : Contents) → AllComeOnce a → AreAnswers trees a → AreRead IsShelfRow FitsShelf a.shelf t.shelf → AreRows shelf_cells (trees 3) (map shelf_row t.shelf)
+held_shelf : (trees : Trees) (a : QueriedRows) (t : Contents) → AllComeOnce a → AreQueried trees a → AreRead IsShelfRow FitsShelf a.shelf t.shelf → AreRows shelf_cells (trees 3) (map shelf_row t.shelf)
 held_shelf trees a t n is read =
     read_all IsShelfRow FitsShelf shelf_row (with_rowid shelf_cells) shelf_cells _ _ _ is.shelf shelf_are t.shelf read (numbered_by (with_rowid shelf_cells) 3 (λ r. refl) _ _ is.shelf.once n.shelf)
 
-held_blob : (trees : Trees) (a : Answers) (t : Contents) → AllComeOnce a → AreAnswers trees a → AreRead IsBlobRow FitsBlob a.blob t.blobs → AreRows blob_cells (trees 5) (map blob_row t.blobs)
+held_blob : (trees : Trees) (a : QueriedRows) (t : Contents) → AllComeOnce a → AreQueried trees a → AreRead IsBlobRow FitsBlob a.blob t.blobs → AreRows blob_cells (trees 5) (map blob_row t.blobs)
 held_blob trees a t n is read =
     read_all IsBlobRow FitsBlob blob_row (with_rowid blob_cells) blob_cells _ _ _ is.blob blob_are t.blobs read (numbered_by (with_rowid blob_cells) 2 (λ r. refl) _ _ is.blob.once n.blob)
 
@@ -154,7 +154,7 @@ held_blob trees a t n is read =
 empty_held : (shown : Row → Row) (keys : _) (stored rows : List Row) → AreLoaded shown keys stored rows → rows ≡ [] → AreRows shown stored []
 empty_held shown keys stored rows l none = subst (λ r. AreRows shown r []) (sym (none_answered keys stored rows l none)) (no_stored shown)
 
-pub holds_as : (is_first : Bool) (trees : Trees) (a : Answers) (t : Contents) → AllComeOnce a → AreAnswers trees a → AreContents is_first a t → Tell is_first a.version → a.version ≢ [] → HoldsAs is_first trees t
+pub holds_as : (is_first : Bool) (trees : Trees) (a : QueriedRows) (t : Contents) → AllComeOnce a → AreQueried trees a → AreContents is_first a t → Tell is_first a.version → a.version ≢ [] → HoldsAs is_first trees t
 holds_as true trees a t n is items ones some = record {
   profiles = all_from (λ (r : ℕ × (ℕ × List ℕ)). r.1.0 ≡ 1) t.roots (λ x h. (items.root.0.read.fit x h).1);
   root = read_all IsFirstRow FitsFirst first_row root_cells root_cells _ _ _ is.root first_are t.roots items.root.0.read (numbered_by root_cells 0 (λ r. refl) _ _ is.root.once n.root);
@@ -173,7 +173,7 @@ holds_as false trees a t n is items ones some = record {
   root2 = read_all IsRootRow FitsRoot root_row root2_cells root2_cells _ _ _ is.root2 root_are t.roots items.root.0.read (numbered_by root2_cells 0 (λ r. refl) _ _ is.root2.once n.root2);
 }
 
-pub bare_items : (trees : Trees) (a : Answers) (t : Contents) → AreAnswers trees a → AreContents false a t → a.version ≡ [] → t ≡ no_rows → AreBare trees
+pub bare_items : (trees : Trees) (a : QueriedRows) (t : Contents) → AreQueried trees a → AreContents false a t → a.version ≡ [] → t ≡ no_rows → AreBare trees
 bare_items trees a t is items none bare =
     let root2 = none_stored _ _ _ _ is.root2 items.root.0.read (ap (λ (u : Contents). u.roots) bare) in
     let current = none_stored _ _ _ _ is.current items.current (ap (λ (u : Contents). current_items u.timestamp u.snapshot) bare) in
@@ -235,12 +235,12 @@ not_both r one two = let e : Int (pos 1) ≡ Int (pos 2) = sym one ∙ two in cc
 answers_none : {shown : Row → Row} (keys : _) (stored rows : List Row) → AreLoaded shown keys stored rows → stored ≡ [] → (r : Row) → Has rows r → ⊥
 answers_none keys stored rows l none r h = let s = l.from r h in subst (λ xs. Has xs s.0) none s.1
 
-damaged_mixed : (trees : Trees) (a : Answers) → AreAnswers trees a → (r s : Row) → Has a.version r → (IsOf 1 r → ⊥) → Has a.version s → (IsOf 2 s → ⊥) → (t : Contents) → StandsFor trees t → ⊥
+damaged_mixed : (trees : Trees) (a : QueriedRows) → AreQueried trees a → (r s : Row) → Has a.version r → (IsOf 1 r → ⊥) → Has a.version s → (IsOf 2 s → ⊥) → (t : Contents) → StandsFor trees t → ⊥
 damaged_mixed trees a is r s in_r not_one in_s not_two t (inl holds) = not_two (only 2 _ holds.version _ is.version s in_s)
 damaged_mixed trees a is r s in_r not_one in_s not_two t (inr (inl holds)) = not_one (only 1 _ holds.version _ is.version r in_r)
 damaged_mixed trees a is r s in_r not_one in_s not_two t (inr (inr bare)) = answers_none _ _ _ is.version bare.0.1.1.1.1.0 r in_r
 
-damaged_crossed : (trees : Trees) (a : Answers) → AreAnswers trees a → (is_first : Bool) (r : Row) → Tell is_first a.version → Has (if is_first then a.root2 else a.root) r → (t : Contents) → StandsFor trees t → ⊥
+damaged_crossed : (trees : Trees) (a : QueriedRows) → AreQueried trees a → (is_first : Bool) (r : Row) → Tell is_first a.version → Has (if is_first then a.root2 else a.root) r → (t : Contents) → StandsFor trees t → ⊥
 damaged_crossed trees a is true r ones h t (inl holds) = let s = one_told 2 _ holds.version _ is.version in not_both s.0 (ones s.0 s.1) s.2
 damaged_crossed trees a is true r ones h t (inr (inl holds)) = answers_none _ _ _ is.root2 (none_held _ holds.root2) r h
 damaged_crossed trees a is true r ones h t (inr (inr bare)) = answers_none _ _ _ is.root2 bare.0.1.1.1.1.1.0 r h
@@ -249,15 +249,15 @@ damaged_crossed trees a is false r twos h t (inr (inl holds)) = let s = one_told
 damaged_crossed trees a is false r twos h t (inr (inr bare)) = answers_none _ _ _ is.root bare.0.0 r h
 
 -- the tables of which the two schemas hold the same
-damaged_current : (trees : Trees) (a : Answers) → AreAnswers trees a → AreSpoiled IsSlotRow FitsSlot a.current → (t : Contents) → IsFit t → AreRows current_cells (trees 1) (current_rows t.timestamp t.snapshot) → ⊥
+damaged_current : (trees : Trees) (a : QueriedRows) → AreQueried trees a → AreSpoiled IsSlotRow FitsSlot a.current → (t : Contents) → IsFit t → AreRows current_cells (trees 1) (current_rows t.timestamp t.snapshot) → ⊥
 damaged_current trees a is bad t fit held =
     no_items IsSlotRow FitsSlot (λ x. slot_row x.0 x.1) (with_rowid current_cells) current_cells _ _ _ is.current slot_reads slot_one bad (current_items t.timestamp t.snapshot) (current_fits t.timestamp t.snapshot fit.timestamp fit.snapshot) (current_keyed t.timestamp t.snapshot)
     (subst (AreRows current_cells (trees 1)) (sym (items_rows t.timestamp t.snapshot)) held)
 
-damaged_shelf : (trees : Trees) (a : Answers) → AreAnswers trees a → AreSpoiled IsShelfRow FitsShelf a.shelf → (t : Contents) → IsFit t → AreRows shelf_cells (trees 3) (map shelf_row t.shelf) → ⊥
+damaged_shelf : (trees : Trees) (a : QueriedRows) → AreQueried trees a → AreSpoiled IsShelfRow FitsShelf a.shelf → (t : Contents) → IsFit t → AreRows shelf_cells (trees 3) (map shelf_row t.shelf) → ⊥
 damaged_shelf trees a is bad t fit held = no_items IsShelfRow FitsShelf shelf_row (with_rowid shelf_cells) shelf_cells _ _ _ is.shelf shelf_reads shelf_one bad t.shelf (λ x h. all_has FitsShelf t.shelf x fit.shelf h) fit.one_row held
 
-damaged_blob : (trees : Trees) (a : Answers) → AreAnswers trees a → AreSpoiled IsLengthRow FitsLength a.blob → (t : Contents) → IsFit t → HaveDigests t → AreRows blob_cells (trees 5) (map blob_row t.blobs) → ⊥
+damaged_blob : (trees : Trees) (a : QueriedRows) → AreQueried trees a → AreSpoiled IsLengthRow FitsLength a.blob → (t : Contents) → IsFit t → HaveDigests t → AreRows blob_cells (trees 5) (map blob_row t.blobs) → ⊥
 damaged_blob trees a is bad t fit right held =
     no_items IsBlobRow FitsFile blob_row (with_rowid blob_cells) blob_cells _ _ _ is.blob blob_reads (λ r x y fx fy. blob_one r x y fx.0 fy.0) (spoiled_files a.blob bad) t.blobs
     (λ x h. (all_has FitsBlob t.blobs x fit.blobs h, all_has (λ y. sha256 y.1 ≡ y.0) t.blobs x right h)) fit.one_blob held
@@ -266,7 +266,7 @@ damaged_blob trees a is bad t fit right held =
 pub first_fits : (t : Contents) → IsFit t → AllByRecursion (λ r. r.1.0 ≡ 1) t.roots → (x : ℕ × (ℕ × List ℕ)) → Has t.roots x → FitsFirst x
 first_fits t fit ones x h = ((all_has FitsRoot t.roots x fit.roots h).0, all_has (λ (r : ℕ × (ℕ × List ℕ)). r.1.0 ≡ 1) t.roots x ones h)
 
-pub damaged_items : (trees : Trees) (a : Answers) → AreAnswers trees a → AreDamaged a → (t : Contents) → IsFit t → HaveDigests t → StandsFor trees t → ⊥
+pub damaged_items : (trees : Trees) (a : QueriedRows) → AreQueried trees a → AreDamaged a → (t : Contents) → IsFit t → HaveDigests t → StandsFor trees t → ⊥
 damaged_items trees a is (root bad) t fit right (inl holds) = not_bare _ IsFirstRow FitsFirst _ _ is.root bad (none_held _ holds.root)
 damaged_items trees a is (root bad) t fit right (inr (inl holds)) = no_items IsFirstRow FitsFirst first_row root_cells root_cells _ _ _ is.root first_reads first_one bad t.roots (first_fits t fit holds.profiles) fit.one_root holds.root
 damaged_items trees a is (root bad) t fit right (inr (inr bare)) = not_bare _ IsFirstRow FitsFirst _ _ is.root bad bare.0.0
@@ -290,10 +290,10 @@ no_slots None None e = (refl, refl)
 no_slots (Some v) b e = absurd (let f = e in cc)
 no_slots None (Some w) e = absurd (let f = e in cc)
 
-pub late_contents : (is_first : Bool) (a : Answers) (t : Contents) → is_first ≡ false → AreContents is_first a t → AreContents false a t
+pub late_contents : (is_first : Bool) (a : QueriedRows) (t : Contents) → is_first ≡ false → AreContents is_first a t → AreContents false a t
 late_contents is_first a t is are = subst (λ b. AreContents b a t) is are
 
-pub unbegun : (trees : Trees) (a : Answers) (t : Contents) → AreAnswers trees a → AreContents false a t → a.version ≡ [] → IsUnbegun trees t
+pub unbegun : (trees : Trees) (a : QueriedRows) (t : Contents) → AreQueried trees a → AreContents false a t → a.version ≡ [] → IsUnbegun trees t
 unbegun trees a t is items none = record { bare = bare_items trees a t is items none; other = other }
   where
     untold : (n : ℕ) → AreRows version_cells (trees 7) (version_row n ∷ []) → ⊥
@@ -311,15 +311,15 @@ unbegun trees a t is items none = record { bare = bare_items trees a t is items 
 
 -- ---- what was read fits
 
-roots_rise : (is_first : Bool) (a : Answers) (roots : List (ℕ × (ℕ × List ℕ))) → AreRoots is_first a roots → IsStrictlySortedBy nat_cmp (map (λ r. r.0) roots)
+roots_rise : (is_first : Bool) (a : QueriedRows) (roots : List (ℕ × (ℕ × List ℕ))) → AreRoots is_first a roots → IsStrictlySortedBy nat_cmp (map (λ r. r.0) roots)
 roots_rise true a roots are = are.0.rising
 roots_rise false a roots are = are.0.rising
 
-roots_fit : (is_first : Bool) (a : Answers) (roots : List (ℕ × (ℕ × List ℕ))) → AreRoots is_first a roots → (x : ℕ × (ℕ × List ℕ)) → Has roots x → FitsRoot x
+roots_fit : (is_first : Bool) (a : QueriedRows) (roots : List (ℕ × (ℕ × List ℕ))) → AreRoots is_first a roots → (x : ℕ × (ℕ × List ℕ)) → Has roots x → FitsRoot x
 roots_fit true a roots are x h = let fits = are.0.read.fit x h in (fits.0, subst (λ n. n < 2 ^ 32) (sym fits.1) (omega arith))
 roots_fit false a roots are x h = are.0.read.fit x h
 
-module _ (is_first : Bool) (a : Answers) (m : MetadataRows) (lengths : List (List ℕ × ℕ)) (items : AreItems is_first a m lengths) where
+module _ (is_first : Bool) (a : QueriedRows) (m : MetadataRows) (lengths : List (List ℕ × ℕ)) (items : AreItems is_first a m lengths) where
   -- the rows that were read
   abbrev pub rows_read : Contents
   rows_read = contents_with m (files_of a.blob lengths items.blob.read.from)
@@ -400,12 +400,12 @@ gathered_some rows (x ∷ items) g some = let it = g.read.from x (inl refl) in (
 abbrev Roots : Type 0
 Roots = Vec (ℕ × ℕ × Vec ℕ Global) Global
 
-pub one_read : (is_first : Bool) (a : Answers) (first second v : Roots) → AreGathered nat_cmp IsFirstRow FitsFirst a.root (map root_shows first.items) → AreGathered nat_cmp IsRootRow FitsRoot a.root2 (map root_shows second.items)
+pub one_read : (is_first : Bool) (a : QueriedRows) (first second v : Roots) → AreGathered nat_cmp IsFirstRow FitsFirst a.root (map root_shows first.items) → AreGathered nat_cmp IsRootRow FitsRoot a.root2 (map root_shows second.items)
     → v ≡ (if is_first then first else second) → (if is_first then second else first).items ≡ [] → AreRoots is_first a (map root_shows v.items)
 one_read true a first second v f s is none = (subst (λ (w : Roots). AreGathered nat_cmp IsFirstRow FitsFirst a.root (map root_shows w.items)) (sym is) f, gathered_none a.root2 _ s (ap (map root_shows) none))
 one_read false a first second v f s is none = (subst (λ (w : Roots). AreGathered nat_cmp IsRootRow FitsRoot a.root2 (map root_shows w.items)) (sym is) s, gathered_none a.root _ f (ap (map root_shows) none))
 
-pub crossed_by : (is_first : Bool) (a : Answers) (first second : Roots) → AreGathered nat_cmp IsFirstRow FitsFirst a.root (map root_shows first.items) → AreGathered nat_cmp IsRootRow FitsRoot a.root2 (map root_shows second.items)
+pub crossed_by : (is_first : Bool) (a : QueriedRows) (first second : Roots) → AreGathered nat_cmp IsFirstRow FitsFirst a.root (map root_shows first.items) → AreGathered nat_cmp IsRootRow FitsRoot a.root2 (map root_shows second.items)
     → Tell is_first a.version → (if is_first then second else first).items ≢ [] → AreDamaged a
 crossed_by true a first second f s told some = let it = gathered_some a.root2 (map root_shows second.items) s (λ e. some (unmapped root_shows second.items e)) in crossed true it.0 told it.1
 crossed_by false a first second f s told some = let it = gathered_some a.root (map root_shows first.items) f (λ e. some (unmapped root_shows first.items e)) in crossed false it.0 told it.1

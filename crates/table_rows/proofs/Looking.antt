@@ -3,7 +3,7 @@ use Rattle.std.proofs.Common.{◌≡◌, ◌⊎◌, inl, inr, IsTrue, sym, subst
 use Rattle.sqlite.specs.Effect.{Database}
 use Rattle.sqlite.specs.State.{State, IsUnchanged, IsRolledBack, Survives}
 use Rattle.sqlite.proofs.StateLemmas.{survives_then}
-use Rattle.contents.specs.Contents.{Contents}
+use Rattle.repository_rows.specs.Contents.{Contents}
 use Rattle.table_rows.specs.Schema.{held}
 use Rattle.table_rows.specs.Tables.{HoldsTables, IsStore}
 use Rattle.table_rows.proofs.Beginnings.{six_after}

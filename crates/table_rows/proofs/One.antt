@@ -11,7 +11,7 @@ use Rattle.sqlite.proofs.Callers.{IsPlain}
 use Rattle.std.proofs.lemmas.Slice.Eq.{bytes_eq-Decides}
 use Rattle.sql_tables.proofs.RowLemmas.{has_map, map_has}
 use Rattle.sql_tables.proofs.Statements.{and-true, text_test}
-use Rattle.contents.specs.Contents.{Contents}
+use Rattle.repository_rows.specs.Contents.{Contents}
 use Rattle.table_rows.specs.Tables.{IsStore, blob_row}
 use Rattle.table_rows.specs.steps.Loading.{HasBytes}
 use Rattle.sqlite.specs.declared.types.Value.TheVariants.{Null, Text, Blob}

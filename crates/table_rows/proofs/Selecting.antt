@@ -6,7 +6,6 @@ use Rattle.sqlite.specs.Table.{Table}
 use Rattle.sqlite_schema.specs.Names.{table_named, column_named, place_of}
 use Rattle.sqlite_schema.specs.declared.schema.Column.{Column}
 use Rattle.sqlite.specs.Term.{Term, lit, col}
-use Rattle.sqlite_resolve.specs.Lowering.{Checked, and_then}
 use Rattle.sqlite_resolve.specs.Scope as scope
 use Rattle.sqlite_resolve.specs.Scope.{Context, column_in, column_at}
 use Rattle.sqlite_resolve.specs.declared.scope.Bound.{Bound}

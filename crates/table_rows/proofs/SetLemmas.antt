@@ -7,7 +7,7 @@ use Rattle.sqlite_rules.proofs.ListLemmas.{all_has}
 use Rattle.sql_tables.specs.Rows.{AreRows}
 use Rattle.sqlite.specs.declared.types.Value.TheVariants.{Int}
 use Rattle.table_rows.specs.Rows.{current_cells, shelf_cells, blob_cells, version_cells}
-use Rattle.contents.specs.Contents.{Contents}
+use Rattle.repository_rows.specs.Contents.{Contents}
 use Rattle.table_rows.specs.Tables.{HoldsFirst, HoldsTables, AreSame, IsFit, StandsFor, first_row, root_row, slot_row, version_row, current_rows, shelf_row, blob_row}
 use Rattle.table_rows.specs.steps.Loading.{FitsFirst, FitsRoot, FitsSlot, FitsShelf, FitsBlob, current_items}
 use Rattle.sql_tables.proofs.RowLemmas.{has_map, map_has}

@@ -1,8 +1,8 @@
 -- What is read of the rows.
 use Rattle.std.specs.Prelude.{◌≡◌, ◌≢◌, Bool, true, false, ℕ, List}
 use Rattle.sqlite_trees.specs.Tree.{Trees}
-use Rattle.contents.specs.declared.MetadataRows.{MetadataRows}
-use Rattle.contents.specs.Contents.{Contents, contents_with, lengths_of, no_rows}
+use Rattle.repository_rows.specs.declared.MetadataRows.{MetadataRows}
+use Rattle.repository_rows.specs.Contents.{Contents, contents_with, lengths_of, no_rows}
 use Rattle.table_rows.specs.Tables.{AreBare, AreRising, HaveDigests, HoldsFirst, HoldsTables, IsFit, StandsFor}
 
 -- What is read of rows that fit: those of the metadata, and the digest and length of each target file. Each file has its digest.

@@ -1,5 +1,5 @@
 -- What the tables hold.
-use Rattle.std.specs.Prelude.{◌≡◌, ◌⊎◌, ◌<◌, ◌^◌, ℕ, pos, List, [], ◌∷◌, ◌++◌, map, Option, Some, None, IsTrue, IsUtf8, Bool, filter, not, bytes_eq, ◌==◌, ◌&&◌, codes}
+use Rattle.std.specs.Prelude.{◌≡◌, ◌⊎◌, ◌<◌, ◌^◌, ℕ, pos, List, [], ◌∷◌, ◌++◌, map, Option, Some, None, IsTrue, IsUtf8, ◌==◌, ◌&&◌, codes}
 use Rattle.std.specs.List.{AllByRecursion}
 use Rattle.std.specs.Ordering.{nat_cmp, on, then_cmp}
 use Rattle.std.specs.declared.cmp.Ordering.{Ordering}
@@ -13,7 +13,7 @@ use Rattle.sqlite.specs.Order.{Row}
 use Rattle.sqlite_trees.specs.Tree.{Trees}
 use Rattle.sqlite.specs.Effect.{Database, IsDatabase}
 use Rattle.sqlite.specs.State.{State}
-use Rattle.contents.specs.Contents.{Contents, no_rows}
+use Rattle.repository_rows.specs.Contents.{Contents, no_rows}
 pub use Rattle.sql_tables.specs.Cells.{IsDigest}
 use Rattle.sql_tables.specs.Described.{AreEmpty}
 use Rattle.table_rows.specs.Schema.{the_schema, held, HasSix, IsBeginning}

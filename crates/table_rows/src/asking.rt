@@ -2,7 +2,7 @@
 ghost use Rattle.std.specs.Prelude.{◌≡◌, ◌≢◌, true, false, Err, IfOk, OnOk, IsTrue};
 ghost use Rattle.sqlite.specs.State.{HasCleanDisk, IsLive, IsUnchanged, KeepsCommit, Survives};
 ghost use Rattle.sqlite.specs.Held.{state};
-ghost use Rattle.contents.specs.Contents as plain;
+ghost use Rattle.repository_rows.specs.Contents as plain;
 ghost use Rattle.table_rows.specs.Schema.{HasSome, held};
 ghost use Rattle.table_rows.specs.Tables.{HaveDigests, IsStore, IsFit, StandsFor};
 ghost use Rattle.table_rows.specs.Reading.{IsReadAs};

@@ -2,12 +2,11 @@
 ghost use Rattle.std.specs.Prelude.{◌≡◌, ◌≢◌, ◌++◌, ℕ, List, [], ◌∷◌, false, true, Err, IfOk, IsTrue, MatchOption, OnErr, OnOk};
 ghost use Rattle.sha2.specs.Sha256.{sha256};
 ghost use Rattle.hex.specs.Hex.{encode_lower};
-ghost use Rattle.sqlite.specs.declared.types.Value.TheVariants.{Text, Blob};
-ghost use Rattle.sqlite.specs.Order.{column};
+ghost use Rattle.sqlite.specs.declared.types.Value.TheVariants.{Text};
 ghost use Rattle.sqlite.specs.State.{HasCleanDisk, Shown, Survives};
 ghost use Rattle.sqlite.specs.Held.{state};
 ghost use Rattle.sqlite_rules.specs.Lists.{Has};
-ghost use Rattle.contents.specs.Contents as plain;
+ghost use Rattle.repository_rows.specs.Contents as plain;
 ghost use Rattle.table_rows.specs.Tables.{IsStore};
 ghost use Rattle.table_rows.specs.steps.Loading.{HasBytes, one_text};
 

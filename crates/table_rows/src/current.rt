@@ -1,6 +1,6 @@
 // The rows of `current` as its two slots, and the row of `schema`.
 ghost use Rattle.std.specs.Prelude.{◌≡◌, ◌≢◌, ◌++◌, [], ◌∷◌, List, not, ℕ, IfOk, IsTrue, MatchOption, None, Some, false, ◌⊎◌};
-ghost use Rattle.contents.specs.Contents.{slot_view, value_view};
+ghost use Rattle.repository_rows.specs.Contents.{slot_view, value_view};
 ghost use Rattle.sqlite.specs.Order.{Row};
 ghost use Rattle.sql_tables.specs.Loading.{AreRead};
 ghost use Rattle.table_rows.specs.steps.Loading.{AreAll, AreVersions, FitsSlot, HaveSlots, IsOf, IsSlotRow, current_items, slot_name};

@@ -1,6 +1,6 @@
 // Laws of the definitions, which do nothing.
 ghost use Rattle.sqlite_trees.specs.Tree.{Trees};
-ghost use Rattle.contents.specs.Contents.{Contents};
+ghost use Rattle.repository_rows.specs.Contents.{Contents};
 ghost use Rattle.table_rows.specs.Tables.{HoldsTables, AreSame, IsFit};
 
 /// A law, which does nothing: the rows of a table are a set, so the same trees hold the same rows in any order.

@@ -16,9 +16,9 @@ mod shape;
 
 pub use asking::{check_open, read_tables};
 pub use blobs::load_blob;
-pub use contents::{Contents, MetadataRows};
 pub use described::six_tables;
 pub use faults::StoreFault;
 pub use laws::{one_contents, rows_are_sets};
 pub use loading::Rows;
+pub use repository_rows::{Contents, MetadataRows};
 pub use shape::{beginning_of, has_first_schema, has_others_behind};

@@ -5,19 +5,19 @@ ghost use Rattle.std.specs.Cmp.Lexicographic.{slice_cmp};
 ghost use Rattle.sqlite.specs.Order.{Row};
 ghost use Rattle.sqlite.specs.State.{HasCleanDisk, IsUnchanged, Survives};
 ghost use Rattle.sqlite.specs.Held.{state};
-ghost use Rattle.contents.specs.Contents.{slot_view};
+ghost use Rattle.repository_rows.specs.Contents.{slot_view};
 ghost use Rattle.table_rows.specs.Schema.{held, root2_rows, HasFive, HasSix};
 ghost use Rattle.table_rows.specs.Rows.{root_cells, root2_cells, current_cells, shelf_cells, blob_cells, version_cells};
 ghost use Rattle.table_rows.specs.Tables.{row_cmp};
 ghost use Rattle.table_rows.specs.Schema.{HasSome};
-ghost use Rattle.table_rows.specs.steps.Loading.{AllComeOnce, Answers, AreAnswers, AreDamaged, AreItems, AreSorted, AreTaken, AreVersions, FitsFirst, FitsLength, FitsRoot, FitsShelf, HaveSlots, IsFirstRow, IsGathered, IsLengthRow, IsRootRow, Tell, IsShelfRow, document_shows, length_shows, root_shows};
+ghost use Rattle.table_rows.specs.steps.Loading.{AllComeOnce, QueriedRows, AreQueried, AreDamaged, AreItems, AreSorted, AreTaken, AreVersions, FitsFirst, FitsLength, FitsRoot, FitsShelf, HaveSlots, IsFirstRow, IsGathered, IsLengthRow, IsRootRow, Tell, IsShelfRow, document_shows, length_shows, root_shows};
 ghost use Rattle.sql_tables.specs.Loading.{AreLoaded, ComeOnce, rises, with_rowid};
 
 use crate::current::{Current, Versions};
 use crate::faults::StoreFault;
 use crate::fours::Fours;
 use crate::reading::{Documents, FirstRoots, Roots};
-use contents::MetadataRows;
+use repository_rows::MetadataRows;
 use sql_tables::{gather, take_rows};
 use sqlite::{Alter, Connection};
 use std::alloc::Global;
@@ -191,8 +191,8 @@ pub(crate) fn ask<S: Alter>(
     conn: &mut Connection<S>,
     count: usize,
 ) -> Result<Taken, StoreFault>
-    ensures rows { IfOk result (λ t. (a : Answers) × AllComeOnce a × AreTaken a t
-        × (HasCleanDisk (state S.Store conn.new) → HasSome count (state S.Store conn.old).now.schema → AreAnswers (held (state S.Store conn.old).now.schema (state S.Store conn.old).now.trees) a)) }
+    ensures rows { IfOk result (λ t. (a : QueriedRows) × AllComeOnce a × AreTaken a t
+        × (HasCleanDisk (state S.Store conn.new) → HasSome count (state S.Store conn.old).now.schema → AreQueried (held (state S.Store conn.old).now.schema (state S.Store conn.old).now.trees) a)) }
     ensures unchanged { HasCleanDisk (state S.Store conn.new) → HasSome count (state S.Store conn.old).now.schema → OnOk result (IsUnchanged (state S.Store conn.old) (state S.Store conn.new)) }
     ensures fault { result ≢ Err StoreFault.Damaged }
     ensures mode { conn.old.in_transaction ≡ false → conn.new.in_transaction ≡ false }
@@ -248,11 +248,11 @@ pub type Rows = (MetadataRows, Vec<([u8; 32], usize)>);
 
 // The items of the rows, whether `schema` has a row, and whether that is 1.
 pub(crate) fn rows_of(taken: Taken) -> Result<(Rows, bool, bool), StoreFault>
-    ensures read { (a : Answers) → AreTaken a taken → IfOk result (λ p. AreItems p.2 a p.0.0 p.0.1.items) }
-    ensures told { (a : Answers) → AreTaken a taken → IfOk result (λ p. Tell p.2 a.version) }
-    ensures some { (a : Answers) → AreTaken a taken → IfOk result (λ p. p.1 ≡ true → a.version ≢ []) }
-    ensures none { (a : Answers) → AreTaken a taken → IfOk result (λ p. p.1 ≡ false → (a.version ≡ []) × (p.2 ≡ false)) }
-    ensures damaged { (a : Answers) → AreTaken a taken → result ≡ Err StoreFault.Damaged → AreSorted a → AreDamaged a }
+    ensures read { (a : QueriedRows) → AreTaken a taken → IfOk result (λ p. AreItems p.2 a p.0.0 p.0.1.items) }
+    ensures told { (a : QueriedRows) → AreTaken a taken → IfOk result (λ p. Tell p.2 a.version) }
+    ensures some { (a : QueriedRows) → AreTaken a taken → IfOk result (λ p. p.1 ≡ true → a.version ≢ []) }
+    ensures none { (a : QueriedRows) → AreTaken a taken → IfOk result (λ p. p.1 ≡ false → (a.version ≡ []) × (p.2 ≡ false)) }
+    ensures damaged { (a : QueriedRows) → AreTaken a taken → result ≡ Err StoreFault.Damaged → AreSorted a → AreDamaged a }
     ensures fault { IfErr result (λ f. f ≡ StoreFault.Damaged) }
 {
     let Taken {

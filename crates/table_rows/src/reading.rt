@@ -1,12 +1,10 @@
 // The rows of `root`, `root2`, `shelf` and `blob` as items.
 ghost use Rattle.std.specs.Prelude.{◌≢◌, ◌≡◌, ◌<◌, List, ℕ, IfSome, IsTrue, MatchOption, false, string_bytes};
-ghost use Rattle.std.specs.List.{AllByRecursion};
 ghost use Rattle.std.specs.Ordering.{nat_cmp};
 ghost use Rattle.std.specs.Cmp.Lexicographic.{slice_cmp};
 ghost use Rattle.std.proofs.lemmas.Cmp.{nat_cmp_total, nat_list_cmp_total, on_total, then_total};
 ghost use Rattle.std.proofs.lemmas.Map.Lookups.{exact_bytes, exact_pairs, exact_unsigned};
-ghost use Rattle.hex.specs.Hex.{encode_lower};
-ghost use Rattle.table_rows.specs.Tables.{IsDigest, row_cmp};
+ghost use Rattle.table_rows.specs.Tables.{row_cmp};
 ghost use Rattle.table_rows.specs.steps.Loading.{FitsFirst, FitsLength, FitsRoot, FitsShelf, IsFirstRow, IsLengthRow, IsRootRow, IsShelfRow, length_shows, root_shows};
 
 use crate::cells::{has_digest, text_order};

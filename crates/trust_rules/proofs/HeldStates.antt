@@ -14,7 +14,7 @@ use Rattle.delegations.proofs.KeyOrder.{orders_bytes}
 use Rattle.delegations.proofs.RisingKeys.{rises_tells}
 use Rattle.trust_rules.proofs.GoneKeys.{map_filter}
 use Rattle.trust_rules.specs.Effects.{Effects, applied, brought, with_blobs, without}
-use Rattle.contents.specs.Contents.{lengths_of}
+use Rattle.repository_rows.specs.Contents.{lengths_of}
 use Rattle.trust_rules.specs.Held.{Held, IsHeld, held_of, held_with, length_at, with_lengths, bytes_at}
 use Rattle.trust_rules.specs.State.{State, Trusted, IsBlob, IsState, blob_at}
 

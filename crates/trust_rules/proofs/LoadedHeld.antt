@@ -6,8 +6,8 @@ use Rattle.std.specs.Prelude.{◌≤◌, All, IfNone, bytes_eq}
 use Rattle.std.specs.List.{AllByRecursion}
 use Rattle.sha2.specs.Sha256.{sha256}
 use Rattle.limits.specs.Limits.{blob_limit}
-use Rattle.contents.specs.Contents.{Contents, contents_with, lengths_of}
-use Rattle.contents.specs.declared.MetadataRows.{MetadataRows}
+use Rattle.repository_rows.specs.Contents.{Contents, contents_with, lengths_of}
+use Rattle.repository_rows.specs.declared.MetadataRows.{MetadataRows}
 use Rattle.metadata.specs.File.{Bytes}
 use Rattle.delegations.specs.Delegation.{before}
 use Rattle.delegations.proofs.KeyOrder.{orders_bytes}

@@ -6,7 +6,7 @@ use Rattle.std.specs.Prelude.{IsSome, is_some, option_map}
 use Rattle.std.specs.List.{list_any}
 use Rattle.document_parts.specs.Documents.{Listing, Targets, Profile}
 use Rattle.metadata.specs.File.{Bytes, File}
-use Rattle.contents.specs.Contents.{lengths_of}
+use Rattle.repository_rows.specs.Contents.{lengths_of}
 use Rattle.denials.specs.Orders.{holds, given, pass}
 use Rattle.delegations.specs.Rows.{Place, Rows, same_place}
 use Rattle.delegations.proofs.KeyOrder.{place_one}

@@ -15,7 +15,7 @@ use Rattle.trust_rules.specs.State.{Trusted, State, IsRootChain, IsHeldUnder, Is
 use Rattle.trust_rules.specs.Effects.{Gone, nothing_gone, Effects, applied, last_or, no_effects}
 use Rattle.trust_rules.specs.steps.Loading.{AreRead, FollowOn, IsChain, RowsAreRead, laid}
 use Rattle.trust_rules.specs.Contents.{contents_of, numbered, profile_number, root_row_of, root_rows, shelf_rows}
-use Rattle.contents.specs.Contents.{Contents}
+use Rattle.repository_rows.specs.Contents.{Contents}
 use Rattle.trust_rules.specs.steps.Stored.{AreStored, IsShelved, IsStored, IsStoredRoot, Together}
 use Rattle.trust_rules.proofs.RootChains.{back, chain_tells}
 use Rattle.trust_rules.proofs.PutInRoom.{same_state}

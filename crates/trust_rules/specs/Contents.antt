@@ -1,6 +1,6 @@
 -- What the tables of a repository hold.
 use Rattle.std.specs.Prelude.{ℕ, suc, List, [], ◌∷◌, map, option_map}
-use Rattle.contents.specs.Contents.{Contents}
+use Rattle.repository_rows.specs.Contents.{Contents}
 use Rattle.document_parts.specs.Documents.{Profile, first_profile, second_profile, Root}
 use Rattle.metadata.specs.File.{Bytes, File}
 use Rattle.delegations.specs.Rows.{Place, Rows}

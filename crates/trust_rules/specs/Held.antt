@@ -1,6 +1,6 @@
 -- A state whose blobs' bytes are elsewhere.
 use Rattle.std.specs.Prelude.{◌≡◌, ◌↔◌, ℕ, ◌≤◌, List, [], ◌∷◌, length, Option, None, bytes_eq, All, IfNone, unwrap_or}
-use Rattle.contents.specs.Contents.{lengths_of}
+use Rattle.repository_rows.specs.Contents.{lengths_of}
 use Rattle.metadata.specs.File.{Bytes}
 use Rattle.delegations.specs.Delegation.{before}
 use Rattle.delegations.specs.Rows.{Rises, value_at, with_row}

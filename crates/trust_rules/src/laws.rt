@@ -1,5 +1,4 @@
 //! Laws of the trust machine, in functions that do nothing.
-ghost use Rattle.std.specs.List.{AllByRecursion};
 ghost use Rattle.path_patterns.specs.Names.{dotted};
 ghost use Rattle.std.specs.Prelude.{◌≡◌, ◌↔◌, ◌≢◌, ◌<◌, ◌≤◌, ◌+◌, ◌++◌, [], ◌∷◌, ℕ, List, Option, Some, None, Result, Ok, Err, IfSome, IsNone, IsSome, length, map, codes, nat_eq, option_map, option_and_then, if◌then◌else◌};
 ghost use Rattle.limits.specs.Limits.{blob_limit, most_held};
@@ -15,12 +14,11 @@ ghost use Rattle.denials.specs.Orders.{Denial, RoleMissing, BlobMissing, Denied,
 ghost use Rattle.trust_rules.specs.Misses.{IsPart, IsThere, MissesRole, MissesBlob, IsProperListing};
 ghost use Rattle.trust_rules.specs.State.{Trusted, State, FollowsRoot, MeetsTop, NamesSnapshot, blob_at, IsRootChain, IsTrusted, IsState, kept_root, metadata_of, nothing};
 ghost use Rattle.trust_rules.specs.Offers.{AfterRoot, NoDrop, NoRollback, Offer, RootOffer, SnapshotOffer, TargetsOffer, TimestampOffer, Batched, init, offer, batch, put_blob, prune};
-ghost use Rattle.trust_rules.specs.Grants.{GrantAlike, Listed, listed, grants};
+ghost use Rattle.trust_rules.specs.Grants.{Listed, listed, grants};
 ghost use Rattle.trust_rules.specs.Before.{grants_before};
 ghost use Rattle.trust_rules.specs.Contents.{contents_of, root_rows};
 ghost use Rattle.trust_rules.specs.Effects.{Effects, applied};
 ghost use Rattle.trust_rules.specs.Held.{IsHeld, held_of, held_with};
-ghost use Rattle.trust_rules.specs.Resending.{IsInOrder};
 ghost use Rattle.trust_rules.specs.Runs.{Batch, BatchDone, Command, Target, Reply, Refused, Outcome, IsGranted, Steps, Runs, StaysCoherent, with_trusted};
 
 use delegations::{search_grows, search_is_sound};

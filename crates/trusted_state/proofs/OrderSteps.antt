@@ -2,7 +2,7 @@
 use Rattle.std.proofs.Common.{◌≡◌, ℕ, Bool, true, false, Ok, Err, IsTrue, cond, sym, subst, ◌⊎◌, inl, inr}
 use Rattle.metadata.specs.File.{Bytes, File, Form}
 use Rattle.denials.specs.Orders as orders
-use Rattle.denials.specs.Orders.{Order, Judged, Stop, Plain, Same, ◌>>=◌, pass, decide, holds, fails, given, stopped, check, need, need_or}
+use Rattle.denials.specs.Orders.{Order, Plain, Same, ◌>>=◌, pass, decide, fails, given, check}
 use Rattle.metadata.specs.Shaped.{faulty, shaped}
 use Rattle.metadata.specs.Shape.{IsShapeFault}
 use Rattle.document_parts.specs.declared.documents.ShapeFault.{ShapeFault}

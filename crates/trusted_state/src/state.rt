@@ -3,7 +3,7 @@ ghost use Rattle.std.specs.Prelude.{◌≡◌, ◌≤◌, ◌<◌, IfOk, OnOk};
 ghost use Rattle.trust_rules.specs.State.{IsState, nothing};
 ghost use Rattle.trust_rules.specs.Effects.{applied};
 ghost use Rattle.trust_rules.specs.Held.{IsHeld, held_of};
-ghost use Rattle.contents.specs.Contents.{lengths_of};
+ghost use Rattle.repository_rows.specs.Contents.{lengths_of};
 ghost use Rattle.trusted_state.specs.Knowing.{IsKnown};
 ghost use Rattle.state_parts.specs.Views.{blob_views, effects_view, length_views, parts_view};
 ghost use Rattle.trusted_state.specs.Room.{places};
@@ -27,7 +27,7 @@ pub struct State {
 
 impl Model for State {
     ghost use Rattle.std.specs.Prelude.{◌≡◌};
-    ghost use Rattle.contents.specs.Contents.{lengths_of};
+    ghost use Rattle.repository_rows.specs.Contents.{lengths_of};
     ghost use Rattle.trusted_state.specs.Knowing.{IsKnown};
     ghost use Rattle.trust_rules.specs.State.{IsState};
     ghost use Rattle.state_parts.specs.Views.{blob_views};

@@ -16,18 +16,18 @@ ghost use Rattle.trust_rules.specs.steps.Stored.{AreStored, IsShelved, IsStored,
 ghost use Rattle.trust_rules.specs.Effects as changes;
 ghost use Rattle.trust_rules.specs.Held.{held_of};
 ghost use Rattle.state_parts.specs.Views.{blob_views, changes_view, effects_view, length_views, trusted_view};
-ghost use Rattle.contents.specs.Contents.{contents_view, contents_with, lengths_of};
+ghost use Rattle.repository_rows.specs.Contents.{contents_view, contents_with, lengths_of};
 
 use crate::held::Held;
 use crate::knowing::trusted_verdicts;
 use crate::state::State;
-use contents::{Contents, MetadataRows};
 use delegations::{Row, Verdicts};
 use metadata::{
     File, Profile, Root, ShapeFault, Snapshot, Timestamp, one_document, one_shape, read_root_file,
     read_snapshot_file, read_targets_file, read_timestamp_file,
 };
 use path_patterns::{Digest, RoleName};
+use repository_rows::{Contents, MetadataRows};
 use state_parts::effects::{Blob, Changes, Effects, Gone};
 use state_parts::loading::{is_state, may_be_held};
 use state_parts::parts::{BlobLength, Trusted};

@@ -24,7 +24,7 @@ use Rattle.metadata.specs.Shape.{IsDocument, IsShapeFault}
 use Rattle.document_parts.specs.declared.documents.Kind.{Kind}
 use Rattle.path_patterns.specs.Grammar.{IsTargetPath, IsPattern, IsHashPrefix}
 use Rattle.path_patterns.specs.Matching.{MatchesSegmented, MatchesFlat, PrefixCovers}
-use Rattle.path_patterns.specs.Names.{Asks}
+use Rattle.path_patterns.specs.Names.{IsNameOf}
 use Rattle.verdicts.specs.declared.case.Case.{Case}
 use Rattle.verdicts.specs.declared.case.Case.TheVariants as cases
 use Rattle.verdicts.specs.declared.case.Covering.{Covering}
@@ -92,7 +92,7 @@ IsShaping kind bytes verdict = ⊥
 -- the path that the text asks for, and the digest
 abbrev pub IsAsking : List ℕ → Verdict → Type 0
 IsAsking text (AsksFor path digest) =
-    (p : List ℕ) × (d : Option (List ℕ)) × Asks text p d × (string_bytes path ≡ hex_word p) × (string_bytes digest ≡ digest_word d)
+    (p : List ℕ) × (d : Option (List ℕ)) × IsNameOf text p d × (string_bytes path ≡ hex_word p) × (string_bytes digest ≡ digest_word d)
 IsAsking text verdict = ⊥
 
 -- whether the text is of the grammar of what covers so

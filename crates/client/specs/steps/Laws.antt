@@ -4,7 +4,7 @@ use Rattle.std.specs.List.{AllByRecursion}
 use Rattle.limits.specs.Limits.{blob_limit, most_held}
 use Rattle.sha2.specs.Sha256.{sha256}
 use Rattle.path_patterns.specs.Grammar.{IsName, IsTargetPath}
-use Rattle.path_patterns.specs.Names.{Asks, IsDigest, dotted}
+use Rattle.path_patterns.specs.Names.{IsNameOf, IsDigest, dotted}
 use Rattle.document_parts.specs.Documents.{MetaFile, Profile, Root, Snapshot, Targets, Timestamp}
 use Rattle.document_parts.specs.Bodies.{IsListable}
 use Rattle.metadata.specs.File.{Bytes, Name, File, IsFileOf, root_form, snapshot_form, targets_form, timestamp_form}
@@ -85,5 +85,5 @@ pub record GrantLaws : Type 0 where
   pub proper : (S : State) (path : Bytes) (now : ℕ) (at : Listed) → IsState S → listed S.trusted path now (Ok at) → IsProperListing at.listing
   pub missed : (V : Shelf) (path : Bytes) (now : ℕ) (role : Name) (version : ℕ) → search V path now (Err (Denied (RoleMissing role version))) → IsMissed V path now role version
   pub names : (f : File Snapshot) → IsFileOf snapshot_form f → AllByRecursion (λ e. IsName e.0 × IsListable e.0) f.body.meta
-  pub asks_once : (text p q : List ℕ) (d e : Option (List ℕ)) → Asks text p d → Asks text q e → (p ≡ q) × (d ≡ e)
-  pub asked_by_some : (path digest : List ℕ) → IsTargetPath path → IsDigest digest → (text : List ℕ) × Asks text path (Some digest)
+  pub asks_once : (text p q : List ℕ) (d e : Option (List ℕ)) → IsNameOf text p d → IsNameOf text q e → (p ≡ q) × (d ≡ e)
+  pub asked_by_some : (path digest : List ℕ) → IsTargetPath path → IsDigest digest → (text : List ℕ) × IsNameOf text path (Some digest)

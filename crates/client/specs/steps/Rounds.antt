@@ -3,7 +3,7 @@ use Rattle.std.specs.Prelude.{◌≡◌, ◌≤◌, ℕ, suc, Bool, true, false,
 use Rattle.std.proofs.Common.{Vec, Global}
 use Rattle.metadata.specs.File.{Bytes, Names}
 use Rattle.trust_rules.specs.State.{State}
-use Rattle.sources.specs.Source.{Gives}
+use Rattle.fetch.specs.Source.{Gives}
 use Rattle.store.specs.Standing.{IsClean, Standing}
 use Rattle.client.specs.Changes.{Changes}
 use Rattle.client.specs.Session.{Fetches, TakesRoots}

@@ -2,7 +2,7 @@
 use Rattle.std.specs.Prelude.{List, map, option_map}
 use Rattle.canonical_json.specs.Json.{Json}
 use Rattle.drafting.specs.Members.{AlikeBut, Rows}
-use Rattle.delegation_drafting.specs.Delegations.{Changes, ChangesDelegations, Delegated as Said, StandsOrGoes, delegation_names}
+use Rattle.delegation_drafting.specs.Delegations.{Changes, ChangesDelegations, Delegated as Said, HoldsOrLacks, delegation_names}
 use Rattle.drafting.specs.steps.Rows.{texts_view}
 use Rattle.drafting.specs.steps.Rules.{rule_view}
 use Rattle.delegation_drafting.specs.declared.delegating.Delegated.{Delegated}
@@ -30,5 +30,5 @@ pub record PutsDelegations (changes : Changes) (before after : Json) : Type 0 wh
 
 -- the delegations come in, beside what else `delegations` has, or both members go where there are none; nothing else changes
 pub record PutsOrDrops (delegated : List Said) (rows : Rows) (inner before after : Json) : Type 0 where
-  pub stands : StandsOrGoes delegated rows inner before after
+  pub stands : HoldsOrLacks delegated rows inner before after
   pub others : AlikeBut delegation_names before after

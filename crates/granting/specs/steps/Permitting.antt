@@ -72,9 +72,9 @@ Told loaded (Ok a) = loaded
 Told loaded (Err fault) = ToldFault loaded fault
 
 -- How an answer stands: nothing was loaded, and it is so whatever the bytes of the blobs are, or by the bytes that were loaded
-pub data Stands {A B : Type 0} (H : Held) (honest : Type 0) (Holds : Bytes → Bytes → Type 0) (unloaded loaded : Type 0) (m : State → Order B) (view : State → A → B) (r : Result A GetFault) : Type 0 where
-  at_once : unloaded → OfEachState H (λ S. Finds (m S) (view S) r) → Stands H honest Holds unloaded loaded m view r
-  by_bytes : Told loaded r → (honest → (S : State) → StandsFor H Holds S → Finds (m S) (view S) r) → Stands H honest Holds unloaded loaded m view r
+pub data FindsLoaded {A B : Type 0} (H : Held) (honest : Type 0) (Holds : Bytes → Bytes → Type 0) (unloaded loaded : Type 0) (m : State → Order B) (view : State → A → B) (r : Result A GetFault) : Type 0 where
+  at_once : unloaded → OfEachState H (λ S. Finds (m S) (view S) r) → FindsLoaded H honest Holds unloaded loaded m view r
+  by_bytes : Told loaded r → (honest → (S : State) → StandsFor H Holds S → Finds (m S) (view S) r) → FindsLoaded H honest Holds unloaded loaded m view r
 
 -- the same refusal
 abbrev pub IsRefusedSo : Refusal → GetFault → Type 0

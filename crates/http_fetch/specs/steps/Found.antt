@@ -4,10 +4,10 @@ use Rattle.std.specs.Io.KnownBytes.{Consumes, IsAtEnd}
 use Rattle.std.proofs.Common.{Vec, Global}
 use Rattle.httparse.specs.Grammar.{ResponseHead, status_code}
 use Rattle.httparse.specs.declared.spans.ResponseSpans.{ResponseSpans}
-use Rattle.sources.specs.declared.FetchFault.{FetchFault}
-use Rattle.sources.specs.declared.FetchFault.TheVariants.{TooLong, Broken, OutOfMemory}
+use Rattle.fetch.specs.declared.FetchFault.{FetchFault}
+use Rattle.fetch.specs.declared.FetchFault.TheVariants.{TooLong, Broken, OutOfMemory}
 use Rattle.http_messages.specs.Head.{IsInput}
-use Rattle.sources.specs.Source.{Answer}
+use Rattle.fetch.specs.Source.{Answer}
 use Rattle.http_fetch.specs.Reply.{Heads, HasNoHead}
 
 -- the head stands in the bytes `got`, as the spans say, and the rest of them begins its body

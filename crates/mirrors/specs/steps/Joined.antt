@@ -1,7 +1,7 @@
 -- What mirrors answer with one more that has no such file.
 use Rattle.std.specs.Prelude.{None, Ok, Err}
-use Rattle.sources.specs.Source.{Answer}
-use Rattle.sources.specs.declared.FetchFault.TheVariants.{TooLong, Broken, OutOfMemory}
+use Rattle.fetch.specs.Source.{Answer}
+use Rattle.fetch.specs.declared.FetchFault.TheVariants.{TooLong, Broken, OutOfMemory}
 
 abbrev pub with_none : Answer → Answer
 with_none (Ok file) = Ok None

@@ -3,10 +3,10 @@ use Rattle.std.specs.Prelude.{ℕ, ◌-◌, Bool, List, [], ◌∷◌, ◌++◌,
 use Rattle.metadata.specs.File.{Bytes, File}
 use Rattle.document_parts.specs.Documents.{Root}
 use Rattle.trust_rules.specs.Contents.{numbered, profile_number, shelf_rows}
-use Rattle.contents.specs.Contents.{Contents}
+use Rattle.repository_rows.specs.Contents.{Contents}
 use Rattle.delegations.specs.Rows.{Place}
 use Rattle.trust_rules.specs.Effects.{Effects, last_or}
-use Rattle.tables.specs.Changes.{emptied, without_blob, without_row}
+use Rattle.repository_tables.specs.Changes.{emptied, without_blob, without_row}
 
 -- the rows of new roots: the last has its own version, and they rise by one
 abbrev pub new_roots : ℕ → List (File Root) → List (ℕ × (ℕ × Bytes))

@@ -9,7 +9,8 @@ use Rattle.sql_tables.specs.Outliving.{Outlives}
 use Rattle.table_rows.specs.Tables.{HoldsWhole}
 use Rattle.store.specs.Applies.{HoldsStep, Replies}
 use Rattle.store.specs.Standing.{StandsAt, seen}
-use Rattle.store.specs.StateRows.{Kept, rows_of}
+use Rattle.trust_rules.specs.Held.{Held}
+use Rattle.store.specs.StateRows.{rows_of}
 use Rattle.store.specs.Views.{reply_view}
 use Rattle.table_rows.specs.declared.faults.StoreFault.{StoreFault}
 use Rattle.table_rows.specs.declared.faults.StoreFault.TheVariants.{Damaged}
@@ -27,5 +28,5 @@ pub record Does (S T : State) (old new : database.State) (command : Command) (no
   pub crash : HasCleanDisk new → IsTrue old.is_open → (trees : Trees) → new.may_leave trees → HoldsWhole trees (rows_of S) ⊎ HoldsStep S command now trees
 
 -- for each state at which a store stands there is one at which it then stands, and this was done
-abbrev pub DoesAt : Kept → Kept → database.State → database.State → Command → ℕ → Result Answer StoreFault → Type 0
+abbrev pub DoesAt : Held → Held → database.State → database.State → Command → ℕ → Result Answer StoreFault → Type 0
 DoesAt kept left old new command now r = (S : State) → StandsAt (seen kept old) S → (T : State) × StandsAt (seen left new) T × Does S T old new command now r

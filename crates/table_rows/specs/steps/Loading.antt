@@ -10,13 +10,13 @@ use Rattle.sqlite.specs.Order.{Row, column}
 use Rattle.sqlite_trees.specs.Tree.{Trees}
 use Rattle.std.specs.declared.cmp.Ordering.{Ordering}
 use Rattle.sqlite_rules.specs.Lists.{Has}
-use Rattle.contents.specs.Contents.{slot_view}
-use Rattle.contents.specs.declared.MetadataRows.{MetadataRows}
+use Rattle.repository_rows.specs.Contents.{slot_view}
+use Rattle.repository_rows.specs.declared.MetadataRows.{MetadataRows}
 use Rattle.table_rows.specs.declared.loading.Taken.{Taken}
 use Rattle.table_rows.specs.Rows.{root_cells, root2_cells, current_cells, shelf_cells, blob_cells, version_cells}
 use Rattle.std.specs.Cmp.Lexicographic.{slice_cmp}
-use Rattle.contents.specs.Contents.{Contents, no_rows}
-use Rattle.table_rows.specs.Tables.{IsVersion, IsDigest, row_cmp, AreBare, HoldsFirst, HoldsTables, StandsFor}
+use Rattle.repository_rows.specs.Contents.{Contents}
+use Rattle.table_rows.specs.Tables.{IsVersion, IsDigest, row_cmp}
 use Rattle.sql_tables.specs.Loading.{AreGathered, AreLoaded, AreOrdered, AreRead, AreSpoiled, ComeOnce, HasGathered, rises, with_rowid}
 
 -- ---- the items of a table: a key and a value each
@@ -99,7 +99,7 @@ pub record AreVersions (rows : List Row) (is_begun is_first is_second : Bool) : 
 -- ---- all tables
 
 -- what the queries answer
-pub record Answers : Type 0 where
+pub record QueriedRows : Type 0 where
   pub root : List Row
   pub current : List Row
   pub shelf : List Row
@@ -107,7 +107,7 @@ pub record Answers : Type 0 where
   pub version : List Row
   pub root2 : List Row
 
-pub record AreAnswers (trees : Trees) (a : Answers) : Type 0 where
+pub record AreQueried (trees : Trees) (a : QueriedRows) : Type 0 where
   pub root : AreLoaded root_cells (rises ∷ []) (trees 0) a.root
   pub current : AreLoaded (with_rowid current_cells) [] (trees 1) a.current
   pub shelf : AreLoaded (with_rowid shelf_cells) (rises ∷ rises ∷ []) (trees 3) a.shelf
@@ -116,7 +116,7 @@ pub record AreAnswers (trees : Trees) (a : Answers) : Type 0 where
   pub root2 : AreLoaded root2_cells (rises ∷ []) (trees 8) a.root2
 
 -- the rowids of each answer come once
-pub record AllComeOnce (a : Answers) : Type 0 where
+pub record AllComeOnce (a : QueriedRows) : Type 0 where
   pub root : ComeOnce 0 a.root
   pub current : ComeOnce 3 a.current
   pub shelf : ComeOnce 3 a.shelf
@@ -161,7 +161,7 @@ pub record HaveCome (rows : List Row) (items : List (List ℕ × ℕ)) (is_spoil
   pub are : AreHeld late held
 
 -- what was made of the answers
-pub record AreTaken (a : Answers) (t : Taken) : Type 0 where
+pub record AreTaken (a : QueriedRows) (t : Taken) : Type 0 where
   pub root : IsGathered nat_cmp IsFirstRow FitsFirst root_shows a.root t.first_roots
   pub current : HaveSlots a.current (slot_view t.current.timestamp) (slot_view t.current.snapshot) t.current.is_spoiled
   pub shelf : IsGathered row_cmp IsShelfRow FitsShelf document_shows a.shelf t.shelf
@@ -170,25 +170,25 @@ pub record AreTaken (a : Answers) (t : Taken) : Type 0 where
   pub root2 : IsGathered nat_cmp IsRootRow FitsRoot root_shows a.root2 t.roots
 
 -- The roots under schema 1, or under schema 2: those of the one table, and the other has none. Without a row of `schema` it is as under 2.
-abbrev pub AreRoots : Bool → Answers → List (ℕ × (ℕ × List ℕ)) → Type 0
+abbrev pub AreRoots : Bool → QueriedRows → List (ℕ × (ℕ × List ℕ)) → Type 0
 AreRoots true a roots = AreGathered nat_cmp IsFirstRow FitsFirst a.root roots × (a.root2 ≡ [])
 AreRoots false a roots = AreGathered nat_cmp IsRootRow FitsRoot a.root2 roots × (a.root ≡ [])
 
 -- the items of the answers
-pub record AreItems (is_first : Bool) (a : Answers) (m : MetadataRows) (lengths : List (List ℕ × ℕ)) : Type 0 where
+pub record AreItems (is_first : Bool) (a : QueriedRows) (m : MetadataRows) (lengths : List (List ℕ × ℕ)) : Type 0 where
   pub root : AreRoots is_first a (map root_shows m.roots.items)
   pub current : AreRead IsSlotRow FitsSlot a.current (current_items (slot_view m.timestamp) (slot_view m.snapshot))
   pub shelf : AreGathered row_cmp IsShelfRow FitsShelf a.shelf (map document_shows m.shelf.items)
   pub blob : AreGathered (slice_cmp nat_cmp) IsLengthRow FitsLength a.blob lengths
 
 -- and the rows that they are
-pub record AreContents (is_first : Bool) (a : Answers) (t : Contents) : Type 0 where
+pub record AreContents (is_first : Bool) (a : QueriedRows) (t : Contents) : Type 0 where
   pub root : AreRoots is_first a t.roots
   pub current : AreRead IsSlotRow FitsSlot a.current (current_items t.timestamp t.snapshot)
   pub shelf : AreRead IsShelfRow FitsShelf a.shelf t.shelf
   pub blob : AreRead IsBlobRow FitsBlob a.blob t.blobs
 
-pub record AreSorted (a : Answers) : Type 0 where
+pub record AreSorted (a : QueriedRows) : Type 0 where
   pub root : AreOrdered nat_cmp IsFirstRow FitsFirst a.root
   pub shelf : AreOrdered row_cmp IsShelfRow FitsShelf a.shelf
   pub blob : AreOrdered (slice_cmp nat_cmp) IsLengthRow FitsLength a.blob
@@ -199,7 +199,7 @@ abbrev pub Tell : Bool → List Row → Type 0
 Tell is_first rows = (r : Row) → Has rows r → IsOf (if is_first then 1 else 2) r
 
 -- `mixed` are rows of `schema` that are not all of one version, `crossed` is a root in the table of the other schema.
-pub data AreDamaged (a : Answers) : Type 0 where
+pub data AreDamaged (a : QueriedRows) : Type 0 where
   root : AreSpoiled IsFirstRow FitsFirst a.root → AreDamaged a
   current : AreSpoiled IsSlotRow FitsSlot a.current → AreDamaged a
   shelf : AreSpoiled IsShelfRow FitsShelf a.shelf → AreDamaged a

@@ -7,7 +7,7 @@ use Rattle.metadata.specs.File.{Bytes, File, Form, IsFileOf, root_form, timestam
 use Rattle.delegations.specs.Rows.{Place}
 use Rattle.trust_rules.specs.Effects.{Effects}
 use Rattle.trust_rules.specs.Contents.{numbered, root_row_of}
-use Rattle.contents.specs.Contents.{Contents}
+use Rattle.repository_rows.specs.Contents.{Contents}
 
 -- the file of a row: its version, its bytes
 pub record IsStored {A : Type 0} (form : Form A) (version : A → ℕ) (row : ℕ × Bytes) (file : File A) : Type 0 where

@@ -1,8 +1,8 @@
 use Rattle.std.proofs.Common.{◌≡◌, ℕ, List, Option, Some, Result, Ok, Err, Vec, Global, refl, sym, subst, arith}
 use Rattle.std.specs.Prelude.{IsErrAnd}
-use Rattle.sources.specs.Source.{answered}
-use Rattle.sources.specs.declared.FetchFault.{FetchFault}
-use Rattle.sources.specs.declared.FetchFault.TheVariants.{OutOfMemory}
+use Rattle.fetch.specs.Source.{answered}
+use Rattle.fetch.specs.declared.FetchFault.{FetchFault}
+use Rattle.fetch.specs.declared.FetchFault.TheVariants.{OutOfMemory}
 use Rattle.client.specs.Answering.{IsAnswer, gives, is_longer, lacks_memory}
 use Rattle.client.proofs.from_state.within.Goals as goal
 

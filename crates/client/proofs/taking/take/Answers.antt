@@ -1,6 +1,6 @@
 use Rattle.std.proofs.Common.{Ok, ap, ◌∙◌, subst, ◌<◌, ◌≤◌, length}
 use Rattle.std.specs.Prelude.{option_map}
-use Rattle.sources.specs.Source.{answered, items_of}
+use Rattle.fetch.specs.Source.{answered, items_of}
 use Rattle.client.specs.Session.{taken, rejected, absent, overlong, failed}
 use Rattle.client.specs.WantedViews.{command_of}
 use Rattle.client.proofs.Composing.{becomes, rests}

@@ -5,7 +5,7 @@ use Rattle.std.specs.Prelude.{option_map}
 use Rattle.metadata.specs.File.{Bytes}
 use Rattle.trust_rules.specs.Grants.{grants}
 use Rattle.granting.specs.Serving.{HasLayout}
-use Rattle.granting.specs.steps.Permitting.{Stands, at_once, denies, forgoes}
+use Rattle.granting.specs.steps.Permitting.{FindsLoaded, at_once, denies, forgoes}
 use Rattle.trust_rules.specs.Held.{bytes_at}
 use Rattle.trust_rules.specs.State.{Trusted}
 use Rattle.trusted_state.proofs.Carrying.{no_checks}
@@ -43,7 +43,7 @@ returns-clause-stands g c =
     let is = rw (c.in-Some.is) at c.in_ok-path.ensures.some in
     let held = c.args.held.now.held in
     let new = c.permitted.new.blobs in
-    subst (λ (path : Bytes). Stands held (g.B.Blobs.IsHonest new) (g.B.Blobs.Holds c.args.blobs.now) (new ≡ c.args.blobs.now)
+    subst (λ (path : Bytes). FindsLoaded held (g.B.Blobs.IsHonest new) (g.B.Blobs.Holds c.args.blobs.now) (new ≡ c.args.blobs.now)
     (g.B.Blobs.HasLoaded new × HasLayout held.trusted path c.args.now)
     (λ S. grants S path (option_map (λ d. d.0) c.args.asked) c.args.now) (λ S d. bytes_at S d.0) c.permitted.result) is.0 c.permitted.ensures.stands
 

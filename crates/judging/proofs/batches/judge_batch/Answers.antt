@@ -7,7 +7,7 @@ use Rattle.trusted_state.specs.steps.Judging.{IsDeniedAt}
 use Rattle.trust_rules.specs.Offers as commands
 use Rattle.trust_rules.specs.Offers.{coherent, incoherent}
 use Rattle.trust_rules.specs.Effects as spec
-use Rattle.trust_rules.specs.Effects.{applied, brought}
+use Rattle.trust_rules.specs.Effects.{brought}
 use Rattle.trust_rules.specs.State.{State, Trusted, IsState}
 use Rattle.state_parts.specs.Views.{changes_view, effects_view, trusted_view}
 use Rattle.trusted_state.specs.Views.{documents_view, draft_view}

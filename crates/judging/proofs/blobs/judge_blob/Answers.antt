@@ -7,7 +7,7 @@ use Rattle.limits.specs.Limits.{most_held}
 use Rattle.denials.specs.declared.denial.Denial.TheVariants.{NoRoot, BlobLength, DigestMismatch, Full}
 use Rattle.trusted_state.specs.declared.refusal.Refusal.TheVariants.{Denied}
 use Rattle.trust_rules.specs.Offers.{put_blob}
-use Rattle.contents.specs.Contents.{lengths_of}
+use Rattle.repository_rows.specs.Contents.{lengths_of}
 use Rattle.trust_rules.specs.State.{State}
 use Rattle.state_parts.specs.Views.{length_views}
 use Rattle.trusted_state.specs.steps.Judging.{Judges, accepts, keeps, rejects}

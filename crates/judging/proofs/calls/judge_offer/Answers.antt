@@ -3,7 +3,7 @@ use Rattle.std.proofs.lemmas.Result.{err_from_is_err_and}
 use Rattle.trusted_state.specs.Answers.{changes, unchanged}
 use Rattle.trust_rules.specs.Offers as commands
 use Rattle.trust_rules.specs.Effects as spec
-use Rattle.trust_rules.specs.Effects.{applied, brought}
+use Rattle.trust_rules.specs.Effects.{brought}
 use Rattle.trust_rules.specs.State.{State, IsState}
 use Rattle.state_parts.specs.Views.{changes_view, effects_view, trusted_view}
 use Rattle.trusted_state.specs.Views.{offer_view, draft_view}

@@ -1,6 +1,6 @@
 use Rattle.std.proofs.Common.{◌≡◌, Err, refl, rules}
-use Rattle.sources.specs.Source.{answered}
-use Rattle.sources.specs.declared.FetchFault.TheVariants.{TooLong, Broken, OutOfMemory}
+use Rattle.fetch.specs.Source.{answered}
+use Rattle.fetch.specs.declared.FetchFault.TheVariants.{TooLong, Broken, OutOfMemory}
 use Rattle.mirrors.proofs.OneMore.{joins_settled, joins_none, when_long, when_broken, when_wanting}
 use Rattle.mirrors.proofs.joining.together.Goals as goal
 

@@ -6,7 +6,7 @@ use Rattle.sqlite.specs.Held.{state}
 use Rattle.sqlite.specs.State.{HasCleanDisk}
 use Rattle.sqlite.specs.Schema.{Schema}
 use Rattle.sqlite.proofs.StateLemmas.{survives_then}
-use Rattle.sql_tables.specs.Making.{Asks}
+use Rattle.sql_tables.specs.Making.{Queries}
 use Rattle.sql_tables.specs.Described.{AllLook, Description, described_view, schema_of, tree_from}
 use Rattle.sql_tables.proofs.Calls.{Same, same_then, same_unchanged}
 use Rattle.sql_tables.proofs.Shapes.{at_view, blank, empty_by_place, at_each}
@@ -22,7 +22,7 @@ returns-then-branch-clause-rows g c clean texts schema =
     let early : HasCleanDisk was = omega (arith, clean, c.has_row.ensures.survives.clean) in
     let same : Same old was = c.looks.invariant.4 early texts schema in
     let known = ap (λ (d : Database). d.schema) same.now_is ∙ schema in
-    let asks = subst₂ (λ (s : Schema) (d : Description). Asks s d.look (tree_from 0 ds at)) (sym known) (at_view c.args.described.now at blank (omega arith)) (texts at few) in
+    let asks = subst₂ (λ (s : Schema) (d : Description). Queries s d.look (tree_from 0 ds at)) (sym known) (at_view c.args.described.now at blank (omega arith)) (texts at few) in
     let rows = c.in_ok-has_row.ensures.rows clean (tree_from 0 ds at) asks in
     (λ e. absurd (true≢false e), λ _ bare. rows.1 c.if-branch.true (ap (λ (d : Database). d.trees (tree_from 0 ds at)) same.now_is ∙ at_each (λ t. old.now.trees t ≡ []) 0 ds bare at few))
 
@@ -37,7 +37,7 @@ returns-then-branch-clause-unchanged g c clean texts schema =
     let early : HasCleanDisk was = omega (arith, clean, c.has_row.ensures.survives.clean) in
     let same : Same old was = c.looks.invariant.4 early texts schema in
     let known = ap (λ (d : Database). d.schema) same.now_is ∙ schema in
-    let asks = subst₂ (λ (s : Schema) (d : Description). Asks s d.look (tree_from 0 ds at)) (sym known) (at_view c.args.described.now at blank (omega arith)) (texts at few) in
+    let asks = subst₂ (λ (s : Schema) (d : Description). Queries s d.look (tree_from 0 ds at)) (sym known) (at_view c.args.described.now at blank (omega arith)) (texts at few) in
     let more = c.in_ok-has_row.ensures.unchanged clean (tree_from 0 ds at) asks in
     same_unchanged old now (sym same.open_is ∙ more.0.was_open) (same_then old was now same more)
 
@@ -52,7 +52,7 @@ looks-preserved g c =
     let few : at < length ds = omega (arith, length-map c.args.described.now described_view) in
     let early : HasCleanDisk now → HasCleanDisk was = λ clean. omega (arith, c.has_row.ensures.survives.clean) in
     let asks = λ (same : Same old was) (schema : old.now.schema ≡ schema_of ds) (texts : AllLook ds).
-    subst₂ (λ (s : Schema) (d : Description). Asks s d.look (tree_from 0 ds at)) (sym (ap (λ (d : Database). d.schema) same.now_is ∙ schema)) (at_view c.args.described.now at blank (omega arith)) (texts at few) in (
+    subst₂ (λ (s : Schema) (d : Description). Queries s d.look (tree_from 0 ds at)) (sym (ap (λ (d : Database). d.schema) same.now_is ∙ schema)) (at_view c.args.described.now at blank (omega arith)) (texts at few) in (
       c.has_row.ensures.same_reference ∙ so.0,
       survives_then old was now (λ _. ⊥) (λ _. ⊥) (λ _. ⊥) (λ _ db none. none) (λ _ db none. none) so.1 c.has_row.ensures.survives,
       λ e. absurd (omega (arith, e)),

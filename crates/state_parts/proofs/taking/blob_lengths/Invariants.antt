@@ -1,5 +1,5 @@
 use Rattle.std.proofs.Common.{◌≡◌, ◌++◌, length}
-use Rattle.contents.specs.Contents.{lengths_of}
+use Rattle.repository_rows.specs.Contents.{lengths_of}
 use Rattle.state_parts.specs.Views.{blob_views, length_views}
 use Rattle.state_parts.proofs.taking.blob_lengths.Given as goal
 

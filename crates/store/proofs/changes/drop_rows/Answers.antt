@@ -1,6 +1,6 @@
 use Rattle.std.proofs.Common.{◌≡◌, ◌∙◌, List, ap, subst}
 use Rattle.delegations.specs.Rows.{Place}
-use Rattle.tables.specs.Changes.{after_all}
+use Rattle.repository_tables.specs.Changes.{after_all}
 use Rattle.store.specs.steps.Changed.{rows_gone}
 use Rattle.store.proofs.Appending.{after_more}
 use Rattle.store.proofs.changes.drop_rows.Goals as goal

@@ -1,6 +1,6 @@
 use Rattle.std.proofs.Common.{◌≡◌, length}
-use Rattle.tables.specs.Changes.{after_all}
-use Rattle.contents.specs.Contents.{Contents}
+use Rattle.repository_tables.specs.Changes.{after_all}
+use Rattle.repository_rows.specs.Contents.{Contents}
 use Rattle.store.specs.steps.Changed.{rows_gone}
 use Rattle.store.proofs.changes.drop_rows.Given as goal
 

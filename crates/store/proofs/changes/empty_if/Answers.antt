@@ -1,4 +1,4 @@
-use Rattle.tables.specs.declared.change.Change.TheVariants.{Emptied}
+use Rattle.repository_tables.specs.declared.change.Change.TheVariants.{Emptied}
 use Rattle.store.proofs.Appending.{after_more}
 use Rattle.store.proofs.changes.empty_if.Goals as goal
 

@@ -1,7 +1,7 @@
 use Rattle.std.proofs.Common.{◌≡◌, ◌∙◌, List, ap, subst}
 use Rattle.metadata.specs.File.{Bytes}
 use Rattle.state_parts.specs.Views.{blob_views}
-use Rattle.tables.specs.Changes.{after_all}
+use Rattle.repository_tables.specs.Changes.{after_all}
 use Rattle.store.specs.steps.Changed.{more_blobs}
 use Rattle.store.proofs.Appending.{after_more, blobs_then}
 use Rattle.store.proofs.changes.put_blobs.Goals as goal

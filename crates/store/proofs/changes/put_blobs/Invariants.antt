@@ -1,7 +1,7 @@
 use Rattle.std.proofs.Common.{◌≡◌, length}
 use Rattle.state_parts.specs.Views.{blob_views}
-use Rattle.tables.specs.Changes.{after_all}
-use Rattle.contents.specs.Contents.{Contents}
+use Rattle.repository_tables.specs.Changes.{after_all}
+use Rattle.repository_rows.specs.Contents.{Contents}
 use Rattle.store.specs.steps.Changed.{more_blobs}
 use Rattle.store.proofs.changes.put_blobs.Given as goal
 

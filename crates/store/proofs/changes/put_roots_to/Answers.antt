@@ -3,7 +3,7 @@ use Rattle.std.proofs.lemmas.List.{length-map}
 use Rattle.metadata.specs.File.{Bytes}
 use Rattle.metadata.specs.FileViews.{root_file}
 use Rattle.trust_rules.specs.Contents.{profile_number}
-use Rattle.tables.specs.Changes.{after_all}
+use Rattle.repository_tables.specs.Changes.{after_all}
 use Rattle.store.specs.steps.Changed.{more_roots, new_roots}
 use Rattle.store.proofs.Appending.{after_more, roots_then}
 use Rattle.store.proofs.changes.put_roots_to.Goals as goal

@@ -1,8 +1,8 @@
 use Rattle.limits.specs.Limits.{most_held}
 use Rattle.std.proofs.Common.{◌≡◌, ◌≤◌, map, length}
 use Rattle.metadata.specs.FileViews.{root_file}
-use Rattle.tables.specs.Changes.{after_all}
-use Rattle.contents.specs.Contents.{Contents}
+use Rattle.repository_tables.specs.Changes.{after_all}
+use Rattle.repository_rows.specs.Contents.{Contents}
 use Rattle.store.specs.steps.Changed.{more_roots, new_roots}
 use Rattle.store.proofs.changes.put_roots_to.Given as goal
 

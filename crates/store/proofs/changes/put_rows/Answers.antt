@@ -3,7 +3,7 @@ use Rattle.metadata.specs.File.{Bytes}
 use Rattle.delegations.specs.Rows.{Place}
 use Rattle.delegations.specs.Views.{row_views}
 use Rattle.trust_rules.specs.Contents.{shelf_rows}
-use Rattle.tables.specs.Changes.{after_all}
+use Rattle.repository_tables.specs.Changes.{after_all}
 use Rattle.store.specs.steps.Changed.{more_rows}
 use Rattle.store.proofs.Appending.{after_more, rows_then}
 use Rattle.store.proofs.changes.put_rows.Goals as goal

@@ -1,8 +1,8 @@
 use Rattle.std.proofs.Common.{◌≡◌, length}
 use Rattle.delegations.specs.Views.{row_views}
 use Rattle.trust_rules.specs.Contents.{shelf_rows}
-use Rattle.tables.specs.Changes.{after_all}
-use Rattle.contents.specs.Contents.{Contents}
+use Rattle.repository_tables.specs.Changes.{after_all}
+use Rattle.repository_rows.specs.Contents.{Contents}
 use Rattle.store.specs.steps.Changed.{more_rows}
 use Rattle.store.proofs.changes.put_rows.Given as goal
 

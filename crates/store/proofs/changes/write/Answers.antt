@@ -1,11 +1,11 @@
 use Rattle.std.proofs.Common.{◌≡◌, ◌∙◌, Ok, Err, OnOk, ap, subst, sym}
 use Rattle.sqlite.proofs.StateLemmas.{survives_weaker}
 use Rattle.sqlite.specs.Held.{state}
-use Rattle.contents.specs.Contents.{Contents}
+use Rattle.repository_rows.specs.Contents.{Contents}
 use Rattle.trust_rules.specs.Effects.{applied}
 use Rattle.state_parts.specs.Views.{effects_view}
 use Rattle.table_rows.specs.Tables.{AreSame, IsStore}
-use Rattle.tables.specs.Changes.{after_all}
+use Rattle.repository_tables.specs.Changes.{after_all}
 use Rattle.store.specs.StateRows.{rows_of}
 use Rattle.store.specs.steps.Changed.{changed}
 use Rattle.store.proofs.Holding.{whole_as, store_as}

@@ -3,10 +3,10 @@ use Rattle.std.proofs.lemmas.Result.{err_from_is_err_and}
 use Rattle.std.proofs.lemmas.List.Elements.{All-from_recursion}
 use Rattle.sha2.specs.Sha256.{sha256}
 use Rattle.sqlite.specs.Held.{state}
-use Rattle.contents.specs.Contents.{Contents}
+use Rattle.repository_rows.specs.Contents.{Contents}
 use Rattle.trust_rules.proofs.ShapedOnce.{Shapes}
 use Rattle.table_rows.specs.declared.faults.StoreFault.TheVariants.{Damaged}
-use Rattle.tables.specs.Migration.{IsEarlier}
+use Rattle.repository_tables.specs.Migration.{IsEarlier}
 use Rattle.table_rows.specs.Tables.{IsStore, Stands}
 use Rattle.store.specs.Standing.{IsStateOf}
 use Rattle.table_rows.specs.Schema.{held}

@@ -1,5 +1,5 @@
 use Rattle.std.proofs.Common.{ap}
-use Rattle.contents.specs.Contents.{slot_view, value_view}
+use Rattle.repository_rows.specs.Contents.{slot_view, value_view}
 use Rattle.table_rows.proofs.current.fill.Goals as goal
 
 pub returns-in-Some-clause-refused : goal.returns-in-Some-clause-refused

@@ -1,5 +1,5 @@
 use Rattle.std.proofs.Common.{◌++◌, [], ◌∷◌, true, false, ap, subst}
-use Rattle.contents.specs.Contents.{slot_view, value_view}
+use Rattle.repository_rows.specs.Contents.{slot_view, value_view}
 use Rattle.table_rows.specs.steps.Loading.{IsSlotRow, FitsSlot, slot_name, current_items}
 use Rattle.sql_tables.proofs.ItemLemmas.{spoiled_slot}
 use Rattle.table_rows.proofs.Slots.{filled_timestamp, filled_snapshot, has_timestamp, has_snapshot, slots_more}

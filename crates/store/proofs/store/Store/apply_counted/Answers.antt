@@ -1,7 +1,7 @@
 use Rattle.std.proofs.Common.{refl, subst}
 use Rattle.std.specs.Prelude.{IsTrue}
 use Rattle.sqlite.specs.Held.{state}
-use Rattle.store.specs.StateRows.{Kept}
+use Rattle.trust_rules.specs.Held.{Held}
 use Rattle.store.specs.Ticks.{Ticks}
 use Rattle.store.specs.Views.{command_view}
 use Rattle.store.proofs.Applying.{failed, relayed, was_there}
@@ -47,4 +47,4 @@ returns-in-Err-clause-ticks g c = no_ticks c.args.self.now.kept.trusted (command
 
 pub returns-clause-ticks : goal.returns-clause-ticks
 returns-clause-ticks g c =
-    subst (λ (kept : Kept). Ticks kept.trusted (command_view c.args.command) c.args.now c.args.checks.now c.make-result.new.checks) c.touch.ensures.same c.make-result.ensures.ticks
+    subst (λ (kept : Held). Ticks kept.trusted (command_view c.args.command) c.args.now c.args.checks.now c.make-result.new.checks) c.touch.ensures.same c.make-result.ensures.ticks

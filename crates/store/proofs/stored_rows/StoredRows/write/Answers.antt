@@ -1,6 +1,6 @@
 use Rattle.std.proofs.Common.{Ok, Err, OnErr, OnOk, Result, arith}
 use Rattle.sqlite.specs.Held.{state}
-use Rattle.contents.specs.Contents.{Contents}
+use Rattle.repository_rows.specs.Contents.{Contents}
 use Rattle.table_rows.specs.Tables.{IsStore}
 use Rattle.store.proofs.stored_rows.StoredRows.write.Goals as goal
 

@@ -3,7 +3,7 @@ use Rattle.std.specs.Prelude.{IsTrue}
 use Rattle.sqlite.specs.Held.{state}
 use Rattle.sqlite.specs.State.{HasCleanDisk}
 use Rattle.sha2.specs.Sha256.{sha256}
-use Rattle.contents.specs.Contents.{Contents}
+use Rattle.repository_rows.specs.Contents.{Contents}
 use Rattle.granting.specs.Serving.{Leaves}
 use Rattle.granting.specs.declared.serving.LoadFault.{LoadFault}
 use Rattle.table_rows.specs.Tables.{IsStore}

@@ -3,7 +3,7 @@ use Rattle.trust_rules.specs.State.{IsState}
 use Rattle.trust_rules.specs.Contents.{contents_of}
 use Rattle.trust_rules.specs.steps.Stored.{AreStored}
 use Rattle.state_parts.specs.Views.{effects_view}
-use Rattle.contents.specs.Contents.{contents_view}
+use Rattle.repository_rows.specs.Contents.{contents_view}
 use Rattle.trust_rules.proofs.ShapedOnce.{Shapes}
 use Rattle.trust_rules.proofs.RowsOfOneState.{laid_once, loaded_is, no_state, ok_none, ok_some, stored_read}
 use Rattle.trusted_state.proofs.state.State.load.Goals as goal

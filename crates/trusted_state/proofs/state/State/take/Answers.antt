@@ -3,7 +3,7 @@ use Rattle.metadata.specs.File.{Bytes}
 use Rattle.path_patterns.specs.declared.Digest.{Digest}
 use Rattle.trust_rules.specs.Effects as changes
 use Rattle.trust_rules.specs.Effects.{applied, with_blobs, without}
-use Rattle.contents.specs.Contents.{lengths_of}
+use Rattle.repository_rows.specs.Contents.{lengths_of}
 use Rattle.trust_rules.specs.Held.{Held, IsHeld, held_of, held_with}
 use Rattle.trusted_state.specs.Room.{WithRoom, state_with}
 use Rattle.trust_rules.specs.State.{State, IsState}

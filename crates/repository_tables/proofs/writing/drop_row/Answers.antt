@@ -1,0 +1,10 @@
+use Rattle.sqlite.specs.Held.{state}
+use Rattle.repository_tables.specs.steps.Writing.{cells_of}
+use Rattle.repository_tables.proofs.Removals.{drops_row, shrunk_shelf}
+use Rattle.repository_tables.proofs.writing.drop_row.Goals as goal
+
+pub returns-clause-wrote : goal.returns-clause-wrote
+returns-clause-wrote g c clean t is =
+    let new = state g.S.Store c.execute.new.self.conn.now in
+    shrunk_shelf new t c.args.role.now c.args.version
+    (drops_row (state g.S.Store c.args.tx.now.conn.now) new c.args.role.now c.args.version c.in_ok-execute.field-0 (cells_of t) is (rw (c.params-to_sql.ensures, c.params-to_sql-2.ensures) at (c.in_ok-execute.ensures.runs clean is.tables.inside)))

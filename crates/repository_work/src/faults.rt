@@ -1,0 +1,28 @@
+//! Why a command was not done, by the fault of what it asked, or by its reply.
+ghost use Rattle.std.specs.Prelude.{◌≡◌, ℕ, Option};
+ghost use Rattle.denials.specs.declared.denial.Denial.{Denial as Denials};
+ghost use Rattle.repository_work.specs.Faults as faults;
+
+use command_support::Fault;
+use store::{Reply, StoreFault};
+
+/// What a fault of the store comes to.
+pub fn fault_of_store(fault: StoreFault) -> Fault
+    ensures { result ≡ faults.fault_of_store fault }
+{
+    match fault {
+        StoreFault::Damaged => Fault::Damaged,
+        StoreFault::Database => Fault::Database,
+        StoreFault::OutOfMemory => Fault::Memory,
+    }
+}
+
+/// Why a command was not done, by its reply. A command has no other reply than a denial or its own.
+pub fn refused(reply: Reply) -> Fault
+    ensures { (d : Denials) (i : Option ℕ) → reply ≡ Reply.Denied d i → result ≡ Fault.Denied d i }
+{
+    match reply {
+        Reply::Denied(denial, index) => Fault::Denied(denial, index),
+        _ => Fault::Database,
+    }
+}

@@ -1,0 +1,10 @@
+//! The repository in its database file, opened for one piece of work, and why a command over it was not done.
+#![tactic(auto)]
+
+mod faults;
+mod repository;
+
+pub use command_support::{Denial, Fault, Notes};
+pub use faults::{fault_of_store, refused};
+pub use repository::{Work, applied, is_shut, worked};
+pub use store::{Command, Reply, Store, StoreFault};

@@ -1,0 +1,156 @@
+//! The repository in a database file. One function owns its connection; what is done over it borrows the repository, and knows nothing of
+//! files.
+use crate::faults::fault_of_store;
+use command_support::{Fault, Notes, connected};
+use metadata::Moment;
+use repository_tables::{has_first_schema, has_others_behind};
+use sqlite::{Alter, Connection, FileStore};
+use sqlite_disk::Disk;
+use std::io::Write;
+use std::time::Instant;
+use store::{Command, Reply, Store, StoreFault};
+
+/// What is done over an open repository.
+pub trait Work {
+    /// What comes of it.
+    type Done;
+
+    fn work<S: Alter, E: Write>(
+        &mut self,
+        repository: &mut Store<S>,
+        notes: &mut Notes<'_, E>,
+    ) -> Result<Self::Done, Fault>;
+}
+
+/// Opens the repository in the file, which is made where there is none, does the work over it, and closes it. The log is then copied into the database file, so that the file alone is the whole repository. Where that fails,
+/// the log stays beside it, and the next open reads both.
+pub fn worked<W: Work, E: Write>(
+    rt: &HostRuntime,
+    db: &str,
+    work: &mut W,
+    notes: &mut Notes<'_, E>,
+) -> Result<W::Done, Fault> {
+    let began = Instant::now(rt).ok();
+    let conn = connected(rt, db, notes)?;
+    worked_in(rt, began, conn, db, work, notes)
+}
+
+// The same over a connection to two files, which is closed.
+fn worked_in<D: Disk + Drop, W: Work, E: Write>(
+    rt: &HostRuntime,
+    began: Option<Instant>,
+    conn: Connection<FileStore<D>>,
+    db: &str,
+    work: &mut W,
+    notes: &mut Notes<'_, E>,
+) -> Result<W::Done, Fault> {
+    let (done, conn) = worked_over(rt, began, conn, db, work, notes);
+    if let Some(conn) = conn {
+        let _ = conn.close();
+    }
+    done
+}
+
+// The same over a connection, which is given back where a repository was opened.
+fn worked_over<S: Alter + Drop, W: Work, E: Write>(
+    rt: &HostRuntime,
+    began: Option<Instant>,
+    conn: Connection<S>,
+    db: &str,
+    work: &mut W,
+    notes: &mut Notes<'_, E>,
+) -> (Result<W::Done, Fault>, Option<Connection<S>>) {
+    let is_first = has_first_schema(conn.schema());
+    let has_others = has_others_behind(conn.schema());
+    match Store::open(rt.alloc(), conn) {
+        Ok(repository) => {
+            if is_first {
+                notes.tell(&db, &"schema 1 was brought to schema 2");
+            }
+            let mut repository = repository;
+            if notes.are_told() {
+                tell_opening(rt, began, db, repository.held().known_signatures(), notes);
+            }
+            let done = work.work(&mut repository, notes);
+            (done, Some(repository.into_connection()))
+        }
+        Err(fault) => {
+            notes.tell(&db, &fault);
+            if has_others {
+                notes.tell(
+                    &db,
+                    &"other tables, indexes or views stand behind those of schema 1",
+                );
+            }
+            (Err(fault_of_store(fault)), None)
+        }
+    }
+}
+
+// Tells how many signatures an opening checked, and how long it took since it began.
+fn tell_opening<E: Write>(
+    rt: &HostRuntime,
+    began: Option<Instant>,
+    db: &str,
+    signatures: usize,
+    notes: &mut Notes<'_, E>,
+) {
+    let Some(began) = began else {
+        return;
+    };
+    let Ok(took) = began.elapsed(rt) else {
+        return;
+    };
+    let took = took.as_millis();
+    if let Ok(told) = format!(in rt.alloc();
+        "signatures checked: {signatures}, opened in {took} ms"
+    ) {
+        notes.tell(&db, &told);
+    }
+}
+
+/// Whether an earlier fault has shut the database, so that every command would be answered a fault.
+pub fn is_shut<S: Alter>(repository: &mut Store<S>, now: Moment) -> bool {
+    match repository.apply(Command::Metadata(""), now) {
+        Err(StoreFault::Database) => true,
+        _ => false,
+    }
+}
+
+// One command at a moment. A fault is told with the name of the database.
+#[derive(Clone, Copy)]
+struct Making<'a> {
+    db: &'a str,
+    command: Command<'a>,
+    now: Moment,
+}
+
+impl Work for Making<'_> {
+    type Done = Reply;
+
+    fn work<S: Alter, E: Write>(
+        &mut self,
+        repository: &mut Store<S>,
+        notes: &mut Notes<'_, E>,
+    ) -> Result<Reply, Fault> {
+        match repository.apply(self.command, self.now) {
+            Ok(reply) => Ok(reply),
+            Err(fault) => {
+                notes.tell(&self.db, &fault);
+                Err(fault_of_store(fault))
+            }
+        }
+    }
+}
+
+/// Makes one command over the repository in the file.
+pub fn applied<E: Write>(
+    rt: &HostRuntime,
+    db: &str,
+    command: Command<'_>,
+    now: Moment,
+    notes: &mut Notes<'_, E>,
+) -> Result<Reply, Fault> {
+    let mut making = Making { db, command, now };
+    worked(rt, db, &mut making, notes)
+}

@@ -1,0 +1,22 @@
+use Rattle.std.proofs.Common.{Ok, Err, sym, subst}
+use Rattle.keys_roles.specs.Views.{entries_view}
+use Rattle.signer.specs.Once.{SignsOnce}
+use Rattle.signer.specs.declared.faults.SignFileFault.{SignFileFault}
+use Rattle.signer.specs.declared.faults.SignOnceFault.TheVariants.{Unsigned}
+use Rattle.signer.proofs.OneVersion.{unread}
+use Rattle.signer.proofs.Rivals.{signed_canonical}
+use Rattle.signer.proofs.SignedFiles.{if_ok}
+use Rattle.signer.proofs.once.sign_file_once.Goals as goal
+
+pub sign_parts_once-requires : goal.sign_parts_once-requires
+sign_parts_once-requires g c = signed_canonical c.args.file.now (entries_view c.in-Ok.signed.signatures.items) c.in-Ok.signed.signed.now c.in-Ok.ensures.file
+
+pub returns-in-Ok-clause-signed : goal.returns-in-Ok-clause-signed
+returns-in-Ok-clause-signed g c =
+    if_ok _ (λ out. SignsOnce c.args.book.now.book c.args.pair.now.seed c.args.pair.now.params c.args.file.now (Ok out.items) c.sign_parts_once.new.book.book)
+    c.sign_parts_once.result c.sign_parts_once.ensures.signed (λ out all. all c.args.file.now c.in-Ok.ensures.file)
+
+pub returns-in-Err-clause-unsigned : goal.returns-in-Err-clause-unsigned
+returns-in-Err-clause-unsigned g c =
+    subst (λ (e : SignFileFault). SignsOnce c.args.book.now.book c.args.pair.now.seed c.args.pair.now.params c.args.file.now (Err (Unsigned e)) c.args.book.now.book) (sym c.from.ensures)
+    (unread c.one_spelling.ensures.one_value c.args.book.now.book c.args.pair.now.seed c.args.pair.now.params c.args.file.now c.in-Err.fault c.in-Err.ensures.fault)

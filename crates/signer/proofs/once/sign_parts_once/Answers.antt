@@ -1,0 +1,20 @@
+use Rattle.std.proofs.Common.{ℕ, List, inl, subst}
+use Rattle.keys_roles.specs.Views.{entries_view}
+use Rattle.signer.specs.Versions.{LacksRivals}
+use Rattle.signer.proofs.OneVersion.{lacks_of}
+use Rattle.signer.proofs.once.sign_parts_once.Goals as goal
+
+pub returns-in-Ok-clause-signed : goal.returns-in-Ok-clause-signed
+returns-in-Ok-clause-signed g c bytes f = (
+  c.in-Ok.ensures.signed bytes f,
+  lacks_of c.one_spelling.ensures.one_value c.args.book.now.book _ bytes (entries_view c.args.file.now.signatures.items) c.args.file.now.signed.now f
+      (subst (λ (key : List ℕ). LacksRivals c.args.book.now.book key c.args.file.now.signed.now) c.id_of-id.ensures (rw c.in-Ok-None.field-0-is at c.in-Ok-None.ensures)),
+)
+
+pub returns-in-Err-sign_parts-clause-unsigned : goal.returns-in-Err-sign_parts-clause-unsigned
+returns-in-Err-sign_parts-clause-unsigned g c bytes f = (
+  c.in-Err-sign_parts.ensures.unsigned bytes f,
+  inl (
+      lacks_of c.one_spelling.ensures.one_value c.args.book.now.book _ bytes (entries_view c.args.file.now.signatures.items) c.args.file.now.signed.now f
+      (subst (λ (key : List ℕ). LacksRivals c.args.book.now.book key c.args.file.now.signed.now) c.id_of-id.ensures (rw c.in-Ok-None.field-0-is at c.in-Ok-None.ensures))),
+)

@@ -1,0 +1,18 @@
+//! What the subcommands of the program `release` have in common over a repository: the documents that the arguments of `publish` name, why
+//! they were denied, and what is told of what is trusted.
+#![tactic(auto)]
+
+mod arguments;
+mod files;
+mod forgetting;
+mod standing;
+mod why;
+
+pub use arguments::{batch_of, documents_of, tell_argument};
+pub use command_support::{Denial, Fault, Notes};
+pub use files::{InputFile, read_all};
+pub use forgetting::{FORGETS, FORGOTTEN, NOT_TAKEN, forgets, root_version_of};
+pub use machine::Offer;
+pub use reasons::HeldFiles;
+pub use standing::{FirstExpiry, Versions, tell_standing};
+pub use why::{Holding, Offered, tell_first_root, tell_listed};

@@ -1,7 +1,0 @@
-use Rattle.sqlite.specs.Held.{state}
-use Rattle.tables.proofs.Migrated.{empties_root}
-use Rattle.tables.proofs.migrating.empty_root.Goals as goal
-
-pub returns-clause-wrote : goal.returns-clause-wrote
-returns-clause-wrote g c clean cells is =
-    empties_root (state g.S.Store c.args.tx.now.conn.now) (state g.S.Store c.execute.new.self.conn.now) c.in_ok-execute.field-0 cells is (c.in_ok-execute.ensures.runs clean is.tables.inside)

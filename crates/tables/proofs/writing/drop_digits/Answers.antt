@@ -1,7 +1,0 @@
-use Rattle.sqlite.specs.Held.{state}
-use Rattle.tables.proofs.Removals.{drops_blob}
-use Rattle.tables.proofs.writing.drop_digits.Goals as goal
-
-pub returns-clause-wrote : goal.returns-clause-wrote
-returns-clause-wrote g c clean cells is =
-    drops_blob (state g.S.Store c.args.tx.now.conn.now) (state g.S.Store c.execute.new.self.conn.now) c.args.digits.now c.in_ok-execute.field-0 cells is (c.in_ok-execute.ensures.runs clean is.tables.inside)

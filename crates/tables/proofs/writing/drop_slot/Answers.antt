@@ -1,7 +1,0 @@
-use Rattle.sqlite.specs.Held.{state}
-use Rattle.tables.proofs.Statements.{drops_slot}
-use Rattle.tables.proofs.writing.drop_slot.Goals as goal
-
-pub returns-clause-wrote : goal.returns-clause-wrote
-returns-clause-wrote g c clean cells is =
-    drops_slot (state g.S.Store c.args.tx.now.conn.now) (state g.S.Store c.execute.new.self.conn.now) c.args.slot.now c.in_ok-execute.field-0 cells is (rw c.params-to_sql.ensures at (c.in_ok-execute.ensures.runs clean is.tables.inside))
