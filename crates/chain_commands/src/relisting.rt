@@ -14,6 +14,13 @@ use path_patterns::are_hex_digits;
 use std::alloc::{AllocError, Global};
 use std::io::Write;
 
+// What is done with each target that has a layout.
+#[derive(Clone, Copy)]
+enum Task {
+    Relist { anew: bool },
+    See,
+}
+
 /// Lists the layouts and links of the folder as they stand, in the drafted targets metadata that refer to them. What has signatures is changed
 /// only where they are to be taken off.
 pub fn relist<E: Write>(
@@ -22,16 +29,7 @@ pub fn relist<E: Write>(
     anew: bool,
     notes: &mut Notes<'_, E>,
 ) -> Result<(), Fault> {
-    let names = folder.chain_files("layouts", notes)?;
-    if names.is_empty() {
-        return Ok(());
-    }
-    for role in &folder.roles(notes)? {
-        if kind_of(role.as_str()) == Kind::Targets {
-            relist_in(rt, folder, role.as_str(), &names, anew, notes)?;
-        }
-    }
-    Ok(())
+    over_folder(rt, folder, Task::Relist { anew }, notes)
 }
 
 /// What `relist` would change as the folder stands has no signatures. Nothing is written.
@@ -40,23 +38,34 @@ pub fn see_listable<E: Write>(
     folder: Folder<'_>,
     notes: &mut Notes<'_, E>,
 ) -> Result<(), Fault> {
+    over_folder(rt, folder, Task::See, notes)
+}
+
+// Does it in each role's drafted targets metadata, where the folder has layouts.
+fn over_folder<E: Write>(
+    rt: &HostRuntime,
+    folder: Folder<'_>,
+    task: Task,
+    notes: &mut Notes<'_, E>,
+) -> Result<(), Fault> {
     let names = folder.chain_files("layouts", notes)?;
     if names.is_empty() {
         return Ok(());
     }
     for role in &folder.roles(notes)? {
         if kind_of(role.as_str()) == Kind::Targets {
-            see_listable_in(rt, folder, role.as_str(), &names, notes)?;
+            over_draft(rt, folder, role.as_str(), &names, task, notes)?;
         }
     }
     Ok(())
 }
 
-fn see_listable_in<E: Write>(
+fn over_draft<E: Write>(
     rt: &HostRuntime,
     folder: Folder<'_>,
     role: &str,
     names: &[String],
+    task: Task,
     notes: &mut Notes<'_, E>,
 ) -> Result<(), Fault> {
     let bytes = folder.draft_or_none(role, notes)?;
@@ -69,63 +78,40 @@ fn see_listable_in<E: Write>(
                 role,
                 target: file.path.as_str(),
             };
-            if !is_listed(chain, &said, names, notes)? {
-                see_unsigned(rt.alloc(), role, Some(&bytes), false, notes)?;
-            }
+            over_target(chain, &said, &bytes, names, task, notes)?;
         }
     }
     Ok(())
 }
 
-// Whether the layout and the links of a target are listed as they stand.
-fn is_listed<E: Write>(
+// Does it where the layout and the links of the target are not listed as they stand.
+fn over_target<E: Write>(
     chain: Chain<'_>,
     said: &Said,
+    bytes: &[u8],
     names: &[String],
-    notes: &mut Notes<'_, E>,
-) -> Result<bool, Fault> {
-    let added = additions(chain, names, notes)?;
-    Ok(are_listed(said, &added) && is_referred(chain, &added, notes)?)
-}
-
-fn relist_in<E: Write>(
-    rt: &HostRuntime,
-    folder: Folder<'_>,
-    role: &str,
-    names: &[String],
-    anew: bool,
-    notes: &mut Notes<'_, E>,
-) -> Result<(), Fault> {
-    let bytes = folder.draft_or_none(role, notes)?;
-    let said = read_said(rt.alloc(), role, &bytes)?;
-    for file in &said.files {
-        if file.has_layout {
-            let chain = Chain {
-                rt,
-                folder,
-                role,
-                target: file.path.as_str(),
-            };
-            relist_one(chain, &said, names, anew, notes)?;
-        }
-    }
-    Ok(())
-}
-
-// Lists the layout and the links of one target, where one of them is another than what is listed.
-fn relist_one<E: Write>(
-    chain: Chain<'_>,
-    said: &Said,
-    names: &[String],
-    anew: bool,
+    task: Task,
     notes: &mut Notes<'_, E>,
 ) -> Result<(), Fault> {
     let added = additions(chain, names, notes)?;
     if are_listed(said, &added) && is_referred(chain, &added, notes)? {
         return Ok(());
     }
+    match task {
+        Task::Relist { anew } => relist_one(chain, &added, anew, notes),
+        Task::See => see_unsigned(chain.rt.alloc(), chain.role, Some(bytes), false, notes),
+    }
+}
+
+// Lists the layout and the links of one target.
+fn relist_one<E: Write>(
+    chain: Chain<'_>,
+    added: &[Addition],
+    anew: bool,
+    notes: &mut Notes<'_, E>,
+) -> Result<(), Fault> {
     let before = Before::of(chain.rt, chain.folder, chain.role, anew, notes)?;
-    relist_behind(chain, &before, &added, notes)
+    relist_behind(chain, &before, added, notes)
 }
 
 fn relist_behind<E: Write>(

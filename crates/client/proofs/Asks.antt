@@ -145,16 +145,16 @@ module _ {Src : Type 0} (gives : Gives Src) where
 
     fetch-new : (trusted : Type 0) (path : Bytes) (names : Names) (s t : Src) (C D : State) (r : Result Bytes Fault) → Fetches trusted gives now path names s C t D r
         → length names ≤ 194 → AsksNew names s t
-    fetch-new trusted path names s _ C _ _ (session.granted g) few = nothing-new names s few
-    fetch-new trusted path names s _ C _ _ (session.denied g m) few = nothing-new names s few
-    fetch-new trusted path names s _ C _ _ (session.again g m e) few = nothing-new names s few
-    fetch-new trusted path names s _ C _ _ (session.enough g m e) few = nothing-new names s few
-    fetch-new trusted path names s t C D _ (session.absent {w = w} g m e l h) few = one-new names w s t e l (takes-asks w s t C D _ h)
-    fetch-new trusted path names s t C D _ (session.fails {w = w} g m e l h) few = one-new names w s t e l (takes-asks w s t C D _ h)
+    fetch-new trusted path names s _ C _ _ (session.ends (session.granted g)) few = nothing-new names s few
+    fetch-new trusted path names s _ C _ _ (session.ends (session.denied g m)) few = nothing-new names s few
+    fetch-new trusted path names s _ C _ _ (session.ends (session.again g m e)) few = nothing-new names s few
+    fetch-new trusted path names s _ C _ _ (session.ends (session.enough g m e)) few = nothing-new names s few
+    fetch-new trusted path names s t C D _ (session.ends (session.absent {w = w} g m e l h)) few = one-new names w s t e l (takes-asks w s t C D _ h)
+    fetch-new trusted path names s t C D _ (session.ends (session.fails {w = w} g m e l h)) few = one-new names w s t e l (takes-asks w s t C D _ h)
     fetch-new trusted path names s u C E _ (session.further {t = t} {D = D} {w = w} {r = r} g m e l h more) few =
         then-new names w s t u e (takes-asks w s t C D _ h)
         (fetch-new trusted path (names ++ w.name ∷ []) t u D E r more (omega (arith, l, length-append names (w.name ∷ []))))
-    fetch-new trusted path names s _ C _ _ (session.unanswered f) few = nothing-new names s few
+    fetch-new trusted path names s _ C _ _ (session.ends (session.unanswered f)) few = nothing-new names s few
 
     pub fetch-asks : (trusted : Type 0) (path : Bytes) (s t : Src) (C D : State) (r : Result Bytes Fault) → Fetches trusted gives now path [] s C t D r → AsksOnce gives 194 s t
     fetch-asks trusted path s t C D r h =

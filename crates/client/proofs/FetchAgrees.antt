@@ -197,20 +197,20 @@ module _ (news : NewLaws) (grant : GrantLaws) (step : StepLaws) (shapes : Shapes
       absurd (none (wanted_blob t.0 digest len) (blob t.1))
 
   pub fetch_agrees : (names : Names) (s t : Src) (D E : State) (r : Result Bytes Fault) → Is s → Level S D path now names → Fetches trusted from now path names s D t E r → Agrees S E path now r
-  fetch_agrees names s _ D _ _ is level (session.granted {b = b} g) =
+  fetch_agrees names s _ D _ _ is level (session.ends (session.granted {b = b} g)) =
       let h = g trust in
       grant_agrees S D path now b (grant.same D S path None now (Ok b) level.part tt h) h
-  fetch_agrees names s _ D _ _ is level (session.denied {d = d} g none) = denied_agrees D names level d g none
-  fetch_agrees names s _ D _ _ is level (session.again g (role {role = r} {version = v} named) e) = absurd (row_again D names level r v g e)
-  fetch_agrees names s _ D _ _ is level (session.again g (blob {text = text} {path = at} {digest = digest} {len = len} asks) e) = absurd (file_again D names level at digest len g text asks e)
-  fetch_agrees names s _ D _ _ is level (session.enough g (role {role = r} {version = v} named) e) = absurd (row_enough D names level r v g e)
-  fetch_agrees names s _ D _ _ is level (session.enough g (blob {text = text} {path = at} {digest = digest} {len = len} asks) e) = absurd (file_enough D names level at digest len g text asks e)
-  fetch_agrees names s t D E _ is level (session.absent g (role {role = r} {version = v} named) e l h) = absurd (row_there D names level r v g E (row_arrives D names level r v g s t E (Ok false) is h).0)
-  fetch_agrees names s t D E _ is level (session.absent g (blob {text = text} {path = at} {digest = digest} {len = len} asks) e l h) =
+  fetch_agrees names s _ D _ _ is level (session.ends (session.denied {d = d} g none)) = denied_agrees D names level d g none
+  fetch_agrees names s _ D _ _ is level (session.ends (session.again g (role {role = r} {version = v} named) e)) = absurd (row_again D names level r v g e)
+  fetch_agrees names s _ D _ _ is level (session.ends (session.again g (blob {text = text} {path = at} {digest = digest} {len = len} asks) e)) = absurd (file_again D names level at digest len g text asks e)
+  fetch_agrees names s _ D _ _ is level (session.ends (session.enough g (role {role = r} {version = v} named) e)) = absurd (row_enough D names level r v g e)
+  fetch_agrees names s _ D _ _ is level (session.ends (session.enough g (blob {text = text} {path = at} {digest = digest} {len = len} asks) e)) = absurd (file_enough D names level at digest len g text asks e)
+  fetch_agrees names s t D E _ is level (session.ends (session.absent g (role {role = r} {version = v} named) e l h)) = absurd (row_there D names level r v g E (row_arrives D names level r v g s t E (Ok false) is h).0)
+  fetch_agrees names s t D E _ is level (session.ends (session.absent g (blob {text = text} {path = at} {digest = digest} {len = len} asks) e l h)) =
       file_absent D names level at digest len g text asks E (arrives from Is S now honest (wanted_blob text digest len) s t D E (Ok false) is h).0
-  fetch_agrees names s t D E _ is level (session.fails {fault = fault} g (role {role = r} {version = v} named) e l h) =
+  fetch_agrees names s t D E _ is level (session.ends (session.fails {fault = fault} g (role {role = r} {version = v} named) e l h)) =
       row_fails D names level r v g fault E (row_arrives D names level r v g s t E (Err fault) is h).0
-  fetch_agrees names s t D E _ is level (session.fails {fault = fault} g (blob {text = text} {path = at} {digest = digest} {len = len} asks) e l h) =
+  fetch_agrees names s t D E _ is level (session.ends (session.fails {fault = fault} g (blob {text = text} {path = at} {digest = digest} {len = len} asks) e l h)) =
       file_fails D names level at digest len g text asks fault E (arrives from Is S now honest (wanted_blob text digest len) s t D E (Err fault) is h).0
   fetch_agrees names s u D E r is level (session.further {t = t} {D = X} g (role {role = q} {version = v} named) e l h more) =
       let a = row_arrives D names level q v g s t X (Ok true) is h in
@@ -219,7 +219,7 @@ module _ (news : NewLaws) (grant : GrantLaws) (step : StepLaws) (shapes : Shapes
       let a = arrives from Is S now honest (wanted_blob text digest len) s t D X (Ok true) is h in
       fetch_agrees (names ++ (wanted_blob text digest len).name ∷ []) t u X E r a.1
       (file_further D names level at digest len g text asks X a.0 (arrives_valid step now _ _ D X (Ok true) level.valid a.0)) more
-  fetch_agrees names s _ D _ _ is level (session.unanswered {fault = fault} f) = want_agrees S D path now fault (unmade_wants fault f)
+  fetch_agrees names s _ D _ _ is level (session.ends (session.unanswered {fault = fault} f)) = want_agrees S D path now fault (unmade_wants fault f)
 
   misses_same : (D : State) (c : Denial) (n : ℕ) → grants D path None now (Err (orders.Denied c)) → grants D path None now (Err (orders.Denied (Plain n))) → (w : Wanted) → Misses c w → ⊥
   misses_same D c n k h w m = plain n w (subst (λ (x : Denial). Misses x w) (err_is c (Plain n) (grant.once D path None now (Err (orders.Denied c)) (Err (orders.Denied (Plain n))) k h)) m)
@@ -233,12 +233,12 @@ module _ (news : NewLaws) (grant : GrantLaws) (step : StepLaws) (shapes : Shapes
   -- where both deny the target, so ends the fetch
   pub fetch_denied : (names : Names) (s t : Src) (D E : State) (r : Result Bytes Fault) (d n : ℕ) → grants S path None now (Err (orders.Denied (Plain d))) → grants D path None now (Err (orders.Denied (Plain n)))
       → Fetches trusted from now path names s D t E r → Agrees S E path now r
-  fetch_denied names s _ D _ _ d n g h (session.granted {b = b} k) = absurd (ok_denied b (Plain n) (grant.once D path None now (Ok b) (Err (orders.Denied (Plain n))) (k trust) h))
-  fetch_denied names s _ D _ _ d n g h (session.denied {d = c} k l) =
+  fetch_denied names s _ D _ _ d n g h (session.ends (session.granted {b = b} k)) = absurd (ok_denied b (Plain n) (grant.once D path None now (Ok b) (Err (orders.Denied (Plain n))) (k trust) h))
+  fetch_denied names s _ D _ _ d n g h (session.ends (session.denied {d = c} k l)) =
       deny_agrees S D path now c (λ b x. ok_denied b (Plain d) (grant.once S path None now (Ok b) (Err (orders.Denied (Plain d))) x g)) (Plain n) h
-  fetch_denied names s _ D _ _ d n g h (session.again {d = c} {w = w} k m _) = absurd (misses_same D c n k h w m)
-  fetch_denied names s _ D _ _ d n g h (session.enough {d = c} {w = w} k m _) = absurd (misses_same D c n k h w m)
-  fetch_denied names s t D E _ d n g h (session.absent {d = c} {w = w} k m _ _ _) = absurd (misses_same D c n k h w m)
-  fetch_denied names s t D E _ d n g h (session.fails {d = c} {w = w} k m _ _ _) = absurd (misses_same D c n k h w m)
+  fetch_denied names s _ D _ _ d n g h (session.ends (session.again {d = c} {w = w} k m _)) = absurd (misses_same D c n k h w m)
+  fetch_denied names s _ D _ _ d n g h (session.ends (session.enough {d = c} {w = w} k m _)) = absurd (misses_same D c n k h w m)
+  fetch_denied names s t D E _ d n g h (session.ends (session.absent {d = c} {w = w} k m _ _ _)) = absurd (misses_same D c n k h w m)
+  fetch_denied names s t D E _ d n g h (session.ends (session.fails {d = c} {w = w} k m _ _ _)) = absurd (misses_same D c n k h w m)
   fetch_denied names s u D E r d n g h (session.further {d = c} {w = w} k m _ _ _ _) = absurd (misses_same D c n k h w m)
-  fetch_denied names s _ D _ _ d n g h (session.unanswered {fault = fault} f) = want_agrees S D path now fault (unmade_wants fault f)
+  fetch_denied names s _ D _ _ d n g h (session.ends (session.unanswered {fault = fault} f)) = want_agrees S D path now fault (unmade_wants fault f)

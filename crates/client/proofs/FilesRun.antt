@@ -109,15 +109,15 @@ module _ (law : Granted) {Src : Type 0} (from : Gives Src) (Is : Src → Type 0)
   brings_run s t C D _ is (agreement.fails h other) = update_runs s t C D _ is h
 
   fetch_runs : (trusted : Type 0) (path : Bytes) (names : Names) (s t : Src) (C D : State) (r : Result Bytes Fault) → Is s → Fetches trusted from now path names s C t D r → RunsOn (IsFileOf S) now C D
-  fetch_runs trusted path names s _ C _ _ is (session.granted g) = stays (IsFileOf S) now C
-  fetch_runs trusted path names s _ C _ _ is (session.denied g none_missing) = stays (IsFileOf S) now C
-  fetch_runs trusted path names s _ C _ _ is (session.again g m e) = stays (IsFileOf S) now C
-  fetch_runs trusted path names s _ C _ _ is (session.enough g m e) = stays (IsFileOf S) now C
-  fetch_runs trusted path names s t C D _ is (session.absent {d = d} {w = w} g m e l h) = takes_run w s t C D _ (missing_file d w m) is h
-  fetch_runs trusted path names s t C D _ is (session.fails {d = d} {w = w} g m e l h) = takes_run w s t C D _ (missing_file d w m) is h
+  fetch_runs trusted path names s _ C _ _ is (session.ends (session.granted g)) = stays (IsFileOf S) now C
+  fetch_runs trusted path names s _ C _ _ is (session.ends (session.denied g none_missing)) = stays (IsFileOf S) now C
+  fetch_runs trusted path names s _ C _ _ is (session.ends (session.again g m e)) = stays (IsFileOf S) now C
+  fetch_runs trusted path names s _ C _ _ is (session.ends (session.enough g m e)) = stays (IsFileOf S) now C
+  fetch_runs trusted path names s t C D _ is (session.ends (session.absent {d = d} {w = w} g m e l h)) = takes_run w s t C D _ (missing_file d w m) is h
+  fetch_runs trusted path names s t C D _ is (session.ends (session.fails {d = d} {w = w} g m e l h)) = takes_run w s t C D _ (missing_file d w m) is h
   fetch_runs trusted path names s u C E _ is (session.further {t = t} {D = D} {d = d} {w = w} {r = r} g m e l h more) =
       runs_then (IsFileOf S) now C D E (takes_run w s t C D _ (missing_file d w m) is h) (fetch_runs trusted path _ t u D E r (takes_is w s t C D _ is h) more)
-  fetch_runs trusted path names s _ C _ _ is (session.unanswered f) = stays (IsFileOf S) now C
+  fetch_runs trusted path names s _ C _ _ is (session.ends (session.unanswered f)) = stays (IsFileOf S) now C
 
   -- the state that a whole call leaves is that of a run of files of the server
   pub files_run : (trusted : Type 0) (path : Bytes) (s t : Src) (C D : State) (r : Result Bytes Fault) → Is s → BringsAndFetches trusted from now path s C t D r → RunsOn (IsFileOf S) now C D

@@ -10,7 +10,7 @@ use Rattle.trust_rules.specs.Grants.{grants}
 use Rattle.fetch.specs.Source.{Gives}
 use Rattle.store.specs.Standing.{IsClean, Standing}
 use Rattle.client.specs.Changes.{Changes}
-use Rattle.client.specs.Session.{Fetches, IsKnown, IsUnmade, Takes, granted, denied, again, enough, absent, fails, further, unanswered}
+use Rattle.client.specs.Session.{Fetches, IsKnown, IsUnmade, Takes, ends, granted, denied, again, enough, absent, fails, further, unanswered}
 use Rattle.client.specs.Taken.{IsTaking, RunsOn}
 use Rattle.client.specs.Views.{Fault, Denied, OutOfMemory, fetched}
 use Rattle.client.specs.declared.fault.ClientFault.{ClientFault}
@@ -41,41 +41,41 @@ module _ {Src : Type 0} (gives : Gives Src) (now : ℕ) (path : Bytes) (names : 
       → Changes A B (λ C D. (D ≡ C) × IsAsked (IsClean B) C path now asked) → Changes A B (λ C D. Fetches (IsClean B) gives now path names s C s D (Ok bytes.items))
   was_granted A B s asked bytes is h =
       becomes _ _ (subst (λ (a : Asked). Changes A B (λ C D. (D ≡ C) × IsAsked (IsClean B) C path now a)) is h)
-      (λ C D k. subst (λ x. Fetches (IsClean B) gives now path names s C s x (Ok bytes.items)) (sym k.0) (granted k.1))
+      (λ C D k. subst (λ x. Fetches (IsClean B) gives now path names s C s x (Ok bytes.items)) (sym k.0) (ends (granted k.1)))
 
   pub was_unmade : (A B : Standing) (s : Src) (fault : Fault) → IsUnmade fault → Changes A B (λ C D. D ≡ C)
       → Changes A B (λ C D. Fetches (IsClean B) gives now path names s C s D (Err fault))
-  was_unmade A B s fault is h = becomes _ _ h (λ C D k. subst (λ x. Fetches (IsClean B) gives now path names s C s x (Err fault)) (sym k) (unanswered is))
+  was_unmade A B s fault is h = becomes _ _ h (λ C D k. subst (λ x. Fetches (IsClean B) gives now path names s C s x (Err fault)) (sym k) (ends (unanswered is)))
 
   -- nothing is missing
   pub ends_denied : (A B : Standing) (s : Src) (d : orders.Denial) → ((w : Wanted) → Misses d w → ⊥) → Changes A B (Denies (IsClean B) path now d)
       → Changes A B (λ C D. Fetches (IsClean B) gives now path names s C s D (Err (Denied d)))
-  ends_denied A B s d none h = becomes _ _ h (λ C D k. subst (λ x. Fetches (IsClean B) gives now path names s C s x (Err (Denied d))) (sym k.0) (denied k.1 none))
+  ends_denied A B s d none h = becomes _ _ h (λ C D k. subst (λ x. Fetches (IsClean B) gives now path names s C s x (Err (Denied d))) (sym k.0) (ends (denied k.1 none)))
 
   -- no memory for the name
   pub ends_wanting : (A B : Standing) (s : Src) (d : orders.Denial) → Changes A B (Denies (IsClean B) path now d)
       → Changes A B (λ C D. Fetches (IsClean B) gives now path names s C s D (Err OutOfMemory))
-  ends_wanting A B s d h = becomes _ _ h (λ C D k. subst (λ x. Fetches (IsClean B) gives now path names s C s x (Err OutOfMemory)) (sym k.0) (unanswered tt))
+  ends_wanting A B s d h = becomes _ _ h (λ C D k. subst (λ x. Fetches (IsClean B) gives now path names s C s x (Err OutOfMemory)) (sym k.0) (ends (unanswered tt)))
 
   -- 194 names were fetched
   pub ends_enough : (A B : Standing) (s : Src) (d : orders.Denial) (w : Wanted) → Misses d w → length names ≡ 194 → Changes A B (Denies (IsClean B) path now d)
       → Changes A B (λ C D. Fetches (IsClean B) gives now path names s C s D (Err (Denied d)))
-  ends_enough A B s d w m e h = becomes _ _ h (λ C D k. subst (λ x. Fetches (IsClean B) gives now path names s C s x (Err (Denied d))) (sym k.0) (enough (k.1 (missing_known (IsClean B) C path now d w m)) m e))
+  ends_enough A B s d w m e h = becomes _ _ h (λ C D k. subst (λ x. Fetches (IsClean B) gives now path names s C s x (Err (Denied d))) (sym k.0) (ends (enough (k.1 (missing_known (IsClean B) C path now d w m)) m e)))
 
   -- the name was fetched before
   pub ends_again : (A B : Standing) (s : Src) (d : orders.Denial) (w : Wanted) → Misses d w → has_name names w.name ≡ true → Changes A B (Denies (IsClean B) path now d)
       → Changes A B (λ C D. Fetches (IsClean B) gives now path names s C s D (Err (Denied d)))
-  ends_again A B s d w m e h = becomes _ _ h (λ C D k. subst (λ x. Fetches (IsClean B) gives now path names s C s x (Err (Denied d))) (sym k.0) (again (k.1 (missing_known (IsClean B) C path now d w m)) m e))
+  ends_again A B s d w m e h = becomes _ _ h (λ C D k. subst (λ x. Fetches (IsClean B) gives now path names s C s x (Err (Denied d))) (sym k.0) (ends (again (k.1 (missing_known (IsClean B) C path now d w m)) m e)))
 
   module _ (A B E : Standing) (s t : Src) (d : orders.Denial) (w : Wanted) (m : Misses d w) (fresh : has_name names w.name ≡ false) (few : length names < 194)
       (h : Changes A B (Denies (IsClean B) path now d)) where
     -- the source has no such file
     pub ends_absent : Changes B E (λ C D. Takes gives now w s C t D (Ok false)) → Changes A E (λ C D. Fetches (IsClean E) gives now path names s C t D (Err (Denied d)))
-    ends_absent k = follows _ _ _ h k (λ C D F p q. absent (p.1 (missing_known (IsClean B) C path now d w m)) m fresh few (subst (λ x. Takes gives now w s x t F (Ok false)) p.0 q))
+    ends_absent k = follows _ _ _ h k (λ C D F p q. ends (absent (p.1 (missing_known (IsClean B) C path now d w m)) m fresh few (subst (λ x. Takes gives now w s x t F (Ok false)) p.0 q)))
 
     -- the file was not taken
     pub ends_failed : (fault : Fault) → Changes B E (λ C D. Takes gives now w s C t D (Err fault)) → Changes A E (λ C D. Fetches (IsClean E) gives now path names s C t D (Err fault))
-    ends_failed fault k = follows _ _ _ h k (λ C D F p q. fails (p.1 (missing_known (IsClean B) C path now d w m)) m fresh few (subst (λ x. Takes gives now w s x t F (Err fault)) p.0 q))
+    ends_failed fault k = follows _ _ _ h k (λ C D F p q. ends (fails (p.1 (missing_known (IsClean B) C path now d w m)) m fresh few (subst (λ x. Takes gives now w s x t F (Err fault)) p.0 q)))
 
     -- the file was taken
     goes_on : Changes B E (λ C D. Takes gives now w s C t D (Ok true)) → GoesOn A E gives now path names (names ++ w.name ∷ []) s t
@@ -91,7 +91,7 @@ module _ {Src : Type 0} (gives : Gives Src) (now : ℕ) (path : Bytes) (names : 
 
     -- and there was no memory to note its name
     pub ends_unnoted : Changes B E (λ C D. Takes gives now w s C t D (Ok true)) → Changes A E (λ C D. Fetches (IsClean E) gives now path names s C t D (Err OutOfMemory))
-    ends_unnoted k = follows _ _ _ h k (λ C D F p q. further (p.1 (missing_known (IsClean B) C path now d w m)) m fresh few (subst (λ x. Takes gives now w s x t F (Ok true)) p.0 q) (unanswered tt))
+    ends_unnoted k = follows _ _ _ h k (λ C D F p q. further (p.1 (missing_known (IsClean B) C path now d w m)) m fresh few (subst (λ x. Takes gives now w s x t F (Ok true)) p.0 q) (ends (unanswered tt)))
 
 -- ---- names
 

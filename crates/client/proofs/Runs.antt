@@ -87,27 +87,27 @@ module _ {Src : Type 0} (gives : Gives Src) (now : ℕ) where
 module _ (trusted : Type 0) {Src : Type 0} (gives : Gives Src) (now : ℕ) where
   -- and so is the state after a fetch
   pub fetch-runs : (path : Bytes) (names : Names) (s t : Src) (C D : State) (r : Result Bytes Fault) → Fetches trusted gives now path names s C t D r → RunsOn IsTaking now C D
-  fetch-runs path names s _ C _ _ (session.granted g) = stays IsTaking now C
-  fetch-runs path names s _ C _ _ (session.denied g none_missing) = stays IsTaking now C
-  fetch-runs path names s _ C _ _ (session.again g m e) = stays IsTaking now C
-  fetch-runs path names s _ C _ _ (session.enough g m e) = stays IsTaking now C
-  fetch-runs path names s t C D _ (session.absent {d = d} {w = w} g m e l h) = takes-runs gives now w s t C D _ (missing-taker d w m) h
-  fetch-runs path names s t C D _ (session.fails {d = d} {w = w} g m e l h) = takes-runs gives now w s t C D _ (missing-taker d w m) h
+  fetch-runs path names s _ C _ _ (session.ends (session.granted g)) = stays IsTaking now C
+  fetch-runs path names s _ C _ _ (session.ends (session.denied g none_missing)) = stays IsTaking now C
+  fetch-runs path names s _ C _ _ (session.ends (session.again g m e)) = stays IsTaking now C
+  fetch-runs path names s _ C _ _ (session.ends (session.enough g m e)) = stays IsTaking now C
+  fetch-runs path names s t C D _ (session.ends (session.absent {d = d} {w = w} g m e l h)) = takes-runs gives now w s t C D _ (missing-taker d w m) h
+  fetch-runs path names s t C D _ (session.ends (session.fails {d = d} {w = w} g m e l h)) = takes-runs gives now w s t C D _ (missing-taker d w m) h
   fetch-runs path names s u C E _ (session.further {t = t} {D = D} {d = d} {w = w} {r = r} g m e l h more) =
       runs_then IsTaking now C D E (takes-runs gives now w s t C D _ (missing-taker d w m) h) (fetch-runs path _ t u D E r more)
-  fetch-runs path names s _ C _ _ (session.unanswered f) = stays IsTaking now C
+  fetch-runs path names s _ C _ _ (session.ends (session.unanswered f)) = stays IsTaking now C
 
   -- bytes that a fetch answers are granted by the state that it leaves
   pub fetch-granted : trusted → (path : Bytes) (names : Names) (s t : Src) (C D : State) (r : Result Bytes Fault) (b : Bytes) → Fetches trusted gives now path names s C t D r → r ≡ Ok b
       → grants D path None now (Ok b)
-  fetch-granted sure path names s _ C _ _ b (session.granted {b = a} g) e = subst (λ x. grants C path None now (Ok x)) (ok-inj a b e) (g sure)
+  fetch-granted sure path names s _ C _ _ b (session.ends (session.granted {b = a} g)) e = subst (λ x. grants C path None now (Ok x)) (ok-inj a b e) (g sure)
     where
       ok-inj : (a b : Bytes) → ◌≡◌ {A = Result Bytes Fault} (Ok a) (Ok b) → a ≡ b
       ok-inj a b e = cc
-  fetch-granted sure path names s _ C _ _ b (session.denied g none_missing) e = absurd cc
-  fetch-granted sure path names s _ C _ _ b (session.again g m k) e = absurd cc
-  fetch-granted sure path names s _ C _ _ b (session.enough g m k) e = absurd cc
-  fetch-granted sure path names s t C D _ b (session.absent g m k l h) e = absurd cc
-  fetch-granted sure path names s t C D _ b (session.fails g m k l h) e = absurd cc
+  fetch-granted sure path names s _ C _ _ b (session.ends (session.denied g none_missing)) e = absurd cc
+  fetch-granted sure path names s _ C _ _ b (session.ends (session.again g m k)) e = absurd cc
+  fetch-granted sure path names s _ C _ _ b (session.ends (session.enough g m k)) e = absurd cc
+  fetch-granted sure path names s t C D _ b (session.ends (session.absent g m k l h)) e = absurd cc
+  fetch-granted sure path names s t C D _ b (session.ends (session.fails g m k l h)) e = absurd cc
   fetch-granted sure path names s u C E _ b (session.further {t = t} {D = D} {r = r} g m k l h more) e = fetch-granted sure path _ t u D E r b more e
-  fetch-granted sure path names s _ C _ _ b (session.unanswered f) e = absurd cc
+  fetch-granted sure path names s _ C _ _ b (session.ends (session.unanswered f)) e = absurd cc

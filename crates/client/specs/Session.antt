@@ -92,23 +92,33 @@ module _ {Src : Type 0} (gives : Gives Src) (now : ℕ) where
 abbrev pub IsKnown : Type 0 → State → Bytes → ℕ → orders.Denial → Type 0
 IsKnown trusted C path now d = IsTrue (is_by_layout d) → HasLayout C.trusted path now → trusted
 
+-- the state denies the target
+abbrev pub DeniesAt : State → Bytes → ℕ → orders.Denial → Type 0
+DeniesAt C path now d = grants C path None now (Err (orders.Denied d))
+
 -- A fetch behind these names: it asks for the target, takes the file that is missing, and asks again. The bytes of a target, and those of its
 -- layout, are read from the disk when they are asked for, so where its answers are not to be trusted, it is not known that the state grants
 -- them, or denies them.
 module _ (trusted : Type 0) {Src : Type 0} (gives : Gives Src) (now : ℕ) where
+  -- it ends without one file more
+  pub data Ends (path : Bytes) (names : Names) (s : Src) (C : State) : Src → State → Result Bytes Fault → Type 0 where
+    -- no file is missing
+    granted : {b : Bytes} → (trusted → grants C path None now (Ok b)) → Ends path names s C s C (Ok b)
+    denied : {d : orders.Denial} → (IsKnown trusted C path now d → DeniesAt C path now d) → ((w : Wanted) → Misses d w → ⊥) → Ends path names s C s C (Err (Denied d))
+    -- a file is missing that was asked for, or there were enough
+    again : {d : orders.Denial} {w : Wanted} → DeniesAt C path now d → Misses d w → has_name names w.name ≡ true → Ends path names s C s C (Err (Denied d))
+    enough : {d : orders.Denial} {w : Wanted} → DeniesAt C path now d → Misses d w → length names ≡ max_names → Ends path names s C s C (Err (Denied d))
+    -- the source does not have it, or it is not taken
+    absent : {t : Src} {D : State} {d : orders.Denial} {w : Wanted} → DeniesAt C path now d → Misses d w → has_name names w.name ≡ false → length names < max_names
+        → Takes gives now w s C t D (Ok false) → Ends path names s C t D (Err (Denied d))
+    fails : {t : Src} {D : State} {d : orders.Denial} {w : Wanted} {fault : Fault} → DeniesAt C path now d → Misses d w → has_name names w.name ≡ false → length names < max_names
+        → Takes gives now w s C t D (Err fault) → Ends path names s C t D (Err fault)
+    -- the database or memory failed
+    unanswered : {fault : Fault} → IsUnmade fault → Ends path names s C s C (Err fault)
+
   pub data Fetches (path : Bytes) : Names → Src → State → Src → State → Result Bytes Fault → Type 0 where
-    granted : {names : Names} {s : Src} {C : State} {b : Bytes} → (trusted → grants C path None now (Ok b)) → Fetches path names s C s C (Ok b)
-    denied : {names : Names} {s : Src} {C : State} {d : orders.Denial} → (IsKnown trusted C path now d → grants C path None now (Err (orders.Denied d)))
-        → ((w : Wanted) → Misses d w → ⊥) → Fetches path names s C s C (Err (Denied d))
-    again : {names : Names} {s : Src} {C : State} {d : orders.Denial} {w : Wanted} → grants C path None now (Err (orders.Denied d)) → Misses d w
-        → has_name names w.name ≡ true → Fetches path names s C s C (Err (Denied d))
-    enough : {names : Names} {s : Src} {C : State} {d : orders.Denial} {w : Wanted} → grants C path None now (Err (orders.Denied d)) → Misses d w
-        → length names ≡ max_names → Fetches path names s C s C (Err (Denied d))
-    absent : {names : Names} {s t : Src} {C D : State} {d : orders.Denial} {w : Wanted} → grants C path None now (Err (orders.Denied d)) → Misses d w
-        → has_name names w.name ≡ false → length names < max_names → Takes gives now w s C t D (Ok false) → Fetches path names s C t D (Err (Denied d))
-    fails : {names : Names} {s t : Src} {C D : State} {d : orders.Denial} {w : Wanted} {fault : Fault} → grants C path None now (Err (orders.Denied d)) → Misses d w
-        → has_name names w.name ≡ false → length names < max_names → Takes gives now w s C t D (Err fault) → Fetches path names s C t D (Err fault)
+    ends : {names : Names} {s t : Src} {C D : State} {r : Result Bytes Fault} → Ends path names s C t D r → Fetches path names s C t D r
+    -- the missing file is taken, and the fetch goes on behind one name more
     further : {names : Names} {s t u : Src} {C D E : State} {d : orders.Denial} {w : Wanted} {r : Result Bytes Fault}
-        → grants C path None now (Err (orders.Denied d)) → Misses d w → has_name names w.name ≡ false → length names < max_names
+        → DeniesAt C path now d → Misses d w → has_name names w.name ≡ false → length names < max_names
         → Takes gives now w s C t D (Ok true) → Fetches path (names ++ w.name ∷ []) t D u E r → Fetches path names s C u E r
-    unanswered : {names : Names} {s : Src} {C : State} {fault : Fault} → IsUnmade fault → Fetches path names s C s C (Err fault)

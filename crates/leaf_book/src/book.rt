@@ -1,18 +1,16 @@
 //! The book: its keys and the leaf history, whose rows the tables hold.
-ghost use Rattle.std.specs.Prelude.{◌≡◌, ◌⊎◌, map, IfErr, IsTrue, MatchOption, OnErr, OnOk};
+ghost use Rattle.std.specs.Prelude.{◌≡◌, map, IfErr, IsTrue, MatchOption, OnErr, OnOk};
 ghost use Rattle.lms.specs.declared.Params.{Params};
 ghost use Rattle.sqlite.specs.Held.{state};
 ghost use Rattle.sqlite.specs.State.{HasCleanDisk, Survives};
-ghost use Rattle.sqlite_trees.specs.Tree.{Trees};
 ghost use Rattle.sql_tables.specs.Outliving.{Outlives, StaysOpen};
 ghost use Rattle.lms.specs.Keys.{leaf_count};
 ghost use Rattle.keys_roles.specs.Keys.{id_of};
 ghost use Rattle.keys_roles.specs.Views.{id_text, key_view};
-ghost use Rattle.leaf_plans.specs.Book as plain;
 ghost use Rattle.leaf_plans.specs.Book.{IsBook, IsLeastUnused, IsRegistered, LacksMessage, key_of, with_leaf, with_signer};
 ghost use Rattle.leaf_book.specs.Calls.{Registers, Reserves};
 ghost use Rattle.leaf_book.specs.Faults.{IsOutside};
-ghost use Rattle.leaf_book.specs.Rows.{HoldsWhole, IsRecorded};
+ghost use Rattle.leaf_book.specs.Standing.{CrashLeaves, CrashLeavesEither, LeavesOnly, RestsOn, StaysClean, WasOpen};
 ghost use Rattle.leaf_plans.specs.Views.{book_view, kept_view};
 ghost use Rattle.leaf_book.specs.Views.{id_answer};
 ghost use Rattle.leaf_plans.specs.Planning.{IsPlan};
@@ -39,11 +37,9 @@ pub struct Book<S: Alter> {
 }
 
 impl<S: Alter> Model for Book<S> {
-    ghost use Rattle.std.specs.Prelude.{IsTrue};
     ghost use Rattle.sqlite.specs.Held.{state};
-    ghost use Rattle.sqlite.specs.State.{HasCleanDisk};
     ghost use Rattle.leaf_plans.specs.Book.{IsBook};
-    ghost use Rattle.leaf_book.specs.Rows.{IsRecorded};
+    ghost use Rattle.leaf_book.specs.Standing.{RestsOn};
     ghost use Rattle.leaf_plans.specs.Views.{book_view};
     ghost use Rattle.leaf_book.specs.Views.{Shown, shown_code};
 
@@ -53,7 +49,7 @@ impl<S: Alter> Model for Book<S> {
 
     ghost view = { λ b. record { conn = b.conn; book = book_view b.signers.items b.leaves.items } };
 
-    ghost invariant = { λ b. IsBook (book_view b.signers.items b.leaves.items) × (HasCleanDisk (state S.Store b.conn) → IsTrue (state S.Store b.conn).is_open → IsRecorded (state S.Store b.conn) (book_view b.signers.items b.leaves.items)) };
+    ghost invariant = { λ b. IsBook (book_view b.signers.items b.leaves.items) × RestsOn (state S.Store b.conn) (book_view b.signers.items b.leaves.items) };
 }
 
 impl<S: Alter> Book<S> {
@@ -65,7 +61,7 @@ impl<S: Alter> Book<S> {
         leaves: Vec<LeafRow>,
     ) -> Book<S>
         requires right { IsBook (book_view signers.items leaves.items) }
-        requires rows { HasCleanDisk (state S.Store conn) → IsTrue (state S.Store conn).is_open → IsRecorded (state S.Store conn) (book_view signers.items leaves.items) }
+        requires rows { RestsOn (state S.Store conn) (book_view signers.items leaves.items) }
         ensures conn { result.conn ≡ conn }
         ensures book { result.book ≡ book_view signers.items leaves.items }
     {
@@ -86,14 +82,13 @@ impl<S: Alter> Book<S> {
     /// - `OutOfMemory`: memory was refused.
     pub fn register(&mut self, seed: &Seed, params: Params) -> Result<KeyId, BookFault>
         ensures registers { Registers self.old.book seed.now params (id_answer result) self.new.book }
-        ensures rows { HasCleanDisk (state S.Store self.new.conn) → IsTrue (state S.Store self.new.conn).is_open → IsRecorded (state S.Store self.new.conn) self.new.book }
+        ensures rows { RestsOn (state S.Store self.new.conn) self.new.book }
         ensures right { IsBook self.new.book }
-        ensures clean { HasCleanDisk (state S.Store self.new.conn) → HasCleanDisk (state S.Store self.old.conn) }
-        ensures live { HasCleanDisk (state S.Store self.new.conn) → OnOk result (IsTrue (state S.Store self.old.conn).is_open × IsTrue (state S.Store self.new.conn).is_open) }
+        ensures clean { StaysClean (state S.Store self.old.conn) (state S.Store self.new.conn) }
+        ensures live { WasOpen (state S.Store self.old.conn) (state S.Store self.new.conn) result }
         ensures stays { StaysOpen (state S.Store self.old.conn) (state S.Store self.new.conn) }
-        ensures crash { HasCleanDisk (state S.Store self.new.conn) → IsTrue (state S.Store self.old.conn).is_open → (trees : Trees) → (state S.Store self.new.conn).may_leave trees
-            → HoldsWhole trees self.old.book ⊎ ((r : _) × (c : plain.Book) × Registers self.old.book seed.now params r c × HoldsWhole trees c) }
-        ensures durable { HasCleanDisk (state S.Store self.new.conn) → IsTrue (state S.Store self.new.conn).is_open → (trees : Trees) → (state S.Store self.new.conn).may_leave trees → HoldsWhole trees self.new.book }
+        ensures crash { CrashLeaves (state S.Store self.old.conn) (state S.Store self.new.conn) self.old.book (Registers self.old.book seed.now params) }
+        ensures durable { LeavesOnly (state S.Store self.new.conn) self.new.book }
     {
         let key = key_by(self.alloc(), &Key::Lms(public_of(seed, params)));
         let result = self.enter(key, seed, params);
@@ -104,14 +99,13 @@ impl<S: Alter> Book<S> {
     /// The same of a key pair whose tree is hashed already.
     pub fn register_pair(&mut self, pair: &KeyPair) -> Result<KeyId, BookFault>
         ensures registers { Registers self.old.book pair.now.seed pair.now.params (id_answer result) self.new.book }
-        ensures rows { HasCleanDisk (state S.Store self.new.conn) → IsTrue (state S.Store self.new.conn).is_open → IsRecorded (state S.Store self.new.conn) self.new.book }
+        ensures rows { RestsOn (state S.Store self.new.conn) self.new.book }
         ensures right { IsBook self.new.book }
-        ensures clean { HasCleanDisk (state S.Store self.new.conn) → HasCleanDisk (state S.Store self.old.conn) }
-        ensures live { HasCleanDisk (state S.Store self.new.conn) → OnOk result (IsTrue (state S.Store self.old.conn).is_open × IsTrue (state S.Store self.new.conn).is_open) }
+        ensures clean { StaysClean (state S.Store self.old.conn) (state S.Store self.new.conn) }
+        ensures live { WasOpen (state S.Store self.old.conn) (state S.Store self.new.conn) result }
         ensures stays { StaysOpen (state S.Store self.old.conn) (state S.Store self.new.conn) }
-        ensures crash { HasCleanDisk (state S.Store self.new.conn) → IsTrue (state S.Store self.old.conn).is_open → (trees : Trees) → (state S.Store self.new.conn).may_leave trees
-            → HoldsWhole trees self.old.book ⊎ ((r : _) × (c : plain.Book) × Registers self.old.book pair.now.seed pair.now.params r c × HoldsWhole trees c) }
-        ensures durable { HasCleanDisk (state S.Store self.new.conn) → IsTrue (state S.Store self.new.conn).is_open → (trees : Trees) → (state S.Store self.new.conn).may_leave trees → HoldsWhole trees self.new.book }
+        ensures crash { CrashLeaves (state S.Store self.old.conn) (state S.Store self.new.conn) self.old.book (Registers self.old.book pair.now.seed pair.now.params) }
+        ensures durable { LeavesOnly (state S.Store self.new.conn) self.new.book }
     {
         let key = key_by(self.alloc(), &Key::Lms(pair.public()));
         let result = self.enter(key, pair.seed(), pair.params());
@@ -130,14 +124,13 @@ impl<S: Alter> Book<S> {
     /// - `OutOfMemory`: memory was refused.
     pub fn reserve(&mut self, key: &KeyId, message: &[u8]) -> Result<Leaf, BookFault>
         ensures reserves { Reserves self.old.book (id_text key.now) message.now result self.new.book }
-        ensures rows { HasCleanDisk (state S.Store self.new.conn) → IsTrue (state S.Store self.new.conn).is_open → IsRecorded (state S.Store self.new.conn) self.new.book }
+        ensures rows { RestsOn (state S.Store self.new.conn) self.new.book }
         ensures right { IsBook self.new.book }
-        ensures clean { HasCleanDisk (state S.Store self.new.conn) → HasCleanDisk (state S.Store self.old.conn) }
-        ensures live { HasCleanDisk (state S.Store self.new.conn) → OnOk result (IsTrue (state S.Store self.old.conn).is_open × IsTrue (state S.Store self.new.conn).is_open) }
+        ensures clean { StaysClean (state S.Store self.old.conn) (state S.Store self.new.conn) }
+        ensures live { WasOpen (state S.Store self.old.conn) (state S.Store self.new.conn) result }
         ensures stays { StaysOpen (state S.Store self.old.conn) (state S.Store self.new.conn) }
-        ensures crash { HasCleanDisk (state S.Store self.new.conn) → IsTrue (state S.Store self.old.conn).is_open → (trees : Trees) → (state S.Store self.new.conn).may_leave trees
-            → HoldsWhole trees self.old.book ⊎ ((r : _) × (c : plain.Book) × Reserves self.old.book (id_text key.now) message.now r c × HoldsWhole trees c) }
-        ensures durable { HasCleanDisk (state S.Store self.new.conn) → IsTrue (state S.Store self.new.conn).is_open → (trees : Trees) → (state S.Store self.new.conn).may_leave trees → HoldsWhole trees self.new.book }
+        ensures crash { CrashLeaves (state S.Store self.old.conn) (state S.Store self.new.conn) self.old.book (Reserves self.old.book (id_text key.now) message.now) }
+        ensures durable { LeavesOnly (state S.Store self.new.conn) self.new.book }
     {
         let result = self.take(key, message);
         self.rests();
@@ -168,9 +161,8 @@ impl<S: Alter> Book<S> {
     // A law, which does nothing: the rows are those of the book, and a crash leaves just these, in both tables.
     pub(crate) fn rests(&self)
         ensures right { IsBook self.now.book }
-        ensures rows { HasCleanDisk (state S.Store self.now.conn) → IsTrue (state S.Store self.now.conn).is_open → IsRecorded (state S.Store self.now.conn) self.now.book }
-        ensures left { HasCleanDisk (state S.Store self.now.conn) → IsTrue (state S.Store self.now.conn).is_open
-            → (trees : Trees) → (state S.Store self.now.conn).may_leave trees → HoldsWhole trees self.now.book }
+        ensures rows { RestsOn (state S.Store self.now.conn) self.now.book }
+        ensures left { LeavesOnly (state S.Store self.now.conn) self.now.book }
     {
         let _ = self.conn.schema();
     }
@@ -178,7 +170,7 @@ impl<S: Alter> Book<S> {
     // Asks the database for one column, so that nothing is answered from memory where the connection is shut.
     fn touch(&mut self) -> Result<(), BookFault>
         ensures same { self.new.book ≡ self.old.book }
-        ensures open { HasCleanDisk (state S.Store self.new.conn) → OnOk result (IsTrue (state S.Store self.old.conn).is_open × IsTrue (state S.Store self.new.conn).is_open) }
+        ensures open { WasOpen (state S.Store self.old.conn) (state S.Store self.new.conn) result }
         ensures survives { Survives (state S.Store self.old.conn) (state S.Store self.new.conn) (λ _. ⊥) }
         ensures fault { IfErr result IsOutside }
     {
@@ -193,9 +185,8 @@ impl<S: Alter> Book<S> {
         ensures kept { OnErr result (self.new.book ≡ self.old.book) }
         ensures live { HasCleanDisk (state S.Store self.new.conn) → IsTrue (state S.Store self.old.conn).is_open → OnOk result (IsTrue (state S.Store self.new.conn).is_open) }
         ensures outlives { Outlives (state S.Store self.old.conn) (state S.Store self.new.conn) }
-        ensures crash { HasCleanDisk (state S.Store self.new.conn) → IsTrue (state S.Store self.old.conn).is_open → (trees : Trees) → (state S.Store self.new.conn).may_leave trees
-            → HoldsWhole trees self.old.book ⊎ HoldsWhole trees (with_signer (id_text key.now) params self.old.book) }
-        ensures clean { HasCleanDisk (state S.Store self.new.conn) → HasCleanDisk (state S.Store self.old.conn) }
+        ensures crash { CrashLeavesEither (state S.Store self.old.conn) (state S.Store self.new.conn) self.old.book (with_signer (id_text key.now) params self.old.book) }
+        ensures clean { StaysClean (state S.Store self.old.conn) (state S.Store self.new.conn) }
         ensures fault { IfErr result IsOutside }
     {
         self.rests();
@@ -214,9 +205,8 @@ impl<S: Alter> Book<S> {
         ensures kept { OnErr result (self.new.book ≡ self.old.book) }
         ensures live { HasCleanDisk (state S.Store self.new.conn) → IsTrue (state S.Store self.old.conn).is_open → OnOk result (IsTrue (state S.Store self.new.conn).is_open) }
         ensures outlives { Outlives (state S.Store self.old.conn) (state S.Store self.new.conn) }
-        ensures crash { HasCleanDisk (state S.Store self.new.conn) → IsTrue (state S.Store self.old.conn).is_open → (trees : Trees) → (state S.Store self.new.conn).may_leave trees
-            → HoldsWhole trees self.old.book ⊎ HoldsWhole trees (with_leaf (id_text key.now) leaf message.now self.old.book) }
-        ensures clean { HasCleanDisk (state S.Store self.new.conn) → HasCleanDisk (state S.Store self.old.conn) }
+        ensures crash { CrashLeavesEither (state S.Store self.old.conn) (state S.Store self.new.conn) self.old.book (with_leaf (id_text key.now) leaf message.now self.old.book) }
+        ensures clean { StaysClean (state S.Store self.old.conn) (state S.Store self.new.conn) }
         ensures fault { IfErr result IsOutside }
     {
         self.rests();
@@ -251,11 +241,10 @@ impl<S: Alter> Book<S> {
     fn enter(&mut self, key: KeyId, seed: &Seed, params: Params) -> Result<KeyId, BookFault>
         requires { id_text key ≡ key_of seed.now params }
         ensures registers { Registers self.old.book seed.now params (id_answer result) self.new.book }
-        ensures clean { HasCleanDisk (state S.Store self.new.conn) → HasCleanDisk (state S.Store self.old.conn) }
-        ensures live { HasCleanDisk (state S.Store self.new.conn) → OnOk result (IsTrue (state S.Store self.old.conn).is_open × IsTrue (state S.Store self.new.conn).is_open) }
+        ensures clean { StaysClean (state S.Store self.old.conn) (state S.Store self.new.conn) }
+        ensures live { WasOpen (state S.Store self.old.conn) (state S.Store self.new.conn) result }
         ensures outlives { Outlives (state S.Store self.old.conn) (state S.Store self.new.conn) }
-        ensures crash { HasCleanDisk (state S.Store self.new.conn) → IsTrue (state S.Store self.old.conn).is_open → (trees : Trees) → (state S.Store self.new.conn).may_leave trees
-            → HoldsWhole trees self.old.book ⊎ ((r : _) × (c : plain.Book) × Registers self.old.book seed.now params r c × HoldsWhole trees c) }
+        ensures crash { CrashLeaves (state S.Store self.old.conn) (state S.Store self.new.conn) self.old.book (Registers self.old.book seed.now params) }
     {
         self.rests();
         match self.touch() {
@@ -276,11 +265,10 @@ impl<S: Alter> Book<S> {
     // Reserves a leaf.
     fn take(&mut self, key: &KeyId, message: &[u8]) -> Result<Leaf, BookFault>
         ensures reserves { Reserves self.old.book (id_text key.now) message.now result self.new.book }
-        ensures clean { HasCleanDisk (state S.Store self.new.conn) → HasCleanDisk (state S.Store self.old.conn) }
-        ensures live { HasCleanDisk (state S.Store self.new.conn) → OnOk result (IsTrue (state S.Store self.old.conn).is_open × IsTrue (state S.Store self.new.conn).is_open) }
+        ensures clean { StaysClean (state S.Store self.old.conn) (state S.Store self.new.conn) }
+        ensures live { WasOpen (state S.Store self.old.conn) (state S.Store self.new.conn) result }
         ensures outlives { Outlives (state S.Store self.old.conn) (state S.Store self.new.conn) }
-        ensures crash { HasCleanDisk (state S.Store self.new.conn) → IsTrue (state S.Store self.old.conn).is_open → (trees : Trees) → (state S.Store self.new.conn).may_leave trees
-            → HoldsWhole trees self.old.book ⊎ ((r : _) × (c : plain.Book) × Reserves self.old.book (id_text key.now) message.now r c × HoldsWhole trees c) }
+        ensures crash { CrashLeaves (state S.Store self.old.conn) (state S.Store self.new.conn) self.old.book (Reserves self.old.book (id_text key.now) message.now) }
     {
         self.rests();
         match self.touch() {

@@ -1,16 +1,14 @@
 // Opening: the tables are made, or what they hold is read.
-ghost use Rattle.std.specs.Prelude.{◌≡◌, ◌≢◌, ◌<◌, ◌⊎◌, ℕ, [], true, false, Err, IfOk, OnOk, IsTrue};
-ghost use Rattle.sqlite.specs.State.{HasCleanDisk, IsLive, KeepsCommit, Survives};
+ghost use Rattle.std.specs.Prelude.{◌≡◌, ◌≢◌, ◌<◌, ◌⊎◌, ℕ, true, false, Err, IfOk, OnOk, IsTrue};
+ghost use Rattle.sqlite.specs.State.{HasCleanDisk, IsLive, Survives};
 ghost use Rattle.sqlite.specs.Held.{state};
-ghost use Rattle.table_rows.specs.Schema.{beginning, held, IsBeginning};
 ghost use Rattle.repository_rows.specs.Contents as plain;
 ghost use Rattle.repository_rows.specs.Contents.{no_rows};
-ghost use Rattle.table_rows.specs.Tables.{HoldsWhole, HaveDigests, IsStore, IsFit, AreBare, Stands, StandsFor};
+ghost use Rattle.table_rows.specs.Schema.{beginning, held, HasSome, IsBeginning};
+ghost use Rattle.table_rows.specs.Tables.{AreBare, HoldsWhole, IsStore, StandsFor};
 ghost use Rattle.table_rows.specs.Reading.{IsReadAs};
-ghost use Rattle.repository_tables.specs.Opening.{IsSettled, StandsEmpty};
 ghost use Rattle.repository_tables.specs.Migration.{IsEarlier};
-ghost use Rattle.table_rows.specs.Reading.{HoldsAs, IsUnbegun};
-ghost use Rattle.table_rows.specs.Schema.{HasSome};
+ghost use Rattle.repository_tables.specs.Opening.{BeginsAt, FoundOpen, IsEmpty, IsSettled, KeptDamaged, StandsEmpty, StoodFor, StoodForNone, WasOpen, six_of};
 
 use crate::completing::complete;
 use crate::making::begin;
@@ -35,11 +33,12 @@ fn begin_bare<S: Alter>(
     requires { conn.old.in_transaction ≡ false }
     ensures autocommit { conn.new.in_transaction ≡ false }
     ensures bare { OnOk result (is_bare ≡ true) }
-    ensures begun { HasCleanDisk (state S.Store conn.new) → HasSome count (state S.Store conn.old).now.schema → AreBare (held (state S.Store conn.old).now.schema (state S.Store conn.old).now.trees) → OnOk result (IsStore (state S.Store conn.new) no_rows) }
+    ensures begun { HasCleanDisk (state S.Store conn.new) → HasSome count (state S.Store conn.old).now.schema → IsEmpty (state S.Store conn.old)
+        → OnOk result (IsStore (state S.Store conn.new) no_rows) }
     ensures damaged { result ≡ Err StoreFault.Damaged → is_bare ≡ false }
     ensures told { is_bare ≡ false → (result ≡ Err StoreFault.Damaged) × (conn.new ≡ conn.old) }
     ensures crash { Survives (state S.Store conn.old) (state S.Store conn.new) (λ trees. (is_bare ≡ true) × IsTrue (state S.Store conn.old).is_open
-        × (HasSome count (state S.Store conn.old).now.schema → AreBare (held (state S.Store conn.old).now.schema (state S.Store conn.old).now.trees) → HoldsWhole trees no_rows)) }
+        × (HasSome count (state S.Store conn.old).now.schema → IsEmpty (state S.Store conn.old) → HoldsWhole trees no_rows)) }
 {
     if !is_bare {
         return Err(StoreFault::Damaged);
@@ -65,16 +64,13 @@ fn load<S: Alter>(
 ) -> Result<(MetadataRows, Vec<([u8; 32], usize)>, bool), StoreFault>
     requires { conn.old.in_transaction ≡ false }
     ensures autocommit { conn.new.in_transaction ≡ false }
-    ensures loaded { IfOk result (λ r. (t : plain.Contents) × IsReadAs r.0 r.1.items t
-        × (HasCleanDisk (state S.Store conn.new) → IsSettled (state S.Store conn.old) → HasSome count (state S.Store conn.old).now.schema → IsLive (state S.Store conn.old)
-        → StandsFor (held (state S.Store conn.old).now.schema (state S.Store conn.old).now.trees) t × (r.2 ≡ false → IsStore (state S.Store conn.new) t) × (r.2 ≡ true → IsEarlier (state S.Store conn.new) t))) }
-    ensures was_open { HasCleanDisk (state S.Store conn.new) → HasSome count (state S.Store conn.old).now.schema → OnOk result (IsTrue (state S.Store conn.old).is_open) }
-    ensures found_open { HasCleanDisk (state S.Store conn.new) → HasSome count (state S.Store conn.old).now.schema → result ≡ Err StoreFault.Damaged → IsTrue (state S.Store conn.old).is_open }
-    ensures damaged { HasCleanDisk (state S.Store conn.new) → HasSome count (state S.Store conn.old).now.schema → IsLive (state S.Store conn.old) → result ≡ Err StoreFault.Damaged
-        → (t : plain.Contents) → IsFit t → HaveDigests t → StandsFor (held (state S.Store conn.old).now.schema (state S.Store conn.old).now.trees) t → ⊥ }
-    ensures kept { HasCleanDisk (state S.Store conn.new) → HasSome count (state S.Store conn.old).now.schema → result ≡ Err StoreFault.Damaged → KeepsCommit (state S.Store conn.old) (state S.Store conn.new) }
-    ensures crash { IsLive (state S.Store conn.old) → Survives (state S.Store conn.old) (state S.Store conn.new) (λ trees. HasSome count (state S.Store conn.old).now.schema
-        → IsTrue (state S.Store conn.old).is_open × AreBare (held (state S.Store conn.old).now.schema (state S.Store conn.old).now.trees) × HoldsWhole trees no_rows) }
+    ensures loaded { IfOk result (λ r. (t : plain.Contents) × IsReadAs r.0 r.1.items t × (HasSome count (state S.Store conn.old).now.schema → IsLive (state S.Store conn.old) → HasCleanDisk (state S.Store conn.new)
+        → IsSettled (state S.Store conn.old) → StandsFor (six_of (state S.Store conn.old)) t × (r.2 ≡ false → IsStore (state S.Store conn.new) t) × (r.2 ≡ true → IsEarlier (state S.Store conn.new) t))) }
+    ensures was_open { HasSome count (state S.Store conn.old).now.schema → WasOpen (state S.Store conn.old) (state S.Store conn.new) result }
+    ensures found_open { HasSome count (state S.Store conn.old).now.schema → FoundOpen (state S.Store conn.old) (state S.Store conn.new) result }
+    ensures damaged { HasSome count (state S.Store conn.old).now.schema → IsLive (state S.Store conn.old) → StoodForNone (state S.Store conn.old) (state S.Store conn.new) result }
+    ensures kept { HasSome count (state S.Store conn.old).now.schema → KeptDamaged (state S.Store conn.old) (state S.Store conn.new) result }
+    ensures crash { IsLive (state S.Store conn.old) → Survives (state S.Store conn.old) (state S.Store conn.new) (λ trees. HasSome count (state S.Store conn.old).now.schema → BeginsAt (state S.Store conn.old) trees) }
 {
     let (rows, is_begun, is_first) = read_tables(alloc, conn, count)?;
     if is_begun {
@@ -96,11 +92,10 @@ fn complete_bare<S: Alter>(
     ensures made { HasCleanDisk (state S.Store conn.new) → (state S.Store conn.old).now.schema ≡ beginning count
         → OnOk result (AreBare (held (beginning count) (state S.Store conn.old).now.trees) × IsStore (state S.Store conn.new) no_rows) }
     ensures empty { IfOk result (λ r. IsReadAs r.0 r.1.items no_rows × (r.2 ≡ false)) }
-    ensures was_open { HasCleanDisk (state S.Store conn.new) → OnOk result (IsTrue (state S.Store conn.old).is_open) }
-    ensures found_open { HasCleanDisk (state S.Store conn.new) → result ≡ Err StoreFault.Damaged → IsTrue (state S.Store conn.old).is_open }
-    ensures damaged { HasCleanDisk (state S.Store conn.new) → (state S.Store conn.old).now.schema ≡ beginning count → result ≡ Err StoreFault.Damaged
-        → (t : plain.Contents) → StandsFor (held (beginning count) (state S.Store conn.old).now.trees) t → ⊥ }
-    ensures kept { HasCleanDisk (state S.Store conn.new) → (state S.Store conn.old).now.schema ≡ beginning count → result ≡ Err StoreFault.Damaged → KeepsCommit (state S.Store conn.old) (state S.Store conn.new) }
+    ensures was_open { WasOpen (state S.Store conn.old) (state S.Store conn.new) result }
+    ensures found_open { FoundOpen (state S.Store conn.old) (state S.Store conn.new) result }
+    ensures damaged { (state S.Store conn.old).now.schema ≡ beginning count → StoodForNone (state S.Store conn.old) (state S.Store conn.new) result }
+    ensures kept { (state S.Store conn.old).now.schema ≡ beginning count → KeptDamaged (state S.Store conn.old) (state S.Store conn.new) result }
     ensures crash { Survives (state S.Store conn.old) (state S.Store conn.new) (λ trees. IsTrue (state S.Store conn.old).is_open × ((state S.Store conn.old).now.schema ≡ beginning count
         → AreBare (held (beginning count) (state S.Store conn.old).now.trees) × HoldsWhole trees no_rows)) }
 {
@@ -134,18 +129,17 @@ pub fn prepare<S: Alter>(
 ) -> Result<(MetadataRows, Vec<([u8; 32], usize)>, bool), StoreFault>
     requires { conn.old.in_transaction ≡ false }
     ensures autocommit { conn.new.in_transaction ≡ false }
+    ensures live { IsLive (state S.Store conn.old) }
     ensures schema { IfOk result (λ _. IsBeginning conn.old.schema) }
     ensures ours { result ≡ Err StoreFault.Damaged → IsBeginning conn.old.schema }
     ensures foreign { (IsBeginning conn.old.schema → ⊥) → (result ≡ Err StoreFault.Database) × (conn.new ≡ conn.old) }
-    ensures made { HasCleanDisk (state S.Store conn.new) → (count : ℕ) → count < 5 → conn.old.schema ≡ beginning count → IfOk result (λ r. IsReadAs r.0 r.1.items no_rows × StandsEmpty (state S.Store conn.old) × IsStore (state S.Store conn.new) no_rows × (r.2 ≡ false)) }
-    ensures loaded { IfOk result (λ r. (t : plain.Contents) × IsReadAs r.0 r.1.items t
-        × (HasCleanDisk (state S.Store conn.new) → IsSettled (state S.Store conn.old) → Stands (state S.Store conn.old).now t × (r.2 ≡ false → IsStore (state S.Store conn.new) t) × (r.2 ≡ true → IsEarlier (state S.Store conn.new) t))) }
-    ensures was_open { HasCleanDisk (state S.Store conn.new) → OnOk result (IsTrue (state S.Store conn.old).is_open) }
-    ensures found_open { HasCleanDisk (state S.Store conn.new) → result ≡ Err StoreFault.Damaged → IsTrue (state S.Store conn.old).is_open }
-    ensures live { IsLive (state S.Store conn.old) }
-    ensures damaged { HasCleanDisk (state S.Store conn.new) → result ≡ Err StoreFault.Damaged
-        → IsBeginning conn.old.schema × ((t : plain.Contents) → IsFit t → HaveDigests t → Stands (state S.Store conn.old).now t → ⊥) }
-    ensures kept { HasCleanDisk (state S.Store conn.new) → result ≡ Err StoreFault.Damaged → KeepsCommit (state S.Store conn.old) (state S.Store conn.new) }
+    ensures made { HasCleanDisk (state S.Store conn.new) → (count : ℕ) → count < 5 → conn.old.schema ≡ beginning count
+        → IfOk result (λ r. IsReadAs r.0 r.1.items no_rows × StandsEmpty (state S.Store conn.old) × IsStore (state S.Store conn.new) no_rows × (r.2 ≡ false)) }
+    ensures loaded { IfOk result (λ r. (t : plain.Contents) × IsReadAs r.0 r.1.items t × StoodFor (state S.Store conn.old) (state S.Store conn.new) r.2 t) }
+    ensures was_open { WasOpen (state S.Store conn.old) (state S.Store conn.new) result }
+    ensures found_open { FoundOpen (state S.Store conn.old) (state S.Store conn.new) result }
+    ensures damaged { StoodForNone (state S.Store conn.old) (state S.Store conn.new) result }
+    ensures kept { KeptDamaged (state S.Store conn.old) (state S.Store conn.new) result }
     ensures crash { Survives (state S.Store conn.old) (state S.Store conn.new) (λ trees. IsTrue (state S.Store conn.old).is_open × StandsEmpty (state S.Store conn.old) × HoldsWhole trees no_rows) }
 {
     let Some(count) = beginning_of(conn.schema()) else {

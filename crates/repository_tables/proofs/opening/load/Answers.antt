@@ -12,20 +12,20 @@ use Rattle.repository_tables.proofs.Openings.{began, early_store, late_store, st
 use Rattle.repository_tables.proofs.opening.load.Goals as goal
 
 pub returns-in_err-rows-clause-damaged : goal.returns-in_err-rows-clause-damaged
-returns-in_err-rows-clause-damaged g c clean schema live is = c.in_err-rows.ensures.damaged clean schema (ap Err (handed_on c.from_residual.result c.from_residual.ensures.1 is))
+returns-in_err-rows-clause-damaged g c schema live clean is t fit right stands = c.in_err-rows.ensures.damaged clean schema (ap Err (handed_on c.from_residual.result c.from_residual.ensures.1 is)) t fit right stands.1
 
 pub returns-in_err-rows-clause-kept : goal.returns-in_err-rows-clause-kept
-returns-in_err-rows-clause-kept g c clean schema is = c.in_err-rows.ensures.kept clean schema (ap Err (handed_on c.from_residual.result c.from_residual.ensures.1 is))
+returns-in_err-rows-clause-kept g c schema clean is = c.in_err-rows.ensures.kept clean schema (ap Err (handed_on c.from_residual.result c.from_residual.ensures.1 is))
 
 pub returns-in_err-begin_bare-clause-damaged : goal.returns-in_err-begin_bare-clause-damaged
-returns-in_err-begin_bare-clause-damaged g c clean schema live is t fit right stands =
+returns-in_err-begin_bare-clause-damaged g c schema live clean is t fit right stands =
     let early : HasCleanDisk (state g.S.Store c.read_tables.new.conn) = omega (arith, clean, c.begin_bare.ensures.crash.clean) in
     let it = c.in_ok-rows.ensures.read in
     let told = c.in_err-begin_bare.ensures.damaged (ap Err (handed_on c.from_residual-in_err-begin_bare.result c.from_residual-in_err-begin_bare.ensures.1 is)) in
-    ((it.2 early schema live).1 c.if-is_begun.false).other (c.are_none.ensures.no told it.0 it.1) t stands
+    ((it.2 early schema live).1 c.if-is_begun.false).other (c.are_none.ensures.no told it.0 it.1) t stands.1
 
 pub returns-in_err-begin_bare-clause-kept : goal.returns-in_err-begin_bare-clause-kept
-returns-in_err-begin_bare-clause-kept g c clean some is =
+returns-in_err-begin_bare-clause-kept g c some clean is =
     let old = state g.S.Store c.args.conn.now in
     let mid = state g.S.Store c.read_tables.new.conn in
     let early : HasCleanDisk mid = omega (arith, clean, c.begin_bare.ensures.crash.clean) in
@@ -53,7 +53,7 @@ returns-then-is_begun-clause-loaded g c =
     let new = state g.S.Store c.read_tables.new.conn in (
       it.0,
       it.1,
-      λ clean settled some live.
+      λ some live clean settled.
           let holds = (it.2 clean some live).0 c.if-is_begun.true in
           let same = c.in_ok-rows.ensures.unchanged clean some in (
             stands_as c.in_ok-rows.is_first _ it.0 holds,
@@ -68,7 +68,7 @@ returns-clause-loaded g c =
     let new = state g.S.Store c.begin_bare.new.conn in (
       it.0,
       it.1,
-      λ clean settled some live.
+      λ some live clean settled.
           let early : HasCleanDisk (state g.S.Store c.read_tables.new.conn) = omega (arith, clean, c.begin_bare.ensures.crash.clean) in
           let none : it.0 ≡ no_rows = c.are_none.ensures.yes c.in_ok-begin_bare.ensures.bare it.0 it.1 in
           let bare = ((it.2 early some live).1 c.if-is_begun.false).bare none in

@@ -17,26 +17,25 @@ returns-then-count-ge5-clause-made g c clean count few schema =
     absurd (not_most count c.in-Some.count c.args.conn.now.schema few schema most)
 
 pub returns-then-count-ge5-clause-damaged : goal.returns-then-count-ge5-clause-damaged
-returns-then-count-ge5-clause-damaged g c clean is =
+returns-then-count-ge5-clause-damaged g c clean is t fit right stands =
     let most : HasSome c.in-Some.count c.args.conn.now.schema = subst (HasSome c.in-Some.count) c.schema.ensures.value (are_most c.in-Some.count _ c.in-Some.ensures c.if-count-ge5.true) in
-    (begins_some c.in-Some.count _ most, λ t fit right stands. c.load.ensures.damaged clean most c.schema.ensures.live is t fit right stands.1)
+    c.load.ensures.damaged most c.schema.ensures.live clean is t fit right stands
 
 pub returns-clause-damaged : goal.returns-clause-damaged
-returns-clause-damaged g c clean is =
-    let trees = (state g.S.Store c.args.conn.now).now.trees in
+returns-clause-damaged g c clean is t fit right stands =
     let few : c.in-Some.count < 5 = omega (arith, c.if-count-ge5.false) in
     let schema : c.args.conn.now.schema ≡ beginning c.in-Some.count = sym c.schema.ensures.value ∙ are_some c.in-Some.count _ c.in-Some.ensures few in
-    (begins_few c.in-Some.count _ few schema, λ t fit right stands. c.complete_bare.ensures.damaged clean schema is t (subst (λ s. StandsFor (held s trees) t) schema stands.1))
+    c.complete_bare.ensures.damaged schema clean is t fit right stands
 
 pub returns-then-count-ge5-clause-kept : goal.returns-then-count-ge5-clause-kept
 returns-then-count-ge5-clause-kept g c clean is =
     let most : HasSome c.in-Some.count c.args.conn.now.schema = subst (HasSome c.in-Some.count) c.schema.ensures.value (are_most c.in-Some.count _ c.in-Some.ensures c.if-count-ge5.true) in
-    c.load.ensures.kept clean most is
+    c.load.ensures.kept most clean is
 
 pub returns-clause-kept : goal.returns-clause-kept
 returns-clause-kept g c clean is =
     let schema : c.args.conn.now.schema ≡ beginning c.in-Some.count = sym c.schema.ensures.value ∙ are_some c.in-Some.count _ c.in-Some.ensures (omega (arith, c.if-count-ge5.false)) in
-    c.complete_bare.ensures.kept clean schema is
+    c.complete_bare.ensures.kept schema clean is
 
 pub returns-then-count-ge5-clause-loaded : goal.returns-then-count-ge5-clause-loaded
 returns-then-count-ge5-clause-loaded g c =
@@ -45,7 +44,7 @@ returns-then-count-ge5-clause-loaded g c =
       it.0,
       it.1,
       λ clean settled.
-          let all = it.2 clean settled most c.schema.ensures.live in
+          let all = it.2 most c.schema.ensures.live clean settled in
           ((begins_some c.in-Some.count _ most, all.0), all.1, all.2),
     ))
 

@@ -84,9 +84,11 @@ returns-in_err-read-clause-damaged g c clean settled same =
     let p = err_from_is_err_and c.from_residual.result c.from_residual.ensures.1 in
     let is = sym p.1 ∙ same in
     let fault : p.0 ≡ Damaged = cc in
-    let this = ap Err (sym p.2 ∙ fault) in
-    let told = c.in_err-read.ensures.damaged clean this in
-    (c.in_err-read.ensures.found_open clean this, told.0, λ U valid stands. told.1 (rows_of U) (state_fits law U valid) (state_digests law U valid) stands)
+    let this = ap Err (sym p.2 ∙ fault) in (
+      c.in_err-read.ensures.found_open clean this,
+      c.in_err-read.ensures.ours this,
+      λ U valid stands. c.in_err-read.ensures.damaged clean this (rows_of U) (state_fits law U valid) (state_digests law U valid) stands,
+    )
 
 pub returns-in-Ok-None-clause-damaged : goal.returns-in-Ok-None-clause-damaged
 returns-in-Ok-None-clause-damaged g c clean settled same =
