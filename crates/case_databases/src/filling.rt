@@ -46,7 +46,7 @@ pub enum Filling {
     Blob(Vec<u8>),
 }
 
-/// Writes so many rows into a table, all or none.
+/// Writes so many rows into a table, in one transaction.
 pub fn put_rows(
     alloc: Global,
     conn: &mut Connection<MemStore>,

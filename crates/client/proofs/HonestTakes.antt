@@ -13,7 +13,7 @@ use Rattle.fetch.specs.declared.FetchFault.{FetchFault}
 use Rattle.fetch.specs.declared.FetchFault.TheVariants as fetches
 use Rattle.client.specs.Agreement.{Agrees}
 use Rattle.client.specs.Answering as answering
-use Rattle.client.specs.Answering.{AnswersFrom, IsAnswer, IsHeldAs, IsHonest}
+use Rattle.client.specs.Answering.{IsAnswer, IsHeldAs, IsHonest}
 use Rattle.client.specs.Session as session
 use Rattle.client.specs.Session.{IsAccepted, IsUnmade, Makes, Takes}
 use Rattle.client.specs.Views as views

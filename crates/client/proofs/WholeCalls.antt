@@ -9,7 +9,7 @@ use Rattle.trust_rules.specs.Grants.{grants}
 use Rattle.fetch.specs.Source.{Gives}
 use Rattle.store.specs.Standing.{IsClean, Standing}
 use Rattle.client.specs.Agreement as agreement
-use Rattle.client.specs.Agreement.{Brings, BringsAndFetches, FetchesFrom}
+use Rattle.client.specs.Agreement.{Brings, FetchesFrom}
 use Rattle.client.specs.Answering.{IsHonest}
 use Rattle.client.specs.Changes.{Changes}
 use Rattle.client.specs.Session.{Fetches}

@@ -1,5 +1,5 @@
 -- Keys that rise from one row to the next rise.
-use Rattle.std.proofs.Common.{◌≡◌, suc, List, [], ◌∷◌, length, refl, arith, Bool, true}
+use Rattle.std.proofs.Common.{◌≡◌, suc, List, [], ◌∷◌, refl, arith, Bool, true}
 use Rattle.std.specs.Prelude.{All, IsTrue, ◌↔◌}
 use Rattle.std.proofs.lemmas.Bool.{and_parts, and_from}
 use Rattle.std.proofs.lemmas.List.Elements.{All-nil, All-cons}

@@ -1,6 +1,6 @@
 -- What a true table tells of a row: what is looked up under its place is the truth over its bytes.
-use Rattle.std.proofs.Common.{◌≡◌, ℕ, Bool, true, false, cond, List, [], ◌∷◌, Option, Some, unwrap_or, refl, sym, subst}
-use Rattle.keys_roles.specs.Verdicts.{Verdict, AreVerdicts}
+use Rattle.std.proofs.Common.{◌≡◌, ℕ, Bool, true, false, cond, [], ◌∷◌, Some, unwrap_or, refl, sym, subst}
+use Rattle.keys_roles.specs.Verdicts.{AreVerdicts}
 use Rattle.document_parts.specs.Documents.{Targets}
 use Rattle.metadata.specs.File.{Name, File}
 use Rattle.delegations.specs.Rows.{Place, Rows, row_at, same_place, value_at}

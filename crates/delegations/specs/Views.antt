@@ -3,7 +3,6 @@ use Rattle.std.specs.Prelude.{false, map, List, Result, Ok, Err, string_bytes}
 use Rattle.keys_roles.specs.Verdicts as known
 use Rattle.keys_roles.specs.Views as keys
 use Rattle.keys_roles.specs.Views.{rule_view, verdict_views}
-use Rattle.metadata.specs.FileViews.{targets_file}
 use Rattle.denials.specs.Numbers as no
 use Rattle.denials.specs.Orders.{Denial, Plain, RoleMissing, Denied, Judged}
 use Rattle.document_parts.specs.Views.{snapshot_view, listing_view}

@@ -1,5 +1,5 @@
 -- What stands in a list, and whether a text stands twice in a list of texts.
-use Rattle.std.proofs.Common.{◌≡◌, ◌≢◌, ℕ, List, [], ◌∷◌, length, Option, Some, None, refl, sym, ap, ◌∙◌, subst, arith, inl, inr}
+use Rattle.std.proofs.Common.{◌≡◌, ◌≢◌, ℕ, List, [], ◌∷◌, length, map, Option, Some, None, refl, sym, ap, ◌∙◌, subst, arith, inl, inr}
 use Rattle.std.specs.List.{AllByRecursion, cons_option}
 use Rattle.keys_roles.specs.Plain.{Table}
 use Rattle.keys_roles.specs.Rules.{AreDistinct}
@@ -26,6 +26,15 @@ first_alone rest later x at no_other = (
 
 pub first_again : (rest later : List (List ℕ)) (x : List ℕ) → rest ≡ x ∷ later → IsIn later x → AreDistinct rest → ⊥
 first_again rest later x at other d = present later x other (subst AreDistinct at d).0
+
+-- names are distinct where those of what the items stand for are
+pub distinct_views : {X Y : Type 0} (name : Y → List ℕ) (view : X → Y) (xs : List X)
+    → (AreDistinct (map (λ x. name (view x)) xs) → AreDistinct (map name (map view xs))) × (AreDistinct (map name (map view xs)) → AreDistinct (map (λ x. name (view x)) xs))
+distinct_views {X} {Y} name view xs = (λ d. subst AreDistinct (sym (same xs)) d, λ d. subst AreDistinct (same xs) d)
+  where
+    same : (xs : List X) → map name (map view xs) ≡ map (λ x. name (view x)) xs
+    same [] = refl
+    same (x ∷ xs) = ap (λ l. name (view x) ∷ l) (same xs)
 
 pub none_left : {X : Type 0} → (xs : List X) → length xs ≡ 0 → xs ≡ []
 none_left [] h = refl

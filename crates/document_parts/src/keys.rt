@@ -16,6 +16,7 @@ ghost use Rattle.document_parts.specs.Members.{Has, IsArray, IsText, IsNumber, I
 ghost use Rattle.document_parts.specs.Parts.{IsKey, AreBytes, IsRow, IsTable, NamesAreIds, NamesAreHex, IsRuleOver, HasRule, top_at, tops_of};
 ghost use Rattle.document_parts.specs.steps.Tables.{keyval_object, texts_view, spelled_rows, spelled_table, spelled_rule};
 
+use crate::distinct::are_distinct;
 use crate::documents::ShapeFault;
 use crate::members::{
     is_text, items_of, member_of, members_of, number_at, one_member, text_of, three_members,
@@ -276,34 +277,6 @@ fn key_named<'a>(rows: &'a [(String, Key)], text: &str) -> Option<&'a Key>
         rest = later;
     }
     None
-}
-
-/// Whether no text stands twice.
-pub fn are_distinct(texts: &[String]) -> bool
-    ensures { IsTrue result ↔ (AreDistinct (texts_view texts.now)) }
-{
-    let mut rest = texts;
-    'texts: while let Some((text, later)) = rest.split_first() {
-        if is_among(later, text.as_str()) {
-            return false;
-        }
-        rest = later;
-    }
-    true
-}
-
-// Whether the text stands in the list.
-fn is_among(texts: &[String], text: &str) -> bool
-    ensures { IsTrue result ↔ (IsIn (texts_view texts.now) text.now) }
-{
-    let mut rest = texts;
-    'texts: while let Some((first, later)) = rest.split_first() {
-        if first.as_str() == text {
-            return true;
-        }
-        rest = later;
-    }
-    false
 }
 
 // Whether each id is a name of the table.

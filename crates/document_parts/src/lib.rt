@@ -7,6 +7,7 @@
 mod artifacts;
 mod covering;
 pub mod dates;
+pub mod distinct;
 pub mod documents;
 pub mod head;
 pub mod keys;

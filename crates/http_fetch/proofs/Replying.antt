@@ -1,13 +1,12 @@
 -- Laws of replies.
-use Rattle.std.proofs.Common.{◌≡◌, ℕ, ◌≤◌, ◌<◌, List, [], ◌++◌, length, take, drop, Bool, true, Option, Some, None, Ok, Err, Vec, suc, Global, refl, sym, subst, ap, ◌∙◌, arith, append_assoc, append-nil, take-append-drop, inl, inr, length-append}
+use Rattle.std.proofs.Common.{◌≡◌, ℕ, ◌≤◌, ◌<◌, List, [], ◌++◌, length, drop, Bool, true, Option, Some, None, Ok, Err, Vec, suc, Global, refl, sym, subst, ap, ◌∙◌, arith, append_assoc, append-nil, inl, inr, length-append}
 use Rattle.std.proofs.lemmas.Bool.{cases_lt}
-use lib.Seq.{take-append-le, take-append_seam}
 use Rattle.std.specs.Io.KnownBytes.{Consumes, IsAtEnd}
 use Rattle.std.proofs.KnownBytes.{Consumes-trans}
 use Rattle.httparse.specs.Grammar.{ResponseHead, print_response, HasNoResponse}
-use Rattle.httparse.specs.Spans.{ResponseOverflows}
 use Rattle.httparse.specs.declared.spans.ResponseSpans.{ResponseSpans}
 use Rattle.http_messages.specs.Head.{IsInput, left}
+use Rattle.http_messages.proofs.HeadLemmas.{front_has}
 use Rattle.fetch.specs.Source.{Answer}
 use Rattle.fetch.specs.declared.FetchFault.{FetchFault}
 use Rattle.fetch.specs.declared.FetchFault.TheVariants.{TooLong, Broken, OutOfMemory}
@@ -15,25 +14,10 @@ use Rattle.http_fetch.specs.Reply as replies
 use Rattle.http_fetch.specs.Reply.{Yields, Fetched, Heads, HasNoHead, TookWithin, headless, replied}
 use Rattle.http_fetch.specs.steps.Found.{IsFound, ReadsBody, ReadsRest, TookBody, found, passes, absent, other, cut, wanting}
 
--- a text that is `p` and then something, of which `front` is a front long enough, has `p` at the front
-front_has : (front more p rest : List ℕ) → length p ≤ length front → front ++ more ≡ p ++ rest → front ≡ p ++ drop (length p) front
-front_has front more p rest fits e =
-    let whole : take (length p) front ≡ p = sym (take-append-le (length p) front more fits) ∙ ap (take (length p)) e ∙ take-append_seam p rest in
-    sym (take-append-drop (length p) front) ∙ ap (λ l. l ++ drop (length p) front) whole
-
 -- a head that fits the buffer stands in a full buffer, or nowhere
 pub none_in_full : (buf more : List ℕ) → length buf ≡ 8192 → HasNoResponse buf → HasNoHead (buf ++ more)
 none_in_full buf more full none h body heads =
     none h (drop (length (print_response h)) buf) (heads.reads.0, front_has buf more (print_response h) body (omega (arith, heads.bytes, full)) heads.reads.1)
-
--- the input has ended
-pub none_at_end : (buf more : List ℕ) → more ≡ [] → HasNoResponse buf → HasNoHead (buf ++ more)
-none_at_end buf more ended none h body heads =
-    none h body (heads.reads.0, sym (ap (λ l. buf ++ l) ended ∙ append-nil buf) ∙ heads.reads.1)
-
--- there is no room for its fields
-pub none_overflows : (buf more : List ℕ) → ResponseOverflows 32 buf → HasNoHead (buf ++ more)
-none_overflows buf more over h body heads = absurd (omega (arith, over more h body heads.reads, heads.fields))
 
 -- a head in the front of an input is that of the whole
 pub heads_more : (front more body : List ℕ) (h : ResponseHead) → Heads front h body → Heads (front ++ more) h (body ++ more)
@@ -106,22 +90,8 @@ took_reply old mid new got spans front limit read fits (h, at) e (gave, more) = 
   ];
 }
 
-pub took_head : (old new : Option (List ℕ)) (got : List ℕ) (limit : ℕ) → Consumes old new got → length got ≤ 8192 → TookWithin old new limit
-took_head old new got limit read fits = record { taken = got; consumes = read; few = inl fits }
-
 pub took_nothing : (o : Option (List ℕ)) (limit : ℕ) → TookWithin o o limit
 took_nothing o limit = record { taken = []; consumes = at_rest o; few = inl (omega arith) }
-
--- whatever the limit
-pub took_any : (old new : Option (List ℕ)) (limit : ℕ) → TookWithin old new 0 → TookWithin old new limit
-took_any old new limit t = record {
-  taken = t.taken;
-  consumes = t.consumes;
-  few = elim t.few [
-    | inl within ↦ inl within
-    | inr some ↦ inr (some.0, some.1, some.2, omega (arith, some.3))
-  ];
-}
 
 -- ---- a reply
 

@@ -8,10 +8,11 @@ ghost use Rattle.http_fetch.specs.Request.{request};
 ghost use Rattle.http_fetch.specs.steps.Found.{ReadsBody, TookBody};
 
 use crate::body::read_rest;
-use crate::head::read_head;
+use crate::head::Replies;
 use crate::request::request_of;
 use fetch::FetchFault;
-use http_messages::{HEAD_LIMIT, Receive, Transmit, send_all};
+use http_messages::{FIELD_LIMIT, HEAD_LIMIT, Receive, Transmit, read_head, send_all};
+use httparse::spans::EMPTY_HEADER_SPAN;
 use std::alloc::Global;
 
 /// Reads a reply to its end: the body where the status is 200, `None` where it is 403 or 404. The body is all that stands behind the
@@ -31,7 +32,8 @@ pub fn read_reply<R: Receive>(
     ensures took { TookWithin (R.remaining reader.old) (R.remaining reader.new) limit }
 {
     let mut buf = [0; HEAD_LIMIT];
-    match read_head(reader, &mut buf) {
+    let mut headers = [EMPTY_HEADER_SPAN; FIELD_LIMIT];
+    match read_head::<R, Replies>(reader, &mut buf, &mut headers) {
         Ok((filled, Some(spans))) => {
             let got = &buf[..filled];
             read_body(alloc, reader, spans.code, &got[spans.len..], limit)

@@ -8,10 +8,11 @@ ghost use Rattle.http_fetch.specs.Reply.{TookWithin};
 ghost use Rattle.http_fetch.specs.Sent.{Answered, SaysWhereSent, WhereSent, replied};
 
 use crate::body::read_rest;
-use crate::head::read_head;
+use crate::head::Replies;
 use crate::message::{Message, head_of};
 use fetch::FetchFault;
-use http_messages::{HEAD_LIMIT, Receive, Transmit, send_both};
+use http_messages::{FIELD_LIMIT, HEAD_LIMIT, Receive, Transmit, read_head, send_both};
+use httparse::spans::EMPTY_HEADER_SPAN;
 use std::alloc::Global;
 
 /// A reply: its status (RFC 9110, section 15), and its body.
@@ -68,7 +69,8 @@ fn read_answer<R: Receive>(alloc: Global, reader: &mut R, limit: usize) -> Resul
     ensures took { TookWithin (R.remaining reader.old) (R.remaining reader.new) limit }
 {
     let mut buf = [0; HEAD_LIMIT];
-    match read_head(reader, &mut buf) {
+    let mut headers = [EMPTY_HEADER_SPAN; FIELD_LIMIT];
+    match read_head::<R, Replies>(reader, &mut buf, &mut headers) {
         Ok((filled, Some(spans))) => {
             let got = &buf[..filled];
             match read_rest(alloc, reader, &got[spans.len..], limit) {

@@ -5,7 +5,7 @@ use Rattle.httparse.specs.Grammar.{print_request, HasNoRequest}
 use Rattle.http_messages.specs.Head.{HasNoHead}
 
 -- a text that is `p` and then something, of which `front` is a front long enough, has `p` at the front
-front_has : (front more p rest : List ℕ) → length p ≤ length front → front ++ more ≡ p ++ rest → front ≡ p ++ drop (length p) front
+pub front_has : (front more p rest : List ℕ) → length p ≤ length front → front ++ more ≡ p ++ rest → front ≡ p ++ drop (length p) front
 front_has front more p rest fits e =
     let whole : take (length p) front ≡ p = sym (take-append-le (length p) front more fits) ∙ ap (take (length p)) e ∙ take-append_seam p rest in
     sym (take-append-drop (length p) front) ∙ ap (λ l. l ++ drop (length p) front) whole

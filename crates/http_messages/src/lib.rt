@@ -17,7 +17,7 @@ pub use body::read_body;
 pub use faults::{Fault, write_fault};
 pub use fields::{Declared, declared_length};
 pub use framing::{one_batch, read_batch};
-pub use head::{FIELD_LIMIT, HEAD_LIMIT, read_at, read_head};
+pub use head::{FIELD_LIMIT, HEAD_LIMIT, ParseHead, read_head};
 pub use limits::{BLOB_LIMIT, MOST_DOCUMENTS};
 pub use line::{Cut, Receive, ReceiveFault, Sink, Transmit, send_all, send_both};
 pub use path_patterns::{Digest, RoleName};

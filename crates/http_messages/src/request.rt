@@ -19,7 +19,7 @@ use crate::body::read_body;
 use crate::faults::Fault;
 use crate::fields::{Declared, declared_length};
 use crate::framing::read_batch;
-use crate::head::{FIELD_LIMIT, HEAD_LIMIT, read_head};
+use crate::head::{FIELD_LIMIT, HEAD_LIMIT, Requests, read_head};
 use crate::line::{Receive, ReceiveFault};
 use crate::reply::Method;
 use crate::routes::{Route, Routes, find_served};
@@ -292,7 +292,7 @@ pub fn read_request_of<R: Receive>(
 {
     let mut buf = [0; HEAD_LIMIT];
     let mut headers = [EMPTY_HEADER_SPAN; FIELD_LIMIT];
-    let (filled, found) = read_head(reader, &mut buf, &mut headers)?;
+    let (filled, found) = read_head::<R, Requests>(reader, &mut buf, &mut headers)?;
     let Some(spans) = found else {
         return Ok(Received::Fault(Fault::Head));
     };

@@ -1,5 +1,5 @@
 -- A server that only reads changes nothing.
-use Rattle.std.proofs.Common.{◌≡◌, Bool, true, false, ℕ, List, Option, take, Ok, Err, refl, ap}
+use Rattle.std.proofs.Common.{◌≡◌, true, false, ℕ, List, Option, take, Ok, Err, refl, ap}
 use Rattle.std.specs.Bool.{⊤}
 use Rattle.denials.specs.Orders.{Judged, Same, Denied}
 use Rattle.httparse.specs.Grammar.{RequestHead}

@@ -1,7 +1,7 @@
 -- A rule over LMS keys alone is met as it was before there were others.
 use Rattle.std.proofs.Common.{◌≡◌, ◌↔◌, ℕ, List, [], ◌∷◌, Some, refl, sym, ap, subst, ◌∙◌}
 use Rattle.std.specs.List.{AllByRecursion}
-use Rattle.keys_roles.specs.Plain.{Key, lms, Table, RoleRule, Signature, look_up}
+use Rattle.keys_roles.specs.Plain.{lms, Table, RoleRule, Signature}
 use Rattle.keys_roles.specs.Keys.{top_key}
 use Rattle.keys_roles.specs.Rules.{IsSigned, Counts, Meets}
 use Rattle.keys_roles.specs.BeforeLevels.{WasSigned, Counted, WasMet, NamesLms}

@@ -1,7 +1,7 @@
 -- Signatures in hex digits: how long they are, and how they are read.
-use Rattle.std.proofs.Common.{◌≡◌, ℕ, zero, suc, ◌+◌, ◌*◌, ◌<◌, ◌≤◌, List, [], ◌∷◌, length, ◌++◌, Result, Ok, Err, refl, ap, ◌∙◌, arith, length-append}
+use Rattle.std.proofs.Common.{◌≡◌, ℕ, zero, suc, ◌+◌, ◌*◌, ◌<◌, ◌≤◌, List, length, ◌++◌, Result, Ok, Err, refl, ap, ◌∙◌, arith, length-append}
 use Rattle.std.specs.Prelude.{IsOk, OnOk}
-use Rattle.hex.specs.Hex.{lower_digits, decode_sized, IsBytes}
+use Rattle.hex.specs.Hex.{lower_digits, decode_sized}
 use Rattle.hex.proofs.HexLemmas.{length-encode_with, decode_sized-encode_lower}
 use Rattle.path_patterns.proofs.Digits.{bytes_at}
 use Rattle.lms.specs.declared.OtsType.{OtsType}

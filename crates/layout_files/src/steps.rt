@@ -4,8 +4,6 @@ ghost use Rattle.std.specs.List.{AllByRecursion};
 ghost use Rattle.canonical_json.specs.Json.{EachItem};
 ghost use Rattle.canonical_json.specs.Spelling.{IsProper, IsSound};
 ghost use Rattle.canonical_json.specs.View.{view, items_view};
-ghost use Rattle.keys_roles.specs.Rules.{AreDistinct};
-ghost use Rattle.keys_roles.specs.steps.Counting.{IsIn};
 ghost use Rattle.path_patterns.specs.Grammar.{IsHex, IsName};
 ghost use Rattle.document_parts.specs.Bodies.{IsRuleList, IsStep, IsTextOf, AreSteps, max_steps};
 ghost use Rattle.document_parts.specs.Documents as plain;
@@ -15,10 +13,11 @@ ghost use Rattle.document_parts.specs.Rules.{ArtifactRule};
 ghost use Rattle.document_parts.specs.Views.{step_view};
 ghost use Rattle.document_parts.specs.steps.Faults.{IsIll};
 ghost use Rattle.document_parts.specs.steps.Tables.{spelled_rule, spelled_table};
-ghost use Rattle.layout_files.specs.steps.Spelled.{spelled_step, spelled_steps, step_names};
+ghost use Rattle.layout_files.specs.steps.Spelled.{spelled_step, spelled_steps};
 
 use crate::rule_lists::read_rules;
 use canonical_json::Value;
+use document_parts::distinct::{Named, are_distinct};
 use document_parts::documents::{ShapeFault, Step};
 use document_parts::keys::{SpelledRule, SpelledTable, name_rule, read_role_rule};
 use document_parts::members::{items_of, member_of};
@@ -37,6 +36,14 @@ pub struct SpelledStep {
     pub rule: SpelledRule,
     pub materials: Vec<Rule>,
     pub products: Vec<Rule>,
+}
+
+impl Named for SpelledStep {
+    ghost name = { λ step. step.name };
+
+    fn is_namesake(&self, other: &SpelledStep) -> bool {
+        self.name.as_str() == other.name.as_str()
+    }
 }
 
 /// The steps over the table that the value is.
@@ -117,34 +124,6 @@ fn rules_at(alloc: Global, value: &Value, name: &str) -> Result<Vec<Rule>, Shape
         return Err(ShapeFault::WrongShape);
     };
     read_rules(alloc, found)
-}
-
-// Whether no step is named twice.
-fn are_distinct(steps: &[SpelledStep]) -> bool
-    ensures { IsTrue result ↔ (AreDistinct (step_names (spelled_steps steps.now))) }
-{
-    let mut rest = steps;
-    'steps: while let Some((step, later)) = rest.split_first() {
-        if is_among(later, step.name.as_str()) {
-            return false;
-        }
-        rest = later;
-    }
-    true
-}
-
-// Whether a step of this name is among them.
-fn is_among(steps: &[SpelledStep], name: &str) -> bool
-    ensures { IsTrue result ↔ (IsIn (step_names (spelled_steps steps.now)) name.now) }
-{
-    let mut rest = steps;
-    'steps: while let Some((first, later)) = rest.split_first() {
-        if first.name.as_str() == name {
-            return true;
-        }
-        rest = later;
-    }
-    false
 }
 
 /// The steps, the keys of their rules named by their ids.

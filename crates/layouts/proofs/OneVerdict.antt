@@ -1,16 +1,16 @@
 -- A layout and its links have one judgement.
-use Rattle.std.proofs.Common.{◌≡◌, ℕ, ◌<◌, ◌⊎◌, inl, inr, List, [], ◌∷◌, Some, Ok, Err, refl, sym, ap, ◌∙◌, subst}
+use Rattle.std.proofs.Common.{◌≡◌, ℕ, inl, inr, List, [], ◌∷◌, Some, Ok, Err, refl, sym, ap, ◌∙◌, subst}
 use Rattle.std.specs.Prelude.{IfOk, slice_get}
 use Rattle.std.specs.List.{AllByRecursion, AllZip, zip}
 use Rattle.std.proofs.lemmas.Bool.{cases_order}
 use Rattle.keys_roles.specs.Plain.{RoleRule, Table}
 use Rattle.document_parts.specs.Documents.{Layout, Step}
 use Rattle.metadata.specs.File.{Bytes, File, Name}
-use Rattle.document_parts.specs.Links.{Artifacts, Link}
+use Rattle.document_parts.specs.Links.{Link}
 use Rattle.document_parts.specs.Rules.{ArtifactRule, Side, disallow, require}
-use Rattle.artifact_rules.specs.Rules.{FailsFirst, RulesForbid, RulesRequire}
-use Rattle.denials.specs.Orders.{Judged, Order, pass, decide, holds, fails, check}
-use Rattle.layouts.specs.Layouts.{AllAgree, Chosen, EnoughKeys, IsGood, IsLinkOf, Ruled, all, ask, by_links, forbid, hold, layout_holds, ruled, rules_and_product, step_rules}
+use Rattle.artifact_rules.specs.Rules.{RulesForbid, RulesRequire}
+use Rattle.denials.specs.Orders.{Judged, Order, pass, holds, check}
+use Rattle.layouts.specs.Layouts.{AllAgree, IsLinkOf, all, ask, by_links, forbid, hold, layout_holds, ruled, rules_and_product, step_rules}
 use Rattle.layouts.proofs.DefiniteOrders.{Definite, check-definite, give-definite, then-definite, then-definite-so}
 
 all-definite : {A : Type 0} (f : A → Order (Unit {0})) (xs : List A) → ((x : A) → Definite (f x)) → Definite (all f xs)

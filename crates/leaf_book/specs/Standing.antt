@@ -1,5 +1,4 @@
--- Where a book stands over its database, and what a call leaves of it. Where a call of the disk failed nothing is promised: `HasCleanDisk`
--- says that none did.
+-- Where a book stands over its database, and what a call leaves of it, as far as the disk has returned what was written (`HasCleanDisk`).
 use Rattle.std.specs.Prelude.{◌⊎◌, Result, OnOk, IsTrue}
 use Rattle.sqlite.specs.State.{State, HasCleanDisk}
 use Rattle.sqlite_trees.specs.Tree.{Trees}
@@ -15,7 +14,7 @@ RestsOn s b = HasCleanDisk s → IsTrue s.is_open → IsRecorded s b
 abbrev pub LeavesOnly : State → Book → Type 0
 LeavesOnly s b = HasCleanDisk s → IsTrue s.is_open → (trees : Trees) → s.may_leave trees → HoldsWhole trees b
 
--- a call makes no failed disk clean
+-- where the disk has returned what was written up to the end of a call, it had before it
 abbrev pub StaysClean : State → State → Type 0
 StaysClean old new = HasCleanDisk new → HasCleanDisk old
 

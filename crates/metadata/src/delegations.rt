@@ -4,8 +4,6 @@ ghost use Rattle.std.specs.List.{AllByRecursion};
 ghost use Rattle.canonical_json.specs.Json.{EachItem};
 ghost use Rattle.canonical_json.specs.Spelling.{IsProper, IsSound};
 ghost use Rattle.canonical_json.specs.View.{view, items_view};
-ghost use Rattle.keys_roles.specs.Rules.{AreDistinct};
-ghost use Rattle.keys_roles.specs.steps.Counting.{IsIn};
 ghost use Rattle.path_patterns.specs.Grammar.{IsHex};
 ghost use Rattle.document_parts.specs.Bodies.{IsListable, IsTextOf, IsDelegable, IsDelegation, AreDelegations, HasDelegations};
 ghost use Rattle.document_parts.specs.Documents as plain;
@@ -13,11 +11,12 @@ ghost use Rattle.document_parts.specs.Members.{ItemsAre};
 ghost use Rattle.document_parts.specs.Parts.{NamesAreIds};
 ghost use Rattle.document_parts.specs.steps.Faults.{IsIll, IsMisnamed};
 ghost use Rattle.document_parts.specs.steps.Tables.{spelled_table, spelled_rule};
-ghost use Rattle.metadata.specs.steps.Spelled.{spelled_delegation, spelled_list, spelled_delegations, names_of, AreAllOver};
+ghost use Rattle.metadata.specs.steps.Spelled.{spelled_delegation, spelled_list, spelled_delegations, AreAllOver};
 ghost use Rattle.document_parts.specs.Views.{delegation_view, delegations_view};
 
 use crate::snapshot::is_listable;
 use canonical_json::Value;
+use document_parts::distinct::{Named, are_distinct};
 use document_parts::documents::{Delegation, Delegations, Scope, ShapeFault};
 use document_parts::keys::{
     SpelledRule, SpelledTable, name_rule, name_table, read_role_rule, read_table,
@@ -37,6 +36,14 @@ pub(crate) struct SpelledDelegation {
     pub rule: SpelledRule,
     pub terminating: bool,
     pub scope: Scope,
+}
+
+impl Named for SpelledDelegation {
+    ghost name = { λ delegation. delegation.name };
+
+    fn is_namesake(&self, other: &SpelledDelegation) -> bool {
+        self.name.as_str() == other.name.as_str()
+    }
 }
 
 /// Delegations in their order, with their keys, whose names need not be ids.
@@ -158,34 +165,6 @@ fn is_given(name: &str) -> bool
     ensures { IsTrue result ↔ (IsListable name.now × (name.now ≢ codes "targets")) }
 {
     is_listable(name) && name != "targets"
-}
-
-// Whether no role is named twice.
-fn are_distinct(roles: &[SpelledDelegation]) -> bool
-    ensures { IsTrue result ↔ (AreDistinct (names_of (spelled_list roles.now))) }
-{
-    let mut rest = roles;
-    'roles: while let Some((role, later)) = rest.split_first() {
-        if is_among(later, role.name.as_str()) {
-            return false;
-        }
-        rest = later;
-    }
-    true
-}
-
-// Whether a role of this name is among them.
-fn is_among(roles: &[SpelledDelegation], name: &str) -> bool
-    ensures { IsTrue result ↔ (IsIn (names_of (spelled_list roles.now)) name.now) }
-{
-    let mut rest = roles;
-    'roles: while let Some((first, later)) = rest.split_first() {
-        if first.name.as_str() == name {
-            return true;
-        }
-        rest = later;
-    }
-    false
 }
 
 /// The delegations, each key named by its id.

@@ -4,17 +4,16 @@ ghost use Rattle.canonical_json.specs.Json.{Json};
 ghost use Rattle.canonical_json.specs.Spelling.{IsProper};
 ghost use Rattle.canonical_json.specs.View.{view, items_view};
 ghost use Rattle.keys_roles.specs.Plain as plain;
-ghost use Rattle.keys_roles.specs.Rules.{AreDistinct};
-ghost use Rattle.keys_roles.specs.steps.Counting.{IsIn};
-ghost use Rattle.keys_roles.specs.Views.{id_text, entry_view, entries_view};
+ghost use Rattle.keys_roles.specs.Views.{entry_view, entries_view};
 ghost use Rattle.document_parts.specs.steps.Faults.{IsIll};
 ghost use Rattle.document_parts.specs.Members.{Has, IsText, ItemsAre};
-ghost use Rattle.document_parts.specs.Parts.{signature_object, ids_of, IsEntry, AreSignatures, AreSignatureDigits, IsEnvelope};
+ghost use Rattle.document_parts.specs.Parts.{signature_object, IsEntry, AreSignatures, AreSignatureDigits, IsEnvelope};
 
 use canonical_json::Value;
+use document_parts::distinct::are_distinct;
 use document_parts::documents::ShapeFault;
 use document_parts::members::{items_of, member_of, text_of, two_members};
-use keys_roles::{KeyId, Signature, same_id};
+use keys_roles::{KeyId, Signature};
 use limits::MOST_SIGNATURES;
 use path_patterns::{Digest, are_hex_digits};
 use std::alloc::Global;
@@ -131,32 +130,4 @@ fn are_signature_digits(text: &[u8]) -> bool
     ensures { IsTrue result ↔ (AreSignatureDigits text.now) }
 {
     text.len() <= MOST_DIGITS && text.len() % 2 == 0 && are_hex_digits(text)
-}
-
-// Whether no key id stands twice.
-fn are_distinct(signatures: &[Signature]) -> bool
-    ensures { IsTrue result ↔ (AreDistinct (ids_of (entries_view signatures.now))) }
-{
-    let mut rest = signatures;
-    'signatures: while let Some((signature, later)) = rest.split_first() {
-        if is_among(later, &signature.keyid) {
-            return false;
-        }
-        rest = later;
-    }
-    true
-}
-
-// Whether a signature has this key id.
-fn is_among(signatures: &[Signature], id: &KeyId) -> bool
-    ensures { IsTrue result ↔ (IsIn (ids_of (entries_view signatures.now)) (id_text id.now)) }
-{
-    let mut rest = signatures;
-    'signatures: while let Some((first, later)) = rest.split_first() {
-        if same_id(&first.keyid, id) {
-            return true;
-        }
-        rest = later;
-    }
-    false
 }

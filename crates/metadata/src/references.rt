@@ -4,7 +4,6 @@ ghost use Rattle.canonical_json.specs.Json.{names};
 ghost use Rattle.canonical_json.specs.Spelling.{IsProper};
 ghost use Rattle.canonical_json.specs.View.{view, items_view, members_view};
 ghost use Rattle.keys_roles.specs.Rules.{AreDistinct};
-ghost use Rattle.keys_roles.specs.steps.Counting.{IsIn};
 ghost use Rattle.path_patterns.specs.Grammar.{IsTargetPath};
 ghost use Rattle.document_parts.specs.Bodies.{IsTextOf, AreTextsOf, IsLayoutReference, IsCustom, HasLayoutReference, reference_members};
 ghost use Rattle.document_parts.specs.Documents as plain;
@@ -17,6 +16,7 @@ ghost use Rattle.document_parts.specs.steps.Tables.{spelled_rule, spelled_table}
 ghost use Rattle.metadata.specs.steps.Spelled.{spelled_reference};
 
 use canonical_json::Value;
+use document_parts::distinct::{are_distinct, is_among};
 use document_parts::documents::{LayoutReference, ShapeFault};
 use document_parts::keys::{
     SpelledRule, SpelledTable, keys_of, name_rule, name_table, read_role_rule,
@@ -225,39 +225,10 @@ fn read_path(alloc: Global, value: &Value) -> Result<TargetPath, ShapeFault>
 }
 
 // Whether no link stands twice, and none is the layout.
-#[tactic(auto, using(document_parts::proofs::Elements::absent))]
 fn are_apart(path: &TargetPath, links: &[TargetPath]) -> bool
     ensures { IsTrue result ↔ (AreDistinct (path.now ∷ links.now)) }
 {
-    !is_among(links, path.as_str()) && are_distinct(links)
-}
-
-// Whether no path stands twice.
-fn are_distinct(paths: &[TargetPath]) -> bool
-    ensures { IsTrue result ↔ (AreDistinct paths.now) }
-{
-    let mut rest = paths;
-    'paths: while let Some((path, later)) = rest.split_first() {
-        if is_among(later, path.as_str()) {
-            return false;
-        }
-        rest = later;
-    }
-    true
-}
-
-// Whether the path is among them.
-fn is_among(paths: &[TargetPath], path: &str) -> bool
-    ensures { IsTrue result ↔ (IsIn paths.now path.now) }
-{
-    let mut rest = paths;
-    'paths: while let Some((first, later)) = rest.split_first() {
-        if first.as_str() == path {
-            return true;
-        }
-        rest = later;
-    }
-    false
+    !is_among(links, path) && are_distinct(links)
 }
 
 /// The reference, each key named by its id.

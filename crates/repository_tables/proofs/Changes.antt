@@ -3,19 +3,24 @@ use Rattle.std.proofs.Common.{◌≡◌, ℕ, List, [], ◌∷◌, ◌++◌, fal
 use Rattle.std.proofs.lemmas.List.{map-append}
 use Rattle.sqlite_rules.specs.Lists.{Has}
 use Rattle.sqlite_trees.specs.Tree.{Trees}
+use Rattle.sqlite_trees.specs.declared.store.Store.{Ghosts}
 use Rattle.sqlite.specs.Order.{Row}
 use Rattle.sqlite.specs.Effect.{Database, IsDatabase}
 use Rattle.sqlite.specs.Steps.{FailsToCommit}
 use Rattle.sqlite.specs.declared.error.Error.{Error}
 use Rattle.sqlite.specs.State.{IsRolledBack, KeepsCommit, State, Shows}
+use Rattle.sqlite.specs.Held.{state}
+use Rattle.sqlite.specs.declared.transaction.Transaction.{Transaction}
 use Rattle.repository_tables.specs.declared.change.Change.{Change}
 use Rattle.repository_rows.specs.Contents.{Contents}
+use Rattle.sql_tables.proofs.Calls.{keeps_then}
 use Rattle.sql_tables.proofs.Editing.{same_inside}
 use Rattle.table_rows.specs.Schema.{HasSix, five, held}
-use Rattle.repository_tables.specs.steps.Writing.{listed, Cells, IsInside, cells_of}
+use Rattle.repository_tables.specs.steps.Writing.{listed, Cells, IsInside, IsUncommitted, cells_of}
 use Rattle.table_rows.specs.Tables.{HoldsTables, HoldsWhole, IsStore, root_row, slot_row, slot_rows, current_rows, shelf_row, blob_row}
 use Rattle.repository_tables.specs.Changes.{with_root, with_row, with_blob, with_timestamp, with_snapshot, after, after_all}
 use Rattle.table_rows.proofs.Beginnings.{six_after}
+use Rattle.table_rows.proofs.Looking.{quiet_then}
 use Rattle.repository_tables.proofs.CellLemmas.{cells_of_five, cells_second, five_of_cells}
 use Rattle.sql_tables.specs.Writing.{without_text}
 use Rattle.sql_tables.proofs.Statements.{text_test, turned, turned_back}
@@ -64,6 +69,14 @@ pub new_snapshot : (s : State) (t : Contents) (r : ℕ × List ℕ)
 new_snapshot s t r is = subst (λ rows. IsInside s (record (cells_of t) { current = rows ++ slot_row snapshot_slot r ∷ [] })) (without_snapshot t.timestamp t.snapshot) is
 
 -- ---- a transaction
+
+-- a statement after others
+pub uncommitted_then : {S : Type 0} (g : Ghosts S) (a b c : Transaction S) → IsUncommitted g a b → IsUncommitted g b c → IsUncommitted g a c
+uncommitted_then g a b c one two = record {
+  same_reference = two.same_reference ∙ one.same_reference;
+  kept = λ clean. keeps_then (state g a.conn.now) (state g b.conn.now) (state g c.conn.now) (one.kept (omega (arith, clean, two.survives.clean))) (two.kept clean);
+  survives = quiet_then (state g a.conn.now) (state g b.conn.now) (state g c.conn.now) one.survives two.survives;
+}
 
 pub after_all_more : (cs : List Change) (c : Change) (t : Contents) → after_all (cs ++ c ∷ []) t ≡ after c (after_all cs t)
 after_all_more [] c t = refl

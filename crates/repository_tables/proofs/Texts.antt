@@ -1,5 +1,5 @@
 -- What the texts mean, whatever stands behind the five tables.
-use Rattle.std.proofs.Common.{◌≡◌, List, ℕ, [], ◌∷◌, codes, refl}
+use Rattle.std.proofs.Common.{List, ℕ, [], ◌∷◌, codes, refl}
 use Rattle.sqlite_tied.specs.Compute.{everything}
 use Rattle.sql_tables.proofs.Editing.{Means}
 use Rattle.table_rows.specs.Schema.{five}

@@ -1,5 +1,5 @@
 -- What a change makes of the rows.
-use Rattle.std.specs.Prelude.{◌≡◌, ℕ, List, [], ◌∷◌, ◌++◌, Some, None, Bool, filter, not, bytes_eq, ◌==◌, ◌&&◌}
+use Rattle.std.specs.Prelude.{ℕ, List, [], ◌∷◌, ◌++◌, Some, None, Bool, filter, not, bytes_eq, ◌==◌, ◌&&◌}
 use Rattle.hex.specs.Hex.{encode_lower}
 use Rattle.repository_rows.specs.Contents.{Contents}
 use Rattle.repository_tables.specs.declared.change.Change.{Change}

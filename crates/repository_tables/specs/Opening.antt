@@ -1,5 +1,5 @@
--- What the opening of a database asks of it, what it finds there, and what it leaves. Where a call of the disk failed nothing is promised but
--- what a crash leaves: `HasCleanDisk new` says that none did.
+-- What the opening of a database asks of it, what it finds there, and what it leaves, as far as the disk has returned what was written
+-- (`HasCleanDisk`).
 use Rattle.std.specs.Prelude.{◌≡◌, true, false, Bool, Result, Err, OnOk, IsTrue}
 use Rattle.sqlite.specs.State.{State, HasCleanDisk, KeepsCommit}
 use Rattle.sqlite_trees.specs.Tree.{Trees}

@@ -1,13 +1,13 @@
 // The making of the tables, and a connection between two transactions.
 ghost use Rattle.std.specs.Prelude.{◌≡◌, ◌≢◌, ◌<◌, ◌≤◌, ◌+◌, Ok, Err, false, [], IsTrue, IfOk, OnOk};
-ghost use Rattle.sqlite.specs.State.{HasCleanDisk, KeepsCommit, Survives};
+ghost use Rattle.sqlite.specs.State.{HasCleanDisk, Survives};
 ghost use Rattle.sqlite.specs.Held.{state};
 ghost use Rattle.sqlite_trees.specs.Tree.{Trees};
 ghost use Rattle.table_rows.specs.Schema.{the_schema, beginning, held, six, HasSix};
 ghost use Rattle.sql_tables.specs.Described.{LacksRest};
 ghost use Rattle.repository_rows.specs.Contents.{no_rows};
 ghost use Rattle.table_rows.specs.Tables.{IsStore, HoldsWhole, AreBare};
-ghost use Rattle.repository_tables.specs.steps.Writing.{Cells, IsInside, no_cells};
+ghost use Rattle.repository_tables.specs.steps.Writing.{Cells, IsInside, IsUncommitted, no_cells};
 ghost use Rattle.table_rows.specs.Schema.{HasSome};
 ghost use Rattle.repository_tables.specs.steps.Migrating.{IsEarly, bare_cells};
 ghost use Rattle.repository_tables.specs.Opening.{IsSettled};
@@ -20,22 +20,18 @@ use table_rows::{StoreFault, six_tables};
 // Makes the tables from this place on.
 pub(crate) fn make_rest<S: Alter>(tx: &mut Transaction<'_, S>, count: usize) -> Result<(), Error>
     requires { count ≤ 6 }
-    ensures same_reference { tx.new.conn.ghost_name ≡ tx.old.conn.ghost_name }
     ensures wrote { HasCleanDisk (state S.Store tx.new.conn.now) → (rows : Trees) → LacksRest six count rows → IsMade rows (beginning count) (state S.Store tx.old.conn.now) → OnOk result (IsMade rows the_schema (state S.Store tx.new.conn.now)) }
-    ensures kept { HasCleanDisk (state S.Store tx.new.conn.now) → KeepsCommit (state S.Store tx.old.conn.now) (state S.Store tx.new.conn.now) }
-    ensures survives { Survives (state S.Store tx.old.conn.now) (state S.Store tx.new.conn.now) (λ _. ⊥) }
+    ensures uncommitted { IsUncommitted S.Store tx.old tx.new }
 {
     sql_tables::make_rest(tx, &six_tables(), count)
 }
 
 // Puts the row of `schema` into tables that are all empty.
 pub(crate) fn put_version<S: Alter>(tx: &mut Transaction<'_, S>) -> Result<(), Error>
-    ensures same_reference { tx.new.conn.ghost_name ≡ tx.old.conn.ghost_name }
     ensures wrote { HasCleanDisk (state S.Store tx.new.conn.now) → IsTrue (state S.Store tx.old.conn.now).is_open → IsTrue (state S.Store tx.old.conn.now).in_transaction
         → HasSix (state S.Store tx.old.conn.now).now.schema → AreBare (held (state S.Store tx.old.conn.now).now.schema (state S.Store tx.old.conn.now).now.trees) → OnOk result (IsInside (state S.Store tx.new.conn.now) no_cells) }
     ensures was_open { HasCleanDisk (state S.Store tx.new.conn.now) → OnOk result (IsTrue (state S.Store tx.old.conn.now).is_open) }
-    ensures kept { HasCleanDisk (state S.Store tx.new.conn.now) → KeepsCommit (state S.Store tx.old.conn.now) (state S.Store tx.new.conn.now) }
-    ensures survives { Survives (state S.Store tx.old.conn.now) (state S.Store tx.new.conn.now) (λ _. ⊥) }
+    ensures uncommitted { IsUncommitted S.Store tx.old tx.new }
 {
     tx.execute("INSERT INTO schema (version) VALUES (2)", &[])?;
     Ok(())
@@ -43,10 +39,8 @@ pub(crate) fn put_version<S: Alter>(tx: &mut Transaction<'_, S>) -> Result<(), E
 
 // Makes `root2` behind all that is there, where it is absent: so many of the six tables are there.
 pub(crate) fn make_root2<S: Alter>(tx: &mut Transaction<'_, S>, count: usize) -> Result<(), Error>
-    ensures same_reference { tx.new.conn.ghost_name ≡ tx.old.conn.ghost_name }
     ensures wrote { HasCleanDisk (state S.Store tx.new.conn.now) → (c : Cells) → IsEarly count (state S.Store tx.old.conn.now) c → OnOk result (IsInside (state S.Store tx.new.conn.now) c) }
-    ensures kept { HasCleanDisk (state S.Store tx.new.conn.now) → KeepsCommit (state S.Store tx.old.conn.now) (state S.Store tx.new.conn.now) }
-    ensures survives { Survives (state S.Store tx.old.conn.now) (state S.Store tx.new.conn.now) (λ _. ⊥) }
+    ensures uncommitted { IsUncommitted S.Store tx.old tx.new }
 {
     if count == 5 {
         tx.execute(
@@ -59,11 +53,9 @@ pub(crate) fn make_root2<S: Alter>(tx: &mut Transaction<'_, S>, count: usize) ->
 
 // Makes `root2` and puts the row of `schema`, inside a transaction.
 fn begin_inside<S: Alter>(tx: &mut Transaction<'_, S>, count: usize) -> Result<(), Error>
-    ensures same_reference { tx.new.conn.ghost_name ≡ tx.old.conn.ghost_name }
     ensures wrote { HasCleanDisk (state S.Store tx.new.conn.now) → IsEarly count (state S.Store tx.old.conn.now) bare_cells → OnOk result (IsInside (state S.Store tx.new.conn.now) no_cells) }
     ensures was_open { HasCleanDisk (state S.Store tx.new.conn.now) → OnOk result (IsTrue (state S.Store tx.old.conn.now).is_open) }
-    ensures kept { HasCleanDisk (state S.Store tx.new.conn.now) → KeepsCommit (state S.Store tx.old.conn.now) (state S.Store tx.new.conn.now) }
-    ensures survives { Survives (state S.Store tx.old.conn.now) (state S.Store tx.new.conn.now) (λ _. ⊥) }
+    ensures uncommitted { IsUncommitted S.Store tx.old tx.new }
 {
     make_root2(tx, count)?;
     put_version(tx)

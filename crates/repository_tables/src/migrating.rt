@@ -1,12 +1,12 @@
 // From schema 1 to schema 2: the roots move to the table `root2`, with profile 1.
-ghost use Rattle.std.specs.Prelude.{◌≡◌, ◌≢◌, ◌≤◌, ◌++◌, ◌∷◌, [], map, false, Err, IsTrue, OnErr, OnOk};
-ghost use Rattle.sqlite.specs.State.{HasCleanDisk, KeepsCommit, Survives};
+ghost use Rattle.std.specs.Prelude.{◌≡◌, ◌≢◌, ◌++◌, ◌∷◌, [], map, false, Err, IsTrue, OnErr, OnOk};
+ghost use Rattle.sqlite.specs.State.{HasCleanDisk, Survives};
 ghost use Rattle.sqlite.specs.Held.{state};
 ghost use Rattle.repository_rows.specs.Contents.{Contents};
 ghost use Rattle.table_rows.specs.Schema.{HasFirst};
 ghost use Rattle.table_rows.specs.Tables.{HoldsWhole, IsStore, root_row, version_row};
 ghost use Rattle.repository_tables.specs.Migration.{IsEarlier};
-ghost use Rattle.repository_tables.specs.steps.Writing.{Cells, IsInside};
+ghost use Rattle.repository_tables.specs.steps.Writing.{Cells, ChangesCells, IsInside, IsUncommitted};
 ghost use Rattle.repository_tables.specs.steps.Migrating.{IsEarly, brought};
 
 use crate::making::make_root2;
@@ -15,10 +15,8 @@ use table_rows::{StoreFault, beginning_of};
 
 // No row of `root` stays.
 fn empty_root<S: Alter>(tx: &mut Transaction<'_, S>) -> Result<(), Error>
-    ensures same_reference { tx.new.conn.ghost_name ≡ tx.old.conn.ghost_name }
-    ensures wrote { HasCleanDisk (state S.Store tx.new.conn.now) → (c : Cells) → IsInside (state S.Store tx.old.conn.now) c → OnOk result (IsInside (state S.Store tx.new.conn.now) (record c { root = [] })) }
-    ensures kept { HasCleanDisk (state S.Store tx.new.conn.now) → KeepsCommit (state S.Store tx.old.conn.now) (state S.Store tx.new.conn.now) }
-    ensures survives { Survives (state S.Store tx.old.conn.now) (state S.Store tx.new.conn.now) (λ _. ⊥) }
+    ensures wrote { ChangesCells S.Store tx.old tx.new result (λ c. record c { root = [] }) }
+    ensures uncommitted { IsUncommitted S.Store tx.old tx.new }
 {
     tx.execute("DELETE FROM root", &[])?;
     Ok(())
@@ -26,10 +24,8 @@ fn empty_root<S: Alter>(tx: &mut Transaction<'_, S>) -> Result<(), Error>
 
 // A root more, of profile 1.
 fn add_root<S: Alter>(tx: &mut Transaction<'_, S>, version: u32, bytes: &[u8]) -> Result<(), Error>
-    ensures same_reference { tx.new.conn.ghost_name ≡ tx.old.conn.ghost_name }
-    ensures wrote { HasCleanDisk (state S.Store tx.new.conn.now) → (c : Cells) → IsInside (state S.Store tx.old.conn.now) c → OnOk result (IsInside (state S.Store tx.new.conn.now) (record c { root2 = c.root2 ++ root_row (version, (1, bytes.now)) ∷ [] })) }
-    ensures kept { HasCleanDisk (state S.Store tx.new.conn.now) → KeepsCommit (state S.Store tx.old.conn.now) (state S.Store tx.new.conn.now) }
-    ensures survives { Survives (state S.Store tx.old.conn.now) (state S.Store tx.new.conn.now) (λ _. ⊥) }
+    ensures wrote { ChangesCells S.Store tx.old tx.new result (λ c. record c { root2 = c.root2 ++ root_row (version, (1, bytes.now)) ∷ [] }) }
+    ensures uncommitted { IsUncommitted S.Store tx.old tx.new }
 {
     tx.execute(
         "INSERT INTO root2 (version, profile, bytes) VALUES (?1, 1, ?2)",
@@ -40,11 +36,8 @@ fn add_root<S: Alter>(tx: &mut Transaction<'_, S>, version: u32, bytes: &[u8]) -
 
 // The roots, in their order.
 fn add_roots<S: Alter>(tx: &mut Transaction<'_, S>, roots: &[(u32, &[u8])]) -> Result<(), Error>
-    ensures same_reference { tx.new.conn.ghost_name ≡ tx.old.conn.ghost_name }
-    ensures wrote { HasCleanDisk (state S.Store tx.new.conn.now) → (c : Cells) → IsInside (state S.Store tx.old.conn.now) c
-        → OnOk result (IsInside (state S.Store tx.new.conn.now) (record c { root2 = c.root2 ++ map root_row (map (λ r. (r.0, (1, r.1.now))) roots.now) })) }
-    ensures kept { HasCleanDisk (state S.Store tx.new.conn.now) → KeepsCommit (state S.Store tx.old.conn.now) (state S.Store tx.new.conn.now) }
-    ensures survives { Survives (state S.Store tx.old.conn.now) (state S.Store tx.new.conn.now) (λ _. ⊥) }
+    ensures wrote { ChangesCells S.Store tx.old tx.new result (λ c. record c { root2 = c.root2 ++ map root_row (map (λ r. (r.0, (1, r.1.now))) roots.now) }) }
+    ensures uncommitted { IsUncommitted S.Store tx.old tx.new }
 {
     'roots: for root in roots {
         add_root(tx, root.0, root.1)?;
@@ -54,10 +47,8 @@ fn add_roots<S: Alter>(tx: &mut Transaction<'_, S>, roots: &[(u32, &[u8])]) -> R
 
 // No row of `schema` stays.
 fn empty_version<S: Alter>(tx: &mut Transaction<'_, S>) -> Result<(), Error>
-    ensures same_reference { tx.new.conn.ghost_name ≡ tx.old.conn.ghost_name }
-    ensures wrote { HasCleanDisk (state S.Store tx.new.conn.now) → (c : Cells) → IsInside (state S.Store tx.old.conn.now) c → OnOk result (IsInside (state S.Store tx.new.conn.now) (record c { version = [] })) }
-    ensures kept { HasCleanDisk (state S.Store tx.new.conn.now) → KeepsCommit (state S.Store tx.old.conn.now) (state S.Store tx.new.conn.now) }
-    ensures survives { Survives (state S.Store tx.old.conn.now) (state S.Store tx.new.conn.now) (λ _. ⊥) }
+    ensures wrote { ChangesCells S.Store tx.old tx.new result (λ c. record c { version = [] }) }
+    ensures uncommitted { IsUncommitted S.Store tx.old tx.new }
 {
     tx.execute("DELETE FROM schema", &[])?;
     Ok(())
@@ -65,10 +56,8 @@ fn empty_version<S: Alter>(tx: &mut Transaction<'_, S>) -> Result<(), Error>
 
 // The row of schema 2.
 fn add_version<S: Alter>(tx: &mut Transaction<'_, S>) -> Result<(), Error>
-    ensures same_reference { tx.new.conn.ghost_name ≡ tx.old.conn.ghost_name }
-    ensures wrote { HasCleanDisk (state S.Store tx.new.conn.now) → (c : Cells) → IsInside (state S.Store tx.old.conn.now) c → OnOk result (IsInside (state S.Store tx.new.conn.now) (record c { version = c.version ++ version_row 2 ∷ [] })) }
-    ensures kept { HasCleanDisk (state S.Store tx.new.conn.now) → KeepsCommit (state S.Store tx.old.conn.now) (state S.Store tx.new.conn.now) }
-    ensures survives { Survives (state S.Store tx.old.conn.now) (state S.Store tx.new.conn.now) (λ _. ⊥) }
+    ensures wrote { ChangesCells S.Store tx.old tx.new result (λ c. record c { version = c.version ++ version_row 2 ∷ [] }) }
+    ensures uncommitted { IsUncommitted S.Store tx.old tx.new }
 {
     tx.execute("INSERT INTO schema (version) VALUES (2)", &[])?;
     Ok(())
@@ -80,11 +69,9 @@ fn bring<S: Alter>(
     count: usize,
     roots: &[(u32, &[u8])],
 ) -> Result<(), Error>
-    ensures same_reference { tx.new.conn.ghost_name ≡ tx.old.conn.ghost_name }
     ensures wrote { HasCleanDisk (state S.Store tx.new.conn.now) → (c : Cells) → IsEarly count (state S.Store tx.old.conn.now) c
         → OnOk result (IsInside (state S.Store tx.new.conn.now) (brought c (map (λ r. (r.0, (1, r.1.now))) roots.now))) }
-    ensures kept { HasCleanDisk (state S.Store tx.new.conn.now) → KeepsCommit (state S.Store tx.old.conn.now) (state S.Store tx.new.conn.now) }
-    ensures survives { Survives (state S.Store tx.old.conn.now) (state S.Store tx.new.conn.now) (λ _. ⊥) }
+    ensures uncommitted { IsUncommitted S.Store tx.old tx.new }
 {
     make_root2(tx, count)?;
     empty_root(tx)?;

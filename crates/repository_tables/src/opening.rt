@@ -47,7 +47,7 @@ fn begin_bare<S: Alter>(
     Ok(())
 }
 
-// Whether the store is an earlier one: `schema` has the row 1, or `root2` is absent.
+// Whether the store is an earlier one: `schema` has version 1, or `root2` is absent.
 fn is_early(is_first: bool, count: usize) -> bool
     ensures early { IsTrue result → (is_first ≡ true) ⊎ (count ≡ 5) }
     ensures late { result ≡ false → (is_first ≡ false) × (count ≢ 5) }
@@ -107,7 +107,7 @@ fn complete_bare<S: Alter>(
 }
 
 /// Reads what the six tables hold: the rows of the metadata, and digest and length of each target file, by digest; and whether the store
-/// is an earlier one, which `migrate` brings to schema 2: `schema` has the row 1, or `root2` is absent. The bytes of a target file are
+/// is an earlier one, which `migrate` brings to schema 2: `schema` has version 1, or `root2` is absent. The bytes of a target file are
 /// read once, and let go once their SHA-256 was compared with their digest.
 ///
 /// The first of the tables in the order in which they are made may stand alone, and there may be none: a table that is absent

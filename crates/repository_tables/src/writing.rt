@@ -1,12 +1,12 @@
 // The changes of the rows, and the transaction that makes them.
-ghost use Rattle.std.specs.Prelude.{◌≡◌, ◌≢◌, ◌++◌, ◌∷◌, [], true, false, codes, IsTrue, Err, OnOk, OnErr, IfErr};
-ghost use Rattle.sqlite.specs.State.{HasCleanDisk, KeepsCommit, Survives};
+ghost use Rattle.std.specs.Prelude.{◌≡◌, ◌≢◌, ◌++◌, ◌∷◌, [], false, IsTrue, Err, OnOk, OnErr};
+ghost use Rattle.sqlite.specs.State.{HasCleanDisk, Survives};
 ghost use Rattle.sqlite.specs.Held.{state};
 ghost use Rattle.sqlite.specs.declared.types.Value.TheVariants.{Text, Blob};
 ghost use Rattle.repository_rows.specs.Contents.{Contents};
 ghost use Rattle.table_rows.specs.Tables.{IsStore, HoldsWhole, slot_row};
 ghost use Rattle.repository_tables.specs.Changes.{after, after_all, with_root, with_row, with_blob, with_timestamp, with_snapshot, without_blob, without_row, emptied};
-ghost use Rattle.repository_tables.specs.steps.Writing.{Cells, IsInside, cells_of};
+ghost use Rattle.repository_tables.specs.steps.Writing.{ChangesCells, ChangesContents, IsUncommitted};
 ghost use Rattle.sql_tables.specs.Writing.{without_text};
 
 use crate::change::Change;
@@ -21,10 +21,8 @@ fn put_root<S: Alter>(
     profile: u32,
     bytes: &[u8],
 ) -> Result<(), Error>
-    ensures same_reference { tx.new.conn.ghost_name ≡ tx.old.conn.ghost_name }
-    ensures wrote { HasCleanDisk (state S.Store tx.new.conn.now) → (t : Contents) → IsInside (state S.Store tx.old.conn.now) (cells_of t) → OnOk result (IsInside (state S.Store tx.new.conn.now) (cells_of (with_root (version, (profile, bytes.now)) t))) }
-    ensures kept { HasCleanDisk (state S.Store tx.new.conn.now) → KeepsCommit (state S.Store tx.old.conn.now) (state S.Store tx.new.conn.now) }
-    ensures survives { Survives (state S.Store tx.old.conn.now) (state S.Store tx.new.conn.now) (λ _. ⊥) }
+    ensures wrote { ChangesContents S.Store tx.old tx.new result (with_root (version, (profile, bytes.now))) }
+    ensures uncommitted { IsUncommitted S.Store tx.old tx.new }
 {
     tx.execute(
         "INSERT INTO root2 (version, profile, bytes) VALUES (?1, ?2, ?3)",
@@ -35,10 +33,8 @@ fn put_root<S: Alter>(
 
 // The row of the slot goes, where it is there.
 fn drop_slot<S: Alter>(tx: &mut Transaction<'_, S>, slot: &str) -> Result<(), Error>
-    ensures same_reference { tx.new.conn.ghost_name ≡ tx.old.conn.ghost_name }
-    ensures wrote { HasCleanDisk (state S.Store tx.new.conn.now) → (c : Cells) → IsInside (state S.Store tx.old.conn.now) c → OnOk result (IsInside (state S.Store tx.new.conn.now) (record c { current = without_text slot.now c.current })) }
-    ensures kept { HasCleanDisk (state S.Store tx.new.conn.now) → KeepsCommit (state S.Store tx.old.conn.now) (state S.Store tx.new.conn.now) }
-    ensures survives { Survives (state S.Store tx.old.conn.now) (state S.Store tx.new.conn.now) (λ _. ⊥) }
+    ensures wrote { ChangesCells S.Store tx.old tx.new result (λ c. record c { current = without_text slot.now c.current }) }
+    ensures uncommitted { IsUncommitted S.Store tx.old tx.new }
 {
     tx.execute("DELETE FROM current WHERE slot = ?1", params![slot])?;
     Ok(())
@@ -51,10 +47,8 @@ fn add_slot<S: Alter>(
     version: u32,
     bytes: &[u8],
 ) -> Result<(), Error>
-    ensures same_reference { tx.new.conn.ghost_name ≡ tx.old.conn.ghost_name }
-    ensures wrote { HasCleanDisk (state S.Store tx.new.conn.now) → (c : Cells) → IsInside (state S.Store tx.old.conn.now) c → OnOk result (IsInside (state S.Store tx.new.conn.now) (record c { current = c.current ++ slot_row slot.now (version, bytes.now) ∷ [] })) }
-    ensures kept { HasCleanDisk (state S.Store tx.new.conn.now) → KeepsCommit (state S.Store tx.old.conn.now) (state S.Store tx.new.conn.now) }
-    ensures survives { Survives (state S.Store tx.old.conn.now) (state S.Store tx.new.conn.now) (λ _. ⊥) }
+    ensures wrote { ChangesCells S.Store tx.old tx.new result (λ c. record c { current = c.current ++ slot_row slot.now (version, bytes.now) ∷ [] }) }
+    ensures uncommitted { IsUncommitted S.Store tx.old tx.new }
 {
     tx.execute(
         "INSERT INTO current (slot, version, bytes) VALUES (?1, ?2, ?3)",
@@ -70,10 +64,8 @@ fn put_row<S: Alter>(
     version: u32,
     bytes: &[u8],
 ) -> Result<(), Error>
-    ensures same_reference { tx.new.conn.ghost_name ≡ tx.old.conn.ghost_name }
-    ensures wrote { HasCleanDisk (state S.Store tx.new.conn.now) → (t : Contents) → IsInside (state S.Store tx.old.conn.now) (cells_of t) → OnOk result (IsInside (state S.Store tx.new.conn.now) (cells_of (with_row ((role.now, version), bytes.now) t))) }
-    ensures kept { HasCleanDisk (state S.Store tx.new.conn.now) → KeepsCommit (state S.Store tx.old.conn.now) (state S.Store tx.new.conn.now) }
-    ensures survives { Survives (state S.Store tx.old.conn.now) (state S.Store tx.new.conn.now) (λ _. ⊥) }
+    ensures wrote { ChangesContents S.Store tx.old tx.new result (with_row ((role.now, version), bytes.now)) }
+    ensures uncommitted { IsUncommitted S.Store tx.old tx.new }
 {
     tx.execute(
         "INSERT INTO shelf (role, version, bytes) VALUES (?1, ?2, ?3)",
@@ -84,10 +76,8 @@ fn put_row<S: Alter>(
 
 // A target file more, under the digits of its digest.
 fn add_blob<S: Alter>(tx: &mut Transaction<'_, S>, digits: &[u8], bytes: &[u8]) -> Result<(), Error>
-    ensures same_reference { tx.new.conn.ghost_name ≡ tx.old.conn.ghost_name }
-    ensures wrote { HasCleanDisk (state S.Store tx.new.conn.now) → (c : Cells) → IsInside (state S.Store tx.old.conn.now) c → OnOk result (IsInside (state S.Store tx.new.conn.now) (record c { blob = c.blob ++ (Text digits.now ∷ Blob bytes.now ∷ []) ∷ [] })) }
-    ensures kept { HasCleanDisk (state S.Store tx.new.conn.now) → KeepsCommit (state S.Store tx.old.conn.now) (state S.Store tx.new.conn.now) }
-    ensures survives { Survives (state S.Store tx.old.conn.now) (state S.Store tx.new.conn.now) (λ _. ⊥) }
+    ensures wrote { ChangesCells S.Store tx.old tx.new result (λ c. record c { blob = c.blob ++ (Text digits.now ∷ Blob bytes.now ∷ []) ∷ [] }) }
+    ensures uncommitted { IsUncommitted S.Store tx.old tx.new }
 {
     tx.execute(
         "INSERT INTO blob (digest, bytes) VALUES (?1, ?2)",
@@ -98,10 +88,8 @@ fn add_blob<S: Alter>(tx: &mut Transaction<'_, S>, digits: &[u8], bytes: &[u8]) 
 
 // No row of `current` stays.
 fn empty_current<S: Alter>(tx: &mut Transaction<'_, S>) -> Result<(), Error>
-    ensures same_reference { tx.new.conn.ghost_name ≡ tx.old.conn.ghost_name }
-    ensures wrote { HasCleanDisk (state S.Store tx.new.conn.now) → (c : Cells) → IsInside (state S.Store tx.old.conn.now) c → OnOk result (IsInside (state S.Store tx.new.conn.now) (record c { current = [] })) }
-    ensures kept { HasCleanDisk (state S.Store tx.new.conn.now) → KeepsCommit (state S.Store tx.old.conn.now) (state S.Store tx.new.conn.now) }
-    ensures survives { Survives (state S.Store tx.old.conn.now) (state S.Store tx.new.conn.now) (λ _. ⊥) }
+    ensures wrote { ChangesCells S.Store tx.old tx.new result (λ c. record c { current = [] }) }
+    ensures uncommitted { IsUncommitted S.Store tx.old tx.new }
 {
     tx.execute("DELETE FROM current", &[])?;
     Ok(())
@@ -109,10 +97,8 @@ fn empty_current<S: Alter>(tx: &mut Transaction<'_, S>) -> Result<(), Error>
 
 // No targets document stays.
 fn empty_shelf<S: Alter>(tx: &mut Transaction<'_, S>) -> Result<(), Error>
-    ensures same_reference { tx.new.conn.ghost_name ≡ tx.old.conn.ghost_name }
-    ensures wrote { HasCleanDisk (state S.Store tx.new.conn.now) → (c : Cells) → IsInside (state S.Store tx.old.conn.now) c → OnOk result (IsInside (state S.Store tx.new.conn.now) (record c { shelf = [] })) }
-    ensures kept { HasCleanDisk (state S.Store tx.new.conn.now) → KeepsCommit (state S.Store tx.old.conn.now) (state S.Store tx.new.conn.now) }
-    ensures survives { Survives (state S.Store tx.old.conn.now) (state S.Store tx.new.conn.now) (λ _. ⊥) }
+    ensures wrote { ChangesCells S.Store tx.old tx.new result (λ c. record c { shelf = [] }) }
+    ensures uncommitted { IsUncommitted S.Store tx.old tx.new }
 {
     tx.execute("DELETE FROM shelf", &[])?;
     Ok(())
@@ -124,10 +110,8 @@ fn put_blob<S: Alter>(
     digest: &[u8; 32],
     bytes: &[u8],
 ) -> Result<(), Error>
-    ensures same_reference { tx.new.conn.ghost_name ≡ tx.old.conn.ghost_name }
-    ensures wrote { HasCleanDisk (state S.Store tx.new.conn.now) → (t : Contents) → IsInside (state S.Store tx.old.conn.now) (cells_of t) → OnOk result (IsInside (state S.Store tx.new.conn.now) (cells_of (with_blob (digest.now, bytes.now) t))) }
-    ensures kept { HasCleanDisk (state S.Store tx.new.conn.now) → KeepsCommit (state S.Store tx.old.conn.now) (state S.Store tx.new.conn.now) }
-    ensures survives { Survives (state S.Store tx.old.conn.now) (state S.Store tx.new.conn.now) (λ _. ⊥) }
+    ensures wrote { ChangesContents S.Store tx.old tx.new result (with_blob (digest.now, bytes.now)) }
+    ensures uncommitted { IsUncommitted S.Store tx.old tx.new }
 {
     let mut digits = [0; 64];
     let _ = hex::encode_to_slice(digest, &mut digits);
@@ -141,10 +125,8 @@ fn put_timestamp<S: Alter>(
     version: u32,
     bytes: &[u8],
 ) -> Result<(), Error>
-    ensures same_reference { tx.new.conn.ghost_name ≡ tx.old.conn.ghost_name }
-    ensures wrote { HasCleanDisk (state S.Store tx.new.conn.now) → (t : Contents) → IsInside (state S.Store tx.old.conn.now) (cells_of t) → OnOk result (IsInside (state S.Store tx.new.conn.now) (cells_of (with_timestamp (version, bytes.now) t))) }
-    ensures kept { HasCleanDisk (state S.Store tx.new.conn.now) → KeepsCommit (state S.Store tx.old.conn.now) (state S.Store tx.new.conn.now) }
-    ensures survives { Survives (state S.Store tx.old.conn.now) (state S.Store tx.new.conn.now) (λ _. ⊥) }
+    ensures wrote { ChangesContents S.Store tx.old tx.new result (with_timestamp (version, bytes.now)) }
+    ensures uncommitted { IsUncommitted S.Store tx.old tx.new }
 {
     drop_slot(tx, "timestamp")?;
     add_slot(tx, "timestamp", version, bytes)
@@ -156,10 +138,8 @@ fn put_snapshot<S: Alter>(
     version: u32,
     bytes: &[u8],
 ) -> Result<(), Error>
-    ensures same_reference { tx.new.conn.ghost_name ≡ tx.old.conn.ghost_name }
-    ensures wrote { HasCleanDisk (state S.Store tx.new.conn.now) → (t : Contents) → IsInside (state S.Store tx.old.conn.now) (cells_of t) → OnOk result (IsInside (state S.Store tx.new.conn.now) (cells_of (with_snapshot (version, bytes.now) t))) }
-    ensures kept { HasCleanDisk (state S.Store tx.new.conn.now) → KeepsCommit (state S.Store tx.old.conn.now) (state S.Store tx.new.conn.now) }
-    ensures survives { Survives (state S.Store tx.old.conn.now) (state S.Store tx.new.conn.now) (λ _. ⊥) }
+    ensures wrote { ChangesContents S.Store tx.old tx.new result (with_snapshot (version, bytes.now)) }
+    ensures uncommitted { IsUncommitted S.Store tx.old tx.new }
 {
     drop_slot(tx, "snapshot")?;
     add_slot(tx, "snapshot", version, bytes)
@@ -167,10 +147,8 @@ fn put_snapshot<S: Alter>(
 
 // The rows of `current` and `shelf` go.
 fn empty<S: Alter>(tx: &mut Transaction<'_, S>) -> Result<(), Error>
-    ensures same_reference { tx.new.conn.ghost_name ≡ tx.old.conn.ghost_name }
-    ensures wrote { HasCleanDisk (state S.Store tx.new.conn.now) → (t : Contents) → IsInside (state S.Store tx.old.conn.now) (cells_of t) → OnOk result (IsInside (state S.Store tx.new.conn.now) (cells_of (emptied t))) }
-    ensures kept { HasCleanDisk (state S.Store tx.new.conn.now) → KeepsCommit (state S.Store tx.old.conn.now) (state S.Store tx.new.conn.now) }
-    ensures survives { Survives (state S.Store tx.old.conn.now) (state S.Store tx.new.conn.now) (λ _. ⊥) }
+    ensures wrote { ChangesContents S.Store tx.old tx.new result emptied }
+    ensures uncommitted { IsUncommitted S.Store tx.old tx.new }
 {
     empty_current(tx)?;
     empty_shelf(tx)
@@ -178,10 +156,8 @@ fn empty<S: Alter>(tx: &mut Transaction<'_, S>) -> Result<(), Error>
 
 // The targets document of this role and version goes, where it is there.
 fn drop_row<S: Alter>(tx: &mut Transaction<'_, S>, role: &str, version: u32) -> Result<(), Error>
-    ensures same_reference { tx.new.conn.ghost_name ≡ tx.old.conn.ghost_name }
-    ensures wrote { HasCleanDisk (state S.Store tx.new.conn.now) → (t : Contents) → IsInside (state S.Store tx.old.conn.now) (cells_of t) → OnOk result (IsInside (state S.Store tx.new.conn.now) (cells_of (without_row role.now version t))) }
-    ensures kept { HasCleanDisk (state S.Store tx.new.conn.now) → KeepsCommit (state S.Store tx.old.conn.now) (state S.Store tx.new.conn.now) }
-    ensures survives { Survives (state S.Store tx.old.conn.now) (state S.Store tx.new.conn.now) (λ _. ⊥) }
+    ensures wrote { ChangesContents S.Store tx.old tx.new result (without_row role.now version) }
+    ensures uncommitted { IsUncommitted S.Store tx.old tx.new }
 {
     tx.execute(
         "DELETE FROM shelf WHERE role = ?1 AND version = ?2",
@@ -192,10 +168,8 @@ fn drop_row<S: Alter>(tx: &mut Transaction<'_, S>, role: &str, version: u32) -> 
 
 // The target file under these digits goes, where it is there.
 fn drop_digits<S: Alter>(tx: &mut Transaction<'_, S>, digits: &[u8]) -> Result<(), Error>
-    ensures same_reference { tx.new.conn.ghost_name ≡ tx.old.conn.ghost_name }
-    ensures wrote { HasCleanDisk (state S.Store tx.new.conn.now) → (c : Cells) → IsInside (state S.Store tx.old.conn.now) c → OnOk result (IsInside (state S.Store tx.new.conn.now) (record c { blob = without_text digits.now c.blob })) }
-    ensures kept { HasCleanDisk (state S.Store tx.new.conn.now) → KeepsCommit (state S.Store tx.old.conn.now) (state S.Store tx.new.conn.now) }
-    ensures survives { Survives (state S.Store tx.old.conn.now) (state S.Store tx.new.conn.now) (λ _. ⊥) }
+    ensures wrote { ChangesCells S.Store tx.old tx.new result (λ c. record c { blob = without_text digits.now c.blob }) }
+    ensures uncommitted { IsUncommitted S.Store tx.old tx.new }
 {
     tx.execute(
         "DELETE FROM blob WHERE digest = ?1",
@@ -206,10 +180,8 @@ fn drop_digits<S: Alter>(tx: &mut Transaction<'_, S>, digits: &[u8]) -> Result<(
 
 // The target file of this digest goes, where it is there.
 fn drop_blob<S: Alter>(tx: &mut Transaction<'_, S>, digest: &[u8; 32]) -> Result<(), Error>
-    ensures same_reference { tx.new.conn.ghost_name ≡ tx.old.conn.ghost_name }
-    ensures wrote { HasCleanDisk (state S.Store tx.new.conn.now) → (t : Contents) → IsInside (state S.Store tx.old.conn.now) (cells_of t) → OnOk result (IsInside (state S.Store tx.new.conn.now) (cells_of (without_blob digest.now t))) }
-    ensures kept { HasCleanDisk (state S.Store tx.new.conn.now) → KeepsCommit (state S.Store tx.old.conn.now) (state S.Store tx.new.conn.now) }
-    ensures survives { Survives (state S.Store tx.old.conn.now) (state S.Store tx.new.conn.now) (λ _. ⊥) }
+    ensures wrote { ChangesContents S.Store tx.old tx.new result (without_blob digest.now) }
+    ensures uncommitted { IsUncommitted S.Store tx.old tx.new }
 {
     let mut digits = [0; 64];
     let _ = hex::encode_to_slice(digest, &mut digits);
@@ -219,10 +191,8 @@ fn drop_blob<S: Alter>(tx: &mut Transaction<'_, S>, digest: &[u8; 32]) -> Result
 
 // One change.
 fn write<S: Alter>(tx: &mut Transaction<'_, S>, change: &Change<'_>) -> Result<(), Error>
-    ensures same_reference { tx.new.conn.ghost_name ≡ tx.old.conn.ghost_name }
-    ensures wrote { HasCleanDisk (state S.Store tx.new.conn.now) → (t : Contents) → IsInside (state S.Store tx.old.conn.now) (cells_of t) → OnOk result (IsInside (state S.Store tx.new.conn.now) (cells_of (after change.now t))) }
-    ensures kept { HasCleanDisk (state S.Store tx.new.conn.now) → KeepsCommit (state S.Store tx.old.conn.now) (state S.Store tx.new.conn.now) }
-    ensures survives { Survives (state S.Store tx.old.conn.now) (state S.Store tx.new.conn.now) (λ _. ⊥) }
+    ensures wrote { ChangesContents S.Store tx.old tx.new result (after change.now) }
+    ensures uncommitted { IsUncommitted S.Store tx.old tx.new }
 {
     match change {
         Change::PutRoot(version, profile, bytes) => put_root(tx, *version, *profile, bytes),

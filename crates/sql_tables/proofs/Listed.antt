@@ -1,5 +1,5 @@
 -- The trees of a database tell its tables.
-use Rattle.std.proofs.Common.{◌≡◌, ◌<◌, ◌+◌, inl, inr, ℕ, pos, List, [], ◌∷◌, Ok, filter, length, refl, sym, ap, subst, ◌∙◌, arith}
+use Rattle.std.proofs.Common.{◌≡◌, ◌+◌, inl, inr, pos, List, [], ◌∷◌, filter, length, refl, sym, ap, subst, ◌∙◌, arith}
 use Rattle.std.specs.List.{AllZip}
 use Rattle.sqlite_value.specs.declared.value.Value.TheVariants.{Int, Text}
 use Rattle.sqlite_value.specs.Order.{Row}
@@ -7,7 +7,6 @@ use Rattle.sqlite.specs.Table.{Table}
 use Rattle.sqlite.specs.Effect.{Database, IsDatabase}
 use Rattle.sqlite_trees.specs.Tree.{Trees}
 use Rattle.sqlite_trees.specs.Objects.{catalog_tree}
-use Rattle.sqlite_schema.specs.declared.schema.Schema.{Schema}
 use Rattle.sqlite_catalog.specs.Listing.{IsTableRow, is_table_row}
 use Rattle.sql_tables.specs.Described.{Description, HasAll, IsBeginning}
 use Rattle.sql_tables.proofs.Shapes.{all_count, counted_by}

@@ -1,5 +1,5 @@
 -- Nothing refers to the tables of a list, whatever stands behind them.
-use Rattle.std.proofs.Common.{◌≡◌, ◌≤◌, ◌<◌, ◌+◌, ◌++◌, ◌==◌, ◌&&◌, inl, inr, ℕ, zero, suc, List, [], ◌∷◌, Bool, true, false, if◌then◌else◌, Option, Some, None, option_and_then, option_map, find, flat_map, length, refl, sym, ap, subst, ◌∙◌, arith}
+use Rattle.std.proofs.Common.{◌≡◌, ◌≤◌, ◌<◌, ◌+◌, ◌++◌, ◌==◌, inl, inr, ℕ, zero, suc, List, [], ◌∷◌, Bool, true, false, if◌then◌else◌, Option, Some, None, option_and_then, option_map, find, flat_map, length, refl, subst, arith}
 use Rattle.std.specs.List.{AllByRecursion, filter_map}
 use Rattle.std.proofs.lemmas.Bool.Decides.{eqb_tells}
 use Rattle.sqlite.specs.Order.{Row}
@@ -10,9 +10,9 @@ use Rattle.sqlite_schema.specs.Rules.{ParentKey, key_in, key_places, parent_key}
 use Rattle.sqlite_schema.specs.declared.schema.Keys.TheVariants.{Enforced}
 use Rattle.sqlite_schema.specs.declared.schema.Reference.{Reference}
 use Rattle.sqlite_value.specs.declared.keys.Order.{Order}
-use Rattle.sqlite_rules.specs.Action.{Work, deed_for, pairs, work_by, work_for, works}
+use Rattle.sqlite_rules.specs.Action.{deed_for, pairs, work_by, work_for, works}
 use Rattle.sqlite_rules.specs.declared.action.Deed.{Deed}
-use Rattle.sql_tables.specs.Described.{Description, IsFurther, followed, past_all, past_table, table_of, tables_from, tree_from}
+use Rattle.sql_tables.specs.Described.{Description, IsFurther, followed, past_all, past_table, tables_from, tree_from}
 use Rattle.sql_tables.proofs.Beginnings.{past_above}
 use Rattle.sql_tables.proofs.Shapes.{past_up}
 

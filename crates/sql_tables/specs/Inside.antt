@@ -1,5 +1,5 @@
 -- What the tables of a list hold inside a transaction, cell by cell.
-use Rattle.std.specs.Prelude.{◌≡◌, ◌+◌, ◌<◌, ℕ, zero, suc, List, [], ◌∷◌, length, slice_index_or, IsTrue}
+use Rattle.std.specs.Prelude.{◌+◌, ◌<◌, ℕ, zero, suc, List, [], ◌∷◌, length, slice_index_or, IsTrue}
 use Rattle.sqlite.specs.Kind.{Kind}
 use Rattle.sqlite.specs.Order.{Row, column}
 use Rattle.sqlite.specs.State.{State}

@@ -1,5 +1,5 @@
 -- What a look at the rows leaves.
-use Rattle.std.proofs.Common.{◌≡◌, ◌⊎◌, inl, inr, IsTrue, sym, subst, ◌∙◌}
+use Rattle.std.proofs.Common.{◌≡◌, ◌⊎◌, inl, inr, IsErrAnd, IsTrue, OnOk, Result, Ok, Err, sym, subst, ◌∙◌}
 use Rattle.sqlite.specs.Effect.{Database}
 use Rattle.sqlite.specs.State.{State, IsUnchanged, IsRolledBack, Survives}
 use Rattle.sqlite.proofs.StateLemmas.{survives_then}
@@ -38,6 +38,11 @@ unchanged_then a b c one two = (
 -- two steps that commit nothing
 pub quiet_then : (a b c : State) → Survives a b (λ _. ⊥) → Survives b c (λ _. ⊥) → Survives a c (λ _. ⊥)
 quiet_then a b c one two = survives_then a b c (λ _. ⊥) (λ _. ⊥) (λ _. ⊥) (λ _ db none. none) (λ _ db none. none) one two
+
+-- a fault that a `?` hands on says nothing of Ok
+pub on_fault : {A E : Type 0} (P : E → Type 0) (Q : Type 0) (r : Result A E) → IsErrAnd r P → OnOk r Q
+on_fault P Q (Ok v) is = absurd is
+on_fault P Q (Err e) is = tt
 
 -- ---- one look at `schema`
 

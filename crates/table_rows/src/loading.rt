@@ -10,7 +10,7 @@ ghost use Rattle.table_rows.specs.Schema.{held, root2_rows, HasFive, HasSix};
 ghost use Rattle.table_rows.specs.Rows.{root_cells, root2_cells, current_cells, shelf_cells, blob_cells, version_cells};
 ghost use Rattle.table_rows.specs.Tables.{row_cmp};
 ghost use Rattle.table_rows.specs.Schema.{HasSome};
-ghost use Rattle.table_rows.specs.steps.Loading.{AllComeOnce, QueriedRows, AreQueried, AreDamaged, AreItems, AreSorted, AreTaken, AreVersions, FitsFirst, FitsLength, FitsRoot, FitsShelf, HaveSlots, IsFirstRow, IsGathered, IsLengthRow, IsRootRow, Tell, IsShelfRow, document_shows, length_shows, root_shows};
+ghost use Rattle.table_rows.specs.steps.Loading.{AllComeOnce, QueriedRows, AreQueried, AreDamaged, AreItems, AreSorted, AreTaken, AreVersions, FitsFirst, FitsLength, FitsRoot, FitsShelf, HaveSlots, IsFirstRow, IsGathered, IsLengthRow, IsReadOnly, IsRootRow, Tell, IsShelfRow, document_shows, length_shows, root_shows};
 ghost use Rattle.sql_tables.specs.Loading.{AreLoaded, ComeOnce, rises, with_rowid};
 
 use crate::current::{Current, Versions};
@@ -29,10 +29,8 @@ fn first_rows<S: Alter>(
 ) -> Result<(Option<Vec<(u32, u32, Vec<u8>)>>, bool), StoreFault>
     ensures rows { IfOk result (λ p. (rows : List Row) × (IsTrue p.1 → ComeOnce 0 rows) × IsGathered nat_cmp IsFirstRow FitsFirst root_shows rows p.0
         × (HasCleanDisk (state S.Store conn.new) → HasFive (state S.Store conn.old).now.schema → AreLoaded root_cells (rises ∷ []) ((state S.Store conn.old).now.trees 0) rows)) }
-    ensures unchanged { HasCleanDisk (state S.Store conn.new) → HasFive (state S.Store conn.old).now.schema → OnOk result (IsUnchanged (state S.Store conn.old) (state S.Store conn.new)) }
+    ensures read_only { IsReadOnly S.Store conn.old conn.new HasFive result }
     ensures fault { result ≢ Err StoreFault.Damaged }
-    ensures mode { conn.old.in_transaction ≡ false → conn.new.in_transaction ≡ false }
-    ensures survives { Survives (state S.Store conn.old) (state S.Store conn.new) (λ _. ⊥) }
 {
     Ok(gather::<S, FirstRoots>(
         alloc,
@@ -48,10 +46,8 @@ fn second_rows<S: Alter>(
 ) -> Result<(Option<Vec<(u32, u32, Vec<u8>)>>, bool), StoreFault>
     ensures rows { IfOk result (λ p. (rows : List Row) × (IsTrue p.1 → ComeOnce 0 rows) × IsGathered nat_cmp IsRootRow FitsRoot root_shows rows p.0
         × (HasCleanDisk (state S.Store conn.new) → HasSix (state S.Store conn.old).now.schema → AreLoaded root2_cells (rises ∷ []) (root2_rows (state S.Store conn.old).now.schema (state S.Store conn.old).now.trees) rows)) }
-    ensures unchanged { HasCleanDisk (state S.Store conn.new) → HasSix (state S.Store conn.old).now.schema → OnOk result (IsUnchanged (state S.Store conn.old) (state S.Store conn.new)) }
+    ensures read_only { IsReadOnly S.Store conn.old conn.new HasSix result }
     ensures fault { result ≢ Err StoreFault.Damaged }
-    ensures mode { conn.old.in_transaction ≡ false → conn.new.in_transaction ≡ false }
-    ensures survives { Survives (state S.Store conn.old) (state S.Store conn.new) (λ _. ⊥) }
 {
     Ok(gather::<S, Roots>(
         alloc,
@@ -86,10 +82,8 @@ fn current_rows<S: Alter>(
 ) -> Result<(Current, bool), StoreFault>
     ensures rows { IfOk result (λ p. (rows : List Row) × (IsTrue p.1 → ComeOnce 3 rows) × HaveSlots rows (slot_view p.0.timestamp) (slot_view p.0.snapshot) p.0.is_spoiled
         × (HasCleanDisk (state S.Store conn.new) → HasFive (state S.Store conn.old).now.schema → AreLoaded (with_rowid current_cells) [] ((state S.Store conn.old).now.trees 1) rows)) }
-    ensures unchanged { HasCleanDisk (state S.Store conn.new) → HasFive (state S.Store conn.old).now.schema → OnOk result (IsUnchanged (state S.Store conn.old) (state S.Store conn.new)) }
+    ensures read_only { IsReadOnly S.Store conn.old conn.new HasFive result }
     ensures fault { result ≢ Err StoreFault.Damaged }
-    ensures mode { conn.old.in_transaction ≡ false → conn.new.in_transaction ≡ false }
-    ensures survives { Survives (state S.Store conn.old) (state S.Store conn.new) (λ _. ⊥) }
 {
     Ok(take_rows(
         alloc,
@@ -106,10 +100,8 @@ fn shelf_rows<S: Alter>(
 ) -> Result<(Option<Vec<(String, u32, Vec<u8>)>>, bool), StoreFault>
     ensures rows { IfOk result (λ p. (rows : List Row) × (IsTrue p.1 → ComeOnce 3 rows) × IsGathered row_cmp IsShelfRow FitsShelf document_shows rows p.0
         × (HasCleanDisk (state S.Store conn.new) → HasFive (state S.Store conn.old).now.schema → AreLoaded (with_rowid shelf_cells) (rises ∷ rises ∷ []) ((state S.Store conn.old).now.trees 3) rows)) }
-    ensures unchanged { HasCleanDisk (state S.Store conn.new) → HasFive (state S.Store conn.old).now.schema → OnOk result (IsUnchanged (state S.Store conn.old) (state S.Store conn.new)) }
+    ensures read_only { IsReadOnly S.Store conn.old conn.new HasFive result }
     ensures fault { result ≢ Err StoreFault.Damaged }
-    ensures mode { conn.old.in_transaction ≡ false → conn.new.in_transaction ≡ false }
-    ensures survives { Survives (state S.Store conn.old) (state S.Store conn.new) (λ _. ⊥) }
 {
     Ok(gather::<S, Documents>(
         alloc,
@@ -126,10 +118,8 @@ fn blob_rows<S: Alter>(
 ) -> Result<(Option<Vec<([u8; 32], usize)>>, bool), StoreFault>
     ensures rows { IfOk result (λ p. (rows : List Row) × (IsTrue p.1 → ComeOnce 2 rows) × IsGathered (slice_cmp nat_cmp) IsLengthRow FitsLength length_shows rows p.0
         × (HasCleanDisk (state S.Store conn.new) → HasFive (state S.Store conn.old).now.schema → AreLoaded (with_rowid blob_cells) (rises ∷ []) ((state S.Store conn.old).now.trees 5) rows)) }
-    ensures unchanged { HasCleanDisk (state S.Store conn.new) → HasFive (state S.Store conn.old).now.schema → OnOk result (IsUnchanged (state S.Store conn.old) (state S.Store conn.new)) }
+    ensures read_only { IsReadOnly S.Store conn.old conn.new HasFive result }
     ensures fault { result ≢ Err StoreFault.Damaged }
-    ensures mode { conn.old.in_transaction ≡ false → conn.new.in_transaction ≡ false }
-    ensures survives { Survives (state S.Store conn.old) (state S.Store conn.new) (λ _. ⊥) }
 {
     let (files, once) = take_rows(
         alloc,
@@ -147,10 +137,8 @@ fn version_rows<S: Alter>(
 ) -> Result<(Versions, bool), StoreFault>
     ensures rows { IfOk result (λ p. (rows : List Row) × (IsTrue p.1 → ComeOnce 0 rows) × AreVersions rows p.0.is_begun p.0.is_first p.0.is_second
         × (HasCleanDisk (state S.Store conn.new) → HasFive (state S.Store conn.old).now.schema → AreLoaded version_cells [] ((state S.Store conn.old).now.trees 7) rows)) }
-    ensures unchanged { HasCleanDisk (state S.Store conn.new) → HasFive (state S.Store conn.old).now.schema → OnOk result (IsUnchanged (state S.Store conn.old) (state S.Store conn.new)) }
+    ensures read_only { IsReadOnly S.Store conn.old conn.new HasFive result }
     ensures fault { result ≢ Err StoreFault.Damaged }
-    ensures mode { conn.old.in_transaction ≡ false → conn.new.in_transaction ≡ false }
-    ensures survives { Survives (state S.Store conn.old) (state S.Store conn.new) (λ _. ⊥) }
 {
     Ok(take_rows(alloc, conn, "SELECT version FROM schema", Versions::new())?)
 }
@@ -193,10 +181,8 @@ pub(crate) fn ask<S: Alter>(
 ) -> Result<Taken, StoreFault>
     ensures rows { IfOk result (λ t. (a : QueriedRows) × AllComeOnce a × AreTaken a t
         × (HasCleanDisk (state S.Store conn.new) → HasSome count (state S.Store conn.old).now.schema → AreQueried (held (state S.Store conn.old).now.schema (state S.Store conn.old).now.trees) a)) }
-    ensures unchanged { HasCleanDisk (state S.Store conn.new) → HasSome count (state S.Store conn.old).now.schema → OnOk result (IsUnchanged (state S.Store conn.old) (state S.Store conn.new)) }
+    ensures read_only { IsReadOnly S.Store conn.old conn.new (HasSome count) result }
     ensures fault { result ≢ Err StoreFault.Damaged }
-    ensures mode { conn.old.in_transaction ≡ false → conn.new.in_transaction ≡ false }
-    ensures survives { Survives (state S.Store conn.old) (state S.Store conn.new) (λ _. ⊥) }
 {
     let (first_roots, first_once) = first_rows(alloc, conn)?;
     let (current, current_once) = current_rows(alloc, conn)?;

@@ -1,8 +1,11 @@
--- What the tables hold inside a transaction, cell by cell.
-use Rattle.std.specs.Prelude.{List, [], ◌∷◌, map}
+-- What the tables hold inside a transaction, cell by cell, and what a statement there makes of it.
+use Rattle.std.specs.Prelude.{◌≡◌, List, [], ◌∷◌, map, Result, OnOk}
 use Rattle.sqlite.specs.Order.{Row}
 use Rattle.sqlite.specs.Effect.{IsDatabase}
-use Rattle.sqlite.specs.State.{State}
+use Rattle.sqlite.specs.State.{HasCleanDisk, KeepsCommit, State, Survives}
+use Rattle.sqlite.specs.Held.{state}
+use Rattle.sqlite.specs.declared.transaction.Transaction.{Transaction}
+use Rattle.sqlite_trees.specs.declared.store.Store.{Ghosts}
 use Rattle.sql_tables.specs.Rows.{AreRows}
 use Rattle.table_rows.specs.Rows.{root2_cells}
 use Rattle.table_rows.specs.Schema.{five, root2_rows, HasSix}
@@ -43,3 +46,20 @@ pub record IsInside (s : State) (c : Cells) : Type 0 where
   pub six : HasSix s.now.schema
   pub root2 : AreRows root2_cells (root2_rows s.now.schema s.now.trees) c.root2
   pub sound : IsDatabase s.now
+
+-- ---- a statement inside the transaction
+
+module _ {S : Type 0} (g : Ghosts S) (old new : Transaction S) where
+  -- it commits nothing, whether it answers Ok or a fault
+  pub record IsUncommitted : Type 0 where
+    pub same_reference : new.conn.ghost_name ≡ old.conn.ghost_name
+    pub kept : HasCleanDisk (state g new.conn.now) → KeepsCommit (state g old.conn.now) (state g new.conn.now)
+    pub survives : Survives (state g old.conn.now) (state g new.conn.now) (λ _. ⊥)
+
+  -- at Ok the tables hold what this makes of the cells that they held
+  abbrev pub ChangesCells : {A E : Type 0} → Result A E → (Cells → Cells) → Type 0
+  ChangesCells result made = HasCleanDisk (state g new.conn.now) → (c : Cells) → IsInside (state g old.conn.now) c → OnOk result (IsInside (state g new.conn.now) (made c))
+
+  -- the same of the rows, under schema 2
+  abbrev pub ChangesContents : {A E : Type 0} → Result A E → (Contents → Contents) → Type 0
+  ChangesContents result made = HasCleanDisk (state g new.conn.now) → (t : Contents) → IsInside (state g old.conn.now) (cells_of t) → OnOk result (IsInside (state g new.conn.now) (cells_of (made t)))

@@ -1,5 +1,5 @@
--- What is read of a table.
-use Rattle.std.specs.Prelude.{◌≡◌, ◌≢◌, ◌⊎◌, ℕ, pos, Bool, true, false, length, map, MatchOption, string_bytes, List, [], ◌∷◌, ◌++◌, Option, Some, None, IsUtf8, codes, if◌then◌else◌}
+-- What is read of a table, and what a read changes: nothing.
+use Rattle.std.specs.Prelude.{◌≡◌, ◌≢◌, ◌⊎◌, ℕ, pos, Bool, true, false, length, map, MatchOption, Result, OnOk, string_bytes, List, [], ◌∷◌, ◌++◌, Option, Some, None, IsUtf8, codes, if◌then◌else◌}
 use Rattle.std.specs.Ordering.{nat_cmp}
 use Rattle.std.proofs.Common.{Vec, Global}
 use Rattle.std.specs.declared.string.String.{String}
@@ -7,7 +7,11 @@ use Rattle.hex.specs.Hex.{encode_lower}
 use Rattle.sha2.specs.Sha256.{sha256}
 use Rattle.sqlite.specs.declared.types.Value.TheVariants.{Int, Text, Blob}
 use Rattle.sqlite.specs.Order.{Row, column}
+use Rattle.sqlite.specs.Held.{Held, state}
+use Rattle.sqlite.specs.State.{HasCleanDisk, IsUnchanged, Survives}
+use Rattle.sqlite.specs.Schema.{Schema}
 use Rattle.sqlite_trees.specs.Tree.{Trees}
+use Rattle.sqlite_trees.specs.declared.store.Store.{Ghosts}
 use Rattle.std.specs.declared.cmp.Ordering.{Ordering}
 use Rattle.sqlite_rules.specs.Lists.{Has}
 use Rattle.repository_rows.specs.Contents.{slot_view}
@@ -18,6 +22,12 @@ use Rattle.std.specs.Cmp.Lexicographic.{slice_cmp}
 use Rattle.repository_rows.specs.Contents.{Contents}
 use Rattle.table_rows.specs.Tables.{IsVersion, IsDigest, row_cmp}
 use Rattle.sql_tables.specs.Loading.{AreGathered, AreLoaded, AreOrdered, AreRead, AreSpoiled, ComeOnce, HasGathered, rises, with_rowid}
+
+-- A read of tables that are so: at Ok all is as it was, and whatever it answers, it commits nothing and begins no transaction.
+pub record IsReadOnly {S A E : Type 0} (g : Ghosts S) (old new : Held S) (AreSo : Schema → Type 0) (result : Result A E) : Type 0 where
+  pub unchanged : HasCleanDisk (state g new) → AreSo (state g old).now.schema → OnOk result (IsUnchanged (state g old) (state g new))
+  pub mode : old.in_transaction ≡ false → new.in_transaction ≡ false
+  pub survives : Survives (state g old) (state g new) (λ _. ⊥)
 
 -- ---- the items of a table: a key and a value each
 

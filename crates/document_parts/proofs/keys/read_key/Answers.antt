@@ -1,5 +1,4 @@
 use Rattle.canonical_json.specs.View.{view}
-use Rattle.keys_roles.specs.Views.{key_view}
 use Rattle.document_parts.proofs.KeyObjects.{no_key}
 use Rattle.document_parts.proofs.keys.read_key.Goals as goal
 

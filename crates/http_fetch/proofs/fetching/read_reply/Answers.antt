@@ -1,7 +1,7 @@
 use Rattle.std.proofs.Common.{take, arith, length-drop}
 use Rattle.std.proofs.lemmas.List.{length-take, take_all}
 use Rattle.http_fetch.specs.Reply.{cut}
-use Rattle.http_fetch.proofs.Replying.{replied_by, took_any, took_reply, without_head}
+use Rattle.http_fetch.proofs.Replying.{replied_by, took_reply, without_head}
 use Rattle.http_fetch.proofs.fetching.read_reply.Goals as goal
 
 pub returns-in-Ok-default-Some-clause-answers : goal.returns-in-Ok-default-Some-clause-answers
@@ -22,9 +22,3 @@ returns-in-Ok-default-Some-clause-took g c =
     let head = rw c.in-Ok-default-Some.field-0-1-is at c.in-Ok-default-Some.ensures.head in
     let got = take c.in-Ok-default-Some.filled c.read_head.new.buf in
     took_reply _ _ _ got _ _ _ c.in-Ok-default-Some.ensures.bytes (omega (arith, c.in-Ok-default-Some.ensures.within, length-take c.in-Ok-default-Some.filled c.read_head.new.buf)) head (take_all _ _ (simp length-drop (omega arith))) c.read_body.ensures.took
-
-pub returns-in-Ok-default-None-clause-took : goal.returns-in-Ok-default-None-clause-took
-returns-in-Ok-default-None-clause-took g c = took_any _ _ _ c.read_head.ensures.took
-
-pub returns-in-Err-clause-took : goal.returns-in-Err-clause-took
-returns-in-Err-clause-took g c = took_any _ _ _ c.read_head.ensures.took

@@ -1,14 +1,8 @@
-use Rattle.std.proofs.Common.{◌++◌, take, drop, arith, subst, sym, ap, ◌∙◌, length-take-le}
+use Rattle.std.proofs.Common.{◌++◌, take, drop, arith, subst, sym, ap, ◌∙◌}
 use lib.Seq.{take-add}
 use Rattle.std.specs.Io.KnownBytes.{Consumes}
 use Rattle.std.proofs.KnownBytes.{Consumes-trans}
-use Rattle.http_messages.proofs.HeadLemmas.{none_in_full}
 use Rattle.http_messages.proofs.head.read_head.Goals as goal
-
-pub returns-then-filled-eq-HEAD_LIMIT-clause-head :
-    goal.returns-then-filled-eq-HEAD_LIMIT-clause-head
-returns-then-filled-eq-HEAD_LIMIT-clause-head g c =
-    none_in_full _ _ (length-take-le _ c.loop-spans.buf (omega arith) ∙ c.if-filled-eq-HEAD_LIMIT.true) (rw c.in-Ok-Partial.field-0-is at c.in-Ok-Partial.ensures.partial)
 
 pub loop-spans-preserved : goal.loop-spans-preserved
 loop-spans-preserved g c =

@@ -11,7 +11,7 @@ pub returns-clause-made : goal.returns-clause-made
 returns-clause-made g c clean rows lacks is =
     let one = state g.S.Store c.make_rest.new.tx.conn.now in
     let two = state g.S.Store c.has_rows.new.tx.conn.now in
-    let late : HasCleanDisk two = omega (arith, clean, c.put_version.ensures.survives.clean) in
+    let late : HasCleanDisk two = omega (arith, clean, c.put_version.ensures.uncommitted.survives.clean) in
     let early : HasCleanDisk one = omega (arith, late, c.has_rows.ensures.survives.clean) in
     let full = c.in_ok-make_rest.ensures.wrote early rows lacks is in
     let bare = bare_made rows the_schema one full ((c.in_ok-has_rows.ensures.rows late full.schema_is).0 c.if-branch.false) in
@@ -26,4 +26,4 @@ returns-then-branch-clause-kept g c clean rows lacks is =
     let two = state g.S.Store c.has_rows.new.tx.conn.now in
     let early : HasCleanDisk one = omega (arith, clean, c.has_rows.ensures.survives.clean) in
     let full = c.in_ok-make_rest.ensures.wrote early rows lacks is in
-    λ _. keeps_then old one two (c.make_rest.ensures.kept early) (unchanged_keeps one two (c.in_ok-has_rows.ensures.unchanged clean full.schema_is))
+    λ _. keeps_then old one two (c.make_rest.ensures.uncommitted.kept early) (unchanged_keeps one two (c.in_ok-has_rows.ensures.unchanged clean full.schema_is))

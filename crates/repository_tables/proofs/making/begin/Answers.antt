@@ -36,7 +36,7 @@ returns-clause-crash g c =
     let tx = state g.S.Store c.begin_inside.new.tx.conn.now in
     let end = c.commit.new.self.0 in
     let P = λ (trees : Trees). IsTrue old.is_open × (HasSome c.args.count old.now.schema → AreBare (held old.now.schema old.now.trees) → HoldsWhole trees no_rows) in
-    let first : Survives old tx (λ _. ⊥) = survives_begin g.S.Store c.args.conn.now tx (λ _. ⊥) (subst (λ h. Survives (state g.S.Store h) tx (λ _. ⊥)) c.transaction-tx.ensures.begun c.begin_inside.ensures.survives) in
+    let first : Survives old tx (λ _. ⊥) = survives_begin g.S.Store c.args.conn.now tx (λ _. ⊥) (subst (λ h. Survives (state g.S.Store h) tx (λ _. ⊥)) c.transaction-tx.ensures.begun c.begin_inside.ensures.uncommitted.survives) in
     let all = survives_then old tx (state g.S.Store end) (λ _. ⊥) (λ db. db ≡ tx.now.trees) P (λ _ db none. absurd none)
     (λ clean db is.
     let soon : HasCleanDisk tx = omega (arith, clean, c.commit.ensures.survives.clean) in

@@ -31,7 +31,7 @@ returns-clause-crash g c =
     let tx = state g.S.Store c.bring.new.tx.conn.now in
     let end = c.commit.new.self.0 in
     let P = λ (trees : Trees). (t : Contents) → IsEarlier old t → t.roots ≡ map (λ r. (r.0, (1, r.1.now))) c.args.roots.now → HoldsWhole trees t in
-    let first : Survives old tx (λ _. ⊥) = survives_begin g.S.Store c.args.conn.now tx (λ _. ⊥) (subst (λ h. Survives (state g.S.Store h) tx (λ _. ⊥)) c.transaction-tx.ensures.begun c.bring.ensures.survives) in
+    let first : Survives old tx (λ _. ⊥) = survives_begin g.S.Store c.args.conn.now tx (λ _. ⊥) (subst (λ h. Survives (state g.S.Store h) tx (λ _. ⊥)) c.transaction-tx.ensures.begun c.bring.ensures.uncommitted.survives) in
     let all = survives_then old tx (state g.S.Store end) (λ _. ⊥) (λ db. db ≡ tx.now.trees) P (λ _ db none. absurd none)
     (λ clean db is t store same_roots.
     let begun : Ready c.args.count (state g.S.Store c.transaction-tx.result.conn.now) t (map (λ r. (r.0, (1, r.1.now))) c.args.roots.now) =
@@ -49,7 +49,7 @@ returns-clause-kept g c clean stays t is same_roots =
     let same : end ≡ c.conn-2-1.given.0 = search rules in
     let late : HasCleanDisk (state g.S.Store end) = subst (λ h. HasCleanDisk (state g.S.Store h)) (sym same) clean in
     let soon : HasCleanDisk tx = omega (arith, late, c.commit.ensures.survives.clean) in
-    let kept = subst (λ h. KeepsCommit (state g.S.Store h) tx) c.transaction-tx.ensures.begun (c.bring.ensures.kept soon) in
+    let kept = subst (λ h. KeepsCommit (state g.S.Store h) tx) c.transaction-tx.ensures.begun (c.bring.ensures.uncommitted.kept soon) in
     let begun : Ready c.args.count (state g.S.Store c.transaction-tx.result.conn.now) t (map (λ r. (r.0, (1, r.1.now))) c.args.roots.now) =
     subst (λ h. Ready c.args.count (state g.S.Store h) t (map (λ r. (r.0, (1, r.1.now))) c.args.roots.now)) (sym c.transaction-tx.ensures.begun) (ready c.args.count _ t _ c.requires.some is.is_open is.schema is.holds is.lacks refl (c.schema.ensures.live is.is_open).0 same_roots) in
     let inside = subst (IsInside tx) begun.2 (c.in_ok-bring.ensures.wrote soon begun.0 begun.1) in

@@ -6,5 +6,5 @@ use Rattle.repository_tables.proofs.writing.empty.Goals as goal
 
 pub returns-clause-wrote : goal.returns-clause-wrote
 returns-clause-wrote g c clean t is =
-    let early : HasCleanDisk (state g.S.Store c.empty_current.new.tx.conn.now) = omega (arith, clean, c.empty_shelf.ensures.survives.clean) in
+    let early : HasCleanDisk (state g.S.Store c.empty_current.new.tx.conn.now) = omega (arith, clean, c.empty_shelf.ensures.uncommitted.survives.clean) in
     c.empty_shelf.ensures.wrote clean _ (c.in_ok-empty_current.ensures.wrote early (cells_of t) is)

@@ -12,6 +12,7 @@ use Rattle.repository_tables.specs.Changes.{after_all}
 use Rattle.repository_tables.specs.steps.Writing.{IsInside, cells_of}
 use Rattle.repository_tables.proofs.Changes.{after_all_more, committed, err_then, fails_back, inside, kept_back, on_err, to_whole}
 use Rattle.sql_tables.proofs.Calls.{OnOk_then, keeps_then}
+use Rattle.table_rows.proofs.Looking.{quiet_then}
 use Rattle.repository_tables.proofs.writing.write_changes.Goals as goal
 
 pub writes-init : goal.writes-init
@@ -31,10 +32,10 @@ writes-preserved g c =
     let none : Change = PutRoot 0 0 (record { ref_ptr = (0, 0); now = [] }) in
     let item = slice_index_or c.args.changes.now at none in
     let more : take (at + 1) c.args.changes.now ≡ take at c.args.changes.now ++ item ∷ [] = take_more c.args.changes.now at none (omega arith) in
-    let early : HasCleanDisk now → HasCleanDisk was = λ clean. omega (arith, c.write.ensures.survives.clean) in (
-      c.write.ensures.same_reference ∙ so.0,
-      survives_then old was now (λ _. ⊥) (λ _. ⊥) (λ _. ⊥) (λ _ db none. none) (λ _ db none. none) so.1 c.write.ensures.survives,
-      λ clean. keeps_then old was now (so.2 (early clean)) (c.write.ensures.kept clean),
+    let early : HasCleanDisk now → HasCleanDisk was = λ clean. omega (arith, c.write.ensures.uncommitted.survives.clean) in (
+      c.write.ensures.uncommitted.same_reference ∙ so.0,
+      quiet_then old was now so.1 c.write.ensures.uncommitted.survives,
+      λ clean. keeps_then old was now (so.2 (early clean)) (c.write.ensures.uncommitted.kept clean),
       λ clean t is. subst (λ u. IsInside now (cells_of u)) (sym (ap (λ es. after_all es t) more ∙ after_all_more (take at c.args.changes.now) item t)) (c.in_ok-write.ensures.wrote clean _ (so.3 (early clean) t is)),
     )
 
@@ -70,7 +71,7 @@ returns-in_err-write-clause-kept g c clean stays t is =
     let same : end ≡ c.conn-1.given.0 = search rules in
     let late : HasCleanDisk (state g.S.Store end) = subst (λ h. HasCleanDisk (state g.S.Store h)) (sym same) clean in
     let early : HasCleanDisk tx = omega (arith, late, c.drop-tx.ensures.survives.clean) in
-    let kept = keeps_then old (state g.S.Store c.writes.tx.conn.now) tx (c.writes.invariant.2 (omega (arith, early, c.write.ensures.survives.clean))) (c.write.ensures.kept early) in
+    let kept = keeps_then old (state g.S.Store c.writes.tx.conn.now) tx (c.writes.invariant.2 (omega (arith, early, c.write.ensures.uncommitted.survives.clean))) (c.write.ensures.uncommitted.kept early) in
     on_err c.from_residual.result (subst (λ h. IsStore (state g.S.Store h) t) same (kept_back old tx (state g.S.Store end) t (subst (λ h. IsTrue (state g.S.Store h).is_open) (sym same) stays) kept (c.drop-tx.ensures.undone late) is))
 
 pub returns-clause-kept : goal.returns-clause-kept

@@ -1,4 +1,4 @@
-use Rattle.std.proofs.Common.{◌≡◌, ◌+◌, ◌-◌, ◌++◌, ◌∙◌, List, ap, arith, drop, length, map, slice_index_or, sym, take}
+use Rattle.std.proofs.Common.{◌+◌, ◌-◌, ◌++◌, ◌∙◌, List, ap, arith, drop, length, map, slice_index_or, sym, take}
 use Rattle.std.proofs.lemmas.List.{append_assoc, append_cancel_left}
 use Rattle.sqlite_schema.specs.declared.schema.Index.{Index}
 use Rattle.sql_tables.specs.Described.{described_view, indexes_at, indexes_from, past_table}

@@ -1,9 +1,7 @@
-use Rattle.std.proofs.Common.{◌≡◌, ◌++◌, ◌∙◌, [], List, map, ap, sym}
-use Rattle.std.proofs.lemmas.List.{append-nil, append_cancel_left}
-use Rattle.sqlite_schema.specs.declared.schema.Index.{Index}
+use Rattle.std.proofs.Common.{◌≡◌, ◌++◌, ◌∙◌, [], map, ap, sym}
+use Rattle.std.proofs.lemmas.List.{append_cancel_left}
 use Rattle.sqlite.specs.Schema.{Schema}
-use Rattle.sqlite.specs.Table.{Table}
-use Rattle.sql_tables.specs.Described.{described_view, followed, indexes_from, tables_from}
+use Rattle.sql_tables.specs.Described.{described_view, indexes_from, tables_from}
 use Rattle.sql_tables.proofs.Shapes.{followed_by_none, none_behind}
 use Rattle.sql_tables.proofs.shape.is_schema.Goals as goal
 

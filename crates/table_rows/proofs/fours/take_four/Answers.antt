@@ -1,4 +1,4 @@
-use Rattle.std.proofs.Common.{[], ◌∙◌, ap, subst, slice_index_or}
+use Rattle.std.proofs.Common.{[], ap, subst, slice_index_or}
 use Rattle.std.proofs.lemmas.Result.{on_ok_weaker}
 use Rattle.table_rows.specs.steps.Loading.{HasFiles}
 use Rattle.table_rows.proofs.FourLemmas.{four_rows, held_by}

@@ -26,4 +26,4 @@ returns-clause-rows g c =
     ))
 
 pub returns-clause-unchanged : goal.returns-clause-unchanged
-returns-clause-unchanged g c clean some there = c.second_rows.ensures.unchanged clean (all_six c.args.count (state g.S.Store c.args.conn.now).now.schema c.if-count-eq5.false some)
+returns-clause-unchanged g c clean some there = c.second_rows.ensures.read_only.unchanged clean (all_six c.args.count (state g.S.Store c.args.conn.now).now.schema c.if-count-eq5.false some)

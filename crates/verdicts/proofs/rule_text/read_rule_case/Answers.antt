@@ -1,7 +1,7 @@
 use Rattle.std.proofs.Common.{subst}
 use Rattle.canonical_json.specs.View.{view}
-use Rattle.verdicts.specs.RuleCase.{IsRuleCase, IsRuleText, RuleCase}
-use Rattle.verdicts.proofs.Parts.{IsNone, by_part_of}
+use Rattle.verdicts.specs.RuleCase.{IsRuleCase, IsRuleText}
+use Rattle.verdicts.proofs.Parts.{by_part_of}
 use Rattle.verdicts.proofs.rule_text.read_rule_case.Goals as goal
 
 pub returns-in-Ok-clause-fault : goal.returns-in-Ok-clause-fault
