@@ -46,6 +46,6 @@ impl Work for ToFolder<'_> {
         repository: &mut Store<S>,
         notes: &mut Notes<'_, E>,
     ) -> Result<u64, Fault> {
-        Exporting::new(self.rt, repository, self.db, self.folder, self.now).export(notes)
+        Exporting::new(self.rt, repository, self.db, self.folder, self.now, notes).export()
     }
 }

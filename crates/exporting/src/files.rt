@@ -1,11 +1,10 @@
 //! The files of a repository in a folder, under the names that clients ask for.
 use command_support::{Denial, Fault, Notes, file_fault, put_in_place};
 use limits::BLOB_LIMIT;
-use metadata::{
-    Body, Kind, Listing, Moment, ShapeFault, Snapshot, Targets, digest_of, read_document,
-};
-use path_patterns::{consistent_name, metadata_name};
+use metadata::{Body, Listing, Moment, digest_of};
+use path_patterns::consistent_name;
 use repository_work::fault_of_store;
+use served_files::{FileVisitor, visit_files};
 use sqlite::Alter;
 use std::alloc::{AllocError, Global};
 use std::fs::{self, File, Metadata};
@@ -17,52 +16,49 @@ const FOR_ALL: u32 = 0o666;
 
 /// A repository that is written into a folder. What is told of it has the name of its database file.
 #[derive(Drop)]
-pub struct Exporting<'a, S: Alter> {
+pub struct Exporting<'a, 'n, 'e, S: Alter, E: Write> {
     rt: &'a HostRuntime,
     repository: &'a mut Store<S>,
     db: &'a str,
     folder: &'a str,
     now: Moment,
+    notes: &'n mut Notes<'e, E>,
     written: u64,
 }
 
-impl<'a, S: Alter> Exporting<'a, S> {
+impl<'a, 'n, 'e, S: Alter, E: Write> Exporting<'a, 'n, 'e, S, E> {
     pub fn new(
         rt: &'a HostRuntime,
         repository: &'a mut Store<S>,
         db: &'a str,
         folder: &'a str,
         now: Moment,
-    ) -> Exporting<'a, S> {
+        notes: &'n mut Notes<'e, E>,
+    ) -> Exporting<'a, 'n, 'e, S, E> {
         Exporting {
             rt,
             repository,
             db,
             folder,
             now,
+            notes,
             written: 0,
         }
     }
 
     /// Writes what is not there already, and answers how many files that were: target files, targets metadata, the snapshot, the roots
     /// from the last to the first, and the timestamp, so that whoever reads meanwhile finds what a file names.
-    pub fn export<E: Write>(&mut self, notes: &mut Notes<'_, E>) -> Result<u64, Fault> {
+    pub fn export(&mut self) -> Result<u64, Fault> {
         let Some(root) = self.repository.root_version() else {
-            notes.tell(&self.db, &"denied");
+            self.notes.tell(&self.db, &"denied");
             return Err(Fault::Denied(Denial::NoRoot, None));
         };
         if is_no_folder(self.rt, self.folder) {
-            notes.tell(&self.folder, &"no folder");
+            self.notes.tell(&self.folder, &"no folder");
             return Err(Fault::File);
         }
-        let timestamp = self.file("timestamp.json", notes)?;
-        if let Some(bytes) = &timestamp {
-            self.write_named_snapshot(bytes, notes)?;
-        }
-        self.write_roots(root, notes)?;
-        if let Some(bytes) = &timestamp {
-            self.write_metadata("timestamp.json", bytes, notes)?;
-        }
+        let alloc = self.alloc();
+        visit_files(alloc, 0, root, self)?;
         Ok(self.written)
     }
 
@@ -70,114 +66,15 @@ impl<'a, S: Alter> Exporting<'a, S> {
         self.rt.alloc()
     }
 
-    // The name of a role's metadata file.
-    fn name(&self, version: u32, role: &str) -> Result<String, AllocError> {
-        metadata_name(self.alloc(), version, role)
-    }
-
-    // The snapshot that the timestamp names, where it is held, behind what it lists.
-    fn write_named_snapshot<E: Write>(
-        &mut self,
-        timestamp: &[u8],
-        notes: &mut Notes<'_, E>,
-    ) -> Result<(), Fault> {
-        let Some(version) = self.snapshot_version(timestamp)? else {
-            return Ok(());
-        };
-        let name = self.name(version, "snapshot")?;
-        let Some(bytes) = self.file(name.as_str(), notes)? else {
-            return Ok(());
-        };
-        self.write_listed(&bytes, notes)?;
-        self.write_metadata(name.as_str(), &bytes, notes)
-    }
-
-    // The version of the snapshot that a timestamp names.
-    fn snapshot_version(&self, timestamp: &[u8]) -> Result<Option<u32>, Fault> {
-        let body = self.body(Kind::Timestamp, timestamp)?;
-        match &body {
-            Some(Body::Timestamp(timestamp)) => Ok(Some(timestamp.snapshot.version)),
-            _ => Ok(None),
-        }
-    }
-
-    // What a snapshot lists.
-    fn write_listed<E: Write>(
-        &mut self,
-        snapshot: &[u8],
-        notes: &mut Notes<'_, E>,
-    ) -> Result<(), Fault> {
-        let body = self.body(Kind::Snapshot, snapshot)?;
-        match &body {
-            Some(Body::Snapshot(snapshot)) => self.write_roles(snapshot, notes),
-            _ => Ok(()),
-        }
-    }
-
-    // The targets metadata that a snapshot lists, as far as they are held.
-    fn write_roles<E: Write>(
-        &mut self,
-        snapshot: &Snapshot,
-        notes: &mut Notes<'_, E>,
-    ) -> Result<(), Fault> {
-        for (role, meta) in &snapshot.meta {
-            self.write_role(role.as_str(), meta.version, notes)?;
-        }
-        Ok(())
-    }
-
-    // Targets metadata, behind the files that they list.
-    fn write_role<E: Write>(
-        &mut self,
-        role: &str,
-        version: u32,
-        notes: &mut Notes<'_, E>,
-    ) -> Result<(), Fault> {
-        let name = self.name(version, role)?;
-        let Some(bytes) = self.file(name.as_str(), notes)? else {
-            return Ok(());
-        };
-        self.write_targets(&bytes, notes)?;
-        self.write_metadata(name.as_str(), &bytes, notes)
-    }
-
-    // The files that targets metadata list.
-    fn write_targets<E: Write>(
-        &mut self,
-        targets: &[u8],
-        notes: &mut Notes<'_, E>,
-    ) -> Result<(), Fault> {
-        let body = self.body(Kind::Targets, targets)?;
-        match &body {
-            Some(Body::Targets(targets)) => self.write_target_files(targets, notes),
-            _ => Ok(()),
-        }
-    }
-
-    fn write_target_files<E: Write>(
-        &mut self,
-        targets: &Targets,
-        notes: &mut Notes<'_, E>,
-    ) -> Result<(), Fault> {
-        for listing in &targets.targets {
-            self.write_target_file(listing, notes)?;
-        }
-        Ok(())
-    }
-
     // The file of a target, where the repository grants it. One of its digest that stands there already is not written again.
-    fn write_target_file<E: Write>(
-        &mut self,
-        listing: &Listing,
-        notes: &mut Notes<'_, E>,
-    ) -> Result<(), Fault> {
+    fn write_target_file(&mut self, listing: &Listing) -> Result<(), Fault> {
         let place = self.target_place(listing)?;
         if has_digest(self.rt, place.as_str(), listing) {
             return Ok(());
         }
         let command = Command::Target(listing.path.as_str(), Some(listing.digest));
-        let reply = self.ask(command, notes)?;
-        self.write_reply(place.as_str(), listing, &reply, notes)
+        let reply = self.ask(command)?;
+        self.write_reply(place.as_str(), listing, &reply)
     }
 
     // Where the file of a target stands.
@@ -189,17 +86,11 @@ impl<'a, S: Alter> Exporting<'a, S> {
     }
 
     // What was answered for a target. A denial is told, and so is a place that no file can have.
-    fn write_reply<E: Write>(
-        &mut self,
-        place: &str,
-        listing: &Listing,
-        reply: &Reply,
-        notes: &mut Notes<'_, E>,
-    ) -> Result<(), Fault> {
+    fn write_reply(&mut self, place: &str, listing: &Listing, reply: &Reply) -> Result<(), Fault> {
         match reply {
-            Reply::Bytes(bytes) => self.write_target(place, listing, bytes, notes),
+            Reply::Bytes(bytes) => self.write_target(place, listing, bytes),
             Reply::Denied(denial, _) => {
-                notes.tell(&listing.path.as_str(), &denial.name());
+                self.notes.tell(&listing.path.as_str(), &denial.name());
                 Ok(())
             }
             _ => Ok(()),
@@ -208,13 +99,7 @@ impl<'a, S: Alter> Exporting<'a, S> {
 
     // The file of a target in its place. A path may be one that no folder takes, since its name is too long or is that of a folder of another
     // target: such a one is warned of and left out, for one role that lists it may not keep all others from being exported.
-    fn write_target<E: Write>(
-        &mut self,
-        place: &str,
-        listing: &Listing,
-        bytes: &[u8],
-        notes: &mut Notes<'_, E>,
-    ) -> Result<(), Fault> {
+    fn write_target(&mut self, place: &str, listing: &Listing, bytes: &[u8]) -> Result<(), Fault> {
         match put_in_folder(self.rt, place, bytes) {
             Ok(()) => {
                 self.written = self.written.saturating_add(1);
@@ -222,102 +107,71 @@ impl<'a, S: Alter> Exporting<'a, S> {
             }
             Err(error) => match why_left_out(error.kind()) {
                 Some(why) => {
-                    notes.warn(&listing.path.as_str(), &why);
+                    self.notes.warn(&listing.path.as_str(), &why);
                     Ok(())
                 }
-                None => Err(unwritten(place, &error, notes)),
+                None => Err(unwritten(place, &error, self.notes)),
             },
         }
     }
 
-    // The roots that are held, from the last to the first, so that whoever follows them finds all of them or none.
-    fn write_roots<E: Write>(&mut self, last: u32, notes: &mut Notes<'_, E>) -> Result<(), Fault> {
-        for version in (1..=last).rev() {
-            if !self.write_root(version, notes)? {
-                return Ok(());
-            }
-        }
-        Ok(())
-    }
-
-    // A root, and whether it is held.
-    fn write_root<E: Write>(
-        &mut self,
-        version: u32,
-        notes: &mut Notes<'_, E>,
-    ) -> Result<bool, Fault> {
-        let name = self.name(version, "root")?;
-        let root = self.file(name.as_str(), notes)?;
-        if let Some(bytes) = &root {
-            self.write_metadata(name.as_str(), bytes, notes)?;
-        }
-        Ok(root.is_some())
-    }
-
     // A metadata file that is not there already with these bytes.
-    fn write_metadata<E: Write>(
-        &mut self,
-        name: &str,
-        bytes: &[u8],
-        notes: &mut Notes<'_, E>,
-    ) -> Result<(), Fault> {
+    fn write_metadata(&mut self, name: &str, bytes: &[u8]) -> Result<(), Fault> {
         let folder = self.folder;
         let place = format!(in self.alloc(); "{folder}/metadata/{name}")?;
         if has_bytes(self.rt, place.as_str(), bytes) {
             return Ok(());
         }
-        self.write(place.as_str(), bytes, notes)
+        self.write(place.as_str(), bytes)
     }
 
     // A file in its place, whose folder is made where there is none.
-    fn write<E: Write>(
-        &mut self,
-        place: &str,
-        bytes: &[u8],
-        notes: &mut Notes<'_, E>,
-    ) -> Result<(), Fault> {
+    fn write(&mut self, place: &str, bytes: &[u8]) -> Result<(), Fault> {
         match put_in_folder(self.rt, place, bytes) {
             Ok(()) => {
                 self.written = self.written.saturating_add(1);
                 Ok(())
             }
-            Err(error) => Err(unwritten(place, &error, notes)),
+            Err(error) => Err(unwritten(place, &error, self.notes)),
         }
     }
 
-    // The bytes of a metadata file, if it is held.
-    fn file<E: Write>(
-        &mut self,
-        name: &str,
-        notes: &mut Notes<'_, E>,
-    ) -> Result<Option<Vec<u8>>, Fault> {
-        match self.ask(Command::Metadata(name), notes)? {
+    fn ask(&mut self, command: Command<'_>) -> Result<Reply, Fault> {
+        match self.repository.apply(command, self.now) {
+            Ok(reply) => Ok(reply),
+            Err(fault) => {
+                self.notes.tell(&self.db, &fault);
+                Err(fault_of_store(fault))
+            }
+        }
+    }
+}
+
+impl<S: Alter, E: Write> FileVisitor for Exporting<'_, '_, '_, S, E> {
+    type Fault = Fault;
+
+    fn read(&mut self, name: &str) -> Result<Option<Vec<u8>>, Fault> {
+        match self.ask(Command::Metadata(name))? {
             Reply::Bytes(bytes) => Ok(Some(bytes)),
             _ => Ok(None),
         }
     }
 
-    fn ask<E: Write>(
-        &mut self,
-        command: Command<'_>,
-        notes: &mut Notes<'_, E>,
-    ) -> Result<Reply, Fault> {
-        match self.repository.apply(command, self.now) {
-            Ok(reply) => Ok(reply),
-            Err(fault) => {
-                notes.tell(&self.db, &fault);
-                Err(fault_of_store(fault))
-            }
-        }
+    fn visit_root(&mut self, name: &str, bytes: &[u8]) -> Result<(), Fault> {
+        self.write_metadata(name, bytes)
     }
 
-    // What a held document says.
-    fn body(&self, kind: Kind, bytes: &[u8]) -> Result<Option<Body>, Fault> {
-        match read_document(self.alloc(), kind, bytes) {
-            Ok(document) => Ok(Some(document.body)),
-            Err(ShapeFault::OutOfMemory) => Err(Fault::Memory),
-            Err(_) => Ok(None),
-        }
+    fn visit_metadata(
+        &mut self,
+        name: &str,
+        bytes: &[u8],
+        _body: Option<&Body>,
+    ) -> Result<(), Fault> {
+        self.write_metadata(name, bytes)
+    }
+
+    fn visit_target(&mut self, listing: &Listing) -> Result<(), Fault> {
+        self.write_target_file(listing)
     }
 }
 

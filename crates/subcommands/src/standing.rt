@@ -1,9 +1,9 @@
 //! What is told of a repository before it is served, and of a client's own state: what is trusted, and when the first of its documents expires.
 use command_support::Notes;
-use metadata::{Body, Kind, Moment, Snapshot, read_document};
-use path_patterns::metadata_name;
+use metadata::{Body, Kind, Listing, Moment, ShapeFault, read_document};
+use served_files::{FileVisitor, visit_files};
 use sqlite::Alter;
-use std::alloc::Global;
+use std::alloc::{AllocError, Global};
 use std::fmt;
 use std::io::Write;
 use store::{Command, Reply, Store};
@@ -109,7 +109,7 @@ impl fmt::Display for Trusted {
 pub struct FirstExpiry(Moment);
 
 impl FirstExpiry {
-    /// That of a repository or of a client's own state, if a root is trusted.
+    /// That of a repository or of a client's own state, if a root is trusted and the names and documents find memory.
     pub fn of<S: Alter>(
         alloc: Global,
         repository: &mut Store<S>,
@@ -122,8 +122,10 @@ impl FirstExpiry {
             now,
             first: None,
         };
-        looked.at_all(version);
-        looked.first
+        match visit_files(alloc, version.saturating_sub(1), version, &mut looked) {
+            Ok(()) => looked.first,
+            Err(AllocError) => None,
+        }
     }
 }
 
@@ -143,71 +145,43 @@ struct Looked<'a, S: Alter> {
     first: Option<FirstExpiry>,
 }
 
-impl<S: Alter> Looked<'_, S> {
-    fn at_all(&mut self, root: u32) {
-        self.at_named(root, "root", Kind::Root);
-        if let Some(snapshot) = self.at_timestamp() {
-            self.at_snapshot(snapshot);
-        }
-    }
+impl<S: Alter> FileVisitor for Looked<'_, S> {
+    type Fault = AllocError;
 
-    // Looks at a role's document of a version, if it is held.
-    fn at_named(&mut self, version: u32, role: &str, kind: Kind) {
-        if let Some(bytes) = self.file_of(version, role) {
-            self.at_document(kind, &bytes);
-        }
-    }
-
-    // The version of the snapshot that the timestamp names, if one is held.
-    fn at_timestamp(&mut self) -> Option<u32> {
-        let bytes = self.file("timestamp.json")?;
-        let body = self.at_document(Kind::Timestamp, &bytes)?;
-        match &body {
-            Body::Timestamp(timestamp) => Some(timestamp.snapshot.version),
-            _ => None,
-        }
-    }
-
-    // Looks at the snapshot, and at what it lists.
-    fn at_snapshot(&mut self, version: u32) {
-        if let Some(bytes) = self.file_of(version, "snapshot") {
-            if let Some(Body::Snapshot(snapshot)) = self.at_document(Kind::Snapshot, &bytes) {
-                self.at_listed(&snapshot);
-            }
-        }
-    }
-
-    fn at_listed(&mut self, snapshot: &Snapshot) {
-        for (role, meta) in &snapshot.meta {
-            self.at_named(meta.version, role.as_str(), Kind::Targets);
-        }
-    }
-
-    // The bytes of a role's document of a version, if it is held.
-    fn file_of(&mut self, version: u32, role: &str) -> Option<Vec<u8>> {
-        let name = metadata_name(self.alloc, version, role).ok()?;
-        self.file(name.as_str())
-    }
-
-    // The bytes of a metadata file, if it is held.
-    fn file(&mut self, name: &str) -> Option<Vec<u8>> {
+    fn read(&mut self, name: &str) -> Result<Option<Vec<u8>>, AllocError> {
         match self.repository.apply(Command::Metadata(name), self.now) {
-            Ok(Reply::Bytes(bytes)) => Some(bytes),
-            _ => None,
+            Ok(Reply::Bytes(bytes)) => Ok(Some(bytes)),
+            _ => Ok(None),
         }
     }
 
-    // Notes when the document expires, and answers what it says.
-    fn at_document(&mut self, kind: Kind, bytes: &[u8]) -> Option<Body> {
-        match read_document(self.alloc, kind, bytes) {
-            Ok(document) => {
-                self.note(expiry_of(&document.body));
-                Some(document.body)
-            }
-            Err(_) => None,
+    fn visit_root(&mut self, _name: &str, bytes: &[u8]) -> Result<(), AllocError> {
+        match read_document(self.alloc, Kind::Root, bytes) {
+            Ok(document) => self.note(expiry_of(&document.body)),
+            Err(ShapeFault::OutOfMemory) => return Err(AllocError),
+            Err(_) => {}
         }
+        Ok(())
     }
 
+    fn visit_metadata(
+        &mut self,
+        _name: &str,
+        _bytes: &[u8],
+        body: Option<&Body>,
+    ) -> Result<(), AllocError> {
+        if let Some(body) = body {
+            self.note(expiry_of(body));
+        }
+        Ok(())
+    }
+
+    fn visit_target(&mut self, _listing: &Listing) -> Result<(), AllocError> {
+        Ok(())
+    }
+}
+
+impl<S: Alter> Looked<'_, S> {
     fn note(&mut self, expires: Option<Moment>) {
         if let Some(expires) = expires {
             if self.first.is_none_or(|first| expires < first.0) {
