@@ -14,21 +14,29 @@ verdicts_that_end_early() {
     checks=$((checks + 1))
 }
 
-# What takes its time runs beside all else, over repositories of its own. 'await' waits for it.
+# What takes its time runs beside all else, over repositories of its own. 'await' waits for it. Each writes its exit status into a file, for
+# the shell forgets that of a process whose number a later one has got.
 beside=()
 start_beside() {
     local name
     for name in gate/peers.py gate/answers.py gate/clients.py gate/clock.py gate/full_disk.py gate/changed.py gate/signatures.py gate/levels.py gate/cut.py deploy/try; do
-        "$repository/$name" "$release" >"$folder/$(basename "$name").out" 2>&1 &
+        run_beside "$name" &
         beside+=("$!:$name")
     done
+}
+
+run_beside() {
+    local ended=0
+    "$repository/$1" "$release" >"$folder/$(basename "$1").out" 2>&1 || ended=$?
+    echo "$ended" >"$folder/$(basename "$1").status"
 }
 
 await_beside() {
     local one name
     for one in "${beside[@]}"; do
         name=${one#*:}
-        wait "${one%%:*}" || fail "$name: $(cat "$folder/$(basename "$name").out")"
+        wait "${one%%:*}" 2>/dev/null || true
+        [ "$(cat "$folder/$(basename "$name").status")" = 0 ] || fail "$name: $(cat "$folder/$(basename "$name").out")"
         checks=$((checks + 1))
     done
 }
