@@ -16,6 +16,6 @@ pub use fault::{Fault, Slip, file_fault};
 pub use files::{print, read, read_at_most};
 pub use limits::FILE_LIMIT;
 pub use loose_json::CanonFault;
-pub use moments::moment;
+pub use moments::{expiry_of, moment};
 pub use notes::Notes;
 pub use placing::{OWNER_ALONE, are_one_file, put_in_place};

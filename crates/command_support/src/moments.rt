@@ -1,6 +1,6 @@
-//! The moment of a command.
+//! The moment of a command, and the moment at which a document expires.
 use crate::fault::Fault;
-use metadata::Moment;
+use metadata::{Body, Moment};
 use std::rt::Clock;
 use std::time::{SystemTime, UNIX_EPOCH};
 
@@ -13,6 +13,18 @@ pub fn moment(clock: &impl Clock, at: Option<u64>) -> Result<Moment, Fault> {
     match Moment::new(seconds) {
         Some(moment) => Ok(moment),
         None => Err(Fault::Clock),
+    }
+}
+
+/// When a document expires. Links do not.
+pub fn expiry_of(body: &Body) -> Option<Moment> {
+    match body {
+        Body::Root(root) => Some(root.expires),
+        Body::Timestamp(timestamp) => Some(timestamp.expires),
+        Body::Snapshot(snapshot) => Some(snapshot.expires),
+        Body::Targets(targets) => Some(targets.expires),
+        Body::Layout(layout) => Some(layout.expires),
+        Body::Link(_) => None,
     }
 }
 

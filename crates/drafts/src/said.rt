@@ -1,6 +1,6 @@
 //! What a document says, as far as drafts are about it.
 use canonical_json::member;
-use command_support::{Fault, Notes};
+use command_support::{Fault, Notes, expiry_of};
 use draft_folders::{Folder, kind_of};
 use drafting::{Look, look_at};
 use keys_roles::{KeyId, RoleRule};
@@ -118,17 +118,6 @@ fn version_of(body: &Body) -> u32 {
         Body::Snapshot(snapshot) => snapshot.version,
         Body::Targets(targets) => targets.version,
         Body::Layout(_) | Body::Link(_) => 0,
-    }
-}
-
-fn expiry_of(body: &Body) -> Option<Moment> {
-    match body {
-        Body::Root(root) => Some(root.expires),
-        Body::Timestamp(timestamp) => Some(timestamp.expires),
-        Body::Snapshot(snapshot) => Some(snapshot.expires),
-        Body::Targets(targets) => Some(targets.expires),
-        Body::Layout(layout) => Some(layout.expires),
-        Body::Link(_) => None,
     }
 }
 

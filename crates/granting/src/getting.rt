@@ -79,13 +79,16 @@ pub fn target<'a>(
 ) -> Result<&'a [u8], Refusal>
     ensures { Gives (granted.grants state.now.state path.now (option_map (λ d. d.0) asked) now) (λ b. b.now) result }
 {
+    let Some(path) = TargetPath::read(alloc, path)? else {
+        return Err(Refusal::Denied(Denial::BadPath));
+    };
     state.is_valid();
     let mut own = state;
-    match permitted_text(
+    match permitted(
         alloc,
         state.held(),
         &mut own,
-        path,
+        &path,
         asked,
         now,
         &mut Steps::new(),
@@ -188,38 +191,13 @@ pub fn target_from_counted<B: Blobs>(
     ensures most { (HasLayout held.now.held.trusted path.now now → ⊥) → checks.new ≤ checks.old + 512 }
     ensures free { WantsFew held.now.held.trusted → checks.new ≡ checks.old }
 {
-    match permitted_text(alloc, held, blobs, path, asked, now, checks) {
-        Ok(digest) => load(alloc, blobs, digest),
-        Err(fault) => Err(fault),
-    }
-}
-
-// The digest of the file of a target that a text names.
-fn permitted_text<B: Blobs>(
-    alloc: Global,
-    held: &Held,
-    blobs: &mut B,
-    path: &str,
-    asked: Option<Digest>,
-    now: Moment,
-    checks: &mut Steps,
-) -> Result<Digest, GetFault>
-    requires { checks.old < 2 ^ 63 }
-    ensures stands { FindsLoaded held.now.held (B.IsHonest blobs.new) (B.Holds blobs.old) (blobs.new ≡ blobs.old) (B.HasLoaded blobs.new × HasLayout held.now.held.trusted path.now now)
-        (λ S. granted.grants S path.now (option_map (λ d. d.0) asked) now) (λ S d. bytes_at S d.0) result }
-    ensures reads { Reads B.IsHonest B.Holds B.MayBecome blobs.old blobs.new }
-    ensures long { RefusesLong held.now.held path.now now (blobs.new ≡ blobs.old) result }
-    ensures held { IfOk result (λ d. IsSome (length_at held.now.held.blobs d.0)) }
-    ensures grows { checks.old ≤ checks.new }
-    ensures few { (HasLayout held.now.held.trusted path.now now → ⊥)
-        → ChecksFew held.now.held.trusted.root held.now.held.trusted.snapshot held.now.held.trusted.shelf held.now.verdicts path.now now (checks.new - checks.old) }
-    ensures most { (HasLayout held.now.held.trusted path.now now → ⊥) → checks.new ≤ checks.old + 512 }
-    ensures free { WantsFew held.now.held.trusted → checks.new ≡ checks.old }
-{
     let Some(path) = TargetPath::read(alloc, path)? else {
         return Err(GetFault::Denied(Denial::BadPath));
     };
-    permitted(alloc, held, blobs, &path, asked, now, checks)
+    match permitted(alloc, held, blobs, &path, asked, now, checks) {
+        Ok(digest) => load(alloc, blobs, digest),
+        Err(fault) => Err(fault),
+    }
 }
 
 // The digest of the file of a target, which is held with the length that the listing says, which its layout allows, if it has one, and

@@ -10,8 +10,8 @@ use Rattle.document_parts.specs.declared.documents.Kind.{Kind}
 use Rattle.document_parts.specs.declared.documents.Kind.TheVariants as kinds
 use Rattle.document_parts.specs.declared.documents.ShapeFault.{ShapeFault}
 use Rattle.document_parts.specs.declared.documents.ShapeFault.TheVariants.{OutOfMemory}
-use Rattle.served_files.specs.Served.{AreJust, Files, IsHeldFile, IsOfRole, IsOfRoots, IsOfSnapshot, IsOfTimestamp, IsServed, Says, ServedFile, lists_role, lists_target, metadata, names_snapshot, of_roots, of_timestamp, role_itself, snapshot_itself, timestamp_itself, timestamp_name}
-use Rattle.served_files.specs.steps.Visits.{IsBodyOf, IsListedBy, IsNamedBy, IsOfRolesBy}
+use Rattle.served_files.specs.Served.{AreJust, Files, IsBodyOf, IsHeldFile, IsOfRole, IsOfRoots, IsOfSnapshot, IsOfTimestamp, IsServed, Says, ServedFile, lists_role, lists_target, metadata, names_snapshot, of_roots, of_timestamp, role_itself, snapshot_itself, timestamp_itself, timestamp_name}
+use Rattle.served_files.specs.steps.Visits.{IsListedBy, IsNamedBy, IsOfRolesBy}
 use Rattle.served_files.proofs.Telling.{just_both, just_none, just_one}
 
 -- the body that a document of the name has is the file's

@@ -1,5 +1,5 @@
 -- Which files a client may ask for (TUF 1.0, sections 5.3 to 5.7 and 6.2).
-use Rattle.std.specs.Prelude.{◌≡◌, ℕ, ◌<◌, ◌≤◌, List, Option, Some, IsSome, Contains, codes}
+use Rattle.std.specs.Prelude.{◌≡◌, ℕ, ◌<◌, ◌≤◌, List, Option, Some, None, IsSome, Contains, codes}
 use Rattle.metadata.specs.File.{Bytes}
 use Rattle.metadata.specs.Shape.{IsDocument}
 use Rattle.document_parts.specs.Documents.{Body, Document, Listing, MetaFile, Snapshot, Targets, Timestamp, snapshot, targets, timestamp}
@@ -67,6 +67,17 @@ pub data IsOfTimestamp (files : Files) (f : ServedFile) : Type 0 where
 pub data IsServed (files : Files) (after last : ℕ) (f : ServedFile) : Type 0 where
   of_roots : IsOfRoots files after last f → IsServed files after last f
   of_timestamp : IsOfTimestamp files f → IsServed files after last f
+
+-- the bytes are a document of the kind, and each that they are has this body
+pub record IsBodyOf (kind : Kind) (bytes : Bytes) (body : Body) : Type 0 where
+  pub document : Document
+  pub is_document : IsDocument kind bytes document
+  pub has_body : (d : Document) → IsDocument kind bytes d → d.body ≡ body
+
+-- what a file of some kind says: the body of the document that it is, or nothing, as it is no document of that kind
+abbrev pub IsSaid : Bytes → Option Body → Type 0
+IsSaid bytes (Some body) = (kind : Kind) × IsBodyOf kind bytes body
+IsSaid bytes None = (kind : Kind) × ((d : Document) → IsDocument kind bytes d → ⊥)
 
 -- the list has each of these files, and no other
 pub record AreJust (Is : ServedFile → Type 0) (list : List ServedFile) : Type 0 where

@@ -3,8 +3,8 @@ ghost use Rattle.std.specs.Prelude.{◌≡◌, ◌++◌, [], ◌∷◌, Some, Li
 ghost use Rattle.document_parts.specs.Views.{body_view, listing_view, meta_view};
 ghost use Rattle.document_parts.specs.declared.documents.Kind.TheVariants as kinds;
 ghost use Rattle.path_patterns.specs.Names.{dotted};
-ghost use Rattle.served_files.specs.Served.{AreJust, Files, IsOfRole, IsOfRoots, IsOfSnapshot, IsServed, ServedFile, metadata, snapshot_name, target, timestamp_name};
-ghost use Rattle.served_files.specs.steps.Visits.{Became, IsBodyOf, IsListedBy, IsListedIn, IsNamedBy, IsOfRolesBy, IsOfRolesIn, TellsRoot};
+ghost use Rattle.served_files.specs.Served.{AreJust, Files, IsBodyOf, IsOfRole, IsOfRoots, IsOfSnapshot, IsSaid, IsServed, ServedFile, metadata, snapshot_name, target, timestamp_name};
+ghost use Rattle.served_files.specs.steps.Visits.{Became, IsListedBy, IsListedIn, IsNamedBy, IsOfRolesBy, IsOfRolesIn, TellsRoot};
 
 use metadata::{
     Body, Kind, Listing, Meta, RoleName, ShapeFault, one_document, one_shape, read_document,
@@ -37,6 +37,7 @@ pub trait FileVisitor {
         bytes: &[u8],
         body: Option<&Body>,
     ) -> Result<(), Self::Fault>
+        requires { IsSaid bytes.now (option_map (λ b. body_view b.now) body) }
         ensures { OnOk result ((files : Files) (told : List ServedFile) → Stands files told self.old
             → Stands files (told ++ metadata name.now bytes.now ∷ []) self.new) };
 
@@ -108,8 +109,9 @@ fn visit_timestamp<V: FileVisitor>(
     body: &Body,
     visitor: &mut V,
 ) -> Result<(), V::Fault>
+    requires { IsBodyOf kinds.Timestamp bytes.now (body_view body.now) }
     ensures { OnOk result (Became V.Stands visitor.old visitor.new (λ files more. files timestamp_name ≡ Some bytes.now
-        → IsBodyOf kinds.Timestamp bytes.now (body_view body.now) → AreJust (IsServed files after last) more)) }
+        → AreJust (IsServed files after last) more)) }
 {
     visit_named(alloc, body, visitor)?;
     visit_roots(alloc, after, last, visitor)?;
@@ -169,8 +171,9 @@ fn visit_snapshot_body<V: FileVisitor>(
     body: &Body,
     visitor: &mut V,
 ) -> Result<(), V::Fault>
+    requires { IsBodyOf kinds.Snapshot bytes.now (body_view body.now) }
     ensures { OnOk result (Became V.Stands visitor.old visitor.new (λ files more. files name.now ≡ Some bytes.now
-        → IsBodyOf kinds.Snapshot bytes.now (body_view body.now) → AreJust (IsOfSnapshot files name.now) more)) }
+        → AreJust (IsOfSnapshot files name.now) more)) }
 {
     visit_roles_of(alloc, body, visitor)?;
     visitor.visit_metadata(name, bytes, Some(body))
@@ -245,8 +248,9 @@ fn visit_targets_body<V: FileVisitor>(
     body: &Body,
     visitor: &mut V,
 ) -> Result<(), V::Fault>
+    requires { IsBodyOf kinds.Targets bytes.now (body_view body.now) }
     ensures { OnOk result (Became V.Stands visitor.old visitor.new (λ files more. files name.now ≡ Some bytes.now
-        → IsBodyOf kinds.Targets bytes.now (body_view body.now) → AreJust (IsOfRole files name.now) more)) }
+        → AreJust (IsOfRole files name.now) more)) }
 {
     visit_listings_of(body, visitor)?;
     visitor.visit_metadata(name, bytes, Some(body))

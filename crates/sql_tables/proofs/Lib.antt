@@ -2,6 +2,7 @@ pub mod RowLemmas
 pub mod AnswerLemmas
 pub mod NumberLemmas
 pub mod ListLemmas
+pub mod Digests
 pub mod Gathering
 pub mod ItemLemmas
 pub mod Insert

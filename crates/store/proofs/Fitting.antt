@@ -11,11 +11,10 @@ use Rattle.std.proofs.lemmas.Slice.Eq.{bytes_eq-Decides}
 use Rattle.store.proofs.SameRows.{SameItems}
 use Rattle.std.specs.declared.cmp.Ordering.{Ordering}
 use Rattle.std.specs.declared.cmp.Ordering.TheVariants.{Less, Equal}
-use Rattle.std.specs.Int.{w32, to_be_bytes}
 use Rattle.std.proofs.lemmas.Str.{IsUtf8-from_ascii}
 use Rattle.std.proofs.lemmas.List.Elements.{All-head, All-tail}
 use Rattle.std.proofs.lemmas.Bool.{and_parts, cases_lt, eqb-true, lt-leb, ltb-true, ne_eqb, or_left, true≢false}
-use Rattle.sha2.specs.Sha256.{sha256, digest_bytes}
+use Rattle.sha2.specs.Sha256.{sha256}
 use Rattle.sha2.proofs.Facts256.{length-sha256}
 use Rattle.sqlite_rules.specs.Lists.{Has}
 use Rattle.path_patterns.specs.Bytes.{is_digit, is_lower, is_name_byte, is_name_start}
@@ -38,25 +37,13 @@ use Rattle.sqlite_trees.specs.Tree.{Trees}
 use Rattle.table_rows.proofs.SetLemmas.{one_stood}
 use Rattle.table_rows.specs.Tables.{AreRising, AreSame, HaveDigests, IsDigest, StandsFor, IsFit, IsVersion, row_cmp}
 use Rattle.sql_tables.specs.Rows.{AreKeyed}
+use Rattle.sql_tables.proofs.Digests.{bytes_of_digest}
 use Rattle.store.specs.StateRows.{rows_of}
 
 -- ---- digests
 
-four_bytes : (n : ℕ) → AllByRecursion (λ b. b < 256) (to_be_bytes w32 n)
-four_bytes n = (omega arith, (omega arith, (omega arith, (omega arith, tt))))
-
-all_join : (P : ℕ → Type 0) (xs ys : List ℕ) → AllByRecursion P xs → AllByRecursion P ys → AllByRecursion P (xs ++ ys)
-all_join P [] ys h k = k
-all_join P (x ∷ xs) ys h k = (h.0, all_join P xs ys h.1 k)
-
-are_bytes : (h : List ℕ) (n : ℕ) → AllByRecursion (λ b. b < 256) (digest_bytes h n)
-unfolding digest_bytes
-are_bytes h zero = tt
-are_bytes h (suc n) = all_join (λ b. b < 256) (digest_bytes h n) _ (are_bytes h n) (four_bytes _)
-
 pub digest_fits : (m : List ℕ) → IsDigest (sha256 m)
-unfolding sha256
-digest_fits m = (length-sha256 m, are_bytes _ 8)
+digest_fits m = (length-sha256 m, bytes_of_digest m)
 
 pub are_digests : (bs : List (Bytes × Bytes)) → All IsBlob bs → AllByRecursion (λ r. IsDigest r.0) bs
 are_digests [] h = tt

@@ -203,12 +203,22 @@ fn new_files(alloc: Global, log: u64, db: u64) -> Files<Fuse<Memory>> {
     }
 }
 
-fn files_that_stop(alloc: Global, stops_log: bool, calls: u64) -> Files<Fuse<Memory>> {
+// Behind how many calls the log stops, and the database.
+fn stops(stops_log: bool, calls: u64) -> (u64, u64) {
     if stops_log {
-        new_files(alloc, calls, u64::MAX)
+        (calls, u64::MAX)
     } else {
-        new_files(alloc, u64::MAX, calls)
+        (u64::MAX, calls)
     }
+}
+
+// The documents that the steps offer.
+fn documents_of<'a>(role: RoleName) -> [Document<'a>; 3] {
+    [
+        (Offer::Timestamp, TIMESTAMP.as_bytes()),
+        (Offer::Snapshot, SNAPSHOT.as_bytes()),
+        (Offer::Targets(role), TARGETS.as_bytes()),
+    ]
 }
 
 // The rows behind each number of commands, where nothing stops.
@@ -242,14 +252,11 @@ fn stops_at_each_call(
     let alloc = rt.alloc();
     let now = read_date_time("2030-01-01T00:00:00Z").expect(rt, "a moment");
     let role = RoleName::read(alloc, "targets")?.expect(rt, "a role");
-    let documents = [
-        (Offer::Timestamp, TIMESTAMP.as_bytes()),
-        (Offer::Snapshot, SNAPSHOT.as_bytes()),
-        (Offer::Targets(role), TARGETS.as_bytes()),
-    ];
+    let documents = documents_of(role);
     let wanted = wanted(alloc, steps, &documents, now)?;
     for calls in 0..2_000u64 {
-        let files = files_that_stop(alloc, stops_log, calls);
+        let (log, db) = stops(stops_log, calls);
+        let files = new_files(alloc, log, db);
         let Left { made, files } = run(alloc, files, steps, &documents, now)?;
         let found = rows_after(alloc, files)?;
         let next = made.saturating_add(1);
@@ -294,11 +301,7 @@ fn copies(
     stops_log: bool,
     calls: u64,
 ) -> Result<Files<Fuse<Memory>>, Fail> {
-    let (log, db) = if stops_log {
-        (calls, u64::MAX)
-    } else {
-        (u64::MAX, calls)
-    };
+    let (log, db) = stops(stops_log, calls);
     Ok(Files {
         log: copied(alloc, &files.log, log)?,
         db: copied(alloc, &files.db, db)?,
@@ -326,11 +329,7 @@ fn stops_at_each_call_of_a_migration(
     let alloc = rt.alloc();
     let now = read_date_time("2030-01-01T00:00:00Z").expect(rt, "a moment");
     let role = RoleName::read(alloc, "targets")?.expect(rt, "a role");
-    let documents = [
-        (Offer::Timestamp, TIMESTAMP.as_bytes()),
-        (Offer::Snapshot, SNAPSHOT.as_bytes()),
-        (Offer::Targets(role), TARGETS.as_bytes()),
-    ];
+    let documents = documents_of(role);
     let before = first_schema(alloc, &documents, now)?;
     let (first, before) = rows_left(alloc, before)?;
     let files = new_files(alloc, u64::MAX, u64::MAX);

@@ -1,5 +1,5 @@
 //! What is told of a repository before it is served, and of a client's own state: what is trusted, and when the first of its documents expires.
-use command_support::Notes;
+use command_support::{Notes, expiry_of};
 use metadata::{Body, Kind, Listing, Moment, ShapeFault, read_document};
 use served_files::{FileVisitor, visit_files};
 use sqlite::Alter;
@@ -188,17 +188,5 @@ impl<S: Alter> Looked<'_, S> {
                 self.first = Some(FirstExpiry(expires));
             }
         }
-    }
-}
-
-// When a document expires. Links do not.
-fn expiry_of(body: &Body) -> Option<Moment> {
-    match body {
-        Body::Root(root) => Some(root.expires),
-        Body::Timestamp(timestamp) => Some(timestamp.expires),
-        Body::Snapshot(snapshot) => Some(snapshot.expires),
-        Body::Targets(targets) => Some(targets.expires),
-        Body::Layout(layout) => Some(layout.expires),
-        Body::Link(_) => None,
     }
 }

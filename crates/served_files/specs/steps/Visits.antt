@@ -1,10 +1,8 @@
--- What parts of the walk tell, and which body a file has.
+-- What parts of the walk tell.
 use Rattle.std.specs.Prelude.{◌≡◌, ℕ, ◌<◌, ◌≤◌, [], ◌∷◌, ◌++◌, List, Some, None, IsSome, Bool, true, false, Contains}
 use Rattle.metadata.specs.File.{Bytes}
-use Rattle.metadata.specs.Shape.{IsDocument}
-use Rattle.document_parts.specs.Documents.{Body, Document, Listing, MetaFile}
+use Rattle.document_parts.specs.Documents.{Body, Listing, MetaFile}
 use Rattle.document_parts.specs.Documents as plain
-use Rattle.document_parts.specs.declared.documents.Kind.{Kind}
 use Rattle.path_patterns.specs.Names.{dotted}
 use Rattle.served_files.specs.Served.{AreJust, Files, IsOfRole, IsOfRoots, IsOfSnapshot, ServedFile, metadata, root_name, snapshot_name, target}
 
@@ -12,12 +10,6 @@ use Rattle.served_files.specs.Served.{AreJust, Files, IsOfRole, IsOfRoots, IsOfS
 pub record Became {V : Type 0} (Stands : Files → List ServedFile → V → Type 0) (old new : V) (Tells : Files → List ServedFile → Type 0) : Type 0 where
   pub so : (files : Files) (told : List ServedFile) → Stands files told old
       → (more : List ServedFile) × Stands files (told ++ more) new × Tells files more
-
--- the bytes are a document of the kind, and each that they are has this body
-pub record IsBodyOf (kind : Kind) (bytes : Bytes) (body : Body) : Type 0 where
-  pub document : Document
-  pub is_document : IsDocument kind bytes document
-  pub has_body : (d : Document) → IsDocument kind bytes d → d.body ≡ body
 
 -- one of these targets
 abbrev pub IsListedIn : List Listing → ServedFile → Type 0

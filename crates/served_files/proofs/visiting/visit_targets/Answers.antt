@@ -5,9 +5,11 @@ use Rattle.served_files.proofs.Files.{no_document, only_body, role_alone}
 use Rattle.served_files.proofs.Telling.{became_as, became_one, on_ok}
 use Rattle.served_files.proofs.visiting.visit_targets.Goals as goal
 
-pub returns-in-Ok : goal.returns-in-Ok
-returns-in-Ok g c = on_ok c.visit_targets_body.result c.visit_targets_body.ensures (λ p. became_as _ _ _ _ _ p (λ files xs so held.
-    so held (only_body c.one_document.ensures kinds.Targets c.args.bytes.now (document_view c.in-Ok.document) c.in-Ok.ensures.document)))
+pub visit_targets_body-requires : goal.visit_targets_body-requires
+visit_targets_body-requires g c = only_body c.one_document.ensures kinds.Targets c.args.bytes.now (document_view c.in-Ok.document) c.in-Ok.ensures.document
+
+pub visit_metadata-requires : goal.visit_metadata-requires
+visit_metadata-requires g c = (kinds.Targets, no_document c.one_shape.ensures.none kinds.Targets c.args.bytes.now c.in-Err.fault c.in-Err.ensures.fault c.in_ok-unless_memory-in-Err.ensures)
 
 pub returns-in_ok-unless_memory-in-Err : goal.returns-in_ok-unless_memory-in-Err
 returns-in_ok-unless_memory-in-Err g c = on_ok c.visit_metadata.result c.visit_metadata.ensures (λ step.
