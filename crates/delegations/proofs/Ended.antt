@@ -50,7 +50,7 @@ module _ (V : Shelf) (path : Bytes) (now n : ℕ) where
   ended zero [] _ stopped = at_end zero [] (Err (Denied (Plain n))) no_visit
   ended (suc room) [] _ stopped = at_end (suc room) [] (Err (Denied (Plain n))) no_visit
   ended zero (e ∷ es) _ stopped = at_end zero (e ∷ es) (Err (Denied (Plain n))) no_room
-  ended (suc room) (e ∷ es) _ (decide {s = s} h) = at_end (suc room) (e ∷ es) (Err s) (denies h)
+  ended (suc room) (e ∷ es) _ (decide {why = s} h) = at_end (suc room) (e ∷ es) (Err s) (denies h)
   ended (suc room) (e ∷ es) j (pass {a = file} seen more) = by_listing room e es file j seen (λ go. ended room es j go) (listing_of file.body path) refl more
 
 -- the number of the denial where no visit decides

@@ -49,7 +49,7 @@ module _ (V : Shelf) (more : List ((Name × ℕ) × File Targets)) where
   module _ (has : (role : Name) (entry : MetaFile) (file : File Targets) → look_up V.listing role ≡ Some entry → row_at V.rows role entry.version ≡ Some file → row_at more role entry.version ≡ Some file) where
     visit_again : (e : Edge) (now : ℕ) (j : Judged (File Targets)) → IsThere j → visit V e now j → visit W e now j
     visit_again e now _ fine (decide h) = decide h
-    visit_again e now _ fine (pass {a = m} listed (decide {s = s} h)) =
+    visit_again e now _ fine (pass {a = m} listed (decide {why = s} h)) =
         absurd (fine e.role m.version (ap Err (stops (RoleMissing e.role m.version) (row_at V.rows e.role m.version) s h)))
     visit_again e now j fine (pass {a = m} listed (pass {a = file} found rest)) =
         pass listed (pass (gives (RoleMissing e.role m.version) (row_at more e.role m.version) file

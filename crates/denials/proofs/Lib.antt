@@ -1,1 +1,2 @@
+pub mod DefiniteOrders
 pub mod NumberRows

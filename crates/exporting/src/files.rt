@@ -1,7 +1,7 @@
 //! The files of a repository in a folder, under the names that clients ask for.
 use command_support::{Denial, Fault, Notes, file_fault, put_in_place};
 use limits::BLOB_LIMIT;
-use metadata::{Body, Listing, Moment, digest_of};
+use metadata::{Body, Kind, Listing, Moment, digest_of};
 use path_patterns::consistent_name;
 use repository_work::fault_of_store;
 use served_files::{FileVisitor, visit_files};
@@ -163,6 +163,7 @@ impl<S: Alter, E: Write> FileVisitor for Exporting<'_, '_, '_, S, E> {
 
     fn visit_metadata(
         &mut self,
+        _kind: Kind,
         name: &str,
         bytes: &[u8],
         _body: Option<&Body>,

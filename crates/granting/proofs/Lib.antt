@@ -1,3 +1,4 @@
+pub mod Counting
 pub mod GrantedFrom
 pub mod LoadedFiles
 pub mod ServedFrom

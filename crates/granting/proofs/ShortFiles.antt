@@ -9,7 +9,7 @@ use Rattle.denials.specs.Orders as orders
 use Rattle.denials.specs.Orders.{Judged, Order}
 use Rattle.denials.specs.Views.{denial_view}
 use Rattle.path_patterns.specs.declared.Digest.{Digest}
-use Rattle.layouts.proofs.DefiniteOrders.{Definite}
+use Rattle.denials.proofs.DefiniteOrders.{Definite}
 use Rattle.trusted_state.specs.Answers.{Gives, denies}
 use Rattle.trust_rules.specs.Held.{Held, held_of, length_at, bytes_at}
 use Rattle.granting.specs.Serving.{IsShapeDenial}

@@ -1,5 +1,5 @@
 -- Bytes by their digests, wherever they are, and what a request for a target answers from them.
-use Rattle.std.specs.Prelude.{◌≡◌, ◌≢◌, ◌++◌, ℕ, Bool, false, ◌&&◌, ◌||◌, ◌==◌, nat_le, Some, Result, Ok, Err, IsSome, IsTrue}
+use Rattle.std.specs.Prelude.{◌≡◌, ◌≢◌, ◌++◌, ◌+◌, ◌-◌, ◌≤◌, ℕ, Bool, false, ◌&&◌, ◌||◌, ◌==◌, nat_le, Some, Result, Ok, Err, IsSome, IsTrue}
 use Rattle.sha2.specs.Sha256.{sha256}
 use Rattle.metadata.specs.File.{Bytes}
 use Rattle.denials.specs.Numbers as no
@@ -10,6 +10,8 @@ use Rattle.denials.specs.declared.denial.Denial.{Denial}
 use Rattle.trust_rules.specs.Grants.{Listed, listed, HasLongSupport, blob_of}
 use Rattle.trust_rules.specs.Held.{Held, OfEachState}
 use Rattle.trust_rules.specs.State.{Trusted, State, blob_at}
+use Rattle.delegations.specs.Verdicts.{Table}
+use Rattle.trusted_state.specs.Knowing.{ChecksFew, WantsFew}
 use Rattle.granting.specs.declared.serving.Served.{Served}
 use Rattle.granting.specs.declared.serving.LoadFault.{LoadFault}
 use Rattle.granting.specs.declared.serving.LoadFault.TheVariants.{Missing}
@@ -35,6 +37,15 @@ pub record HasLayout (T : Trusted) (path : Bytes) (now : ℕ) : Type 0 where
   pub at : Listed
   pub lists : listed T path now (Ok at)
   pub layout : IsSome at.listing.layout
+
+-- How many signatures a request for a target checks in searches, from the old count to the new one, where these verdicts are known. A
+-- target without a layout costs at most 512, of 32 documents with 16 signatures each, and at most as many as its search meets of which
+-- nothing is known. None is checked where the pairs that searches may meet are at most 2,048.
+pub record CountsFew (T : Trusted) (known : Table) (path : Bytes) (now old new : ℕ) : Type 0 where
+  pub grows : old ≤ new
+  pub most : (HasLayout T path now → ⊥) → new ≤ old + 512
+  pub few : (HasLayout T path now → ⊥) → ChecksFew T.root T.snapshot T.shelf known path now (new - old)
+  pub free : WantsFew T → new ≡ old
 
 -- the denials by what a layout and its links are and say, and by the digest that is asked for, which is judged behind these
 abbrev pub is_by_layout : orders.Denial → Bool

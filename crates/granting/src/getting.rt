@@ -1,11 +1,10 @@
 //! What a target is (TUF 1.0, section 5.7; in-toto 1.0, section 5.2).
-ghost use Rattle.std.specs.Prelude.{◌≡◌, ◌⊎◌, ◌+◌, ◌-◌, ◌≤◌, ◌<◌, ◌^◌, None, Some, Err, IfOk, IsSome, OnOk, option_map};
+ghost use Rattle.std.specs.Prelude.{◌≡◌, ◌⊎◌, ◌<◌, ◌^◌, None, Some, Err, IfOk, IsSome, OnOk, option_map};
 ghost use Rattle.sha2.specs.Sha256.{sha256};
 ghost use Rattle.trusted_state.specs.Answers.{Gives};
 ghost use Rattle.trust_rules.specs.Grants as granted;
 ghost use Rattle.trust_rules.specs.Held.{StandsFor, held_of, length_at, bytes_at};
-ghost use Rattle.trusted_state.specs.Knowing.{ChecksFew, WantsFew};
-ghost use Rattle.granting.specs.Serving.{HasLayout, Refuses, RefusesLong, Serves};
+ghost use Rattle.granting.specs.Serving.{CountsFew, HasLayout, Refuses, RefusesLong, Serves};
 ghost use Rattle.trust_rules.specs.State as trust;
 ghost use Rattle.trust_rules.specs.State.{blob_at};
 ghost use Rattle.granting.specs.steps.Permitting.{IsLentSo, Reads, FindsLoaded};
@@ -53,11 +52,7 @@ pub fn get_counted<'a>(
 ) -> Result<&'a [u8], Refusal>
     requires { checks.old < 2 ^ 63 }
     ensures answer { Gives (granted.grants state.now.state path.now None now) (λ b. b.now) result }
-    ensures grows { checks.old ≤ checks.new }
-    ensures few { (HasLayout state.now.state.trusted path.now now → ⊥)
-        → ChecksFew state.now.state.trusted.root state.now.state.trusted.snapshot state.now.state.trusted.shelf state.now.verdicts path.now now (checks.new - checks.old) }
-    ensures most { (HasLayout state.now.state.trusted path.now now → ⊥) → checks.new ≤ checks.old + 512 }
-    ensures free { WantsFew state.now.state.trusted → checks.new ≡ checks.old }
+    ensures counted { CountsFew state.now.state.trusted state.now.verdicts path.now now checks.old checks.new }
 {
     state.is_valid();
     let mut own = state;
@@ -135,11 +130,7 @@ pub fn get_from_counted<B: Blobs>(
     ensures digest { IfOk result (λ s. sha256 s.bytes.items ≡ s.digest.0) }
     ensures becomes { (blobs.new ≡ blobs.old) ⊎ B.MayBecome blobs.old blobs.new }
     ensures loaded { OnOk result (B.HasLoaded blobs.new) }
-    ensures grows { checks.old ≤ checks.new }
-    ensures few { (HasLayout held.now.held.trusted path.now now → ⊥)
-        → ChecksFew held.now.held.trusted.root held.now.held.trusted.snapshot held.now.held.trusted.shelf held.now.verdicts path.now now (checks.new - checks.old) }
-    ensures most { (HasLayout held.now.held.trusted path.now now → ⊥) → checks.new ≤ checks.old + 512 }
-    ensures free { WantsFew held.now.held.trusted → checks.new ≡ checks.old }
+    ensures counted { CountsFew held.now.held.trusted held.now.verdicts path.now now checks.old checks.new }
 {
     match permitted(alloc, held, blobs, path, None, now, checks) {
         Ok(digest) => load(alloc, blobs, digest),
@@ -185,11 +176,7 @@ pub fn target_from_counted<B: Blobs>(
     ensures digest { IfOk result (λ s. sha256 s.bytes.items ≡ s.digest.0) }
     ensures becomes { (blobs.new ≡ blobs.old) ⊎ B.MayBecome blobs.old blobs.new }
     ensures loaded { OnOk result (B.HasLoaded blobs.new) }
-    ensures grows { checks.old ≤ checks.new }
-    ensures few { (HasLayout held.now.held.trusted path.now now → ⊥)
-        → ChecksFew held.now.held.trusted.root held.now.held.trusted.snapshot held.now.held.trusted.shelf held.now.verdicts path.now now (checks.new - checks.old) }
-    ensures most { (HasLayout held.now.held.trusted path.now now → ⊥) → checks.new ≤ checks.old + 512 }
-    ensures free { WantsFew held.now.held.trusted → checks.new ≡ checks.old }
+    ensures counted { CountsFew held.now.held.trusted held.now.verdicts path.now now checks.old checks.new }
 {
     let Some(path) = TargetPath::read(alloc, path)? else {
         return Err(GetFault::Denied(Denial::BadPath));
@@ -217,11 +204,7 @@ fn permitted<B: Blobs>(
     ensures reads { Reads B.IsHonest B.Holds B.MayBecome blobs.old blobs.new }
     ensures long { RefusesLong held.now.held path.now now (blobs.new ≡ blobs.old) result }
     ensures held { IfOk result (λ d. IsSome (length_at held.now.held.blobs d.0)) }
-    ensures grows { checks.old ≤ checks.new }
-    ensures few { (HasLayout held.now.held.trusted path.now now → ⊥)
-        → ChecksFew held.now.held.trusted.root held.now.held.trusted.snapshot held.now.held.trusted.shelf held.now.verdicts path.now now (checks.new - checks.old) }
-    ensures most { (HasLayout held.now.held.trusted path.now now → ⊥) → checks.new ≤ checks.old + 512 }
-    ensures free { WantsFew held.now.held.trusted → checks.new ≡ checks.old }
+    ensures counted { CountsFew held.now.held.trusted held.now.verdicts path.now now checks.old checks.new }
 {
     let at = find_listing(alloc, held, path, now, checks)?;
     let digest = listed_digest(held.lengths(), path, at.listing)?;

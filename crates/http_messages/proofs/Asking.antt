@@ -23,7 +23,8 @@ use Rattle.http_messages.specs.Orders.{Judged}
 use Rattle.http_messages.specs.RouteOf.{Routed}
 use Rattle.http_messages.specs.Request.{Request, Wanted, HasWantedOf, IsKept, WantsMemoryOf, IsRouted, HasLength, declares, is_empty, method_of, of_head, of_body, of_input, AsksOf}
 use Rattle.http_messages.specs.steps.Said.{said_of_head, IsOk, HasKept, OfRest}
-use Rattle.http_messages.proofs.DefiniteOrders.{Definite, line, check-definite, find-definite, give-definite, one-end}
+use Rattle.denials.proofs.DefiniteOrders.{Definite, line, check-definite, give-definite}
+use Rattle.http_messages.proofs.DefiniteOrders.{find-definite, one-end}
 use Rattle.http_messages.proofs.SaidInOrder.{head-in-order, asks-by-head}
 use Rattle.http_messages.proofs.Frames.{one-batch}
 

@@ -1,5 +1,4 @@
 pub mod Counting
-pub mod DefiniteOrders
 pub mod Growing
 pub mod Holding
 pub mod Judged

@@ -11,7 +11,7 @@ use Rattle.document_parts.specs.Rules.{ArtifactRule, Side, disallow, require}
 use Rattle.artifact_rules.specs.Rules.{RulesForbid, RulesRequire}
 use Rattle.denials.specs.Orders.{Judged, Order, pass, holds, check}
 use Rattle.layouts.specs.Layouts.{AllAgree, IsLinkOf, all, ask, by_links, forbid, hold, layout_holds, ruled, rules_and_product, step_rules}
-use Rattle.layouts.proofs.DefiniteOrders.{Definite, check-definite, give-definite, then-definite, then-definite-so}
+use Rattle.denials.proofs.DefiniteOrders.{Definite, check-definite, give-definite, then-definite, then-definite-so}
 
 all-definite : {A : Type 0} (f : A → Order (Unit {0})) (xs : List A) → ((x : A) → Definite (f x)) → Definite (all f xs)
 all-definite f [] one = give-definite tt

@@ -4,6 +4,7 @@ use Rattle.std.specs.Prelude.{Some, None, IsSome, true, false, is_some, Bool}
 use Rattle.std.proofs.Math.Nat.{eq-or-lt_of_le, lt_of_not-le}
 use Rattle.std.proofs.lemmas.List.{append-nil}
 use Rattle.metadata.specs.File.{Bytes}
+use Rattle.document_parts.specs.declared.documents.Kind.TheVariants as kinds
 use Rattle.served_files.specs.Served.{AreJust, Files, IsHeldFile, IsOfRoots, ServedFile, metadata, root_name}
 use Rattle.served_files.specs.steps.Visits.{TellsRoot, TellsRoots}
 use Rattle.served_files.proofs.Telling.{just_as, just_both, just_none, just_one}
@@ -26,11 +27,11 @@ held_more files n before last bytes next held above v behind within =
       | inr more ↦ above v more within
     ]
 
-one_root : (files : Files) (before v : ℕ) (bytes : Bytes) (f : ServedFile) → before ≡ v → files (root_name before) ≡ Some bytes → IsHeldFile files (root_name v) f → f ≡ metadata (root_name before) bytes
+one_root : (files : Files) (before v : ℕ) (bytes : Bytes) (f : ServedFile) → before ≡ v → files (root_name before) ≡ Some bytes → IsHeldFile files kinds.Root (root_name v) f → f ≡ metadata kinds.Root (root_name before) bytes
 one_root files before v bytes f same held (other, is, it) = cc
 
 either_root : (files : Files) (n before last : ℕ) (bytes : Bytes) → before ≡ n + 1 → files (root_name before) ≡ Some bytes → (f : ServedFile) → IsOfRoots files n last f
-    → IsOfRoots files before last f ⊎ (f ≡ metadata (root_name before) bytes)
+    → IsOfRoots files before last f ⊎ (f ≡ metadata kinds.Root (root_name before) bytes)
 either_root files n before last bytes next held f is =
     let a : n < is.version = is.is_behind in
     let low : before ≤ is.version = omega arith in
@@ -44,7 +45,7 @@ pub roots_more : (files : Files) (n before last : ℕ) (xs ys : List ServedFile)
     → TellsRoots files before last xs → TellsRoot files before true ys → TellsRoots files n last (xs ++ ys)
 roots_more files n before last xs ys next within told (bytes, held, same) =
     let all : (v : ℕ) → n < v → v ≤ last → IsSome (files (root_name v)) = held_more files n before last bytes next held told.are_held in
-    let x : ServedFile = metadata (root_name before) bytes in
+    let x : ServedFile = metadata kinds.Root (root_name before) bytes in
     record {
       are_just = subst (λ zs. AreJust (IsOfRoots files n last) (xs ++ zs)) (sym same)
           (just_both (IsOfRoots files before last) (λ f. f ≡ x) (IsOfRoots files n last) xs (x ∷ []) told.are_just (just_one (λ f. f ≡ x) x refl (λ f is. is))

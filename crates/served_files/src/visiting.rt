@@ -28,18 +28,20 @@ pub trait FileVisitor {
     /// Is told of a root.
     fn visit_root(&mut self, name: &str, bytes: &[u8]) -> Result<(), Self::Fault>
         ensures { OnOk result ((files : Files) (told : List ServedFile) → Stands files told self.old
-            → Stands files (told ++ metadata name.now bytes.now ∷ []) self.new) };
+            → Stands files (told ++ metadata kinds.Root name.now bytes.now ∷ []) self.new) };
 
-    /// Is told of a timestamp, a snapshot or targets metadata, with what they say. `None` where the file is no document of its kind.
+    /// Is told of a timestamp, a snapshot or targets metadata, by the kind, with what they say: `None` where the file is no document of
+    /// its kind.
     fn visit_metadata(
         &mut self,
+        kind: Kind,
         name: &str,
         bytes: &[u8],
         body: Option<&Body>,
     ) -> Result<(), Self::Fault>
-        requires { IsSaid bytes.now (option_map (λ b. body_view b.now) body) }
+        requires { IsSaid kind bytes.now (option_map (λ b. body_view b.now) body) }
         ensures { OnOk result ((files : Files) (told : List ServedFile) → Stands files told self.old
-            → Stands files (told ++ metadata name.now bytes.now ∷ []) self.new) };
+            → Stands files (told ++ metadata kind name.now bytes.now ∷ []) self.new) };
 
     /// Is told of a target, whether its file is there or not.
     fn visit_target(&mut self, listing: &Listing) -> Result<(), Self::Fault>
@@ -85,7 +87,7 @@ fn visit_from<V: FileVisitor>(
         Err(fault) => {
             unless_memory::<V::Fault>(fault)?;
             visit_roots(alloc, after, last, visitor)?;
-            visitor.visit_metadata("timestamp.json", bytes, None)
+            visitor.visit_metadata(Kind::Timestamp, "timestamp.json", bytes, None)
         }
     }
 }
@@ -115,7 +117,7 @@ fn visit_timestamp<V: FileVisitor>(
 {
     visit_named(alloc, body, visitor)?;
     visit_roots(alloc, after, last, visitor)?;
-    visitor.visit_metadata("timestamp.json", bytes, Some(body))
+    visitor.visit_metadata(Kind::Timestamp, "timestamp.json", bytes, Some(body))
 }
 
 // What is of the snapshot that a timestamp names.
@@ -159,7 +161,7 @@ fn visit_snapshot<V: FileVisitor>(
         Ok(document) => visit_snapshot_body(alloc, name, bytes, &document.body, visitor),
         Err(fault) => {
             unless_memory::<V::Fault>(fault)?;
-            visitor.visit_metadata(name, bytes, None)
+            visitor.visit_metadata(Kind::Snapshot, name, bytes, None)
         }
     }
 }
@@ -176,7 +178,7 @@ fn visit_snapshot_body<V: FileVisitor>(
         → AreJust (IsOfSnapshot files name.now) more)) }
 {
     visit_roles_of(alloc, body, visitor)?;
-    visitor.visit_metadata(name, bytes, Some(body))
+    visitor.visit_metadata(Kind::Snapshot, name, bytes, Some(body))
 }
 
 // What is of the roles that a snapshot lists.
@@ -237,7 +239,7 @@ fn visit_targets<V: FileVisitor>(
         Ok(document) => visit_targets_body(name, bytes, &document.body, visitor),
         Err(fault) => {
             unless_memory::<V::Fault>(fault)?;
-            visitor.visit_metadata(name, bytes, None)
+            visitor.visit_metadata(Kind::Targets, name, bytes, None)
         }
     }
 }
@@ -253,7 +255,7 @@ fn visit_targets_body<V: FileVisitor>(
         → AreJust (IsOfRole files name.now) more)) }
 {
     visit_listings_of(body, visitor)?;
-    visitor.visit_metadata(name, bytes, Some(body))
+    visitor.visit_metadata(Kind::Targets, name, bytes, Some(body))
 }
 
 // The targets that targets metadata list.

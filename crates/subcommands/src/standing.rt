@@ -166,6 +166,7 @@ impl<S: Alter> FileVisitor for Looked<'_, S> {
 
     fn visit_metadata(
         &mut self,
+        _kind: Kind,
         _name: &str,
         _bytes: &[u8],
         body: Option<&Body>,

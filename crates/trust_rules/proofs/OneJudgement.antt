@@ -13,8 +13,8 @@ use Rattle.trust_rules.specs.State.{Trusted, State}
 use Rattle.trust_rules.specs.Offers.{kept, rotated, after_root, live_timestamp, live_snapshot, after_timestamp, after_snapshot, named_snapshot, named_targets, placed, Offer, RootOffer, TimestampOffer, SnapshotOffer, TargetsOffer, init, offer_root, offer_timestamp, offer_snapshot, offer_targets, offer, prune, put_blob, Batched, BatchOrder, Ended, coherent, incoherent, going_on, batch_from, batch}
 use Rattle.trust_rules.specs.Grants.{listed, grants, blob_of, files_hold, layout_answer, read_as, reference_allows, searched, support, support_answer, supporting}
 use Rattle.trust_rules.specs.Runs.{Outcome, Command, Init, Batch, OfferOne, PutBlob, Prune, Metadata, Target, Leads, leads, Steps}
-use Rattle.layouts.proofs.DefiniteOrders.{Definite, check-definite, same_if-definite, give-definite, stop-definite, need_or-definite, judged-definite, each-definite}
-use Rattle.trust_rules.proofs.ShapedOnce.{Shapes, Tells, line, shaped-definite, root-tells, timestamp-tells, snapshot-tells, targets-tells, layout-tells, link-tells}
+use Rattle.denials.proofs.DefiniteOrders.{Definite, line, check-definite, same_if-definite, give-definite, stop-definite, need_or-definite, judged-definite, each-definite}
+use Rattle.trust_rules.proofs.ShapedOnce.{Shapes, Tells, shaped-definite, root-tells, timestamp-tells, snapshot-tells, targets-tells, layout-tells, link-tells}
 
 after_root-definite : (T : Trusted) (old new : File Root) → Definite (after_root T old new)
 after_root-definite T old new _ _ (kept p) (kept q) = refl

@@ -4,11 +4,11 @@ use Rattle.keys_roles.specs.Plain.{Signature}
 use Rattle.document_parts.specs.Documents.{Document}
 use Rattle.metadata.specs.Shape.{IsDocument, IsShapeFault}
 use Rattle.metadata.specs.File.{Bytes, File, Form, IsFileOf, document_of, fault_number, root_form, timestamp_form, snapshot_form, targets_form, layout_form, link_form}
-use Rattle.denials.specs.Orders.{Denied, Plain, Order, ◌>>=◌}
+use Rattle.denials.specs.Orders.{Denied, Plain}
 use Rattle.metadata.specs.Shaped.{reads, faulty, shaped}
 use Rattle.document_parts.specs.declared.documents.Kind.{Kind}
 use Rattle.document_parts.specs.declared.documents.ShapeFault.{ShapeFault}
-use Rattle.layouts.proofs.DefiniteOrders.{Definite, then-definite}
+use Rattle.denials.proofs.DefiniteOrders.{Definite}
 
 -- a file is one document of a kind at most, or has one fault of shape, and not both
 pub record Shapes : Type 0 where
@@ -44,10 +44,6 @@ make bytes signed entries body = record { bytes = bytes; signed = signed; entrie
 same_file : {A : Type 0} {b c s t : Bytes} {es fs : List Signature} {x y : A} → b ≡ c → s ≡ t → es ≡ fs → x ≡ y → make b s es x ≡ make c t fs y
 same_file {A} {b} {c} {s} {t} {es} {fs} {x} {y} p q r u =
     ap (λ z. make z s es x) p ∙ (ap (λ z. make c z es x) q ∙ (ap (λ z. make c t z x) r ∙ ap (λ z. make c t fs z) u))
-
--- a line of an order, and what follows it
-pub line : {A B : Type 0} {m : Order A} {f : A → Order B} → Definite m → ((a : A) → Definite (f a)) → Definite (m >>= f)
-line {A} {B} {m} {f} one each = then-definite m f one each
 
 module _ (law : Shapes) where
   -- a file is one document of its form at most

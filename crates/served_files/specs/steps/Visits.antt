@@ -3,6 +3,7 @@ use Rattle.std.specs.Prelude.{◌≡◌, ℕ, ◌<◌, ◌≤◌, [], ◌∷◌,
 use Rattle.metadata.specs.File.{Bytes}
 use Rattle.document_parts.specs.Documents.{Body, Listing, MetaFile}
 use Rattle.document_parts.specs.Documents as plain
+use Rattle.document_parts.specs.declared.documents.Kind.TheVariants as kinds
 use Rattle.path_patterns.specs.Names.{dotted}
 use Rattle.served_files.specs.Served.{AreJust, Files, IsOfRole, IsOfRoots, IsOfSnapshot, ServedFile, metadata, root_name, snapshot_name, target}
 
@@ -48,7 +49,7 @@ IsNamedBy files (plain.link l) f = ⊥
 
 -- the root of this version, which is held, or nothing, as it is not
 abbrev pub TellsRoot : Files → ℕ → Bool → List ServedFile → Type 0
-TellsRoot files version true more = (bytes : Bytes) × (files (root_name version) ≡ Some bytes) × (more ≡ metadata (root_name version) bytes ∷ [])
+TellsRoot files version true more = (bytes : Bytes) × (files (root_name version) ≡ Some bytes) × (more ≡ metadata kinds.Root (root_name version) bytes ∷ [])
 TellsRoot files version false more = (files (root_name version) ≡ None) × (more ≡ [])
 
 -- the roots behind the version, each of which is held

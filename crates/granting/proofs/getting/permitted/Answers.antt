@@ -1,10 +1,8 @@
-use Rattle.std.proofs.Common.{◌∙◌, ◌-◌, ℕ, Ok, Err, arith, refl, subst, sym}
+use Rattle.std.proofs.Common.{Ok, Err, arith, refl, subst}
 use Rattle.std.proofs.lemmas.Result.{err_from_is_err_and}
 use Rattle.document_parts.specs.Views.{listing_view}
 use Rattle.denials.specs.Orders.{decide, fails as failing, given, holds, pass}
 use Rattle.trust_rules.specs.Grants.{Listed, HasLongSupport, blob_of}
-use Rattle.trusted_state.specs.Knowing.{ChecksFew}
-use Rattle.trust_rules.specs.State.{Trusted}
 use Rattle.granting.specs.steps.Permitting.{at_once, denies, finds, listed_view}
 use Rattle.trust_rules.specs.Held.{bytes_at}
 use Rattle.trust_rules.proofs.HeldStates.{lengths_are}
@@ -13,6 +11,7 @@ use Rattle.trust_rules.proofs.OneJudgement.{blob_of-definite, listed-definite}
 use Rattle.trust_rules.proofs.OrderLines.{no, yes}
 use Rattle.trusted_state.proofs.OrderSteps.{given_by}
 use Rattle.granting.proofs.ShortFiles.{not_refused, one_given, shape_denial}
+use Rattle.granting.proofs.Counting.{counted_behind}
 use Rattle.granting.proofs.TargetFiles.{lists_at, no_layout_there, refuses_at, some_layout}
 use Rattle.granting.proofs.getting.permitted.Goals as goal
 
@@ -67,47 +66,38 @@ returns-clause-stands g c =
     (finds (pass (found_by h) (pass (holds (yes c.if-not-is_asked.ensures)) given)))))
     c.in_ok-judge_layout.ensures.stands
 
-pub returns-in_err-judge_layout-clause-few : goal.returns-in_err-judge_layout-clause-few
-returns-in_err-judge_layout-clause-few g c none =
-    let T : Trusted = c.args.held.now.held.trusted in
+pub returns-in_err-judge_layout-clause-counted : goal.returns-in_err-judge_layout-clause-counted
+returns-in_err-judge_layout-clause-counted g c =
+    let finds = c.find_listing.ensures in
+    let judges = c.judge_layout.ensures in
     let lists = given_by c.in_ok-at.ensures.answer in
-    let plain = no_layout_there c.in_ok-at.at.listing.now.layout (λ there. none (record { at = listed_view c.in_ok-at.at; lists = lists; layout = some_layout _ c.in_ok-at.at.listing.now.layout there })) in
-    subst (λ (n : ℕ). ChecksFew T.root T.snapshot T.shelf c.args.held.now.verdicts c.args.path.now c.args.now (n - c.args.checks.now)) (sym (c.judge_layout.ensures.unticked plain)) c.find_listing.ensures.few
-
-pub returns-in_err-judge_layout-clause-free : goal.returns-in_err-judge_layout-clause-free
-returns-in_err-judge_layout-clause-free g c wants =
-    let w = c.in_ok-at.ensures.wanted wants in
-    c.judge_layout.ensures.free w.0 w.1 ∙ c.find_listing.ensures.free wants
+    counted_behind _ _ _ _ _ _ _ finds.grows finds.most finds.few finds.free judges.grows
+    (λ none. judges.unticked (no_layout_there c.in_ok-at.at.listing.now.layout (λ there. none (record { at = listed_view c.in_ok-at.at; lists = lists; layout = some_layout _ c.in_ok-at.at.listing.now.layout there }))))
+    (λ wants. let w = c.in_ok-at.ensures.wanted wants in judges.free w.0 w.1)
 
 pub returns-in_err-judge_layout-clause-reads : goal.returns-in_err-judge_layout-clause-reads
 returns-in_err-judge_layout-clause-reads g c = c.judge_layout.ensures.reads
 
-pub returns-then-not-is_asked-clause-few : goal.returns-then-not-is_asked-clause-few
-returns-then-not-is_asked-clause-few g c none =
-    let T : Trusted = c.args.held.now.held.trusted in
+pub returns-then-not-is_asked-clause-counted : goal.returns-then-not-is_asked-clause-counted
+returns-then-not-is_asked-clause-counted g c =
+    let finds = c.find_listing.ensures in
+    let judges = c.judge_layout.ensures in
     let lists = given_by c.in_ok-at.ensures.answer in
-    let plain = no_layout_there c.in_ok-at.at.listing.now.layout (λ there. none (record { at = listed_view c.in_ok-at.at; lists = lists; layout = some_layout _ c.in_ok-at.at.listing.now.layout there })) in
-    subst (λ (n : ℕ). ChecksFew T.root T.snapshot T.shelf c.args.held.now.verdicts c.args.path.now c.args.now (n - c.args.checks.now)) (sym (c.judge_layout.ensures.unticked plain)) c.find_listing.ensures.few
-
-pub returns-then-not-is_asked-clause-free : goal.returns-then-not-is_asked-clause-free
-returns-then-not-is_asked-clause-free g c wants =
-    let w = c.in_ok-at.ensures.wanted wants in
-    c.judge_layout.ensures.free w.0 w.1 ∙ c.find_listing.ensures.free wants
+    counted_behind _ _ _ _ _ _ _ finds.grows finds.most finds.few finds.free judges.grows
+    (λ none. judges.unticked (no_layout_there c.in_ok-at.at.listing.now.layout (λ there. none (record { at = listed_view c.in_ok-at.at; lists = lists; layout = some_layout _ c.in_ok-at.at.listing.now.layout there }))))
+    (λ wants. let w = c.in_ok-at.ensures.wanted wants in judges.free w.0 w.1)
 
 pub returns-then-not-is_asked-clause-reads : goal.returns-then-not-is_asked-clause-reads
 returns-then-not-is_asked-clause-reads g c = c.judge_layout.ensures.reads
 
-pub returns-clause-few : goal.returns-clause-few
-returns-clause-few g c none =
-    let T : Trusted = c.args.held.now.held.trusted in
+pub returns-clause-counted : goal.returns-clause-counted
+returns-clause-counted g c =
+    let finds = c.find_listing.ensures in
+    let judges = c.judge_layout.ensures in
     let lists = given_by c.in_ok-at.ensures.answer in
-    let plain = no_layout_there c.in_ok-at.at.listing.now.layout (λ there. none (record { at = listed_view c.in_ok-at.at; lists = lists; layout = some_layout _ c.in_ok-at.at.listing.now.layout there })) in
-    subst (λ (n : ℕ). ChecksFew T.root T.snapshot T.shelf c.args.held.now.verdicts c.args.path.now c.args.now (n - c.args.checks.now)) (sym (c.judge_layout.ensures.unticked plain)) c.find_listing.ensures.few
-
-pub returns-clause-free : goal.returns-clause-free
-returns-clause-free g c wants =
-    let w = c.in_ok-at.ensures.wanted wants in
-    c.judge_layout.ensures.free w.0 w.1 ∙ c.find_listing.ensures.free wants
+    counted_behind _ _ _ _ _ _ _ finds.grows finds.most finds.few finds.free judges.grows
+    (λ none. judges.unticked (no_layout_there c.in_ok-at.at.listing.now.layout (λ there. none (record { at = listed_view c.in_ok-at.at; lists = lists; layout = some_layout _ c.in_ok-at.at.listing.now.layout there }))))
+    (λ wants. let w = c.in_ok-at.ensures.wanted wants in judges.free w.0 w.1)
 
 pub returns-clause-reads : goal.returns-clause-reads
 returns-clause-reads g c = c.judge_layout.ensures.reads
@@ -141,20 +131,12 @@ returns-clause-long g c S valid is long =
     let at = one_given (listed-definite S.trusted c.args.path.now c.args.now) long.lists (lists_at S is (given_by c.in_ok-at.ensures.answer)) in
     absurd (c.in_ok-judge_layout.ensures.long S valid is (subst (λ (l : Listed). HasLongSupport S l.root l.shelf c.args.now l.listing.layout) at long.long)).1
 
-pub returns-in_err-judge_layout-clause-most : goal.returns-in_err-judge_layout-clause-most
-returns-in_err-judge_layout-clause-most g c none =
-    let lists = given_by c.in_ok-at.ensures.answer in
-    let plain = no_layout_there c.in_ok-at.at.listing.now.layout (λ there. none (record { at = listed_view c.in_ok-at.at; lists = lists; layout = some_layout _ c.in_ok-at.at.listing.now.layout there })) in
-    omega (arith, c.judge_layout.ensures.unticked plain, c.find_listing.ensures.most)
+pub returns-in_err-at-clause-counted : goal.returns-in_err-at-clause-counted
+returns-in_err-at-clause-counted g c =
+    let finds = c.find_listing.ensures in
+    counted_behind _ _ _ _ _ _ _ finds.grows finds.most finds.few finds.free (omega arith) (λ none. refl) (λ wants. refl)
 
-pub returns-then-not-is_asked-clause-most : goal.returns-then-not-is_asked-clause-most
-returns-then-not-is_asked-clause-most g c none =
-    let lists = given_by c.in_ok-at.ensures.answer in
-    let plain = no_layout_there c.in_ok-at.at.listing.now.layout (λ there. none (record { at = listed_view c.in_ok-at.at; lists = lists; layout = some_layout _ c.in_ok-at.at.listing.now.layout there })) in
-    omega (arith, c.judge_layout.ensures.unticked plain, c.find_listing.ensures.most)
-
-pub returns-clause-most : goal.returns-clause-most
-returns-clause-most g c none =
-    let lists = given_by c.in_ok-at.ensures.answer in
-    let plain = no_layout_there c.in_ok-at.at.listing.now.layout (λ there. none (record { at = listed_view c.in_ok-at.at; lists = lists; layout = some_layout _ c.in_ok-at.at.listing.now.layout there })) in
-    omega (arith, c.judge_layout.ensures.unticked plain, c.find_listing.ensures.most)
+pub returns-in_err-digest-clause-counted : goal.returns-in_err-digest-clause-counted
+returns-in_err-digest-clause-counted g c =
+    let finds = c.find_listing.ensures in
+    counted_behind _ _ _ _ _ _ _ finds.grows finds.most finds.few finds.free (omega arith) (λ none. refl) (λ wants. refl)

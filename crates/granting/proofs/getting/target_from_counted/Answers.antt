@@ -1,16 +1,15 @@
-use Rattle.std.proofs.Common.{◌≡◌, Err, arith, refl, subst}
+use Rattle.std.proofs.Common.{◌≡◌, Err, refl, subst}
 use Rattle.std.proofs.lemmas.Result.{err_from_is_err_and}
 use Rattle.std.specs.Prelude.{option_map}
 use Rattle.denials.specs.Orders.{decide, fails}
 use Rattle.metadata.specs.File.{Bytes}
 use Rattle.trust_rules.specs.Grants.{grants}
-use Rattle.trust_rules.specs.State.{Trusted}
-use Rattle.trusted_state.proofs.Carrying.{no_checks}
 use Rattle.granting.specs.Serving.{Refuses, Serves, denies, forgoes, unread}
 use Rattle.granting.proofs.GrantedFrom.{finds_serves, load_refuses, refuses_so}
 use Rattle.granting.proofs.LoadedFiles.{became_by, found_by, stands_so, still_stands}
 use Rattle.granting.proofs.ServedFrom.{served_so}
 use Rattle.granting.proofs.ShortFiles.{shape_denial}
+use Rattle.granting.proofs.Counting.{counts_nothing}
 use Rattle.granting.proofs.TargetFiles.{no_path}
 use Rattle.granting.proofs.getting.target_from_counted.Goals as goal
 
@@ -38,15 +37,11 @@ returns-in_err-path-clause-long g c S valid is long =
     let p = err_from_is_err_and c.from_residual.result c.from_residual.ensures.1 in
     rw (p.1, p.2) (refl, tt)
 
-pub returns-in_default-clause-few : goal.returns-in_default-clause-few
-returns-in_default-clause-few g c none =
-    let T : Trusted = c.args.held.now.held.trusted in
-    no_checks T.root T.snapshot T.shelf c.args.held.now.verdicts c.args.path.now c.args.now _ (omega arith)
+pub returns-in_default-clause-counted : goal.returns-in_default-clause-counted
+returns-in_default-clause-counted g c = counts_nothing _ _ _ _ _
 
-pub returns-in_err-path-clause-few : goal.returns-in_err-path-clause-few
-returns-in_err-path-clause-few g c none =
-    let T : Trusted = c.args.held.now.held.trusted in
-    no_checks T.root T.snapshot T.shelf c.args.held.now.verdicts c.args.path.now c.args.now _ (omega arith)
+pub returns-in_err-path-clause-counted : goal.returns-in_err-path-clause-counted
+returns-in_err-path-clause-counted g c = counts_nothing _ _ _ _ _
 
 pub returns-in-Ok-clause-answer : goal.returns-in-Ok-clause-answer
 returns-in-Ok-clause-answer g c honest S stands =
@@ -84,3 +79,13 @@ returns-clause-long g c S valid is long =
     let same = rw (c.in-Some.is) at c.in_ok-path.ensures.some in
     let refused = (rw (same.0) at c.in-Err.ensures.long) S valid is long in
     (refused.0, shape_denial (Unit {0}) (Unit {0}) c.in-Err.fault refused.1)
+
+pub returns-in-Ok-clause-counted : goal.returns-in-Ok-clause-counted
+returns-in-Ok-clause-counted g c =
+    let same = rw (c.in-Some.is) at c.in_ok-path.ensures.some in
+    rw (same.0) at c.permitted.ensures.counted
+
+pub returns-clause-counted : goal.returns-clause-counted
+returns-clause-counted g c =
+    let same = rw (c.in-Some.is) at c.in_ok-path.ensures.some in
+    rw (same.0) at c.permitted.ensures.counted

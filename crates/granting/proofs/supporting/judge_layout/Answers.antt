@@ -6,7 +6,7 @@ use Rattle.document_parts.specs.declared.documents.LayoutReference.{LayoutRefere
 use Rattle.denials.specs.Orders.{given}
 use Rattle.delegations.specs.Views.{shelf_view}
 use Rattle.metadata.specs.File.{Bytes}
-use Rattle.layouts.proofs.DefiniteOrders.{each-definite}
+use Rattle.denials.proofs.DefiniteOrders.{each-definite}
 use Rattle.trust_rules.specs.Grants.{AreShort, HasLongSupport, reference_allows}
 use Rattle.granting.specs.steps.Permitting.{Finds, all_bytes_at, at_once, finds}
 use Rattle.trust_rules.specs.Held.{bytes_at}

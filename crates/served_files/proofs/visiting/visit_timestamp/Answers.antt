@@ -5,9 +5,9 @@ use Rattle.served_files.proofs.Telling.{became_one, became_three, on_ok}
 use Rattle.served_files.proofs.visiting.visit_timestamp.Goals as goal
 
 pub visit_metadata-requires : goal.visit_metadata-requires
-visit_metadata-requires g c = (kinds.Timestamp, c.requires)
+visit_metadata-requires g c = c.requires
 
 pub returns : goal.returns
 returns g c = on_ok c.visit_metadata.result c.visit_metadata.ensures (λ step.
-    became_three _ _ _ _ _ _ _ _ _ c.in_ok-visit_named.ensures c.in_ok-visit_roots.ensures (became_one _ _ _ (metadata timestamp_name c.args.bytes.now) step)
+    became_three _ _ _ _ _ _ _ _ _ c.in_ok-visit_named.ensures c.in_ok-visit_roots.ensures (became_one _ _ _ (metadata kinds.Timestamp timestamp_name c.args.bytes.now) step)
     (λ files xs rs ys named roots told held. timestamp_body files c.args.after c.args.last c.args.bytes.now _ xs rs ys named roots told held c.requires))
