@@ -1,5 +1,5 @@
 -- Orders of checks that end in a denial, or without a change.
-use Rattle.std.specs.Prelude.{ℕ, Bool, true, ◌==◌, Option, Some, None, Result, Ok, Err, List}
+use Rattle.std.specs.Prelude.{ℕ, Bool, true, ◌==◌, Option, Some, None, Ok, Err, List}
 use Rattle.denials.specs.Numbers as no
 use Rattle.denials.specs.Numbers.{name_of}
 pub use Rattle.denials.specs.Checks.{pass, decide, holds, fails, given, stopped, judges, ◌>>=◌, ◌>>◌, give, stop, each, judged}

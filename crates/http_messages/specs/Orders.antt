@@ -1,5 +1,5 @@
 -- Orders of checks that end in the fault by which a request is no command.
-use Rattle.std.specs.Prelude.{Result, Ok, Err}
+use Rattle.std.specs.Prelude.{Ok, Err}
 use Rattle.http_messages.specs.declared.faults.Fault.{Fault}
 pub use Rattle.denials.specs.Checks.{pass, decide, holds, fails, given, ◌>>=◌, ◌>>◌, give}
 use Rattle.denials.specs.Checks.{Check, JudgedBy, OrderOver}
