@@ -9,7 +9,8 @@ use Rattle.jiff.proofs.Family.{epoch_day-lt, epoch_day_same, days_from_civil-day
 use Rattle.jiff.proofs.SpanFacts.{signed_arith}
 use Rattle.document_parts.specs.Dates.{IsShown, last_moment}
 
-early_enough : (d : Date) (year : ℕ) → d.year ≡ pos year → year ≤ 9998 → epoch_day d <ℤ pos 2932867
+-- a day of the years before 9999 lies before its December
+pub early_enough : (d : Date) (year : ℕ) → d.year ≡ pos year → year ≤ 9998 → epoch_day d <ℤ pos 2932867
 early_enough d year e h =
     let december : Date = record { year = pos 9999; month = 12; day = 1; year_in = (search rules, search rules); month_in = (omega arith, omega arith); day_in = (omega arith, omega arith) } in
     let before : d.year <ℤ pos 9999 = rw e (omega (arith, signed_arith)) in

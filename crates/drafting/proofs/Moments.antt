@@ -1,23 +1,14 @@
 -- What a calendar and a clock show at a moment, and the texts that have it.
-use Rattle.std.proofs.Common.{◌≡◌, ℕ, ℤ, pos, negsuc, ◌*◌, ◌≤◌, ◌+ℤ◌, ◌*ℤ◌, ◌<ℤ◌, ◌≤ℤ◌, inl, List, [], ◌∷◌, ◌++◌, arith, rules, refl, sym, ap, ap₂, ◌∙◌, unsigned_abs, append_assoc, true, false, subst}
+use Rattle.std.proofs.Common.{◌≡◌, ℕ, ℤ, pos, negsuc, ◌*◌, ◌≤◌, ◌+ℤ◌, ◌*ℤ◌, ◌<ℤ◌, ◌≤ℤ◌, List, [], ◌∷◌, ◌++◌, arith, refl, sym, ap, ap₂, ◌∙◌, unsigned_abs, append_assoc, true, false, subst}
 use Rattle.std.proofs.lemmas.Int.{by_lt_z}
 use lib.Signed.{lt_z}
 use lib.Dec.{T}
-use Rattle.jiff.specs.Types.{Date, DateTime}
+use Rattle.jiff.specs.Types.{DateTime}
 use Rattle.jiff.specs.Words.{epoch_day, civil_nanos, IsTimestampNanos}
-use Rattle.jiff.proofs.Family.{epoch_day-lt, epoch_day_injective, days_from_civil-day, days_from_civil-max, civil_nanos-parts, time_nanos_bound}
+use Rattle.jiff.proofs.Family.{epoch_day_injective, civil_nanos-parts, time_nanos_bound}
 use Rattle.jiff.proofs.SpanFacts.{signed_arith}
 use Rattle.document_parts.specs.Dates.{IsDateTime, IsShown, two_digits, four_digits}
-
--- a day of the years before 9999 lies before its December
-early_enough : (d : Date) (year : ℕ) → d.year ≡ pos year → year ≤ 9998 → epoch_day d <ℤ pos 2932867
-early_enough d year e h =
-    let december : Date = record { year = pos 9999; month = 12; day = 1; year_in = (search rules, search rules); month_in = (omega arith, omega arith); day_in = (omega arith, omega arith) } in
-    let before : d.year <ℤ pos 9999 = rw e (omega (arith, signed_arith)) in
-    let first = days_from_civil-day (pos 9999) 12 1 31 (omega arith) (omega arith) in
-    let last = days_from_civil-max in
-    let earlier = epoch_day-lt d december (inl before) in
-    omega (arith, signed_arith, first, last, earlier)
+use Rattle.document_parts.proofs.Instants.{early_enough}
 
 -- what has a text is an instant of jiff's
 pub in_range : (t : List ℕ) (n : ℕ) → IsDateTime t n → IsTimestampNanos (pos n *ℤ pos 1000000000)

@@ -43,6 +43,5 @@ returns-clause-denial g c =
 
 pub returns-clause-ticks : goal.returns-clause-ticks
 returns-clause-ticks g c =
-    let e = c.target_from_counted.ensures.counted in
     subst (λ s. TicksFew s.kept.trusted c.args.path.now c.args.now c.args.checks.now c.target_from_counted.new.checks) c.self.view_is
-    (record { grows = e.grows; most = e.most; few = λ none. (_, c.is_known.ensures, e.few none); free = e.free })
+    (_, c.is_known.ensures, c.target_from_counted.ensures.counted)
