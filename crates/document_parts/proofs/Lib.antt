@@ -1,6 +1,7 @@
 pub mod Congruence
 pub mod DateTexts
 pub mod DelegationsOnce
+mod DigestRows
 pub mod Elements
 pub mod Found
 pub mod Growing
