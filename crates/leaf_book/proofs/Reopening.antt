@@ -1,5 +1,6 @@
 -- What the next open answers.
-use Rattle.std.proofs.Common.{◌≡◌, ◌⊎◌, inl, inr, [], IsTrue, Result, Ok, Err, refl, sym, ap, subst, ◌∙◌}
+use Rattle.std.proofs.Common.{◌≡◌, ◌⊎◌, inl, inr, [], IsTrue, IfOk, Result, Ok, Err, refl, sym, ap, subst, ◌∙◌}
+use Rattle.std.proofs.Math.Logic.{∥∥₁_map}
 use Rattle.sqlite.specs.Effect.{Database, IsDatabase}
 use Rattle.sqlite.specs.State.{IsLive, State}
 use Rattle.sqlite.specs.Schema.{Schema}
@@ -47,3 +48,8 @@ stands_still s b trees live is_open settled stands (inl same) = subst (λ (t : T
 stands_still s b trees live is_open settled (d, dt, ds, inl (has, holds)) (inr begins) =
     absurd (both_or_none d s.committed ds (live is_open).1 dt has (subst (λ (e : Database). e.schema ≡ no_schema) settled (begins is_open).0))
 stands_still s b trees live is_open settled (d, dt, ds, inr (none, empty)) (inr begins) = subst (TreesStand trees) (sym empty) (stands_whole trees no_book (begins is_open).1)
+
+-- what follows of an answer, where no more is known than that there is something from which it follows
+pub each_ok : {A E M : Type 0} (Q : A → Type 0) (r : Result A E) → ∥ M ∥₁ → (M → IfOk r Q) → IfOk r (λ a. ∥ Q a ∥₁)
+each_ok Q (Ok a) m f = ∥∥₁_map m f
+each_ok Q (Err e) m f = tt

@@ -1,6 +1,8 @@
 //! The end of a book over two files: what the next open finds in them.
 ghost use Rattle.std.specs.Prelude.{◌≡◌, ◌⊎◌, false, IfOk, IsSomeAnd, IsTrue, Ok, Result};
 ghost use Rattle.sqlite.specs.Files.{file_state};
+ghost use Rattle.sqlite.specs.Held.{state};
+ghost use Rattle.sqlite.specs.State.{HasCleanDisk};
 ghost use Rattle.sqlite_trees.specs.Tree.{Trees};
 ghost use Rattle.sqlite_wal.specs.Files.{outcomes};
 ghost use Rattle.sqlite_wal.specs.Reads.{AreClean};
@@ -19,7 +21,7 @@ use crate::opening::Unopened;
 use keys_roles::KeyId;
 use lms::{Params, Seed};
 use sql_tables::close;
-use sqlite::{Connection, FileStore, Files};
+use sqlite::{Alter, Connection, FileStore, Files};
 use sqlite_disk::Disk;
 use std::alloc::Global;
 
@@ -29,7 +31,7 @@ use std::alloc::Global;
 /// which on each call of the disks fails. Nothing is said where the connection was shut and no leaf is answered, nor where a wrong answer
 /// of the disks was taken as true.
 pub fn reserve_and_close<D: Disk + Drop>(
-    mut book: Book<FileStore<D>>,
+    book: Book<FileStore<D>>,
     key: &KeyId,
     message: &[u8],
 ) -> (Result<Leaf, BookFault>, Files<D>)
@@ -40,9 +42,7 @@ pub fn reserve_and_close<D: Disk + Drop>(
         → (left : Image) → outcomes D.Disk result.1.log result.1.db left → (found : Trees) → IsFound left found
         → IfOk result.0 (λ leaf. ∥ ((c : plain.Book) × Reserves book.book (id_text key.now) message.now (Ok leaf) c × Recovers found c) ∥₁) }
 {
-    book.rests();
-    let result = book.reserve(key, message);
-    let conn = book.into_connection();
+    let (result, conn) = reserved(book, key, message);
     (result, close(conn))
 }
 
@@ -50,7 +50,7 @@ pub fn reserve_and_close<D: Disk + Drop>(
 /// open finds the rows of the book before the call or of the book after it, and after an id was answered those of the book that has the
 /// key.
 pub fn register_and_close<D: Disk + Drop>(
-    mut book: Book<FileStore<D>>,
+    book: Book<FileStore<D>>,
     seed: &Seed,
     params: Params,
 ) -> (Result<KeyId, BookFault>, Files<D>)
@@ -61,9 +61,7 @@ pub fn register_and_close<D: Disk + Drop>(
         → (left : Image) → outcomes D.Disk result.1.log result.1.db left → (found : Trees) → IsFound left found
         → IfOk result.0 (λ key. ∥ ((c : plain.Book) × Registers book.book seed.now params (Ok (id_text key)) c × Recovers found c) ∥₁) }
 {
-    book.rests();
-    let result = book.register(seed, params);
-    let conn = book.into_connection();
+    let (result, conn) = registered(book, seed, params);
     (result, close(conn))
 }
 
@@ -83,14 +81,62 @@ pub fn open_and_close<D: Disk + Drop>(
         → (left : Image) → outcomes D.Disk files.log files.db left → (found : Trees) → IsFound left found
         → (answer : Result plain.Book BookFault) → OpensTo found answer → ∥ Reopens b answer ∥₁) }
 {
+    let (result, conn) = opened(alloc, conn);
+    match conn {
+        Some(conn) => (result, Some(close(conn))),
+        None => (result, None),
+    }
+}
+
+// Reserves a leaf, and hands back the connection.
+fn reserved<S: Alter + Drop>(
+    mut book: Book<S>,
+    key: &KeyId,
+    message: &[u8],
+) -> (Result<Leaf, BookFault>, Connection<S>)
+    ensures before_or_after { HasCleanDisk (state S.Store result.1) → IsTrue (state S.Store book.conn).is_open → (found : Trees) → (state S.Store result.1).may_leave found
+        → Recovers found book.book ⊎ ((r : _) × (c : plain.Book) × Reserves book.book (id_text key.now) message.now r c × Recovers found c) }
+    ensures after { HasCleanDisk (state S.Store result.1) → (found : Trees) → (state S.Store result.1).may_leave found
+        → IfOk result.0 (λ leaf. (c : plain.Book) × Reserves book.book (id_text key.now) message.now (Ok leaf) c × Recovers found c) }
+{
+    book.rests();
+    let result = book.reserve(key, message);
+    let conn = book.into_connection();
+    (result, conn)
+}
+
+// Registers a key, and hands back the connection.
+fn registered<S: Alter + Drop>(
+    mut book: Book<S>,
+    seed: &Seed,
+    params: Params,
+) -> (Result<KeyId, BookFault>, Connection<S>)
+    ensures before_or_after { HasCleanDisk (state S.Store result.1) → IsTrue (state S.Store book.conn).is_open → (found : Trees) → (state S.Store result.1).may_leave found
+        → Recovers found book.book ⊎ ((r : _) × (c : plain.Book) × Registers book.book seed.now params r c × Recovers found c) }
+    ensures after { HasCleanDisk (state S.Store result.1) → (found : Trees) → (state S.Store result.1).may_leave found
+        → IfOk result.0 (λ key. (c : plain.Book) × Registers book.book seed.now params (Ok (id_text key)) c × Recovers found c) }
+{
+    book.rests();
+    let result = book.register(seed, params);
+    let conn = book.into_connection();
+    (result, conn)
+}
+
+// Opens a book, and hands back the connection, where there still is one.
+fn opened<S: Alter + Drop>(
+    alloc: Global,
+    conn: Connection<S>,
+) -> (Result<(), BookFault>, Option<Connection<S>>)
+    ensures crash { conn.in_transaction ≡ false → IsSomeAnd result.1 (λ c. HasCleanDisk (state S.Store c) → (found : Trees) → (state S.Store c).may_leave found
+        → (state S.Store conn).may_leave found ⊎ Begins (state S.Store conn) found) }
+    ensures stays { conn.in_transaction ≡ false → IsTrue (state S.Store conn).is_open → (b : plain.Book) → TreesStand (state S.Store conn).committed.trees b
+        → IsSomeAnd result.1 (λ c. HasCleanDisk (state S.Store c) → (found : Trees) → (state S.Store c).may_leave found → TreesStand found b) }
+{
     match Book::open_over(alloc, conn) {
-        Ok(book) => (Ok(()), Some(close(book.into_connection()))),
+        Ok(book) => (Ok(()), Some(book.into_connection())),
         Err(unopened) => {
             let Unopened { fault, conn } = unopened;
-            match conn {
-                Some(conn) => (Err(fault), Some(close(conn))),
-                None => (Err(fault), None),
-            }
+            (Err(fault), conn)
         }
     }
 }

@@ -3,7 +3,7 @@ use leaf_book::{Book, BookFault};
 use lms::{KeyPair, OtsType, Params, Seed, SigningHeight};
 use signer::sign_message;
 use sqlite::types::ValueRef;
-use sqlite::{Connection, FileStore, Files, Row};
+use sqlite::{Alter, Connection, FileStore, Files, Row};
 use sqlite_disk::{Crash, Fuse, Memory};
 use sqlite_pager::Options;
 use std::alloc::{AllocError, Global};
@@ -54,9 +54,9 @@ fn low_pair(alloc: Global) -> Result<KeyPair, AllocError> {
 }
 
 // The signature of the message.
-fn signature(
+fn signature<S: Alter>(
     alloc: Global,
-    book: &mut Book<Disks>,
+    book: &mut Book<S>,
     pair: &KeyPair,
     message: &[u8],
 ) -> Result<Vec<u8>, BookFault> {
@@ -98,7 +98,7 @@ const NOTHING: Made = Made {
 };
 
 // The steps, as far as the disks go along: the key is registered, and two messages are signed.
-fn make(alloc: Global, book: &mut Book<Disks>, pair: &KeyPair) -> Made {
+fn make<S: Alter>(alloc: Global, book: &mut Book<S>, pair: &KeyPair) -> Made {
     let is_registered = book.register_pair(pair).is_ok();
     let first = signature(alloc, book, pair, b"first").ok();
     let second = signature(alloc, book, pair, b"second").ok();
@@ -136,36 +136,40 @@ fn connected(
     }
 }
 
-// The book over a connection, or the files, unless the opening that failed took them with it.
-fn opened_over(
+// The book over a connection, or the connection, unless the opening that failed took it with it.
+fn opened_over<S: Alter + Drop>(
     alloc: Global,
-    conn: Connection<Disks>,
-) -> Result<Book<Disks>, Option<Files<Fuse<Memory>>>> {
+    conn: Connection<S>,
+) -> Result<Book<S>, Option<Connection<S>>> {
     match Book::open_over(alloc, conn) {
         Ok(book) => Ok(book),
-        Err(unopened) => match unopened.conn {
-            Some(conn) => Err(Some(closed(conn))),
-            None => Err(None),
-        },
+        Err(unopened) => Err(unopened.conn),
     }
 }
 
-// The same over these files.
-fn open_book(
+// The steps over a book, and its connection.
+fn made_over<S: Alter + Drop>(
     alloc: Global,
-    files: Files<Fuse<Memory>>,
-    frames: usize,
-) -> Result<Book<Disks>, Option<Files<Fuse<Memory>>>> {
-    match connected(alloc, files, frames) {
-        Ok(conn) => opened_over(alloc, conn),
-        Err(files) => Err(Some(files)),
-    }
+    mut book: Book<S>,
+    pair: &KeyPair,
+) -> (Made, Connection<S>) {
+    let made = make(alloc, &mut book, pair);
+    (made, book.into_connection())
 }
 
-// The steps over a book, and its files.
-fn made_over(alloc: Global, mut book: Book<Disks>, pair: &KeyPair) -> (Made, Files<Fuse<Memory>>) {
-    let made = make(alloc, &mut book, pair);
-    (made, closed(book.into_connection()))
+// The same over a connection, which is handed back, unless the opening that failed took it with it.
+fn made_in<S: Alter + Drop>(
+    alloc: Global,
+    conn: Connection<S>,
+    pair: &KeyPair,
+) -> (Made, Option<Connection<S>>) {
+    match opened_over(alloc, conn) {
+        Ok(book) => {
+            let (made, conn) = made_over(alloc, book, pair);
+            (made, Some(conn))
+        }
+        Err(conn) => (NOTHING, conn),
+    }
 }
 
 // The steps over new files, which are handed back, unless the opening that failed took them with it.
@@ -175,17 +179,18 @@ fn run(
     files: Files<Fuse<Memory>>,
     frames: usize,
 ) -> (Made, Option<Files<Fuse<Memory>>>) {
-    match open_book(alloc, files, frames) {
-        Ok(book) => {
-            let (made, files) = made_over(alloc, book, pair);
-            (made, Some(files))
-        }
-        Err(files) => (NOTHING, files),
+    let conn = match connected(alloc, files, frames) {
+        Ok(conn) => conn,
+        Err(files) => return (NOTHING, Some(files)),
+    };
+    match made_in(alloc, conn, pair) {
+        (made, Some(conn)) => (made, Some(closed(conn))),
+        (made, None) => (made, None),
     }
 }
 
 // All rows that the query answers.
-fn rows_of(conn: &mut Connection<Disks>, query: &str) -> Option<Vec<Row>> {
+fn rows_of<S: Alter>(conn: &mut Connection<S>, query: &str) -> Option<Vec<Row>> {
     conn.query_all(query, &[]).ok()
 }
 
@@ -225,7 +230,7 @@ fn are_behind(signers: &[Row], leaves: &[Row], count: usize) -> bool {
 }
 
 // Whether the rows of both tables are just those behind so many steps, or behind one more.
-fn finds(conn: &mut Connection<Disks>, count: usize) -> bool {
+fn finds<S: Alter>(conn: &mut Connection<S>, count: usize) -> bool {
     let signers = rows_of(conn, SIGNERS);
     let leaves = rows_of(conn, LEAVES);
     match (&signers, &leaves) {
@@ -246,7 +251,7 @@ fn is_again(before: &Option<Vec<u8>>, again: &[u8]) -> bool {
 }
 
 // Whether each message has one leaf, the one that it had.
-fn signs_again(alloc: Global, book: &mut Book<Disks>, pair: &KeyPair, made: &Made) -> bool {
+fn signs_again<S: Alter>(alloc: Global, book: &mut Book<S>, pair: &KeyPair, made: &Made) -> bool {
     let Ok(other) = signature(alloc, book, pair, b"other") else {
         return false;
     };
@@ -268,11 +273,24 @@ fn signs_again(alloc: Global, book: &mut Book<Disks>, pair: &KeyPair, made: &Mad
 }
 
 // Whether the book has the rows behind the steps that were made, or behind one more, and each message its leaf.
-fn is_whole(alloc: Global, book: Book<Disks>, pair: &KeyPair, made: &Made) -> bool {
+fn is_whole<S: Alter + Drop>(alloc: Global, book: Book<S>, pair: &KeyPair, made: &Made) -> bool {
     let mut conn = book.into_connection();
     let has_rows = finds(&mut conn, made.count());
     match opened_over(alloc, conn) {
         Ok(mut book) => has_rows && signs_again(alloc, &mut book, pair, made),
+        Err(_) => false,
+    }
+}
+
+// Whether the book that opens over a connection is whole.
+fn is_whole_in<S: Alter + Drop>(
+    alloc: Global,
+    conn: Connection<S>,
+    pair: &KeyPair,
+    made: &Made,
+) -> bool {
+    match opened_over(alloc, conn) {
+        Ok(book) => is_whole(alloc, book, pair, made),
         Err(_) => false,
     }
 }
@@ -287,8 +305,8 @@ fn is_whole_after(
 ) -> bool {
     files.log.crash();
     files.db.crash();
-    match open_book(alloc, files, frames) {
-        Ok(book) => is_whole(alloc, book, pair, made),
+    match connected(alloc, files, frames) {
+        Ok(conn) => is_whole_in(alloc, conn, pair, made),
         Err(_) => false,
     }
 }

@@ -1,6 +1,8 @@
 //! The end of a store over two files: what the next open finds in them.
 ghost use Rattle.std.specs.Prelude.{◌≡◌, ◌⊎◌, false, IfOk, IsSomeAnd, IsTrue};
 ghost use Rattle.sqlite.specs.Files.{file_state};
+ghost use Rattle.sqlite.specs.Held.{state};
+ghost use Rattle.sqlite.specs.State.{HasCleanDisk};
 ghost use Rattle.sqlite_trees.specs.Tree.{Trees};
 ghost use Rattle.sqlite_wal.specs.Files.{outcomes};
 ghost use Rattle.sqlite_wal.specs.Reads.{AreClean};
@@ -22,7 +24,7 @@ use machine::stays_valid;
 use metadata::Moment;
 use repository_tables::StoreFault;
 use sql_tables::close;
-use sqlite::{Connection, FileStore, Files};
+use sqlite::{Alter, Connection, FileStore, Files};
 use sqlite_disk::Disk;
 use std::alloc::Global;
 
@@ -31,7 +33,7 @@ use std::alloc::Global;
 /// those of the state after it. A crash inside the call is one from which on each call of the disks fails. Nothing is said where the
 /// connection was shut and no reply is answered, nor where a wrong answer of the disks was taken as true.
 pub fn apply_and_close<D: Disk + Drop>(
-    mut store: Store<FileStore<D>>,
+    store: Store<FileStore<D>>,
     command: Command<'_>,
     now: Moment,
 ) -> (Result<Reply, StoreFault>, Files<D>)
@@ -54,8 +56,7 @@ pub fn apply_and_close<D: Disk + Drop>(
 {
     stays_valid();
     trees_tell_state();
-    let result = store.apply(command, now);
-    let conn = store.into_connection();
+    let (result, conn) = applied(store, command, now);
     (result, close(conn))
 }
 
@@ -76,14 +77,44 @@ pub fn open_and_close<D: Disk + Drop>(
 {
     trees_tell_state();
     leaves_committed(&conn);
+    let (result, conn) = opened(alloc, conn);
+    match conn {
+        Some(conn) => (result, Some(close(conn))),
+        None => (result, None),
+    }
+}
+
+// Makes a command, and hands back the connection.
+fn applied<S: Alter + Drop>(
+    mut store: Store<S>,
+    command: Command<'_>,
+    now: Moment,
+) -> (Result<Reply, StoreFault>, Connection<S>)
+    ensures crash { HasCleanDisk (state S.Store result.1) → IsTrue (state S.Store store.conn).is_open
+        → (U : State) → StandsAt (seen store.kept (state S.Store store.conn)) U
+        → (found : Trees) → (state S.Store result.1).may_leave found → HoldsWhole found (rows_of U) ⊎ HoldsStep U (command_view command.entry) now found }
+    ensures after { HasCleanDisk (state S.Store result.1)
+        → (U : State) → StandsAt (seen store.kept (state S.Store store.conn)) U
+        → (found : Trees) → ∥ (state S.Store result.1).may_leave found ∥₁ → IfOk result.0 (λ reply. ∥ HoldsReply U (command_view command.entry) now (reply_view reply) found ∥₁) }
+{
+    let result = store.apply(command, now);
+    let conn = store.into_connection();
+    (result, conn)
+}
+
+// Opens a store, and hands back the connection, where there still is one.
+fn opened<S: Alter + Drop>(
+    alloc: Global,
+    conn: Connection<S>,
+) -> (Result<(), StoreFault>, Option<Connection<S>>)
+    ensures { conn.in_transaction ≡ false → IsSomeAnd result.1 (λ c. HasCleanDisk (state S.Store c) → (found : Trees) → (state S.Store c).may_leave found
+        → (state S.Store conn).may_leave found ⊎ Begins (state S.Store conn) found) }
+{
     match Store::open_over(alloc, conn) {
-        Ok(store) => (Ok(()), Some(close(store.into_connection()))),
+        Ok(store) => (Ok(()), Some(store.into_connection())),
         Err(unopened) => {
             let Unopened { fault, conn } = unopened;
-            match conn {
-                Some(conn) => (Err(fault), Some(close(conn))),
-                None => (Err(fault), None),
-            }
+            (Err(fault), conn)
         }
     }
 }
