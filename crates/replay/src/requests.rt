@@ -5,14 +5,14 @@ use case_databases::Store;
 use http_serve::{Routes, serve_one};
 use metadata::Moment;
 use script_words::{LineFault, expanded};
-use sqlite::MemStore;
+use sqlite::Alter;
 use std::alloc::Global;
 
 /// The response to a request. A writer that is a list takes all but for want of memory, which is not the store's.
-pub fn response(
+pub fn response<S: Alter>(
     alloc: Global,
     routes: &Routes,
-    store: &mut Store<MemStore>,
+    store: &mut Store<S>,
     request: &[u8],
     now: Moment,
 ) -> Result<Vec<u8>, LineFault> {

@@ -6,7 +6,7 @@ use client::{FetchFault, Source};
 use http_serve::Routes;
 use metadata::Moment;
 use script_words::{File, LineFault, find};
-use sqlite::MemStore;
+use sqlite::Alter;
 use std::alloc::{AllocError, Global};
 
 /// What is answered in place of what the server would.
@@ -59,9 +59,9 @@ pub fn fetch_text(fault: FetchFault) -> &'static str {
 
 /// The source, and what it was asked for.
 #[derive(Drop)]
-pub struct Mirror<'a> {
+pub struct Mirror<'a, S: Alter> {
     pub routes: &'a Routes,
-    pub server: &'a mut Store<MemStore>,
+    pub server: &'a mut Store<S>,
     pub now: Moment,
     pub files: &'a [File],
     pub answers: &'a [Answer],
@@ -70,7 +70,7 @@ pub struct Mirror<'a> {
     pub is_said: bool,
 }
 
-impl Source for Mirror<'_> {
+impl<S: Alter> Source for Mirror<'_, S> {
     fn fetch(
         &mut self,
         alloc: Global,
@@ -84,7 +84,7 @@ impl Source for Mirror<'_> {
     }
 }
 
-impl Mirror<'_> {
+impl<S: Alter> Mirror<'_, S> {
     fn answer(&mut self, alloc: Global, name: &str) -> Result<Option<Vec<u8>>, FetchFault> {
         match said_of(self.answers, name) {
             Some(Said::Nothing) => Ok(None),
