@@ -1,7 +1,7 @@
 // The changes of the rows.
 
 /// One change of the rows. It borrows all bytes.
-#[derive(Debug, Clone, Copy)]
+#[derive(Clone, Copy)]
 pub enum Change<'a> {
     /// A root of this version and profile more.
     PutRoot(u32, u32, &'a [u8]),
