@@ -1,16 +1,15 @@
 // A book over two files in memory, each of which stops at each of its calls in turn, and is opened again after the crash.
+use crate::files::{closed, connected, files_that_stop, is_same_value};
 use leaf_book::{Book, BookFault};
 use lms::{KeyPair, OtsType, Params, Seed, SigningHeight};
 use signer::sign_message;
 use sqlite::types::ValueRef;
-use sqlite::{Alter, Connection, FileStore, Files, Row};
+use sqlite::{Alter, Connection, Files, Row};
 use sqlite_disk::{Crash, Fuse, Memory};
 use sqlite_pager::Options;
 use std::alloc::{AllocError, Global};
 use std::process::Abort;
 use std::test::Fail;
-
-type Disks = FileStore<Fuse<Memory>>;
 
 // The id of the pair's key.
 const KEY: &[u8] = b"34f4bb3f1c145bb86b4327af8a78f5372c7821cb812e3c6daca2fe7cca113db9";
@@ -116,26 +115,6 @@ fn options(frames: usize) -> Options {
     options
 }
 
-// The files of a connection that is done.
-fn closed(conn: Connection<Disks>) -> Files<Fuse<Memory>> {
-    conn.into_store().close()
-}
-
-// A connection over these files, or the files.
-fn connected(
-    alloc: Global,
-    files: Files<Fuse<Memory>>,
-    frames: usize,
-) -> Result<Connection<Disks>, Files<Fuse<Memory>>> {
-    if !files.may_be_used() {
-        return Err(files);
-    }
-    match Connection::open_files(alloc, files, options(frames)) {
-        Ok(conn) => Ok(conn),
-        Err((_, left)) => Err(left.into_files()),
-    }
-}
-
 // The book over a connection, or the connection, unless the opening that failed took it with it.
 fn opened_over<S: Alter + Drop>(
     alloc: Global,
@@ -179,7 +158,7 @@ fn run(
     files: Files<Fuse<Memory>>,
     frames: usize,
 ) -> (Made, Option<Files<Fuse<Memory>>>) {
-    let conn = match connected(alloc, files, frames) {
+    let conn = match connected(alloc, files, options(frames)) {
         Ok(conn) => conn,
         Err(files) => return (NOTHING, Some(files)),
     };
@@ -192,15 +171,6 @@ fn run(
 // All rows that the query answers.
 fn rows_of<S: Alter>(conn: &mut Connection<S>, query: &str) -> Option<Vec<Row>> {
     conn.query_all(query, &[]).ok()
-}
-
-fn is_same_value(one: ValueRef<'_>, other: ValueRef<'_>) -> bool {
-    match (one, other) {
-        (ValueRef::Int(a), ValueRef::Int(b)) => a == b,
-        (ValueRef::Text(a), ValueRef::Text(b)) => a == b,
-        (ValueRef::Blob(a), ValueRef::Blob(b)) => a == b,
-        _ => false,
-    }
 }
 
 fn is_row(row: &Row, wanted: &[ValueRef<'_>]) -> bool {
@@ -305,25 +275,9 @@ fn is_whole_after(
 ) -> bool {
     files.log.crash();
     files.db.crash();
-    match connected(alloc, files, frames) {
+    match connected(alloc, files, options(frames)) {
         Ok(conn) => is_whole_in(alloc, conn, pair, made),
         Err(_) => false,
-    }
-}
-
-// New files, which stop after so many calls of the log and of the database.
-fn new_files(alloc: Global, log: u64, db: u64) -> Files<Fuse<Memory>> {
-    Files {
-        log: Fuse::new(Memory::new(alloc), log),
-        db: Fuse::new(Memory::new(alloc), db),
-    }
-}
-
-fn files_that_stop(alloc: Global, stops_log: bool, calls: u64) -> Files<Fuse<Memory>> {
-    if stops_log {
-        new_files(alloc, calls, u64::MAX)
-    } else {
-        new_files(alloc, u64::MAX, calls)
     }
 }
 

@@ -1,16 +1,14 @@
 // A store over two files in memory, each of which stops at each of its calls in turn, and is opened again after the crash.
 use crate::documents::{ROOT, SNAPSHOT, TARGETS, TIMESTAMP};
+use crate::files::{calm_files, closed, connected, files_that_stop, is_same_value, stops};
 use metadata::{digest_of, read_date_time};
-use sqlite::types::ValueRef;
-use sqlite::{Alter, Connection, FileStore, Files, Row};
+use sqlite::{Alter, Connection, Files, Row};
 use sqlite_disk::{Crash, Disk, Fuse, Memory};
 use sqlite_pager::Options;
 use std::alloc::Global;
 use std::process::Abort;
 use std::test::Fail;
 use store::{Command, Moment, Offer, Reply, RoleName, Store};
-
-type Disks = FileStore<Fuse<Memory>>;
 
 type Document<'a> = (Offer, &'a [u8]);
 
@@ -63,25 +61,6 @@ fn command<'a>(step: Step, documents: &'a [Document<'a>]) -> Command<'a> {
         Step::Offer(_) | Step::Batch => Command::Batch(documents),
         Step::Put => Command::PutBlob(digest_of(b"abc"), b"abc"),
         Step::Prune => Command::Prune,
-    }
-}
-
-// The files of a connection that is done.
-fn closed(conn: Connection<Disks>) -> Files<Fuse<Memory>> {
-    conn.into_store().close()
-}
-
-// A connection over these files, or the files.
-fn connected(
-    alloc: Global,
-    files: Files<Fuse<Memory>>,
-) -> Result<Connection<Disks>, Files<Fuse<Memory>>> {
-    if !files.may_be_used() {
-        return Err(files);
-    }
-    match Connection::open_files(alloc, files, Options::new(1)) {
-        Ok(conn) => Ok(conn),
-        Err((_, left)) => Err(left.into_files()),
     }
 }
 
@@ -159,7 +138,7 @@ fn run<'a>(
     documents: &'a [Document<'a>],
     now: Moment,
 ) -> (Option<usize>, Option<Files<Fuse<Memory>>>) {
-    let conn = match connected(alloc, files) {
+    let conn = match connected(alloc, files, Options::new(1)) {
         Ok(conn) => conn,
         Err(files) => return (Some(0), Some(files)),
     };
@@ -201,18 +180,9 @@ fn tables_in<S: Alter + Drop>(alloc: Global, conn: Connection<S>) -> Option<Tabl
 fn tables_after(alloc: Global, mut files: Files<Fuse<Memory>>) -> Option<Tables> {
     files.log.crash();
     files.db.crash();
-    match connected(alloc, files) {
+    match connected(alloc, files, Options::new(1)) {
         Ok(conn) => tables_in(alloc, conn),
         Err(_) => None,
-    }
-}
-
-fn is_same_value(one: ValueRef<'_>, other: ValueRef<'_>) -> bool {
-    match (one, other) {
-        (ValueRef::Int(a), ValueRef::Int(b)) => a == b,
-        (ValueRef::Text(a), ValueRef::Text(b)) => a == b,
-        (ValueRef::Blob(a), ValueRef::Blob(b)) => a == b,
-        _ => false,
     }
 }
 
@@ -244,23 +214,6 @@ fn are_same(one: &[Vec<Row>], other: &[Vec<Row>]) -> bool {
     one.len() == other.len()
 }
 
-// New files, which stop after so many calls of the log and of the database.
-fn new_files(alloc: Global, log: u64, db: u64) -> Files<Fuse<Memory>> {
-    Files {
-        log: Fuse::new(Memory::new(alloc), log),
-        db: Fuse::new(Memory::new(alloc), db),
-    }
-}
-
-// Behind how many calls the log stops, and the database.
-fn stops(stops_log: bool, calls: u64) -> (u64, u64) {
-    if stops_log {
-        (calls, u64::MAX)
-    } else {
-        (u64::MAX, calls)
-    }
-}
-
 // The documents that the steps offer.
 fn documents_of<'a>(role: RoleName) -> [Document<'a>; 3] {
     [
@@ -277,13 +230,7 @@ fn tables_behind<'a>(
     documents: &'a [Document<'a>],
     now: Moment,
 ) -> Option<Tables> {
-    match run(
-        alloc,
-        new_files(alloc, u64::MAX, u64::MAX),
-        steps,
-        documents,
-        now,
-    ) {
+    match run(alloc, calm_files(alloc), steps, documents, now) {
         (Some(made), Some(files)) if made == steps.len() => tables_after(alloc, files),
         _ => None,
     }
@@ -365,10 +312,9 @@ fn wrong_stop<'a>(
     stops_log: bool,
 ) -> Option<u64> {
     for calls in 0..2_000u64 {
-        let (log, db) = stops(stops_log, calls);
         match made_before(
             alloc,
-            new_files(alloc, log, db),
+            files_that_stop(alloc, stops_log, calls),
             steps,
             documents,
             now,
@@ -408,7 +354,7 @@ fn is_brought_back<S: Alter>(conn: &mut Connection<S>) -> bool {
 
 // The same over files, which are handed back.
 fn brought_back(alloc: Global, files: Files<Fuse<Memory>>) -> Option<Files<Fuse<Memory>>> {
-    let mut conn = match connected(alloc, files) {
+    let mut conn = match connected(alloc, files, Options::new(1)) {
         Ok(conn) => conn,
         Err(_) => return None,
     };
@@ -425,7 +371,7 @@ fn first_schema<'a>(
     documents: &'a [Document<'a>],
     now: Moment,
 ) -> Option<Files<Fuse<Memory>>> {
-    let files = new_files(alloc, u64::MAX, u64::MAX);
+    let files = calm_files(alloc);
     match run(alloc, files, &TOGETHER[..3], documents, now) {
         (Some(3), Some(files)) => brought_back(alloc, files),
         _ => None,
@@ -468,7 +414,7 @@ fn migrated_in<S: Alter + Drop>(
 
 // The same over files.
 fn migrated(alloc: Global, files: Files<Fuse<Memory>>) -> (bool, Option<Files<Fuse<Memory>>>) {
-    let conn = match connected(alloc, files) {
+    let conn = match connected(alloc, files, Options::new(1)) {
         Ok(conn) => conn,
         Err(files) => return (false, Some(files)),
     };
@@ -480,7 +426,7 @@ fn migrated(alloc: Global, files: Files<Fuse<Memory>>) -> (bool, Option<Files<Fu
 
 // The rows that stand in files, and the files.
 fn tables_left(alloc: Global, files: Files<Fuse<Memory>>) -> Option<(Tables, Files<Fuse<Memory>>)> {
-    let mut conn = match connected(alloc, files) {
+    let mut conn = match connected(alloc, files, Options::new(1)) {
         Ok(conn) => conn,
         Err(_) => return None,
     };
