@@ -2,24 +2,9 @@
 use crate::ends::{Narrow, Slow};
 use crate::sound::{sinks, sinks_fault};
 use crate::texts::{NOT_FOUND, UPLOAD};
-use http_messages::{
-    Cut, Fault, Receive, ReceiveFault, Received, Routes, Sink, Transmit, read_request, write_fault,
-};
+use http_messages::{Cut, Fault, ReceiveFault, Received, Routes, Sink, read_request, write_fault};
 use std::alloc::Global;
 use std::test::Fail;
-
-// What a reader gives, and whether a writer takes a response.
-fn received<R: Receive>(
-    alloc: Global,
-    routes: &Routes,
-    reader: &mut R,
-) -> Result<Received, ReceiveFault> {
-    read_request(alloc, routes, reader)
-}
-
-fn written<W: Transmit>(writer: &mut W) -> Result<(), Cut> {
-    write_fault(writer, Fault::Route)
-}
 
 // At whichever call the reader fails, it is said, and nothing is asked for. No call is made behind the body.
 #[test]
@@ -32,7 +17,7 @@ fn each_read_fails(rt: HostRuntime) -> Result<(), Fail> {
             calls: 0,
             fails_at,
         };
-        let received = received(rt.alloc(), &routes, &mut reader);
+        let received = read_request(rt.alloc(), &routes, &mut reader);
         if fails_at <= UPLOAD.len() {
             assert!(rt; matches!(received, Err(ReceiveFault::Read)));
         } else {
@@ -52,7 +37,7 @@ fn is_cut(alloc: Global, most: usize, stops_at: usize, fails: bool) -> bool {
         stops_at,
         fails,
     };
-    let written = written(&mut writer);
+    let written = write_fault(&mut writer, Fault::Route);
     let room = stops_at.saturating_sub(1).saturating_mul(most);
     if !NOT_FOUND.starts_with(&writer.taken) || writer.taken.len() != NOT_FOUND.len().min(room) {
         return false;

@@ -51,14 +51,9 @@ fn exchange(rt: HostRuntime, routes: &Routes, is_lent: bool) -> Result<(), Fail>
     is_answered(rt.alloc(), &mut client)
 }
 
-// The same over a connection, whose store is opened.
-fn exchange_over<S: Alter + Drop>(rt: HostRuntime, conn: Connection<S>) -> Result<(), Fail> {
-    let mut store = Store::open(rt.alloc(), conn)?;
-    exchange(rt, &mut store)
-}
-
 #[test]
 fn loopback(rt: HostRuntime) -> Result<(), Fail> {
-    let conn = Connection::open_in_memory(rt.alloc())?;
-    exchange_over(rt, conn)
+    let routes = Routes::new(rt.alloc())?;
+    exchange(rt, &routes, false)?;
+    exchange(rt, &routes, true)
 }
