@@ -1,6 +1,6 @@
 //! The database of a case, in memory. What owns a store does little besides: all other functions borrow it.
 use metadata::Moment;
-use sqlite::{Alter, Connection, Error, MemStore, Row};
+use sqlite::{Connection, Error, MemStore, Row};
 use std::alloc::{AllocError, Global};
 use std::mem::replace;
 use store::{Command, Reply, Store, StoreFault};
@@ -29,28 +29,12 @@ fn new_base(alloc: Global) -> Base {
     }
 }
 
-// A store over a connection, or the fault and the connection, where there still is one.
-fn opened<S: Alter + Drop>(
-    alloc: Global,
-    conn: Connection<S>,
-) -> Result<Store<S>, (StoreFault, Option<Connection<S>>)> {
-    match Store::open_over(alloc, conn) {
-        Ok(store) => Ok(store),
-        Err(unopened) => Err((unopened.fault, unopened.conn)),
-    }
-}
-
 // A store over a connection, if there is one.
 fn open_over(alloc: Global, conn: Connection<MemStore>) -> (Base, Result<(), StoreFault>) {
-    match opened(alloc, conn) {
+    match Store::open_over(alloc, conn) {
         Ok(store) => (Base::Open(store), Ok(())),
-        Err((fault, conn)) => (shut(conn), Err(fault)),
+        Err(unopened) => (shut(unopened.conn), Err(unopened.fault)),
     }
-}
-
-// The connection of a store that is done.
-fn connection_of<S: Alter + Drop>(store: Store<S>) -> Connection<S> {
-    store.into_connection()
 }
 
 fn shut(conn: Option<Connection<MemStore>>) -> Base {
@@ -84,7 +68,7 @@ impl Base {
     /// Shuts the store, if there is one.
     pub fn shut(&mut self) {
         *self = match replace(self, Base::None) {
-            Base::Open(store) => Base::Shut(connection_of(store)),
+            Base::Open(store) => Base::Shut(store.into_connection()),
             base => base,
         };
     }
@@ -92,7 +76,7 @@ impl Base {
     /// Opens a store over the connection.
     pub fn open(&mut self, alloc: Global) -> Result<(), StoreFault> {
         let conn = match replace(self, Base::None) {
-            Base::Open(store) => connection_of(store),
+            Base::Open(store) => store.into_connection(),
             Base::Shut(conn) => conn,
             Base::None => return Err(StoreFault::Database),
         };
@@ -117,7 +101,7 @@ impl Base {
     /// Makes a command.
     pub fn apply(&mut self, command: Command<'_>, now: Moment) -> Result<Reply, StoreFault> {
         match self.store() {
-            Some(store) => applied(store, command, now),
+            Some(store) => store.apply(command, now),
             None => Err(StoreFault::Database),
         }
     }
@@ -134,7 +118,7 @@ impl Base {
     pub fn execute(&mut self, text: &str) -> Result<(), Error> {
         self.shut();
         match self.connection() {
-            Some(conn) => executed(conn, text),
+            Some(conn) => conn.execute_batch(text),
             None => Ok(()),
         }
     }
@@ -154,20 +138,7 @@ impl Base {
     }
 }
 
-// Makes a command over a store.
-fn applied<S: Alter>(
-    store: &mut Store<S>,
-    command: Command<'_>,
-    now: Moment,
-) -> Result<Reply, StoreFault> {
-    store.apply(command, now)
-}
-
-fn executed<S: Alter>(conn: &mut Connection<S>, text: &str) -> Result<(), Error> {
-    conn.execute_batch(text)
-}
-
-fn rows_in<S: Alter>(alloc: Global, conn: &mut Connection<S>) -> Result<Vec<String>, Error> {
+fn rows_in(alloc: Global, conn: &mut Connection<MemStore>) -> Result<Vec<String>, Error> {
     let rows = conn.query_all(ROWS, &[])?;
     let mut lines = Vec::new(alloc);
     for row in rows.iter() {

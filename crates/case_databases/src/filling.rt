@@ -1,11 +1,11 @@
 //! Rows that are written behind the store's back, as many as a script asks for.
 use crate::roots::root_file;
 use metadata::digest_of;
-use sqlite::{Alter, Connection, Error, params};
+use sqlite::{Connection, Error, MemStore, params};
 use std::alloc::Global;
 
 // Writes the row of a blob.
-fn put_blob<S: Alter>(alloc: Global, conn: &mut Connection<S>, bytes: &[u8]) -> Result<(), Error> {
+fn put_blob(alloc: Global, conn: &mut Connection<MemStore>, bytes: &[u8]) -> Result<(), Error> {
     let digits = digest_of(bytes).text(alloc)?;
     conn.execute(
         "INSERT INTO blob (digest, bytes) VALUES (?1, ?2)",
@@ -15,7 +15,7 @@ fn put_blob<S: Alter>(alloc: Global, conn: &mut Connection<S>, bytes: &[u8]) -> 
 }
 
 // Writes the row of a targets document of another role.
-fn put_row<S: Alter>(conn: &mut Connection<S>, role: u32, bytes: &[u8]) -> Result<(), Error> {
+fn put_row(conn: &mut Connection<MemStore>, role: u32, bytes: &[u8]) -> Result<(), Error> {
     conn.execute(
         "INSERT INTO shelf (role, version, bytes) VALUES ('r' || ?1, 1, ?2)",
         params![role, bytes],
@@ -24,7 +24,7 @@ fn put_row<S: Alter>(conn: &mut Connection<S>, role: u32, bytes: &[u8]) -> Resul
 }
 
 // Writes the row of a root of this version.
-fn put_root<S: Alter>(alloc: Global, conn: &mut Connection<S>, version: u32) -> Result<(), Error> {
+fn put_root(alloc: Global, conn: &mut Connection<MemStore>, version: u32) -> Result<(), Error> {
     let file = root_file(alloc, version)?;
     conn.execute(
         "INSERT INTO root2 (version, profile, bytes) VALUES (?1, 1, ?2)",
@@ -47,9 +47,9 @@ pub enum Filling {
 }
 
 /// Writes so many rows into a table, in one transaction.
-pub fn put_rows<S: Alter>(
+pub fn put_rows(
     alloc: Global,
-    conn: &mut Connection<S>,
+    conn: &mut Connection<MemStore>,
     filling: &Filling,
     count: u32,
 ) -> Result<(), Error> {

@@ -3,7 +3,7 @@ use crate::base::Base;
 use machine::{Contents, MetadataRows, State};
 use path_patterns::Digest;
 use script_words::LineFault;
-use sqlite::{Alter, Connection, Error, Row};
+use sqlite::{Connection, Error, MemStore, Row};
 use std::alloc::{AllocError, Global};
 
 // A row of a version and bytes.
@@ -53,13 +53,13 @@ fn contents_of(alloc: Global, base: &mut Base) -> Option<Contents> {
     if is_read { Some(contents) } else { None }
 }
 
-fn read_into<S: Alter>(conn: &mut Connection<S>, contents: &mut Contents) -> Result<(), Error> {
+fn read_into(conn: &mut Connection<MemStore>, contents: &mut Contents) -> Result<(), Error> {
     read_metadata(conn, &mut contents.metadata)?;
     read_blobs(conn, &mut contents.blobs)
 }
 
-fn read_metadata<S: Alter>(
-    conn: &mut Connection<S>,
+fn read_metadata(
+    conn: &mut Connection<MemStore>,
     metadata: &mut MetadataRows,
 ) -> Result<(), Error> {
     read_roots(conn, &mut metadata.roots)?;
@@ -68,8 +68,8 @@ fn read_metadata<S: Alter>(
     read_shelf(conn, &mut metadata.shelf)
 }
 
-fn read_roots<S: Alter>(
-    conn: &mut Connection<S>,
+fn read_roots(
+    conn: &mut Connection<MemStore>,
     found: &mut Vec<(u32, u32, Vec<u8>)>,
 ) -> Result<(), Error> {
     let rows = conn.query_all(ROOTS, &[])?;
@@ -89,8 +89,8 @@ fn versioned(row: &Row) -> Result<Versioned, Error> {
 }
 
 // The row of a slot, if there is one.
-fn read_current<S: Alter>(
-    conn: &mut Connection<S>,
+fn read_current(
+    conn: &mut Connection<MemStore>,
     text: &str,
     slot: &mut Option<Versioned>,
 ) -> Result<(), Error> {
@@ -101,8 +101,8 @@ fn read_current<S: Alter>(
     Ok(())
 }
 
-fn read_shelf<S: Alter>(
-    conn: &mut Connection<S>,
+fn read_shelf(
+    conn: &mut Connection<MemStore>,
     found: &mut Vec<(String, u32, Vec<u8>)>,
 ) -> Result<(), Error> {
     let rows = conn.query_all(SHELF, &[])?;
@@ -116,8 +116,8 @@ fn read_shelf<S: Alter>(
     Ok(())
 }
 
-fn read_blobs<S: Alter>(
-    conn: &mut Connection<S>,
+fn read_blobs(
+    conn: &mut Connection<MemStore>,
     found: &mut Vec<([u8; 32], Vec<u8>)>,
 ) -> Result<(), Error> {
     let rows = conn.query_all(BLOBS, &[])?;

@@ -2,11 +2,10 @@
 use crate::client_runs::end_text;
 use crate::replies::{bytes_text, denial_text};
 use crate::session::Session;
-use case_databases::{Store, state_of};
+use case_databases::state_of;
 use client::{ClientFault, FetchFault, fetch_from_state};
 use machine::{Moment, Refusal, State, TargetPath, get};
 use script_words::{File, LineFault};
-use sqlite::Alter;
 use std::alloc::Global;
 
 // How a fetch ended.
@@ -31,20 +30,6 @@ fn granted_by(
         Ok(bytes) => Ok(bytes_text(alloc, files, bytes)?),
         Err(Refusal::Denied(denial)) => Ok(denial_text(alloc, &denial, None)?),
         Err(Refusal::OutOfMemory) => Err(LineFault::OutOfMemory),
-    }
-}
-
-// How a fetch into a store ends.
-fn fetched<S: Alter>(
-    alloc: Global,
-    state: &State,
-    store: &mut Store<S>,
-    path: &TargetPath,
-    now: Moment,
-) -> End {
-    match fetch_from_state(alloc, state, store, path, now) {
-        Ok(bytes) => Ok(Some(bytes)),
-        Err(fault) => Err(fault),
     }
 }
 
@@ -86,6 +71,9 @@ impl Session {
         let Some(store) = self.client.store() else {
             return Err(ClientFault::Database);
         };
-        fetched(self.alloc, state, store, path, self.now)
+        match fetch_from_state(self.alloc, state, store, path, self.now) {
+            Ok(bytes) => Ok(Some(bytes)),
+            Err(fault) => Err(fault),
+        }
     }
 }

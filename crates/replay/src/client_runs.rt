@@ -2,12 +2,9 @@
 use crate::replies::{bytes_text, denial_text, text_of};
 use crate::session::Session;
 use crate::source::{Asked, Mirror, fetch_text};
-use case_databases::Store;
 use client::{ClientFault, FetchFault, fetch_target, update};
 use machine::TargetPath;
-use metadata::Moment;
 use script_words::{File, LineFault};
-use sqlite::Alter;
 use std::alloc::{AllocError, Global};
 
 // What a client is to do.
@@ -101,26 +98,6 @@ fn is_kept(first: &[Asked], again: &[Asked]) -> bool {
     true
 }
 
-// What is wished, over the client's store and the source.
-fn end_over<S: Alter, R: Alter>(
-    alloc: Global,
-    store: &mut Store<S>,
-    source: &mut Mirror<'_, R>,
-    wish: &Wish,
-    now: Moment,
-) -> Result<Option<Vec<u8>>, ClientFault> {
-    match wish {
-        Wish::Update => match update(alloc, store, source, now) {
-            Ok(()) => Ok(None),
-            Err(fault) => Err(fault),
-        },
-        Wish::Target(path) => match fetch_target(alloc, store, source, path, now) {
-            Ok(bytes) => Ok(Some(bytes)),
-            Err(fault) => Err(fault),
-        },
-    }
-}
-
 impl Session {
     /// `update`: brings the client up to date.
     pub fn update(&mut self) -> Result<String, LineFault> {
@@ -171,7 +148,16 @@ impl Session {
             asked: Vec::new(alloc),
             is_said: false,
         };
-        let end = end_over(alloc, store, &mut source, wish, now);
+        let end = match wish {
+            Wish::Update => match update(alloc, store, &mut source, now) {
+                Ok(()) => Ok(None),
+                Err(fault) => Err(fault),
+            },
+            Wish::Target(path) => match fetch_target(alloc, store, &mut source, path, now) {
+                Ok(bytes) => Ok(Some(bytes)),
+                Err(fault) => Err(fault),
+            },
+        };
         Ok(Run {
             asked: source.asked,
             end,

@@ -1,13 +1,12 @@
 //! Commands over the store, each answered by one line.
 use crate::replies::{fault_text, reply_text, row_text, text_of};
 use crate::session::Session;
-use case_databases::{Command, Reply, Store, StoreFault, cold_search};
+use case_databases::{Command, Reply, StoreFault, cold_search};
 use machine::{Offer, Steps, TargetPath};
-use metadata::{Kind, Moment};
+use metadata::Kind;
 use path_patterns::RoleName;
 use script_words::{LineFault, digest_word, find, key_of, kind_named, with_literals};
-use sqlite::Alter;
-use std::alloc::{AllocError, Global};
+use std::alloc::Global;
 
 /// What a document is offered as: `root`, `timestamp`, `snapshot`, or the name of another role.
 fn offer_of(alloc: Global, role: &str) -> Result<Offer, LineFault> {
@@ -48,39 +47,6 @@ fn documents_of<'a>(
         documents.push((offer, file.as_slice()))?;
     }
     Ok(documents)
-}
-
-// The trusted root's version, and the snapshot version that is due.
-fn due_text<S: Alter>(alloc: Global, store: &Store<S>) -> Result<String, AllocError> {
-    let mut text = match store.root_version() {
-        Some(version) => format!(in alloc; "root {version}")?,
-        None => text_of(alloc, "no root")?,
-    };
-    if let Some(version) = store.snapshot_due() {
-        let due = format!(in alloc; " snapshot {version} is due")?;
-        text.push_str(due.as_str())?;
-    }
-    Ok(text)
-}
-
-// How many signatures a request for the target checks.
-fn count_checks<S: Alter>(store: &mut Store<S>, path: &TargetPath, now: Moment) -> u64 {
-    let mut checks = Steps::new();
-    let _ = store.get_counted(path, now, &mut checks);
-    checks.count()
-}
-
-// How many signatures a search over what a store hands out checks, and how many roles it visits, where a root is trusted.
-fn searched<S: Alter>(
-    alloc: Global,
-    store: &Store<S>,
-    path: &TargetPath,
-    now: Moment,
-) -> Result<Option<(u64, u64)>, LineFault> {
-    match store.root_version() {
-        Some(version) => Ok(Some(cold_search(alloc, store.held(), version, path, now)?)),
-        None => Ok(None),
-    }
 }
 
 impl Session {
@@ -180,47 +146,51 @@ impl Session {
 
     /// `due`: the trusted root's version, and the snapshot version that is due.
     pub fn due(&mut self) -> Result<String, LineFault> {
-        match self.base.store() {
-            Some(store) => Ok(due_text(self.alloc, store)?),
-            None => Ok(text_of(self.alloc, "shut")?),
+        let alloc = self.alloc;
+        let Some(store) = self.base.store() else {
+            return Ok(text_of(alloc, "shut")?);
+        };
+        let mut text = match store.root_version() {
+            Some(version) => format!(in alloc; "root {version}")?,
+            None => text_of(alloc, "no root")?,
+        };
+        if let Some(version) = store.snapshot_due() {
+            let due = format!(in alloc; " snapshot {version} is due")?;
+            text.push_str(due.as_str())?;
         }
+        Ok(text)
     }
 
     /// `checks PATH`: how many signatures a request for the target checks.
     pub fn checks(&mut self, text: &str) -> Result<String, LineFault> {
-        match TargetPath::read(self.alloc, text)? {
-            Some(path) => self.checks_for(&path),
-            None => Err(LineFault::NotUnderstood),
-        }
-    }
-
-    fn checks_for(&mut self, path: &TargetPath) -> Result<String, LineFault> {
-        let count = match self.base.store() {
-            Some(store) => count_checks(store, path, self.now),
-            None => return Ok(text_of(self.alloc, "shut")?),
+        let alloc = self.alloc;
+        let now = self.now;
+        let Some(path) = TargetPath::read(alloc, text)? else {
+            return Err(LineFault::NotUnderstood);
         };
-        Ok(format!(in self.alloc; "{count} checks")?)
+        let Some(store) = self.base.store() else {
+            return Ok(text_of(alloc, "shut")?);
+        };
+        let mut checks = Steps::new();
+        let _ = store.get_counted(&path, now, &mut checks);
+        let count = checks.count();
+        Ok(format!(in alloc; "{count} checks")?)
     }
 
     /// `cold PATH`: how many signatures a search for the target checks, and how many roles it visits, where nothing is known.
     pub fn cold(&mut self, text: &str) -> Result<String, LineFault> {
-        match TargetPath::read(self.alloc, text)? {
-            Some(path) => self.cold_for(&path),
-            None => Err(LineFault::NotUnderstood),
-        }
-    }
-
-    fn cold_for(&mut self, path: &TargetPath) -> Result<String, LineFault> {
-        let found = match self.base.store() {
-            Some(store) => searched(self.alloc, store, path, self.now)?,
-            None => return Ok(text_of(self.alloc, "shut")?),
+        let alloc = self.alloc;
+        let Some(path) = TargetPath::read(alloc, text)? else {
+            return Err(LineFault::NotUnderstood);
         };
-        match found {
-            Some((checks, visits)) => {
-                Ok(format!(in self.alloc; "{checks} checks, {visits} visits")?)
-            }
-            None => Ok(text_of(self.alloc, "no root")?),
-        }
+        let Some(store) = self.base.store() else {
+            return Ok(text_of(alloc, "shut")?);
+        };
+        let Some(version) = store.root_version() else {
+            return Ok(text_of(alloc, "no root")?);
+        };
+        let (checks, visits) = cold_search(alloc, store.held(), version, &path, self.now)?;
+        Ok(format!(in alloc; "{checks} checks, {visits} visits")?)
     }
 
     /// `equal NAME NAME`: whether two files have the same bytes.

@@ -5,14 +5,14 @@ use case_databases::Store;
 use http_serve::{Routes, serve_one};
 use metadata::Moment;
 use script_words::{LineFault, expanded};
-use sqlite::Alter;
+use sqlite::MemStore;
 use std::alloc::Global;
 
 /// The response to a request. A writer that is a list takes all but for want of memory, which is not the store's.
-pub fn response<S: Alter>(
+pub fn response(
     alloc: Global,
     routes: &Routes,
-    store: &mut Store<S>,
+    store: &mut Store<MemStore>,
     request: &[u8],
     now: Moment,
 ) -> Result<Vec<u8>, LineFault> {

@@ -6,7 +6,7 @@ use client::{FetchFault, Source};
 use http_serve::Routes;
 use metadata::Moment;
 use script_words::{File, LineFault, find};
-use sqlite::Alter;
+use sqlite::MemStore;
 use std::alloc::{AllocError, Global};
 
 /// What is answered in place of what the server would.
@@ -59,9 +59,9 @@ pub fn fetch_text(fault: FetchFault) -> &'static str {
 
 /// The source, and what it was asked for.
 #[derive(Drop)]
-pub struct Mirror<'a, S: Alter> {
+pub struct Mirror<'a> {
     pub routes: &'a Routes,
-    pub server: &'a mut Store<S>,
+    pub server: &'a mut Store<MemStore>,
     pub now: Moment,
     pub files: &'a [File],
     pub answers: &'a [Answer],
@@ -70,7 +70,7 @@ pub struct Mirror<'a, S: Alter> {
     pub is_said: bool,
 }
 
-impl<S: Alter> Source for Mirror<'_, S> {
+impl Source for Mirror<'_> {
     fn fetch(
         &mut self,
         alloc: Global,
@@ -84,7 +84,7 @@ impl<S: Alter> Source for Mirror<'_, S> {
     }
 }
 
-impl<S: Alter> Mirror<'_, S> {
+impl Mirror<'_> {
     fn answer(&mut self, alloc: Global, name: &str) -> Result<Option<Vec<u8>>, FetchFault> {
         match said_of(self.answers, name) {
             Some(Said::Nothing) => Ok(None),
