@@ -424,8 +424,10 @@ fn migrated(alloc: Global, files: Files<Fuse<Memory>>) -> (bool, Option<Files<Fu
     }
 }
 
-// The rows that stand in files, and the files.
-fn tables_left(alloc: Global, files: Files<Fuse<Memory>>) -> Option<(Tables, Files<Fuse<Memory>>)> {
+// The rows that stand in files after a crash, and the files.
+fn tables_left(alloc: Global, mut files: Files<Fuse<Memory>>) -> Option<(Tables, Files<Fuse<Memory>>)> {
+    files.log.crash();
+    files.db.crash();
     let mut conn = match connected(alloc, files, Options::new(1)) {
         Ok(conn) => conn,
         Err(_) => return None,
@@ -436,16 +438,14 @@ fn tables_left(alloc: Global, files: Files<Fuse<Memory>>) -> Option<(Tables, Fil
     }
 }
 
-// Whether the files have the rows of schema 2, or, where no store is open, of schema 1, and the next open finds those of schema 2.
+// Whether a crash leaves the rows of schema 2, or, where no store is open, of schema 1, and the next open finds those of schema 2.
 fn are_whole(
     alloc: Global,
-    mut files: Files<Fuse<Memory>>,
+    files: Files<Fuse<Memory>>,
     is_open: bool,
     first: &[Vec<Row>],
     second: &[Vec<Row>],
 ) -> bool {
-    files.log.crash();
-    files.db.crash();
     match tables_left(alloc, files) {
         Some((found, files)) => {
             (are_same(&found, second) || !is_open && are_same(&found, first))
