@@ -1,5 +1,5 @@
 // Connections over loopback.
-use crate::texts::{NO_ROUTE, NOT_FOUND};
+use crate::requests::{NO_ROUTE, NOT_FOUND};
 use http_messages::{Receive, Received, Routes, Transmit, read_request, write_fault};
 use std::alloc::Global;
 use std::io::{Read, Write};

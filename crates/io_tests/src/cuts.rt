@@ -1,7 +1,7 @@
 // Reads and writes that fail.
 use crate::ends::{Narrow, Slow};
+use crate::requests::{NOT_FOUND, UPLOAD};
 use crate::sound::{sinks, sinks_fault};
-use crate::texts::{NOT_FOUND, UPLOAD};
 use http_messages::{Cut, Fault, ReceiveFault, Received, Routes, Sink, read_request, write_fault};
 use std::alloc::Global;
 use std::test::Fail;

@@ -425,7 +425,10 @@ fn migrated(alloc: Global, files: Files<Fuse<Memory>>) -> (bool, Option<Files<Fu
 }
 
 // The rows that stand in files after a crash, and the files.
-fn tables_left(alloc: Global, mut files: Files<Fuse<Memory>>) -> Option<(Tables, Files<Fuse<Memory>>)> {
+fn tables_left(
+    alloc: Global,
+    mut files: Files<Fuse<Memory>>,
+) -> Option<(Tables, Files<Fuse<Memory>>)> {
     files.log.crash();
     files.db.crash();
     let mut conn = match connected(alloc, files, Options::new(1)) {

@@ -1,5 +1,5 @@
 // One connection over loopback. One function owns the store, and lends it.
-use crate::first_root::ROOT_FILE;
+use crate::documents::ROOT;
 use http_serve::{Moment, Routes, Store, serve_one};
 use sqlite::{Connection, MemStore};
 use std::io::{Read, Write};
@@ -23,7 +23,7 @@ fn connected(rt: HostRuntime) -> Result<(TcpStream, TcpStream), Fail> {
 fn is_answered(rt: HostRuntime, client: &mut TcpStream) -> Result<(), Fail> {
     let mut text = Vec::new(rt.alloc());
     client.read_to_end(&mut text)?;
-    if text.starts_with(b"HTTP/1.1 200 OK\r\n") && text.ends_with(ROOT_FILE.as_bytes()) {
+    if text.starts_with(b"HTTP/1.1 200 OK\r\n") && text.ends_with(ROOT.as_bytes()) {
         return Ok(());
     }
     Err(Fail::from("the client reads something else"))
@@ -34,7 +34,7 @@ fn exchange(rt: HostRuntime, store: &mut Store<MemStore>) -> Result<(), Fail> {
     let Some(now) = Moment::new(1_893_456_000) else {
         return Err(Fail::from("no moment"));
     };
-    let _ = store.apply(Command::Init(ROOT_FILE.as_bytes()), now)?;
+    let _ = store.apply(Command::Init(ROOT.as_bytes()), now)?;
     let routes = Routes::new(rt.alloc())?;
     let (mut client, stream) = connected(rt)?;
     let served = serve_one(rt.alloc(), &routes, &mut &stream, &mut &stream, store, now);
