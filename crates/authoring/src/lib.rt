@@ -35,14 +35,15 @@ pub fn draft<O: Write, E: Write>(
     if !asked.anew {
         see_listable(rt, folder, notes)?;
     }
-    match &asked.kind {
-        Draft::Root { rules } => draft_rules(rt, folder, asked, rules, now, notes)?,
-        Draft::Targets(told) => draft_listing(rt, folder, asked, told, now, notes)?,
-        Draft::Seal => seal(rt, folder, asked, now, notes)?,
-        Draft::Layout(told) => draft_chain(rt, folder, asked, told, now, notes)?,
-        Draft::Link(told) => draft_step(rt, folder, told, asked.anew, notes)?,
-        Draft::Take { target, files } => take_all(rt, folder, target.as_deref(), files, notes)?,
-    }
+    let drafted = match &asked.kind {
+        Draft::Root { rules } => draft_rules(rt, folder, asked, rules, now, notes),
+        Draft::Targets(told) => draft_listing(rt, folder, asked, told, now, notes),
+        Draft::Seal => seal(rt, folder, asked, now, notes),
+        Draft::Layout(told) => draft_chain(rt, folder, asked, told, now, notes),
+        Draft::Link(told) => draft_step(rt, folder, told, asked.anew, notes),
+        Draft::Take { target, files } => take_all(rt, folder, target.as_deref(), files, notes),
+    };
+    drafted?;
     relist(rt, folder, asked.anew, notes)?;
     show_folder(rt, folder, now, out, notes)
 }

@@ -4,6 +4,7 @@ use command_support::{Fault, Notes, Slip};
 use drafts::{Folder, ListedFile, kind_of, offer_order, read_said};
 use machine::Offer;
 use metadata::{Digest, Kind, RoleName};
+use overviews::Growing;
 use std::alloc::{AllocError, Global};
 use std::io::Write;
 
@@ -63,14 +64,17 @@ impl Batch {
 
     /// The same as arguments of `publish`.
     pub fn arguments(&self, alloc: Global, folder: Folder<'_>) -> Result<Vec<String>, AllocError> {
-        let mut arguments = Vec::new(alloc);
+        let mut arguments = Growing::new(alloc);
         for role in &self.roles {
-            let place = folder.place_of(role.as_str())?;
-            let role = role.as_str();
-            arguments.push(format!(in alloc; "{role}:{place}")?)?;
+            arguments.put(argument_of(alloc, folder, role.as_str()));
         }
-        Ok(arguments)
+        arguments.done()
     }
+}
+
+fn argument_of(alloc: Global, folder: Folder<'_>, role: &str) -> Result<String, AllocError> {
+    let place = folder.place_of(role)?;
+    format!(in alloc; "{role}:{place}")
 }
 
 /// What a folder has to publish. A root that makes a repository forget its timestamp is refused without the next one, since behind it every
@@ -108,16 +112,23 @@ pub fn empty<E: Write>(
         folder.drop_draft(role.as_str(), notes)?;
     }
     for name in &folder.files(notes)? {
-        let place = place_of(alloc, folder, name.as_str())?;
-        folder.remove(place.as_str(), notes)?;
+        remove_file(alloc, folder, "files", name.as_str(), notes)?;
     }
     for name in &folder.chain_files("layouts", notes)? {
-        let name = name.as_str();
-        let inner = format!(in alloc; "layouts/{name}")?;
-        let place = folder.place(inner.as_str())?;
-        folder.remove(place.as_str(), notes)?;
+        remove_file(alloc, folder, "layouts", name.as_str(), notes)?;
     }
     Ok(())
+}
+
+fn remove_file<E: Write>(
+    alloc: Global,
+    folder: Folder<'_>,
+    inner: &str,
+    name: &str,
+    notes: &mut Notes<'_, E>,
+) -> Result<(), Fault> {
+    let place = place_in(alloc, folder, inner, name)?;
+    folder.remove(place.as_str(), notes)
 }
 
 /// The places of the target files that wait to be put, those that a draft lists.
@@ -163,21 +174,26 @@ impl Waiting<'_> {
     }
 
     fn places<E: Write>(&self, notes: &mut Notes<'_, E>) -> Result<Vec<String>, Fault> {
-        let mut places = Vec::new(self.alloc);
+        let mut places = Growing::new(self.alloc);
         for name in &self.folder.files(notes)? {
             let is_listed = match Digest::read(name.as_str()) {
                 Some(digest) => self.digests.contains(&digest),
                 None => false,
             };
             if is_listed {
-                places.push(place_of(self.alloc, self.folder, name.as_str())?)?;
+                places.put(place_in(self.alloc, self.folder, "files", name.as_str()));
             }
         }
-        Ok(places)
+        Ok(places.done()?)
     }
 }
 
-fn place_of(alloc: Global, folder: Folder<'_>, name: &str) -> Result<String, AllocError> {
-    let inner = format!(in alloc; "files/{name}")?;
-    folder.place(inner.as_str())
+fn place_in(
+    alloc: Global,
+    folder: Folder<'_>,
+    inner: &str,
+    name: &str,
+) -> Result<String, AllocError> {
+    let path = format!(in alloc; "{inner}/{name}")?;
+    folder.place(path.as_str())
 }

@@ -36,6 +36,19 @@ pub fn seal<E: Write>(
     see_layouts(alloc, folder, notes)?;
     see_targets(folder, notes)?;
     let version = seal_snapshot(rt, folder, asked, forgets, now, notes)?;
+    draft_next_timestamp(rt, folder, asked, version, now, notes)
+}
+
+// Drafts the next timestamp, which names the snapshot of this version.
+fn draft_next_timestamp<E: Write>(
+    rt: &HostRuntime,
+    folder: Folder<'_>,
+    asked: &Drafting,
+    version: u32,
+    now: Moment,
+    notes: &mut Notes<'_, E>,
+) -> Result<(), Fault> {
+    let alloc = rt.alloc();
     let before = Before::of(rt, folder, "timestamp", asked.anew, notes)?;
     let given = asked.expires.as_deref();
     let terms = terms_of(alloc, given, before.latest(), TIMESTAMP_DAYS, now)?;

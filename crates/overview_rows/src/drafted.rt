@@ -8,7 +8,7 @@ use drafts::{
 };
 use keys_roles::KeyId;
 use metadata::{Kind, Moment, SignedFile, read_signed};
-use overviews::{DraftRow, Drafts, LayoutRow, RuleRow, StepRow};
+use overviews::{DraftRow, Drafts, Growing, LayoutRow, RuleRow, StepRow};
 use path_patterns::Digest;
 use std::alloc::{AllocError, Global};
 use std::io::Write;
@@ -29,6 +29,7 @@ pub fn drafts_in<E: Write>(
         are_met: true,
         is_sealed: false,
         lacks_targets: false,
+        next: Growing::new(alloc),
         shown: Drafts {
             now: now.seconds(),
             drafts: Vec::new(alloc),
@@ -39,7 +40,7 @@ pub fn drafts_in<E: Write>(
         },
     };
     match looking.look(notes) {
-        Ok(()) => Ok(looking.shown),
+        Ok(()) => Ok(looking.done()?),
         Err(fault) => Err(fault),
     }
 }
@@ -61,10 +62,18 @@ struct Looking<'a> {
     are_met: bool,
     is_sealed: bool,
     lacks_targets: bool,
+    next: Growing<String>,
     shown: Drafts,
 }
 
 impl Looking<'_> {
+    fn done(self) -> Result<Drafts, AllocError> {
+        let Looking { next, shown, .. } = self;
+        let mut shown = shown;
+        shown.next = next.done()?;
+        Ok(shown)
+    }
+
     fn look<E: Write>(&mut self, notes: &mut Notes<'_, E>) -> Result<(), Fault> {
         self.look_at_drafts(notes)?;
         self.look_at_layouts(notes)?;
@@ -72,10 +81,10 @@ impl Looking<'_> {
         self.lacks_targets = lacks_targets(self.folder, notes)?;
         if self.are_met && self.begins(notes)? {
             let folder = self.folder.path();
-            let line = format!(in self.alloc; "next: release init --db DB {folder}/root.json")?;
-            self.shown.next.push(line)?;
+            self.next.put(format!(in self.alloc; "next: release init --db DB {folder}/root.json"));
         }
-        Ok(self.tell_next()?)
+        self.tell_next();
+        Ok(())
     }
 
     // Whether a first root is drafted, and no database is named.
@@ -126,10 +135,9 @@ impl Looking<'_> {
         }
         self.are_met = false;
         let folder = self.folder.path();
-        let line = format!(in self.alloc;
+        self.next.put(format!(in self.alloc;
             "next: release draft --in {folder} targets --role {role}"
-        )?;
-        self.shown.next.push(line)?;
+        ));
         Ok(())
     }
 
@@ -217,55 +225,56 @@ impl Looking<'_> {
         self.are_met &= !rules.is_empty();
         for vouching in rules {
             let row = rule_row(self.alloc, vouching, file)?;
-            self.want_all(&row)?;
+            self.want_all(&row);
             rows.push(row)?;
         }
         Ok(rows)
     }
 
-    fn want_all(&mut self, row: &RuleRow) -> Result<(), AllocError> {
+    fn want_all(&mut self, row: &RuleRow) {
         if row.is_met() {
-            return Ok(());
+            return;
         }
         self.are_met = false;
         for name in &row.unsigned {
-            self.want(name.as_str())?;
+            self.want(name.as_str());
         }
-        Ok(())
     }
 
     // A key that is wanted, once.
-    fn want(&mut self, name: &str) -> Result<(), AllocError> {
+    fn want(&mut self, name: &str) {
         let folder = self.folder.path();
-        let line = format!(in self.alloc; "next: release sign --key {name} --in {folder}")?;
-        if !self.shown.next.contains(&line) {
-            self.shown.next.push(line)?;
+        let line = format!(in self.alloc; "next: release sign --key {name} --in {folder}");
+        let is_said = match &line {
+            Ok(line) => self.next.parts().contains(line),
+            Err(_) => false,
+        };
+        if !is_said {
+            self.next.put(line);
         }
-        Ok(())
     }
 
     // What is to be done where no signature is wanted.
-    fn tell_next(&mut self) -> Result<(), AllocError> {
-        let folder = self.folder.path();
-        if !self.are_met {
-            return Ok(());
+    fn tell_next(&mut self) {
+        if self.are_met {
+            let line = self.next_line();
+            self.next.put(line);
         }
-        let line = if self.shown.drafts.is_empty() {
-            String::from_str(self.alloc, "no draft")?
+    }
+
+    fn next_line(&self) -> Result<String, AllocError> {
+        let folder = self.folder.path();
+        if self.shown.drafts.is_empty() {
+            String::from_str(self.alloc, "no draft")
         } else if self.lacks_targets {
-            format!(in self.alloc; "next: release draft --in {folder} targets --add FILE")?
-        } else if self.is_sealed {
-            match self.db {
-                Some(db) => format!(in self.alloc;
-                    "next: release publish --db {db} --in {folder}"
-                )?,
-                None => format!(in self.alloc; "next: release publish --in {folder}")?,
-            }
+            format!(in self.alloc; "next: release draft --in {folder} targets --add FILE")
+        } else if !self.is_sealed {
+            format!(in self.alloc; "next: release draft --in {folder} seal")
+        } else if let Some(db) = self.db {
+            format!(in self.alloc; "next: release publish --db {db} --in {folder}")
         } else {
-            format!(in self.alloc; "next: release draft --in {folder} seal")?
-        };
-        self.shown.next.push(line)?;
-        Ok(())
+            format!(in self.alloc; "next: release publish --in {folder}")
+        }
     }
 }
 
@@ -275,20 +284,23 @@ fn rule_row(
     vouching: &Vouching,
     file: &SignedFile<'_>,
 ) -> Result<RuleRow, AllocError> {
-    let mut row = RuleRow {
-        threshold: vouching.rule.threshold,
-        signed: Vec::new(alloc),
-        unsigned: Vec::new(alloc),
-    };
+    let mut signed = Growing::new(alloc);
+    let mut unsigned = Growing::new(alloc);
     for id in &vouching.rule.keyids {
-        let name = key_name(alloc, &vouching.said, id)?;
+        let name = key_name(alloc, &vouching.said, id);
         if has_signed(alloc, vouching, id, file)? {
-            row.signed.push(name)?;
+            signed.put(name);
         } else {
-            row.unsigned.push(name)?;
+            unsigned.put(name);
         }
     }
-    Ok(row)
+    let signed = signed.done()?;
+    let unsigned = unsigned.done()?;
+    Ok(RuleRow {
+        threshold: vouching.rule.threshold,
+        signed,
+        unsigned,
+    })
 }
 
 /// A step by its rule in the file of a layout, with so many links.
@@ -299,10 +311,11 @@ pub fn step_row(
     links: usize,
 ) -> Result<StepRow, AllocError> {
     let said = member(file, "signed").unwrap_or(b"");
-    let mut keys = Vec::new(alloc);
+    let mut keys = Growing::new(alloc);
     for id in &rule.keyids {
-        keys.push(key_name(alloc, said, id)?)?;
+        keys.put(key_name(alloc, said, id));
     }
+    let keys = keys.done()?;
     let name = String::from_str(alloc, rule.role.as_str())?;
     Ok(StepRow {
         name,

@@ -4,7 +4,7 @@ use command_support::{Denial, Fault};
 use drafts::{Said, SaidRule, name_of_key, read_said};
 use keys_roles::KeyId;
 use metadata::{Digest, Moment, read_signed};
-use overviews::{KeyRow, Overview, Row};
+use overviews::{Growing, KeyRow, Overview, Row};
 use sqlite::Alter;
 use std::alloc::{AllocError, Global};
 use store::Store;
@@ -218,13 +218,17 @@ impl<'a> Looking<'a> {
     }
 
     fn keys_of(&self, signed: &[u8], rule: &SaidRule) -> Result<Vec<KeyRow>, AllocError> {
-        let mut keys = Vec::new(self.alloc);
+        let mut keys = Growing::new(self.alloc);
         for id in &rule.keyids {
-            let (left, most) = self.leaves_of(id);
-            let name = self.name_of(signed, id)?;
-            keys.push(KeyRow { name, left, most })?;
+            keys.put(self.key_of(signed, id));
         }
-        Ok(keys)
+        keys.done()
+    }
+
+    fn key_of(&self, signed: &[u8], id: &KeyId) -> Result<KeyRow, AllocError> {
+        let (left, most) = self.leaves_of(id);
+        let name = self.name_of(signed, id)?;
+        Ok(KeyRow { name, left, most })
     }
 
     // What the document calls a key, or else the first digits of its id.

@@ -5,7 +5,7 @@ use canonical_json::member;
 use command_support::{Denial, Fault};
 use drafts::{ListedFile, Referred, SaidRule, covered_by, read_said, read_said_of, reference_of};
 use metadata::{Kind, Moment, SignedFile, TargetPath, read_signed};
-use overviews::{PathRow, StepRow};
+use overviews::{Growing, PathRow, StepRow};
 use sqlite::Alter;
 use std::alloc::{AllocError, Global};
 use store::{Command, Reply, Store};
@@ -29,17 +29,35 @@ pub fn look_for<S: Alter>(
         now,
         waiting: Vec::new(alloc),
         visits: Vec::new(alloc),
-        found: Vec::new(alloc),
-        steps: Vec::new(alloc),
+        found: Growing::new(alloc),
+        steps: Growing::new(alloc),
     };
     visiting.visit_all(repository)?;
-    let (end, is_granted) = end_of(alloc, repository, path, now)?;
+    let end = end_of(alloc, repository, path, now);
+    Ok(row_of(alloc, path, visiting, end)?)
+}
+
+fn row_of(
+    alloc: Global,
+    path: &str,
+    visiting: Visiting<'_>,
+    end: Result<(String, bool), AllocError>,
+) -> Result<PathRow, AllocError> {
+    let Visiting {
+        visits,
+        found,
+        steps,
+        ..
+    } = visiting;
+    let (end, is_granted) = end?;
     let path = String::from_str(alloc, path)?;
+    let found = found.done()?;
+    let steps = steps.done()?;
     Ok(PathRow {
         path,
-        visits: visiting.visits,
-        found: visiting.found,
-        steps: visiting.steps,
+        visits,
+        found,
+        steps,
         end,
         is_granted,
     })
@@ -74,8 +92,8 @@ struct Visiting<'a> {
     now: Moment,
     waiting: Vec<(String, bool)>,
     visits: Vec<String>,
-    found: Vec<String>,
-    steps: Vec<StepRow>,
+    found: Growing<String>,
+    steps: Growing<StepRow>,
 }
 
 impl Visiting<'_> {
@@ -164,11 +182,11 @@ impl Visiting<'_> {
     ) -> Result<(), Fault> {
         let length = file.length;
         let digits = file.digest.text(self.alloc)?;
-        let line = format!(in self.alloc; "listed: {length} bytes, {digits}")?;
-        self.found.push(line)?;
+        self.found
+            .put(format!(in self.alloc; "listed: {length} bytes, {digits}"));
         match reference_of(self.alloc, bytes, self.target.as_str())? {
             Some(layout) => {
-                self.tell_layout(&layout.links, layout.step.as_str())?;
+                self.tell_layout(&layout.links, layout.step.as_str());
                 self.look_at_steps(repository, &layout)
             }
             None => Ok(()),
@@ -189,7 +207,7 @@ impl Visiting<'_> {
         };
         for rule in &said.rules {
             let links = self.links_of(repository, &layout.links, rule)?;
-            self.steps.push(step_row(self.alloc, &bytes, rule, links)?)?;
+            self.steps.put(step_row(self.alloc, &bytes, rule, links));
         }
         Ok(())
     }
@@ -234,15 +252,12 @@ impl Visiting<'_> {
         }
     }
 
-    fn tell_layout(&mut self, links: &[String], step: &str) -> Result<(), Fault> {
-        let line = format!(in self.alloc; "its layout: product of step {step}")?;
-        self.found.push(line)?;
+    fn tell_layout(&mut self, links: &[String], step: &str) {
+        self.found.put(format!(in self.alloc; "its layout: product of step {step}"));
         for link in links {
             let link = link.as_str();
-            let line = format!(in self.alloc; "link {link}")?;
-            self.found.push(line)?;
+            self.found.put(format!(in self.alloc; "link {link}"));
         }
-        Ok(())
     }
 }
 

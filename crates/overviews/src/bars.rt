@@ -13,23 +13,23 @@ pub(crate) const PARTS: u64 = 8;
 pub fn as_bars(alloc: Global, shown: &Overview) -> Result<Vec<u8>, AllocError> {
     let mut text = Text::new(alloc);
     for row in &shown.rows {
-        say_row(&mut text, shown, row)?;
+        say_row(&mut text, shown, row);
     }
-    text.say("\nby expiry\n")?;
+    text.say("\nby expiry\n");
     for index in &in_order(alloc, &expiries(alloc, shown)?)? {
         if let Some(row) = shown.rows.get(*index) {
-            say_expiry(&mut text, shown, row)?;
+            say_expiry(&mut text, shown, row);
         }
     }
     if let Some(path) = &shown.path {
-        text.say(if path.is_granted { GREEN } else { RED })?;
-        say_path(&mut text, path)?;
-        text.say(PLAIN)?;
+        text.say(if path.is_granted { GREEN } else { RED });
+        say_path(&mut text, path);
+        text.say(PLAIN);
         if !path.steps.is_empty() {
-            draw_steps(&mut text, &path.steps, path.path.as_str())?;
+            draw_steps(&mut text, &path.steps, path.path.as_str());
         }
     }
-    Ok(text.bytes)
+    text.done()
 }
 
 /// The moments at which the rows expire.
@@ -41,57 +41,53 @@ pub(crate) fn expiries(alloc: Global, shown: &Overview) -> Result<Vec<u64>, Allo
     Ok(moments)
 }
 
-fn say_row(text: &mut Text, shown: &Overview, row: &Row) -> Result<(), AllocError> {
-    text.repeat("  ", row.depth)?;
+fn say_row(text: &mut Text, shown: &Overview, row: &Row) {
+    text.repeat("  ", row.depth);
     let width = 20usize.saturating_sub(row.depth.saturating_mul(2));
     let role = row.role.as_str();
     let (version, days) = (row.version, shown.days(row));
-    let line = format!(in text.alloc; "{role:<width$} {version:>5} {days:>5} d  ")?;
-    text.say(line.as_str())?;
-    say_bar(text, parts_of_days(days), shown.is_due(row))?;
+    text.formed(format!(in text.alloc; "{role:<width$} {version:>5} {days:>5} d  "));
+    say_bar(text, parts_of_days(days), shown.is_due(row));
     let (threshold, count) = (row.threshold, row.keys.len());
-    let line = format!(in text.alloc; "  {threshold} of {count}")?;
-    text.say(line.as_str())?;
+    text.formed(format!(in text.alloc; "  {threshold} of {count}"));
     for key in &row.keys {
-        say_leaves(text, key)?;
+        say_leaves(text, key);
     }
-    say_part(text, &row.covers)?;
-    say_part(text, &row.facts)?;
-    text.say("\n")
+    say_part(text, &row.covers);
+    say_part(text, &row.facts);
+    text.say("\n");
 }
 
-fn say_expiry(text: &mut Text, shown: &Overview, row: &Row) -> Result<(), AllocError> {
+fn say_expiry(text: &mut Text, shown: &Overview, row: &Row) {
     let days = shown.days(row);
     let role = row.role.as_str();
-    let line = format!(in text.alloc; "{days:>5} d  ")?;
-    text.say(line.as_str())?;
-    say_bar(text, parts_of_days(days), shown.is_due(row))?;
-    text.say("  ")?;
-    text.say(role)?;
+    text.formed(format!(in text.alloc; "{days:>5} d  "));
+    say_bar(text, parts_of_days(days), shown.is_due(row));
+    text.say("  ");
+    text.say(role);
     if shown.is_due(row) {
-        text.say("  DUE")?;
+        text.say("  DUE");
     }
-    text.say("\n")
+    text.say("\n");
 }
 
-fn say_leaves(text: &mut Text, key: &KeyRow) -> Result<(), AllocError> {
-    text.say("  ")?;
-    text.say(key.name.as_str())?;
+fn say_leaves(text: &mut Text, key: &KeyRow) {
+    text.say("  ");
+    text.say(key.name.as_str());
     if let Some(left) = key.left {
-        text.say(" ")?;
-        say_bar(text, parts_of_leaves(left, key.most), key.is_low())?;
-        text.say(" ")?;
-        text.number(u64::from(left))?;
+        text.say(" ");
+        say_bar(text, parts_of_leaves(left, key.most), key.is_low());
+        text.say(" ");
+        text.number(u64::from(left));
     }
-    Ok(())
 }
 
-fn say_bar(text: &mut Text, parts: u64, is_red: bool) -> Result<(), AllocError> {
-    text.say(if is_red { RED } else { GREEN })?;
+fn say_bar(text: &mut Text, parts: u64, is_red: bool) {
+    text.say(if is_red { RED } else { GREEN });
     for part in 0..PARTS {
-        text.say(if part < parts { "#" } else { "." })?;
+        text.say(if part < parts { "#" } else { "." });
     }
-    text.say(PLAIN)
+    text.say(PLAIN);
 }
 
 /// How much of a bar so many days are: a part for a day, all of it for a year.

@@ -1,6 +1,5 @@
 //! The chain of a layout: its steps, each with its keys and links.
 use crate::writing::{GREEN, PLAIN, RED, Text};
-use std::alloc::AllocError;
 
 /// A step of a layout: its name, how many links of which keys it has to have, and how many are there.
 #[derive(Drop)]
@@ -19,98 +18,87 @@ impl StepRow {
 }
 
 /// The steps as plain lines.
-pub(crate) fn say_steps(text: &mut Text, steps: &[StepRow]) -> Result<(), AllocError> {
+pub(crate) fn say_steps(text: &mut Text, steps: &[StepRow]) {
     for step in steps {
         let (name, links, threshold) = (step.name.as_str(), step.links, step.threshold);
-        let line = format!(in text.alloc; "  step {name}: {links} of {threshold} links\n")?;
-        text.say(line.as_str())?;
+        text.formed(format!(in text.alloc; "  step {name}: {links} of {threshold} links\n"));
     }
-    Ok(())
 }
 
 /// The steps as a chain that ends at the target, as a terminal gets it: red where links are wanting.
-pub(crate) fn draw_steps(
-    text: &mut Text,
-    steps: &[StepRow],
-    target: &str,
-) -> Result<(), AllocError> {
+pub(crate) fn draw_steps(text: &mut Text, steps: &[StepRow], target: &str) {
     for step in steps {
-        draw_step(text, step)?;
-        text.say("    |\n")?;
+        draw_step(text, step);
+        text.say("    |\n");
     }
-    text.say("    +-> ")?;
-    text.say(target)?;
-    text.say("\n")
+    text.say("    +-> ");
+    text.say(target);
+    text.say("\n");
 }
 
-fn draw_step(text: &mut Text, step: &StepRow) -> Result<(), AllocError> {
-    text.say(if step.is_short() { RED } else { GREEN })?;
+fn draw_step(text: &mut Text, step: &StepRow) {
+    text.say(if step.is_short() { RED } else { GREEN });
     let (name, links, threshold) = (step.name.as_str(), step.links, step.threshold);
-    let line = format!(in text.alloc; "  [{name}]  {links} of {threshold} links ")?;
-    text.say(line.as_str())?;
+    text.formed(format!(in text.alloc; "  [{name}]  {links} of {threshold} links "));
     for key in &step.keys {
-        text.say(" ")?;
-        text.say(key.as_str())?;
+        text.say(" ");
+        text.say(key.as_str());
     }
-    text.say(PLAIN)?;
-    text.say("\n")
+    text.say(PLAIN);
+    text.say("\n");
 }
 
 /// The steps as a chain that ends at the target, as a page has it.
-pub(crate) fn page_steps(
-    text: &mut Text,
-    steps: &[StepRow],
-    target: &str,
-) -> Result<(), AllocError> {
-    text.say("<p class=\"chain\">")?;
+pub(crate) fn page_steps(text: &mut Text, steps: &[StepRow], target: &str) {
+    text.say("<p class=\"chain\">");
     for step in steps {
-        page_step(text, step)?;
-        text.say(" &rarr; ")?;
+        page_step(text, step);
+        text.say(" &rarr; ");
     }
-    text.say("<b>")?;
-    text.escaped(target)?;
-    text.say("</b></p>\n")
+    text.say("<b>");
+    text.escaped(target);
+    text.say("</b></p>\n");
 }
 
-fn page_step(text: &mut Text, step: &StepRow) -> Result<(), AllocError> {
+fn page_step(text: &mut Text, step: &StepRow) {
     text.say(if step.is_short() {
         "<span class=\"step due\"><b>"
     } else {
         "<span class=\"step\"><b>"
-    })?;
-    text.escaped(step.name.as_str())?;
-    text.say("</b> ")?;
-    text.number(step.links as u64)?;
-    text.say(" of ")?;
-    text.number(u64::from(step.threshold))?;
-    text.say(" links")?;
+    });
+    text.escaped(step.name.as_str());
+    text.say("</b> ");
+    text.number(step.links as u64);
+    text.say(" of ");
+    text.number(u64::from(step.threshold));
+    text.say(" links");
     for key in &step.keys {
-        text.say(" ")?;
-        text.escaped(key.as_str())?;
+        text.say(" ");
+        text.escaped(key.as_str());
     }
-    text.say("</span>")
+    text.say("</span>");
 }
 
 /// The steps as a list of JSON.
-pub(crate) fn json_steps(text: &mut Text, steps: &[StepRow]) -> Result<(), AllocError> {
-    text.say("[")?;
+pub(crate) fn json_steps(text: &mut Text, steps: &[StepRow]) {
+    text.say("[");
     let mut between = "";
     for step in steps {
-        text.say(between)?;
-        json_step(text, step)?;
+        text.say(between);
+        json_step(text, step);
         between = ",";
     }
-    text.say("]")
+    text.say("]");
 }
 
-fn json_step(text: &mut Text, step: &StepRow) -> Result<(), AllocError> {
-    text.say("{\"keys\":")?;
-    text.list(&step.keys)?;
-    text.say(",\"links\":")?;
-    text.number(step.links as u64)?;
-    text.say(",\"name\":")?;
-    text.quoted(step.name.as_str())?;
-    text.say(",\"threshold\":")?;
-    text.number(u64::from(step.threshold))?;
+fn json_step(text: &mut Text, step: &StepRow) {
+    text.say("{\"keys\":");
+    text.list(&step.keys);
+    text.say(",\"links\":");
+    text.number(step.links as u64);
+    text.say(",\"name\":");
+    text.quoted(step.name.as_str());
+    text.say(",\"threshold\":");
+    text.number(u64::from(step.threshold));
     text.say("}")
 }

@@ -9,64 +9,62 @@ use std::alloc::{AllocError, Global};
 pub fn as_columns(alloc: Global, shown: &Overview) -> Result<Vec<u8>, AllocError> {
     let mut text = Text::new(alloc);
     for row in &shown.rows {
-        say_row(&mut text, shown, row)?;
+        say_row(&mut text, shown, row);
     }
     if let Some(path) = &shown.path {
-        say_path(&mut text, path)?;
+        say_path(&mut text, path);
     }
-    Ok(text.bytes)
+    text.done()
 }
 
-fn say_row(text: &mut Text, shown: &Overview, row: &Row) -> Result<(), AllocError> {
-    text.repeat("  ", row.depth)?;
+fn say_row(text: &mut Text, shown: &Overview, row: &Row) {
+    text.repeat("  ", row.depth);
     let width = 24usize.saturating_sub(row.depth.saturating_mul(2));
     let role = row.role.as_str();
     let (version, days) = (row.version, shown.days(row));
     let (threshold, count) = (row.threshold, row.keys.len());
-    let line = format!(in text.alloc;
+    text.formed(format!(in text.alloc;
         "{role:<width$} {version:>6} {days:>6} days  {threshold} of {count}"
-    )?;
-    text.say(line.as_str())?;
+    ));
     for key in &row.keys {
-        say_key(text, key)?;
+        say_key(text, key);
     }
-    say_part(text, &row.covers)?;
-    say_part(text, &row.facts)?;
-    text.say("\n")
+    say_part(text, &row.covers);
+    say_part(text, &row.facts);
+    text.say("\n");
 }
 
 /// A part of a line, where there is any.
-pub(crate) fn say_part(text: &mut Text, part: &str) -> Result<(), AllocError> {
+pub(crate) fn say_part(text: &mut Text, part: &str) {
     if part.is_empty() {
-        return Ok(());
+        return;
     }
-    text.say("  ")?;
-    text.say(part)
+    text.say("  ");
+    text.say(part);
 }
 
 /// The name of a key with its leaves, and a mark where few are left.
-pub(crate) fn say_key(text: &mut Text, key: &KeyRow) -> Result<(), AllocError> {
-    text.say("  ")?;
-    text.say(key.name.as_str())?;
+pub(crate) fn say_key(text: &mut Text, key: &KeyRow) {
+    text.say("  ");
+    text.say(key.name.as_str());
     if let Some(left) = key.left {
-        text.say(" ")?;
-        text.number(u64::from(left))?;
+        text.say(" ");
+        text.number(u64::from(left));
         if key.is_low() {
-            text.say(" !")?;
+            text.say(" !");
         }
     }
-    Ok(())
 }
 
 /// What becomes of a target.
-pub(crate) fn say_path(text: &mut Text, path: &PathRow) -> Result<(), AllocError> {
-    text.line("target ", path.path.as_str())?;
+pub(crate) fn say_path(text: &mut Text, path: &PathRow) {
+    text.line("target ", path.path.as_str());
     for visit in &path.visits {
-        text.line("  visit ", visit.as_str())?;
+        text.line("  visit ", visit.as_str());
     }
     for found in &path.found {
-        text.line("  ", found.as_str())?;
+        text.line("  ", found.as_str());
     }
-    say_steps(text, &path.steps)?;
-    text.line("  ", path.end.as_str())
+    say_steps(text, &path.steps);
+    text.line("  ", path.end.as_str());
 }

@@ -14,48 +14,44 @@ pub fn drafts_as_lines(
 ) -> Result<Vec<u8>, AllocError> {
     let mut text = Text::new(alloc);
     for draft in &shown.drafts {
-        say_draft(&mut text, shown, draft, on_terminal)?;
+        say_draft(&mut text, shown, draft, on_terminal);
     }
     for layout in &shown.layouts {
-        say_layout(&mut text, layout, on_terminal)?;
+        say_layout(&mut text, layout, on_terminal);
     }
     for link in &shown.links {
-        text.line("link ", link.as_str())?;
+        text.line("link ", link.as_str());
     }
     for next in &shown.next {
-        text.line("", next.as_str())?;
+        text.line("", next.as_str());
     }
     if shown.is_ready() {
-        text.line("", "ready")?;
+        text.line("", "ready");
     }
-    Ok(text.bytes)
+    text.done()
 }
 
-fn say_draft(
-    text: &mut Text,
-    shown: &Drafts,
-    draft: &DraftRow,
-    on_terminal: bool,
-) -> Result<(), AllocError> {
+fn say_draft(text: &mut Text, shown: &Drafts, draft: &DraftRow, on_terminal: bool) {
     let role = draft.role.as_str();
     let (version, held, days) = (draft.version, draft.held, shown.days(draft));
-    let line = format!(in text.alloc; "{role} {version} (held: {held}), expires in {days} days\n")?;
-    text.say(line.as_str())?;
+    text.formed(format!(in text.alloc;
+        "{role} {version} (held: {held}), expires in {days} days\n"
+    ));
     for change in &draft.changes {
-        say_change(text, change.as_str(), on_terminal)?;
+        say_change(text, change.as_str(), on_terminal);
     }
-    say_rules(text, &draft.rules, on_terminal)
+    say_rules(text, &draft.rules, on_terminal);
 }
 
-fn say_change(text: &mut Text, change: &str, on_terminal: bool) -> Result<(), AllocError> {
+fn say_change(text: &mut Text, change: &str, on_terminal: bool) {
     if !on_terminal {
         return text.line("  ", change);
     }
-    text.say(colour_of(change))?;
-    text.say("  ")?;
-    text.say(change)?;
-    text.say(PLAIN)?;
-    text.say("\n")
+    text.say(colour_of(change));
+    text.say("  ");
+    text.say(change);
+    text.say(PLAIN);
+    text.say("\n");
 }
 
 fn colour_of(change: &str) -> &'static str {
@@ -68,43 +64,40 @@ fn colour_of(change: &str) -> &'static str {
     }
 }
 
-fn say_layout(text: &mut Text, layout: &LayoutRow, on_terminal: bool) -> Result<(), AllocError> {
-    text.line("layout of ", layout.target.as_str())?;
+fn say_layout(text: &mut Text, layout: &LayoutRow, on_terminal: bool) {
+    text.line("layout of ", layout.target.as_str());
     if on_terminal {
-        draw_steps(text, &layout.steps, layout.target.as_str())?;
+        draw_steps(text, &layout.steps, layout.target.as_str());
     } else {
-        say_steps(text, &layout.steps)?;
+        say_steps(text, &layout.steps);
     }
-    say_rules(text, &layout.rules, on_terminal)
+    say_rules(text, &layout.rules, on_terminal);
 }
 
-fn say_rules(text: &mut Text, rules: &[RuleRow], on_terminal: bool) -> Result<(), AllocError> {
+fn say_rules(text: &mut Text, rules: &[RuleRow], on_terminal: bool) {
     if rules.is_empty() {
-        text.line("  ", "no rule names its keys: nothing delegates to it")?;
+        text.line("  ", "no rule names its keys: nothing delegates to it");
     }
     for rule in rules {
-        say_rule(text, rule, on_terminal)?;
+        say_rule(text, rule, on_terminal);
     }
-    Ok(())
 }
 
-fn say_rule(text: &mut Text, rule: &RuleRow, on_terminal: bool) -> Result<(), AllocError> {
+fn say_rule(text: &mut Text, rule: &RuleRow, on_terminal: bool) {
     let (count, threshold) = (rule.signed.len(), rule.threshold);
-    let line = format!(in text.alloc; "  {count} of {threshold} have signed")?;
-    text.say(line.as_str())?;
+    text.formed(format!(in text.alloc; "  {count} of {threshold} have signed"));
     if on_terminal {
-        text.say(if rule.is_met() { GREEN } else { RED })?;
-        say_names(text, "  [x] ", &rule.signed)?;
-        say_names(text, "  [ ] ", &rule.unsigned)?;
-        text.say(PLAIN)?;
+        text.say(if rule.is_met() { GREEN } else { RED });
+        say_names(text, "  [x] ", &rule.signed);
+        say_names(text, "  [ ] ", &rule.unsigned);
+        text.say(PLAIN);
     }
-    text.say("\n")
+    text.say("\n");
 }
 
-fn say_names(text: &mut Text, mark: &str, names: &[String]) -> Result<(), AllocError> {
+fn say_names(text: &mut Text, mark: &str, names: &[String]) {
     for name in names {
-        text.say(mark)?;
-        text.say(name.as_str())?;
+        text.say(mark);
+        text.say(name.as_str());
     }
-    Ok(())
 }

@@ -12,117 +12,115 @@ const DRAFTS: &str =
 /// and what `publish` would be answered.
 pub fn drafts_as_page(alloc: Global, shown: &Drafts) -> Result<Vec<u8>, AllocError> {
     let mut text = Text::new(alloc);
-    text.say(HEAD)?;
-    text.say(DRAFTS)?;
+    text.say(HEAD);
+    text.say(DRAFTS);
     for draft in &shown.drafts {
-        say_draft(&mut text, shown, draft)?;
+        say_draft(&mut text, shown, draft);
     }
-    text.say("</table>\n")?;
+    text.say("</table>\n");
     for layout in &shown.layouts {
-        say_layout(&mut text, layout)?;
+        say_layout(&mut text, layout);
     }
-    say_list(&mut text, "links", &shown.links)?;
-    say_list(&mut text, "next", &shown.next)?;
+    say_list(&mut text, "links", &shown.links);
+    say_list(&mut text, "next", &shown.next);
     if let Some(answer) = &shown.answer {
-        say_answer(&mut text, answer.as_str(), shown.is_ready())?;
+        say_answer(&mut text, answer.as_str(), shown.is_ready());
     }
-    text.say("</body></html>\n")?;
-    Ok(text.bytes)
+    text.say("</body></html>\n");
+    text.done()
 }
 
-fn say_draft(text: &mut Text, shown: &Drafts, draft: &DraftRow) -> Result<(), AllocError> {
-    text.say("<tr><td>")?;
-    text.escaped(draft.role.as_str())?;
+fn say_draft(text: &mut Text, shown: &Drafts, draft: &DraftRow) {
+    text.say("<tr><td>");
+    text.escaped(draft.role.as_str());
     for number in [
         u64::from(draft.version),
         u64::from(draft.held),
         shown.days(draft),
     ] {
-        text.say("</td><td>")?;
-        text.number(number)?;
+        text.say("</td><td>");
+        text.number(number);
     }
-    text.say("</td><td>")?;
+    text.say("</td><td>");
     for change in &draft.changes {
-        say_change(text, change.as_str())?;
+        say_change(text, change.as_str());
     }
-    text.say("</td><td>")?;
-    say_rules(text, &draft.rules)?;
-    text.say("</td></tr>\n")
+    text.say("</td><td>");
+    say_rules(text, &draft.rules);
+    text.say("</td></tr>\n");
 }
 
-fn say_change(text: &mut Text, change: &str) -> Result<(), AllocError> {
+fn say_change(text: &mut Text, change: &str) {
     text.say(if change.starts_with('+') {
         "<div class=\"granted\">"
     } else if change.starts_with('-') {
         "<div class=\"denied\">"
     } else {
         "<div>"
-    })?;
-    text.escaped(change)?;
-    text.say("</div>")
+    });
+    text.escaped(change);
+    text.say("</div>");
 }
 
-fn say_rules(text: &mut Text, rules: &[RuleRow]) -> Result<(), AllocError> {
+fn say_rules(text: &mut Text, rules: &[RuleRow]) {
     for rule in rules {
-        say_rule(text, rule)?;
+        say_rule(text, rule);
     }
-    Ok(())
 }
 
-fn say_rule(text: &mut Text, rule: &RuleRow) -> Result<(), AllocError> {
+fn say_rule(text: &mut Text, rule: &RuleRow) {
     text.say(if rule.is_met() {
         "<div class=\"granted\">"
     } else {
         "<div class=\"denied\">"
-    })?;
-    text.number(rule.signed.len() as u64)?;
-    text.say(" of ")?;
-    text.number(u64::from(rule.threshold))?;
-    text.say("</div>")?;
-    say_names(text, "&#9745; ", &rule.signed)?;
-    say_names(text, "&#9744; ", &rule.unsigned)
+    });
+    text.number(rule.signed.len() as u64);
+    text.say(" of ");
+    text.number(u64::from(rule.threshold));
+    text.say("</div>");
+    say_names(text, "&#9745; ", &rule.signed);
+    say_names(text, "&#9744; ", &rule.unsigned);
 }
 
-fn say_names(text: &mut Text, mark: &str, names: &[String]) -> Result<(), AllocError> {
+fn say_names(text: &mut Text, mark: &str, names: &[String]) {
     for name in names {
-        text.say("<div>")?;
-        text.say(mark)?;
-        text.escaped(name.as_str())?;
-        text.say("</div>")?;
+        text.say("<div>");
+        text.say(mark);
+        text.escaped(name.as_str());
+        text.say("</div>");
     }
-    Ok(())
 }
 
-fn say_layout(text: &mut Text, layout: &LayoutRow) -> Result<(), AllocError> {
-    text.say("<h2>Layout of ")?;
-    text.escaped(layout.target.as_str())?;
-    text.say("</h2>\n")?;
-    page_steps(text, &layout.steps, layout.target.as_str())?;
-    say_rules(text, &layout.rules)
+fn say_layout(text: &mut Text, layout: &LayoutRow) {
+    text.say("<h2>Layout of ");
+    text.escaped(layout.target.as_str());
+    text.say("</h2>\n");
+    page_steps(text, &layout.steps, layout.target.as_str());
+    say_rules(text, &layout.rules);
 }
 
 // A list with this identifier, where there is anything.
-fn say_list(text: &mut Text, id: &str, items: &[String]) -> Result<(), AllocError> {
+fn say_list(text: &mut Text, id: &str, items: &[String]) {
     if items.is_empty() {
-        return Ok(());
+        return;
     }
-    text.say("<ul id=\"")?;
-    text.say(id)?;
-    text.say("\">\n")?;
+    text.say("<ul id=\"");
+    text.say(id);
+    text.say("\">\n");
     for item in items {
-        text.say("<li>")?;
-        text.escaped(item.as_str())?;
-        text.say("</li>\n")?;
+        text.say("<li>");
+        text.escaped(item.as_str());
+        text.say("</li>\n");
     }
-    text.say("</ul>\n")
+    text.say("</ul>\n");
 }
 
-fn say_answer(text: &mut Text, answer: &str, is_ready: bool) -> Result<(), AllocError> {
+fn say_answer(text: &mut Text, answer: &str, is_ready: bool) {
     text.say(if is_ready {
         "<p id=\"answer\" class=\"granted\">"
     } else {
         "<p id=\"answer\" class=\"denied\">"
-    })?;
-    text.escaped(answer)?;
-    text.say("</p>\n")
+    });
+    text.escaped(answer);
+    text.say("</p>\n");
 }

@@ -27,109 +27,109 @@ const EXPIRY: &str = "<h2>By expiry</h2>\n<table id=\"expiry\">\n";
 /// target that is asked for.
 pub fn as_page(alloc: Global, shown: &Overview) -> Result<Vec<u8>, AllocError> {
     let mut text = Text::new(alloc);
-    text.say(HEAD)?;
-    text.say(TREE)?;
+    text.say(HEAD);
+    text.say(TREE);
     for row in &shown.rows {
-        say_row(&mut text, shown, row)?;
+        say_row(&mut text, shown, row);
     }
-    text.say("</table>\n")?;
-    text.say(EXPIRY)?;
+    text.say("</table>\n");
+    text.say(EXPIRY);
     for index in &in_order(alloc, &expiries(alloc, shown)?)? {
         if let Some(row) = shown.rows.get(*index) {
-            say_expiry(&mut text, shown, row)?;
+            say_expiry(&mut text, shown, row);
         }
     }
-    text.say("</table>\n")?;
+    text.say("</table>\n");
     if let Some(path) = &shown.path {
-        say_path(&mut text, path)?;
+        say_path(&mut text, path);
     }
-    text.say("</body></html>\n")?;
-    Ok(text.bytes)
+    text.say("</body></html>\n");
+    text.done()
 }
 
-fn say_row(text: &mut Text, shown: &Overview, row: &Row) -> Result<(), AllocError> {
-    text.say("<tr><td style=\"padding-left:")?;
-    text.number((row.depth as u64).saturating_mul(24).saturating_add(8))?;
-    text.say("px\">")?;
-    text.escaped(row.role.as_str())?;
-    text.say("</td><td>")?;
-    text.number(u64::from(row.version))?;
-    text.say("</td><td>")?;
-    say_days(text, shown, row)?;
-    text.say("</td><td>")?;
-    text.number(u64::from(row.threshold))?;
-    text.say(" of ")?;
-    text.number(row.keys.len() as u64)?;
-    text.say("</td><td>")?;
+fn say_row(text: &mut Text, shown: &Overview, row: &Row) {
+    text.say("<tr><td style=\"padding-left:");
+    text.number((row.depth as u64).saturating_mul(24).saturating_add(8));
+    text.say("px\">");
+    text.escaped(row.role.as_str());
+    text.say("</td><td>");
+    text.number(u64::from(row.version));
+    text.say("</td><td>");
+    say_days(text, shown, row);
+    text.say("</td><td>");
+    text.number(u64::from(row.threshold));
+    text.say(" of ");
+    text.number(row.keys.len() as u64);
+    text.say("</td><td>");
     for key in &row.keys {
-        say_key(text, key)?;
+        say_key(text, key);
     }
-    text.say("</td><td>")?;
-    text.escaped(row.covers.as_str())?;
-    text.say("</td></tr>\n")
+    text.say("</td><td>");
+    text.escaped(row.covers.as_str());
+    text.say("</td></tr>\n");
 }
 
-fn say_days(text: &mut Text, shown: &Overview, row: &Row) -> Result<(), AllocError> {
+fn say_days(text: &mut Text, shown: &Overview, row: &Row) {
     let days = shown.days(row);
-    say_bar(text, parts_of_days(days), shown.is_due(row))?;
-    text.number(days)
+    say_bar(text, parts_of_days(days), shown.is_due(row));
+    text.number(days);
 }
 
-fn say_bar(text: &mut Text, parts: u64, is_due: bool) -> Result<(), AllocError> {
+fn say_bar(text: &mut Text, parts: u64, is_due: bool) {
     text.say(if is_due {
         "<span class=\"bar due\"><i style=\"width:"
     } else {
         "<span class=\"bar\"><i style=\"width:"
-    })?;
-    text.number(parts.saturating_mul(12))?;
-    text.say("px\"></i></span>")
+    });
+    text.number(parts.saturating_mul(12));
+    text.say("px\"></i></span>");
 }
 
-fn say_key(text: &mut Text, key: &KeyRow) -> Result<(), AllocError> {
-    text.say("<div>")?;
+fn say_key(text: &mut Text, key: &KeyRow) {
+    text.say("<div>");
     if let Some(left) = key.left {
-        say_bar(text, parts_of_leaves(left, key.most), key.is_low())?;
-        text.number(u64::from(left))?;
-        text.say(" ")?;
+        say_bar(text, parts_of_leaves(left, key.most), key.is_low());
+        text.number(u64::from(left));
+        text.say(" ");
     }
-    text.escaped(key.name.as_str())?;
-    text.say("</div>")
+    text.escaped(key.name.as_str());
+    text.say("</div>");
 }
 
-fn say_expiry(text: &mut Text, shown: &Overview, row: &Row) -> Result<(), AllocError> {
-    text.say("<tr><td>")?;
-    say_days(text, shown, row)?;
-    text.say("</td><td>")?;
-    text.escaped(row.role.as_str())?;
-    text.say("</td></tr>\n")
+fn say_expiry(text: &mut Text, shown: &Overview, row: &Row) {
+    text.say("<tr><td>");
+    say_days(text, shown, row);
+    text.say("</td><td>");
+    text.escaped(row.role.as_str());
+    text.say("</td></tr>\n");
 }
 
-fn say_path(text: &mut Text, path: &PathRow) -> Result<(), AllocError> {
-    text.say("<h2 id=\"target\">")?;
-    text.escaped(path.path.as_str())?;
-    text.say("</h2>\n<ol>\n")?;
+fn say_path(text: &mut Text, path: &PathRow) {
+    text.say("<h2 id=\"target\">");
+    text.escaped(path.path.as_str());
+    text.say("</h2>\n<ol>\n");
     for visit in &path.visits {
-        say_item(text, visit)?;
+        say_item(text, visit);
     }
-    text.say("</ol>\n<ul>\n")?;
+    text.say("</ol>\n<ul>\n");
     for found in &path.found {
-        say_item(text, found)?;
+        say_item(text, found);
     }
-    text.say("</ul>\n")?;
+    text.say("</ul>\n");
     if !path.steps.is_empty() {
-        page_steps(text, &path.steps, path.path.as_str())?;
+        page_steps(text, &path.steps, path.path.as_str());
     }
     text.say(if path.is_granted {
         "<p class=\"granted\">"
     } else {
         "<p class=\"denied\">"
-    })?;
-    text.escaped(path.end.as_str())?;
-    text.say("</p>\n")
+    });
+    text.escaped(path.end.as_str());
+    text.say("</p>\n");
 }
 
-fn say_item(text: &mut Text, item: &str) -> Result<(), AllocError> {
-    text.say("<li>")?;
-    text.escaped(item)?;
-    text.say("</li>\n")
+fn say_item(text: &mut Text, item: &str) {
+    text.say("<li>");
+    text.escaped(item);
+    text.say("</li>\n");
 }

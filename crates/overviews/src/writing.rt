@@ -9,11 +9,12 @@ pub(crate) const YELLOW: &str = "\x1b[33m";
 
 pub(crate) const PLAIN: &str = "\x1b[0m";
 
-/// Text so far.
+/// Text so far. Once memory has run out it takes nothing more, and there is no text in the end.
 #[derive(Drop)]
 pub(crate) struct Text {
     pub alloc: Global,
-    pub bytes: Vec<u8>,
+    bytes: Vec<u8>,
+    is_cut: bool,
 }
 
 impl Text {
@@ -21,73 +22,95 @@ impl Text {
         Text {
             alloc,
             bytes: Vec::new(alloc),
+            is_cut: false,
         }
     }
 
-    pub(crate) fn say(&mut self, text: &str) -> Result<(), AllocError> {
-        self.bytes.extend_from_slice(text.as_bytes())?;
-        Ok(())
+    /// The whole text.
+    pub(crate) fn done(self) -> Result<Vec<u8>, AllocError> {
+        if self.is_cut {
+            return Err(AllocError);
+        }
+        Ok(self.bytes)
+    }
+
+    pub(crate) fn say(&mut self, text: &str) {
+        if !self.is_cut {
+            self.is_cut = self.bytes.extend_from_slice(text.as_bytes()).is_err();
+        }
+    }
+
+    fn say_byte(&mut self, byte: u8) {
+        if !self.is_cut {
+            self.is_cut = self.bytes.push(byte).is_err();
+        }
+    }
+
+    /// Says what was formed, if there was memory for it.
+    pub(crate) fn formed(&mut self, text: Result<String, AllocError>) {
+        match text {
+            Ok(text) => self.say(text.as_str()),
+            Err(_) => self.is_cut = true,
+        }
     }
 
     /// Says two parts of a line, and ends it.
-    pub(crate) fn line(&mut self, first: &str, second: &str) -> Result<(), AllocError> {
-        self.say(first)?;
-        self.say(second)?;
-        self.say("\n")
+    pub(crate) fn line(&mut self, first: &str, second: &str) {
+        self.say(first);
+        self.say(second);
+        self.say("\n");
     }
 
     /// Says the text so many times.
-    pub(crate) fn repeat(&mut self, text: &str, times: usize) -> Result<(), AllocError> {
+    pub(crate) fn repeat(&mut self, text: &str, times: usize) {
         for _ in 0..times {
-            self.say(text)?;
+            self.say(text);
         }
-        Ok(())
     }
 
     /// Says a number.
-    pub(crate) fn number(&mut self, number: u64) -> Result<(), AllocError> {
-        let digits = format!(in self.alloc; "{number}")?;
-        self.say(digits.as_str())
+    pub(crate) fn number(&mut self, number: u64) {
+        let digits = format!(in self.alloc; "{number}");
+        self.formed(digits);
     }
 
     /// Says the text as a page has it.
-    pub(crate) fn escaped(&mut self, text: &str) -> Result<(), AllocError> {
+    pub(crate) fn escaped(&mut self, text: &str) {
         for byte in text.as_bytes() {
             match *byte {
-                b'&' => self.say("&amp;")?,
-                b'<' => self.say("&lt;")?,
-                b'>' => self.say("&gt;")?,
-                b'"' => self.say("&quot;")?,
-                byte => self.bytes.push(byte)?,
+                b'&' => self.say("&amp;"),
+                b'<' => self.say("&lt;"),
+                b'>' => self.say("&gt;"),
+                b'"' => self.say("&quot;"),
+                byte => self.say_byte(byte),
             }
         }
-        Ok(())
     }
 
     /// Says the text as JSON has it, with its quotation marks. Control bytes are left out.
-    pub(crate) fn quoted(&mut self, text: &str) -> Result<(), AllocError> {
-        self.say("\"")?;
+    pub(crate) fn quoted(&mut self, text: &str) {
+        self.say("\"");
         for byte in text.as_bytes() {
             match *byte {
-                b'"' => self.say("\\\"")?,
-                b'\\' => self.say("\\\\")?,
+                b'"' => self.say("\\\""),
+                b'\\' => self.say("\\\\"),
                 byte if byte < 0x20 => {}
-                byte => self.bytes.push(byte)?,
+                byte => self.say_byte(byte),
             }
         }
-        self.say("\"")
+        self.say("\"");
     }
 
     /// Says the texts as a list of JSON.
-    pub(crate) fn list(&mut self, items: &[String]) -> Result<(), AllocError> {
-        self.say("[")?;
+    pub(crate) fn list(&mut self, items: &[String]) {
+        self.say("[");
         let mut between = "";
         for item in items {
-            self.say(between)?;
-            self.quoted(item.as_str())?;
+            self.say(between);
+            self.quoted(item.as_str());
             between = ",";
         }
-        self.say("]")
+        self.say("]");
     }
 }
 
