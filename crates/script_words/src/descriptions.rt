@@ -66,13 +66,6 @@ fn usual_rules(alloc: Global) -> Result<Rules, LineFault> {
 }
 
 impl Description {
-    // The usual document of a kind.
-    fn usual(alloc: Global, kind: Kind) -> Result<Description, LineFault> {
-        let mut description = Description::begun(alloc, kind, usual_rules(alloc)?);
-        description.set_usual()?;
-        Ok(description)
-    }
-
     // What nothing but its rules is said of.
     fn begun(alloc: Global, kind: Kind, rules: Rules) -> Description {
         Description {
@@ -108,6 +101,22 @@ impl Description {
         self.entries
             .push((String::from_str(self.alloc, named)?, entry))?;
         Ok(())
+    }
+
+    // The file of the usual document of its kind with these words, signed by these leaves.
+    fn described(
+        &mut self,
+        keys: &mut Keys,
+        files: &[File],
+        now: &str,
+        words: &str,
+        leaves: &str,
+    ) -> Result<Vec<u8>, LineFault> {
+        self.set_usual()?;
+        for word in words.split_whitespace() {
+            self.take(files, now, word)?;
+        }
+        self.file(keys, leaves)
     }
 
     // Takes one more word.
@@ -148,9 +157,7 @@ impl Description {
             Some(Kind::Timestamp) => self.rules.timestamp = rule,
             Some(Kind::Snapshot) => self.rules.snapshot = rule,
             Some(Kind::Targets) => self.rules.targets = rule,
-            Some(Kind::Layout) => return Err(LineFault::NotUnderstood),
-            Some(Kind::Link) => return Err(LineFault::NotUnderstood),
-            None => return Err(LineFault::NotUnderstood),
+            _ => return Err(LineFault::NotUnderstood),
         }
         Ok(())
     }
@@ -222,10 +229,15 @@ impl Description {
     fn make_keys(&self, keys: &mut Keys) -> Result<(), LineFault> {
         match self.kind {
             Kind::Root => {
-                make_rule(keys, &self.rules.root)?;
-                make_rule(keys, &self.rules.timestamp)?;
-                make_rule(keys, &self.rules.snapshot)?;
-                make_rule(keys, &self.rules.targets)?;
+                let rules = &self.rules;
+                for rule in [
+                    &rules.root,
+                    &rules.timestamp,
+                    &rules.snapshot,
+                    &rules.targets,
+                ] {
+                    make_rule(keys, rule)?;
+                }
             }
             Kind::Targets => {
                 for delegation in &self.delegations {
@@ -266,22 +278,23 @@ impl Description {
     // The signed part.
     fn signed(&self, keys: &Keys) -> Result<Value, LineFault> {
         let expires = self.expires.as_str();
-        Ok(match self.kind {
-            Kind::Root => root_signed(self.alloc, keys, &self.root())?,
+        let value = match self.kind {
+            Kind::Root => root_signed(self.alloc, keys, &self.root()),
             Kind::Timestamp => meta_signed(
                 self.alloc,
                 "timestamp",
                 self.version,
                 expires,
                 &self.entries,
-            )?,
+            ),
             Kind::Snapshot => {
-                meta_signed(self.alloc, "snapshot", self.version, expires, &self.entries)?
+                meta_signed(self.alloc, "snapshot", self.version, expires, &self.entries)
             }
-            Kind::Targets => targets_signed(self.alloc, keys, &self.targets())?,
-            Kind::Layout => layout_signed(self.alloc, keys, expires, &self.steps)?,
-            Kind::Link => link_signed(self.alloc, &self.link.said())?,
-        })
+            Kind::Targets => targets_signed(self.alloc, keys, &self.targets()),
+            Kind::Layout => layout_signed(self.alloc, keys, expires, &self.steps),
+            Kind::Link => link_signed(self.alloc, &self.link.said()),
+        };
+        Ok(value?)
     }
 
     // The signed part with the `spec_version` and the `layout_required` that the words say.
@@ -372,32 +385,19 @@ fn whole_words(alloc: Global, files: &[File], words: &str) -> Result<String, Lin
         return Ok(String::from_str(alloc, words)?);
     };
     let (name, rest) = others.split_once(' ').unwrap_or((others, ""));
-    let mut whole = find(files, name)?.words.clone()?;
-    whole.push_str(" ")?;
-    whole.push_str(rest)?;
-    Ok(whole)
+    let before = find(files, name)?.words.as_str();
+    Ok(format!(in alloc; "{before} {rest}")?)
 }
 
-// What the words say. Where the first is no kind, it is the usual one.
-fn description_of(
-    alloc: Global,
-    files: &[File],
-    now: &str,
-    usual: Kind,
-    words: &str,
-) -> Result<Description, LineFault> {
-    let (kind, rest) = match words.split_once(' ') {
+// The kind that words begin with, and what stands behind it. Where the first is no kind, it is the usual one.
+fn kind_and_rest(usual: Kind, words: &str) -> (Kind, &str) {
+    match words.split_once(' ') {
         Some((first, rest)) => match kind_named(first) {
             Some(kind) => (kind, rest),
             None => (usual, words),
         },
         None => (usual, words),
-    };
-    let mut description = Description::usual(alloc, kind)?;
-    for word in rest.split_whitespace() {
-        description.take(files, now, word)?;
     }
-    Ok(description)
 }
 
 /// A document that words describe: `[like NAME] [KIND] [VERSION] [WORD=VALUE ..] [by LEAF ..]`, with the words that a later
@@ -415,7 +415,20 @@ pub fn described(
         None => (text, ""),
     };
     let words = whole_words(alloc, files, words)?;
-    let mut description = description_of(alloc, files, now, usual, words.as_str())?;
-    let bytes = description.file(keys, leaves)?;
+    let (kind, rest) = kind_and_rest(usual, words.as_str());
+    let bytes = file_of(alloc, keys, files, now, kind, rest, leaves)?;
     Ok((words, bytes))
+}
+
+fn file_of(
+    alloc: Global,
+    keys: &mut Keys,
+    files: &[File],
+    now: &str,
+    kind: Kind,
+    words: &str,
+    leaves: &str,
+) -> Result<Vec<u8>, LineFault> {
+    let mut description = Description::begun(alloc, kind, usual_rules(alloc)?);
+    description.described(keys, files, now, words, leaves)
 }

@@ -59,30 +59,17 @@ pub fn unescaped(alloc: Global, text: &str) -> Result<Vec<u8>, LineFault> {
     let mut bytes = Vec::new(alloc);
     let mut rest = text.as_bytes();
     for _ in 0..text.len() {
-        match rest {
+        let (byte, others) = match rest {
             [] => break,
-            [b'\\', b'r', others @ ..] => {
-                bytes.push(b'\r')?;
-                rest = others;
-            }
-            [b'\\', b'n', others @ ..] => {
-                bytes.push(b'\n')?;
-                rest = others;
-            }
-            [b'\\', b'\\', others @ ..] => {
-                bytes.push(b'\\')?;
-                rest = others;
-            }
-            [b'\\', b'x', high, low, others @ ..] => {
-                bytes.push(byte_of(*high, *low)?)?;
-                rest = others;
-            }
+            [b'\\', b'r', others @ ..] => (b'\r', others),
+            [b'\\', b'n', others @ ..] => (b'\n', others),
+            [b'\\', b'\\', others @ ..] => (b'\\', others),
+            [b'\\', b'x', high, low, others @ ..] => (byte_of(*high, *low)?, others),
             [b'\\', ..] => return Err(LineFault::NotUnderstood),
-            [byte, others @ ..] => {
-                bytes.push(*byte)?;
-                rest = others;
-            }
-        }
+            [byte, others @ ..] => (*byte, others),
+        };
+        bytes.push(byte)?;
+        rest = others;
     }
     Ok(bytes)
 }
@@ -112,16 +99,19 @@ fn push_named(
     name: &str,
 ) -> Result<(), LineFault> {
     if let Some(name) = name.strip_prefix("#") {
-        let length = find(files, name)?.bytes.len().to_string(alloc)?;
-        bytes.extend_from_slice(length.as_bytes())?;
-        return Ok(());
+        let length = find(files, name)?.bytes.len();
+        let text = format!(in alloc; "{length}")?;
+        return push(bytes, text.as_bytes());
     }
     if let Some(name) = name.strip_prefix("@") {
-        let digits = digest_of(&find(files, name)?.bytes).text(alloc)?;
-        bytes.extend_from_slice(digits.as_bytes())?;
-        return Ok(());
+        let digits = digest_of(&find(files, name)?.bytes).digits();
+        return push(bytes, &digits);
     }
-    bytes.extend_from_slice(&find(files, name)?.bytes)?;
+    push(bytes, &find(files, name)?.bytes)
+}
+
+fn push(bytes: &mut Vec<u8>, more: &[u8]) -> Result<(), LineFault> {
+    bytes.extend_from_slice(more)?;
     Ok(())
 }
 
@@ -137,10 +127,8 @@ pub fn with_literals(alloc: Global, files: &[File], text: &str) -> Result<String
             return Err(LineFault::NotUnderstood);
         };
         let digits = hex::encode(alloc, &find(files, name)?.bytes)?;
-        made.push_str("x'")?;
-        made.push_str(digits.as_str())?;
-        made.push_str("'")?;
-        made.push_str(rest)?;
+        let digits = digits.as_str();
+        write!(made, "x'{digits}'{rest}")?;
     }
     Ok(made)
 }

@@ -68,12 +68,13 @@ fn put(
 
 /// What refers a target to a layout: `RULE;LINK,LINK..;LAYOUT;PRODUCT;STEP`.
 pub fn reference_of(alloc: Global, word: &str) -> Result<LayoutReference, LineFault> {
-    let mut parts = word.split(';');
-    let owners = rule_of(alloc, part(parts.next())?)?;
-    let links = texts_of(alloc, part(parts.next())?)?;
-    let path = String::from_str(alloc, part(parts.next())?)?;
-    let product = String::from_str(alloc, part(parts.next())?)?;
-    let step = String::from_str(alloc, part(parts.next())?)?;
+    let mut parts = [""; 5];
+    part_into(word, &mut parts)?;
+    let owners = rule_of(alloc, parts[0])?;
+    let links = texts_of(alloc, parts[1])?;
+    let path = String::from_str(alloc, parts[2])?;
+    let product = String::from_str(alloc, parts[3])?;
+    let step = String::from_str(alloc, parts[4])?;
     Ok(LayoutReference {
         owners,
         links,
@@ -86,23 +87,30 @@ pub fn reference_of(alloc: Global, word: &str) -> Result<LayoutReference, LineFa
 /// A step: `RULE;RULES;RULES`, its functionaries, then the artifact rules of its materials and of its products, each list with commas
 /// between its rules and each rule with `+` between its words: `6,7:2;ALLOW+src/*,DISALLOW+*;CREATE+dist/*`.
 pub fn step_of(alloc: Global, name: &str, word: &str) -> Result<Step, LineFault> {
-    let mut parts = word.split(';');
-    let rule = rule_of(alloc, part(parts.next())?)?;
-    let materials = rules_of(alloc, part(parts.next())?)?;
-    let products = rules_of(alloc, part(parts.next())?)?;
+    let mut parts = [""; 3];
+    part_into(word, &mut parts)?;
+    let rule = rule_of(alloc, parts[0])?;
+    let materials = rules_of(alloc, parts[1])?;
+    let products = rules_of(alloc, parts[2])?;
+    let name = String::from_str(alloc, name)?;
     Ok(Step {
-        name: String::from_str(alloc, name)?,
+        name,
         rule,
         materials,
         products,
     })
 }
 
-fn part(found: Option<&str>) -> Result<&str, LineFault> {
-    match found {
-        Some(part) => Ok(part),
-        None => Err(LineFault::NotUnderstood),
+// The parts of a word, with semicolons between them, from the first on.
+fn part_into<'a>(word: &'a str, parts: &mut [&'a str]) -> Result<(), LineFault> {
+    let mut found = word.split(';');
+    for part in parts.iter_mut() {
+        match found.next() {
+            Some(text) => *part = text,
+            None => return Err(LineFault::NotUnderstood),
+        }
     }
+    Ok(())
 }
 
 // The artifact rules of a list, each its words with spaces between.

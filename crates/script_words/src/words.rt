@@ -130,11 +130,16 @@ pub fn rule_of(alloc: Global, word: &str) -> Result<Rule, LineFault> {
         Some((list, threshold)) => (list, number_of(threshold)?),
         None => (word, 1),
     };
+    let keys = keys_of(alloc, list)?;
+    Ok(Rule { keys, threshold })
+}
+
+fn keys_of(alloc: Global, list: &str) -> Result<Vec<SeedKey>, LineFault> {
     let mut keys = Vec::new(alloc);
     for key in list.split(',') {
         keys.push(key_of(key)?)?;
     }
-    Ok(Rule { keys, threshold })
+    Ok(keys)
 }
 
 /// A delegation to the role: its rule, a semicolon, and the patterns, or behind a `#` the prefixes, that it covers: `6,7:2;a/*,b`,

@@ -4,7 +4,7 @@ use crate::keys::{Keys, SeedKey};
 use crate::members::{Members, text_value, texts};
 use canonical_json::Value;
 use path_patterns::Digest;
-use std::alloc::{AllocError, Global};
+use std::alloc::Global;
 
 const SPEC_VERSION: &str = "1.0.31";
 
@@ -82,11 +82,11 @@ pub struct Targets<'a> {
 
 /// The signed part of root metadata. Its key table has the keys of all rules.
 pub fn root_signed(alloc: Global, keys: &Keys, said: &Root<'_>) -> Result<Value, Fault> {
-    let mut members = begun(alloc, "root", said.version, said.expires)?;
-    members.put("consistent_snapshot", Value::Bool(true))?;
-    members.put("keys", key_table(alloc, keys, said)?)?;
-    members.put("roles", roles(alloc, keys, said)?)?;
-    Ok(members.object())
+    let mut members = begun(alloc, "root", said.version, said.expires);
+    members.put("consistent_snapshot", Ok(Value::Bool(true)));
+    members.put("keys", key_table(alloc, keys, said));
+    members.put("roles", roles(alloc, keys, said));
+    members.object()
 }
 
 // The keys of all rules.
@@ -112,42 +112,39 @@ pub fn add_keys(all: &mut Vec<SeedKey>, rule: &Rule) -> Result<(), Fault> {
 pub fn keys_of(alloc: Global, keys: &Keys, said: &[SeedKey]) -> Result<Value, Fault> {
     let mut table = Members::new(alloc);
     for key in said {
-        table.put(keys.id(*key)?, keys.key_value(*key)?)?;
+        table.put(keys.id(*key)?, keys.key_value(*key));
     }
-    Ok(table.object())
+    table.object()
 }
 
 fn roles(alloc: Global, keys: &Keys, said: &Root<'_>) -> Result<Value, Fault> {
     let mut roles = Members::new(alloc);
-    roles.put("root", rule_value(alloc, keys, said.root)?)?;
-    roles.put("snapshot", rule_value(alloc, keys, said.snapshot)?)?;
-    roles.put("targets", rule_value(alloc, keys, said.targets)?)?;
-    roles.put("timestamp", rule_value(alloc, keys, said.timestamp)?)?;
-    Ok(roles.object())
+    roles.put("root", rule_value(alloc, keys, said.root));
+    roles.put("snapshot", rule_value(alloc, keys, said.snapshot));
+    roles.put("targets", rule_value(alloc, keys, said.targets));
+    roles.put("timestamp", rule_value(alloc, keys, said.timestamp));
+    roles.object()
 }
 
 fn rule_value(alloc: Global, keys: &Keys, rule: &Rule) -> Result<Value, Fault> {
     let mut members = Members::new(alloc);
-    put_rule(alloc, keys, "keyids", rule, &mut members)?;
-    Ok(members.object())
+    put_rule(alloc, keys, "keyids", rule, &mut members);
+    members.object()
 }
 
 /// Puts the rule among the members, its ids under this name.
-pub fn put_rule(
-    alloc: Global,
-    keys: &Keys,
-    name: &str,
-    rule: &Rule,
-    members: &mut Members,
-) -> Result<(), Fault> {
+pub fn put_rule(alloc: Global, keys: &Keys, name: &str, rule: &Rule, members: &mut Members) {
+    members.put(name, ids_of(alloc, keys, rule));
+    members.put_number("threshold", rule.threshold);
+}
+
+fn ids_of(alloc: Global, keys: &Keys, rule: &Rule) -> Result<Value, Fault> {
     let mut ids = Vec::new(alloc);
     for key in &rule.keys {
         let id = text_value(alloc, keys.id(*key)?)?;
         ids.push(id)?;
     }
-    members.put(name, Value::List(ids))?;
-    members.put_number("threshold", rule.threshold)?;
-    Ok(())
+    Ok(Value::List(ids))
 }
 
 /// The signed part of metadata of the kind `timestamp` or `snapshot`, which says this of other files, by their roles' names.
@@ -161,31 +158,31 @@ pub fn meta_signed(
     let mut files = Members::new(alloc);
     for (role, entry) in roles {
         let name = format!(in alloc; "{role}.json")?;
-        files.put(name.as_str(), entry_value(alloc, entry)?)?;
+        files.put(name.as_str(), entry_value(alloc, entry));
     }
-    let mut members = begun(alloc, kind, version, expires)?;
-    members.put("meta", files.object())?;
-    Ok(members.object())
+    let mut members = begun(alloc, kind, version, expires);
+    members.put("meta", files.object());
+    members.object()
 }
 
-fn entry_value(alloc: Global, entry: &Entry) -> Result<Value, AllocError> {
+fn entry_value(alloc: Global, entry: &Entry) -> Result<Value, Fault> {
     let mut members = Members::new(alloc);
     if let Some(digest) = &entry.digest {
-        members.put("hashes", hashes(alloc, digest)?)?;
+        members.put("hashes", hashes(alloc, digest));
     }
     if let Some(length) = entry.length {
-        members.put_number("length", length)?;
+        members.put_number("length", length);
     }
-    members.put_number("version", entry.version)?;
-    Ok(members.object())
+    members.put_number("version", entry.version);
+    members.object()
 }
 
 /// `{"sha256":..}`.
-pub fn hashes(alloc: Global, digest: &Digest) -> Result<Value, AllocError> {
+pub fn hashes(alloc: Global, digest: &Digest) -> Result<Value, Fault> {
     let digits = digest.text(alloc)?;
     let mut members = Members::new(alloc);
-    members.put_text("sha256", digits.as_str())?;
-    Ok(members.object())
+    members.put_text("sha256", digits.as_str());
+    members.object()
 }
 
 /// The signed part of targets metadata. It has the member `delegations` where there is one, and in it the keys of their rules.
@@ -195,41 +192,52 @@ pub fn targets_signed(alloc: Global, keys: &Keys, said: &Targets<'_>) -> Result<
         let reference = reference_of(said.references, path.as_str());
         files.put(
             path.as_str(),
-            listing_value(alloc, keys, listing, reference)?,
-        )?;
+            listing_value(alloc, keys, listing, reference),
+        );
     }
-    let mut members = begun(alloc, "targets", said.version, said.expires)?;
+    let mut members = begun(alloc, "targets", said.version, said.expires);
     if !said.delegations.is_empty() {
-        members.put("delegations", delegations(alloc, keys, said.delegations)?)?;
+        members.put("delegations", delegations(alloc, keys, said.delegations));
     }
-    members.put("targets", files.object())?;
-    Ok(members.object())
+    members.put("targets", files.object());
+    members.object()
 }
 
 fn delegations(alloc: Global, keys: &Keys, said: &[Delegation]) -> Result<Value, Fault> {
+    let mut members = Members::new(alloc);
+    members.put("keys", delegated_keys(alloc, keys, said));
+    members.put("roles", delegated_roles(alloc, keys, said));
+    members.object()
+}
+
+// The keys of all delegations.
+fn delegated_keys(alloc: Global, keys: &Keys, said: &[Delegation]) -> Result<Value, Fault> {
     let mut all = Vec::new(alloc);
-    let mut roles = Vec::new(alloc);
     for delegation in said {
         add_keys(&mut all, &delegation.rule)?;
+    }
+    keys_of(alloc, keys, &all)
+}
+
+fn delegated_roles(alloc: Global, keys: &Keys, said: &[Delegation]) -> Result<Value, Fault> {
+    let mut roles = Vec::new(alloc);
+    for delegation in said {
         let role = delegation_value(alloc, keys, delegation)?;
         roles.push(role)?;
     }
-    let mut members = Members::new(alloc);
-    members.put("keys", keys_of(alloc, keys, &all)?)?;
-    members.put("roles", Value::List(roles))?;
-    Ok(members.object())
+    Ok(Value::List(roles))
 }
 
 fn delegation_value(alloc: Global, keys: &Keys, said: &Delegation) -> Result<Value, Fault> {
     let mut members = Members::new(alloc);
-    members.put_text("name", said.name.as_str())?;
-    put_rule(alloc, keys, "keyids", &said.rule, &mut members)?;
-    members.put("terminating", Value::Bool(said.terminating))?;
+    members.put_text("name", said.name.as_str());
+    put_rule(alloc, keys, "keyids", &said.rule, &mut members);
+    members.put("terminating", Ok(Value::Bool(said.terminating)));
     match &said.scope {
-        Scope::Patterns(patterns) => members.put("paths", texts(alloc, patterns)?)?,
-        Scope::Prefixes(prefixes) => members.put("path_hash_prefixes", texts(alloc, prefixes)?)?,
+        Scope::Patterns(patterns) => members.put("paths", texts(alloc, patterns)),
+        Scope::Prefixes(prefixes) => members.put("path_hash_prefixes", texts(alloc, prefixes)),
     }
-    Ok(members.object())
+    members.object()
 }
 
 // What refers the target of this path to a layout.
@@ -254,31 +262,31 @@ fn listing_value(
     let mut members = Members::new(alloc);
     if let Some(reference) = reference {
         let mut custom = Members::new(alloc);
-        custom.put("layout", reference_value(alloc, keys, reference)?)?;
-        members.put("custom", custom.object())?;
+        custom.put("layout", reference_value(alloc, keys, reference));
+        members.put("custom", custom.object());
     }
-    members.put("hashes", hashes(alloc, &listing.digest)?)?;
-    members.put_number("length", listing.length)?;
-    Ok(members.object())
+    members.put("hashes", hashes(alloc, &listing.digest));
+    members.put_number("length", listing.length);
+    members.object()
 }
 
 fn reference_value(alloc: Global, keys: &Keys, said: &LayoutReference) -> Result<Value, Fault> {
     let mut members = Members::new(alloc);
-    put_rule(alloc, keys, "keyids", &said.owners, &mut members)?;
-    members.put("keys", keys_of(alloc, keys, &said.owners.keys)?)?;
-    members.put("links", texts(alloc, &said.links)?)?;
-    members.put_text("path", said.path.as_str())?;
-    members.put_text("product", said.product.as_str())?;
-    members.put_text("step", said.step.as_str())?;
-    Ok(members.object())
+    put_rule(alloc, keys, "keyids", &said.owners, &mut members);
+    members.put("keys", keys_of(alloc, keys, &said.owners.keys));
+    members.put("links", texts(alloc, &said.links));
+    members.put_text("path", said.path.as_str());
+    members.put_text("product", said.product.as_str());
+    members.put_text("step", said.step.as_str());
+    members.object()
 }
 
 // What all kinds have.
-fn begun(alloc: Global, kind: &str, version: u32, expires: &str) -> Result<Members, AllocError> {
+fn begun(alloc: Global, kind: &str, version: u32, expires: &str) -> Members {
     let mut members = Members::new(alloc);
-    members.put_text("_type", kind)?;
-    members.put_text("expires", expires)?;
-    members.put_text("spec_version", SPEC_VERSION)?;
-    members.put_number("version", version)?;
-    Ok(members)
+    members.put_text("_type", kind);
+    members.put_text("expires", expires);
+    members.put_text("spec_version", SPEC_VERSION);
+    members.put_number("version", version);
+    members
 }

@@ -80,12 +80,12 @@ impl Keys {
             Some(_) => "hss-sha256",
         };
         let mut keyval = Members::new(self.alloc);
-        keyval.put_text("public", public)?;
+        keyval.put_text("public", public);
         let mut key = Members::new(self.alloc);
-        key.put_text("keytype", "lms")?;
-        key.put("keyval", keyval.object())?;
-        key.put_text("scheme", scheme)?;
-        Ok(key.object())
+        key.put_text("keytype", "lms");
+        key.put("keyval", keyval.object());
+        key.put_text("scheme", scheme);
+        key.object()
     }
 
     /// The entry of a signature of the message by the leaf, and where its key has several levels by those below it, as it stands in a
@@ -96,12 +96,20 @@ impl Keys {
         below: &[Leaf],
         message: &[u8],
     ) -> Result<Value, Fault> {
-        let pair = self.pair(leaf.key)?;
+        let signature = self.signature_of(leaf, below, message)?;
+        let digits = hex::encode(self.alloc, &signature)?;
+        let mut entry = Members::new(self.alloc);
+        entry.put_text("keyid", self.id(leaf.key)?);
+        entry.put_text("sig", digits.as_str());
+        entry.object()
+    }
+
+    fn signature_of(&self, leaf: Leaf, below: &[Leaf], message: &[u8]) -> Result<Vec<u8>, Fault> {
         let mut signature = Vec::new(self.alloc);
         if let Some(levels) = leaf.key.levels {
             signature.extend_from_slice(&levels.wrapping_sub(1).to_be_bytes())?;
         }
-        let (mut signer, mut number) = (&pair.top, leaf.number);
+        let (mut signer, mut number) = (&self.pair(leaf.key)?.top, leaf.number);
         for next in below {
             let lower = &self.pair(next.key)?.top;
             signer.sign(number, &lower.public(), &mut signature)?;
@@ -109,11 +117,7 @@ impl Keys {
             (signer, number) = (lower, next.number);
         }
         signer.sign(number, message, &mut signature)?;
-        let digits = hex::encode(self.alloc, &signature)?;
-        let mut entry = Members::new(self.alloc);
-        entry.put_text("keyid", pair.id.as_str())?;
-        entry.put_text("sig", digits.as_str())?;
-        Ok(entry.object())
+        Ok(signature)
     }
 }
 
@@ -126,21 +130,31 @@ fn pair_of(alloc: Global, key: SeedKey, ots: OtsType) -> Result<Pair, AllocError
         ots,
         height: SigningHeight::H5,
     };
-    let pair = KeyPair::new(alloc, &seed, params)?;
-    let top = pair.public();
+    let top = KeyPair::new(alloc, &seed, params)?;
+    let (id, public) = texts_of(alloc, key.levels, top.public())?;
+    Ok(Pair {
+        key,
+        top,
+        id,
+        public,
+    })
+}
+
+// The id and the public key of the key whose top key this is.
+fn texts_of(
+    alloc: Global,
+    levels: Option<u32>,
+    top: [u8; 56],
+) -> Result<(String, String), AllocError> {
     let mut public = Vec::new(alloc);
-    if let Some(levels) = key.levels {
+    if let Some(levels) = levels {
         public.extend_from_slice(&levels.to_be_bytes())?;
     }
     public.extend_from_slice(&top)?;
-    let id = match public.as_array::<60>() {
-        Some(public) => key_id(alloc, &Key::Hss(*public))?,
-        None => key_id(alloc, &Key::Lms(top))?,
+    let key = match public.as_array::<60>() {
+        Some(public) => Key::Hss(*public),
+        None => Key::Lms(top),
     };
-    Ok(Pair {
-        key,
-        top: pair,
-        id: hex::encode(alloc, &id.0)?,
-        public: hex::encode(alloc, &public)?,
-    })
+    let id = key_id(alloc, &key)?;
+    Ok((hex::encode(alloc, &id.0)?, hex::encode(alloc, &public)?))
 }

@@ -5,7 +5,7 @@ use crate::keys::Keys;
 use crate::members::{Members, text_value};
 use canonical_json::Value;
 use path_patterns::Digest;
-use std::alloc::{AllocError, Global};
+use std::alloc::Global;
 
 /// A step of a layout: its name, the rule of its functionaries' keys, and its artifact rules, each its words with spaces between.
 #[derive(Drop)]
@@ -31,63 +31,74 @@ pub fn layout_signed(
     expires: &str,
     steps: &[Step],
 ) -> Result<Value, Fault> {
+    let mut members = Members::new(alloc);
+    members.put_text("_type", "layout");
+    members.put_text("expires", expires);
+    members.put("inspect", Ok(Value::List(Vec::new(alloc))));
+    members.put("keys", key_table(alloc, keys, steps));
+    members.put("steps", steps_value(alloc, keys, steps));
+    members.object()
+}
+
+// The keys of all steps.
+fn key_table(alloc: Global, keys: &Keys, steps: &[Step]) -> Result<Value, Fault> {
     let mut all = Vec::new(alloc);
-    let mut list = Vec::new(alloc);
     for step in steps {
         add_keys(&mut all, &step.rule)?;
+    }
+    keys_of(alloc, keys, &all)
+}
+
+fn steps_value(alloc: Global, keys: &Keys, steps: &[Step]) -> Result<Value, Fault> {
+    let mut list = Vec::new(alloc);
+    for step in steps {
         let value = step_value(alloc, keys, step)?;
         list.push(value)?;
-    }
-    let mut members = Members::new(alloc);
-    members.put_text("_type", "layout")?;
-    members.put_text("expires", expires)?;
-    members.put("inspect", Value::List(Vec::new(alloc)))?;
-    members.put("keys", keys_of(alloc, keys, &all)?)?;
-    members.put("steps", Value::List(list))?;
-    Ok(members.object())
-}
-
-fn step_value(alloc: Global, keys: &Keys, step: &Step) -> Result<Value, Fault> {
-    let mut members = Members::new(alloc);
-    members.put("expected_materials", rule_list(alloc, &step.materials)?)?;
-    members.put("expected_products", rule_list(alloc, &step.products)?)?;
-    members.put_text("name", step.name.as_str())?;
-    put_rule(alloc, keys, "pubkeys", &step.rule, &mut members)?;
-    Ok(members.object())
-}
-
-fn rule_list(alloc: Global, rules: &[String]) -> Result<Value, AllocError> {
-    let mut list = Vec::new(alloc);
-    for rule in rules {
-        let words = words_value(alloc, rule.as_str())?;
-        list.push(words).map_err(AllocError::from)?;
     }
     Ok(Value::List(list))
 }
 
-fn words_value(alloc: Global, rule: &str) -> Result<Value, AllocError> {
+fn step_value(alloc: Global, keys: &Keys, step: &Step) -> Result<Value, Fault> {
+    let mut members = Members::new(alloc);
+    members.put("expected_materials", rule_list(alloc, &step.materials));
+    members.put("expected_products", rule_list(alloc, &step.products));
+    members.put_text("name", step.name.as_str());
+    put_rule(alloc, keys, "pubkeys", &step.rule, &mut members);
+    members.object()
+}
+
+fn rule_list(alloc: Global, rules: &[String]) -> Result<Value, Fault> {
+    let mut list = Vec::new(alloc);
+    for rule in rules {
+        let words = words_value(alloc, rule.as_str())?;
+        list.push(words)?;
+    }
+    Ok(Value::List(list))
+}
+
+fn words_value(alloc: Global, rule: &str) -> Result<Value, Fault> {
     let mut words = Vec::new(alloc);
     for word in rule.split_whitespace() {
         let value = text_value(alloc, word)?;
-        words.push(value).map_err(AllocError::from)?;
+        words.push(value)?;
     }
     Ok(Value::List(words))
 }
 
 /// The signed part of a link.
-pub fn link_signed(alloc: Global, said: &Link<'_>) -> Result<Value, AllocError> {
+pub fn link_signed(alloc: Global, said: &Link<'_>) -> Result<Value, Fault> {
     let mut members = Members::new(alloc);
-    members.put_text("_type", "link")?;
-    members.put("materials", artifacts(alloc, said.materials)?)?;
-    members.put_text("name", said.name)?;
-    members.put("products", artifacts(alloc, said.products)?)?;
-    Ok(members.object())
+    members.put_text("_type", "link");
+    members.put("materials", artifacts(alloc, said.materials));
+    members.put_text("name", said.name);
+    members.put("products", artifacts(alloc, said.products));
+    members.object()
 }
 
-fn artifacts(alloc: Global, said: &[(String, Digest)]) -> Result<Value, AllocError> {
+fn artifacts(alloc: Global, said: &[(String, Digest)]) -> Result<Value, Fault> {
     let mut members = Members::new(alloc);
     for (path, digest) in said {
-        members.put(path.as_str(), hashes(alloc, digest)?)?;
+        members.put(path.as_str(), hashes(alloc, digest));
     }
-    Ok(members.object())
+    members.object()
 }

@@ -2,7 +2,7 @@
 use crate::fault::Fault;
 use crate::keys::{Keys, SeedKey};
 use canonical_json::{Value, write};
-use std::alloc::Global;
+use std::alloc::{AllocError, Global};
 
 /// A leaf of a seed's tree, with the key that has it as its top tree. That of a key of several levels signs the key of the leaf behind it, which is
 /// of one level less, and any other signs the message: so a list has the leaves of one HSS signature behind one another, the top one first.
@@ -21,7 +21,16 @@ pub fn signed_file(
     signed: &[u8],
     leaves: &[Leaf],
 ) -> Result<Vec<u8>, Fault> {
-    let mut signatures = Vec::new(alloc);
+    let entries = entries_of(alloc, keys, signed, leaves)?;
+    let mut file = Vec::from_slice(alloc, b"{\"signatures\":")?;
+    write(&entries, &mut file)?;
+    push_signed(&mut file, signed)?;
+    Ok(file)
+}
+
+// The signatures of the leaves: a key of several levels takes so many of them.
+fn entries_of(alloc: Global, keys: &Keys, signed: &[u8], leaves: &[Leaf]) -> Result<Value, Fault> {
+    let mut entries = Vec::new(alloc);
     let mut rest = leaves;
     for _ in leaves {
         let Some((leaf, behind)) = rest.split_first() else {
@@ -30,13 +39,15 @@ pub fn signed_file(
         let signed_keys = leaf.key.levels.unwrap_or(1).saturating_sub(1) as usize;
         let (below, later) = behind.split_at(signed_keys.min(behind.len()));
         let entry = keys.signature_value(*leaf, below, signed)?;
-        signatures.push(entry)?;
+        entries.push(entry)?;
         rest = later;
     }
-    let mut file = Vec::from_slice(alloc, b"{\"signatures\":")?;
-    write(&Value::List(signatures), &mut file)?;
+    Ok(Value::List(entries))
+}
+
+fn push_signed(file: &mut Vec<u8>, signed: &[u8]) -> Result<(), AllocError> {
     file.extend_from_slice(b",\"signed\":")?;
     file.extend_from_slice(signed)?;
     file.extend_from_slice(b"}")?;
-    Ok(file)
+    Ok(())
 }
