@@ -27,13 +27,13 @@ fn granted_by(
     now: Moment,
 ) -> Result<String, LineFault> {
     match get(alloc, state, path, now) {
-        Ok(bytes) => Ok(bytes_text(alloc, files, bytes)?),
-        Err(Refusal::Denied(denial)) => Ok(denial_text(alloc, &denial, None)?),
+        Ok(bytes) => bytes_text(alloc, files, bytes),
+        Err(Refusal::Denied(denial)) => denial_text(alloc, &denial, None),
         Err(Refusal::OutOfMemory) => Err(LineFault::OutOfMemory),
     }
 }
 
-impl Session {
+impl Session<'_> {
     /// `agree PATH`: fetches a target into the client's database from the state that the server's rows stand for: how that ends, and
     /// behind ` | ` what the state itself answers.
     pub fn agree(&mut self, text: &str) -> Result<String, LineFault> {
@@ -45,7 +45,7 @@ impl Session {
     }
 
     fn agree_on(&mut self, path: &TargetPath) -> Result<String, LineFault> {
-        match state_of(self.alloc, &mut self.base) {
+        match state_of(self.alloc, self.base) {
             Ok(state) => self.both_ends(&state, path),
             Err(fault) => Err(fault),
         }
@@ -64,7 +64,7 @@ impl Session {
             self.refusals = self.refusals.saturating_add(1);
             end = self.fetch_once(state, path);
         }
-        Ok(end_text(self.alloc, &self.files, &end)?)
+        end_text(self.alloc, &self.files, &end)
     }
 
     fn fetch_once(&mut self, state: &State, path: &TargetPath) -> End {

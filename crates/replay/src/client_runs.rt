@@ -5,7 +5,7 @@ use crate::source::{Asked, Mirror, fetch_text};
 use client::{ClientFault, FetchFault, fetch_target, update};
 use machine::TargetPath;
 use script_words::{File, LineFault};
-use std::alloc::{AllocError, Global};
+use std::alloc::Global;
 
 // What a client is to do.
 #[derive(Drop)]
@@ -34,7 +34,7 @@ impl Run {
     }
 
     // A line for each name that was asked for, and one that tells the end.
-    fn text(&self, alloc: Global, files: &[File]) -> Result<String, AllocError> {
+    fn text(&self, alloc: Global, files: &[File]) -> Result<String, LineFault> {
         let mut text = lines_without(alloc, &self.asked, &[])?;
         text.push_str(end_text(alloc, files, &self.end)?.as_str())?;
         Ok(text)
@@ -46,14 +46,14 @@ pub fn end_text(
     alloc: Global,
     files: &[File],
     end: &Result<Option<Vec<u8>>, ClientFault>,
-) -> Result<String, AllocError> {
+) -> Result<String, LineFault> {
     match end {
         Ok(None) => text_of(alloc, "updated"),
         Ok(Some(bytes)) => bytes_text(alloc, files, bytes),
         Err(ClientFault::Denied(denial)) => denial_text(alloc, denial, None),
         Err(ClientFault::Fetch(fault)) => {
             let text = fetch_text(*fault);
-            format!(in alloc; "fault {text}")
+            Ok(format!(in alloc; "fault {text}")?)
         }
         Err(ClientFault::Database) => text_of(alloc, "fault database"),
         Err(ClientFault::OutOfMemory) => text_of(alloc, "fault memory"),
@@ -61,7 +61,7 @@ pub fn end_text(
 }
 
 // A line for each name but those of others.
-fn lines_without(alloc: Global, asked: &[Asked], others: &[Asked]) -> Result<String, AllocError> {
+fn lines_without(alloc: Global, asked: &[Asked], others: &[Asked]) -> Result<String, LineFault> {
     let mut text = String::new(alloc);
     for one in asked {
         if !is_asked(others, one.name.as_str()) {
@@ -98,7 +98,7 @@ fn is_kept(first: &[Asked], again: &[Asked]) -> bool {
     true
 }
 
-impl Session {
+impl Session<'_> {
     /// `update`: brings the client up to date.
     pub fn update(&mut self) -> Result<String, LineFault> {
         self.run(&Wish::Update)
@@ -117,12 +117,12 @@ impl Session {
         let alloc = self.alloc;
         let first = self.run_once(wish)?;
         if !first.wants_memory() {
-            return Ok(first.text(alloc, &self.files)?);
+            return first.text(alloc, &self.files);
         }
         self.refusals = self.refusals.saturating_add(1);
         let again = self.run_once(wish)?;
         if !is_kept(&first.asked, &again.asked) {
-            return Ok(text_of(alloc, "what was taken is asked for again")?);
+            return text_of(alloc, "what was taken is asked for again");
         }
         let mut text = lines_without(alloc, &first.asked, &again.asked)?;
         text.push_str(again.text(alloc, &self.files)?.as_str())?;

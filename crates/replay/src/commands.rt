@@ -1,11 +1,11 @@
 //! Commands over the store, each answered by one line.
-use crate::replies::{fault_text, reply_text, row_text, text_of};
+use crate::replies::{due_text, fault_text, reply_text, rows_text, text_of};
 use crate::session::Session;
 use case_databases::{Command, Reply, StoreFault, cold_search};
 use machine::{Offer, Steps, TargetPath};
 use metadata::Kind;
 use path_patterns::RoleName;
-use script_words::{LineFault, digest_word, find, key_of, kind_named, with_literals};
+use script_words::{File, LineFault, digest_word, find, key_of, kind_named, with_literals};
 use std::alloc::Global;
 
 /// What a document is offered as: `root`, `timestamp`, `snapshot`, or the name of another role.
@@ -42,14 +42,32 @@ fn documents_of<'a>(
 ) -> Result<Vec<(Offer, &'a [u8])>, LineFault> {
     let mut documents = Vec::new(alloc);
     for (word, file) in text.split_whitespace().zip(files.iter()) {
-        let (role, _) = role_and_name(word)?;
-        let offer = offer_of(alloc, role)?;
-        documents.push((offer, file.as_slice()))?;
+        documents.push((offered_in(alloc, word)?, file.as_slice()))?;
     }
     Ok(documents)
 }
 
-impl Session {
+// What `ROLE:NAME` offers.
+fn offered_in(alloc: Global, word: &str) -> Result<Offer, LineFault> {
+    let (role, _) = role_and_name(word)?;
+    offer_of(alloc, role)
+}
+
+// The bytes of the files of `ROLE:NAME ..`.
+fn files_named(alloc: Global, files: &[File], text: &str) -> Result<Vec<Vec<u8>>, LineFault> {
+    let mut named = Vec::new(alloc);
+    for word in text.split_whitespace() {
+        named.push(file_named(files, word)?)?;
+    }
+    Ok(named)
+}
+
+fn file_named(files: &[File], word: &str) -> Result<Vec<u8>, LineFault> {
+    let (_, name) = role_and_name(word)?;
+    Ok(find(files, name)?.bytes.clone()?)
+}
+
+impl Session<'_> {
     /// Makes a command. Where memory was refused, the rows have to be as before, and it is made once more.
     pub fn ask(&mut self, command: Command<'_>) -> Result<String, LineFault> {
         let answer = self.base.apply(command, self.now);
@@ -57,17 +75,17 @@ impl Session {
             return self.ask_again(command);
         }
         self.rows = None;
-        Ok(reply_text(self.alloc, &self.files, &answer)?)
+        reply_text(self.alloc, &self.files, &answer)
     }
 
     fn ask_again(&mut self, command: Command<'_>) -> Result<String, LineFault> {
         self.refusals = self.refusals.saturating_add(1);
         if !self.has_rows_of_before()? {
-            return Ok(text_of(self.alloc, "rows are changed by a refusal")?);
+            return text_of(self.alloc, "rows are changed by a refusal");
         }
         let answer = self.base.apply(command, self.now);
         self.rows = None;
-        Ok(reply_text(self.alloc, &self.files, &answer)?)
+        reply_text(self.alloc, &self.files, &answer)
     }
 
     /// Whether the rows are those that were looked at before, where they were.
@@ -97,20 +115,9 @@ impl Session {
 
     /// `batch ROLE:NAME ..`.
     pub fn batch(&mut self, text: &str) -> Result<String, LineFault> {
-        let files = self.files_named(text)?;
+        let files = files_named(self.alloc, &self.files, text)?;
         let documents = documents_of(self.alloc, text, &files)?;
         self.ask(Command::Batch(&documents))
-    }
-
-    // The bytes of the files of `ROLE:NAME ..`.
-    fn files_named(&self, text: &str) -> Result<Vec<Vec<u8>>, LineFault> {
-        let mut files = Vec::new(self.alloc);
-        for word in text.split_whitespace() {
-            let (_, name) = role_and_name(word)?;
-            let bytes = find(&self.files, name)?.bytes.clone()?;
-            files.push(bytes)?;
-        }
-        Ok(files)
     }
 
     /// `put DIGEST NAME`.
@@ -148,48 +155,48 @@ impl Session {
     pub fn due(&mut self) -> Result<String, LineFault> {
         let alloc = self.alloc;
         let Some(store) = self.base.store() else {
-            return Ok(text_of(alloc, "shut")?);
+            return text_of(alloc, "shut");
         };
-        let mut text = match store.root_version() {
-            Some(version) => format!(in alloc; "root {version}")?,
-            None => text_of(alloc, "no root")?,
-        };
-        if let Some(version) = store.snapshot_due() {
-            let due = format!(in alloc; " snapshot {version} is due")?;
-            text.push_str(due.as_str())?;
-        }
-        Ok(text)
+        due_text(alloc, store.root_version(), store.snapshot_due())
     }
 
     /// `checks PATH`: how many signatures a request for the target checks.
     pub fn checks(&mut self, text: &str) -> Result<String, LineFault> {
+        match TargetPath::read(self.alloc, text)? {
+            Some(path) => self.checks_of(&path),
+            None => Err(LineFault::NotUnderstood),
+        }
+    }
+
+    fn checks_of(&mut self, path: &TargetPath) -> Result<String, LineFault> {
         let alloc = self.alloc;
         let now = self.now;
-        let Some(path) = TargetPath::read(alloc, text)? else {
-            return Err(LineFault::NotUnderstood);
-        };
         let Some(store) = self.base.store() else {
-            return Ok(text_of(alloc, "shut")?);
+            return text_of(alloc, "shut");
         };
         let mut checks = Steps::new();
-        let _ = store.get_counted(&path, now, &mut checks);
+        let _ = store.get_counted(path, now, &mut checks);
         let count = checks.count();
         Ok(format!(in alloc; "{count} checks")?)
     }
 
     /// `cold PATH`: how many signatures a search for the target checks, and how many roles it visits, where nothing is known.
     pub fn cold(&mut self, text: &str) -> Result<String, LineFault> {
+        match TargetPath::read(self.alloc, text)? {
+            Some(path) => self.cold_of(&path),
+            None => Err(LineFault::NotUnderstood),
+        }
+    }
+
+    fn cold_of(&mut self, path: &TargetPath) -> Result<String, LineFault> {
         let alloc = self.alloc;
-        let Some(path) = TargetPath::read(alloc, text)? else {
-            return Err(LineFault::NotUnderstood);
-        };
         let Some(store) = self.base.store() else {
-            return Ok(text_of(alloc, "shut")?);
+            return text_of(alloc, "shut");
         };
         let Some(version) = store.root_version() else {
-            return Ok(text_of(alloc, "no root")?);
+            return text_of(alloc, "no root");
         };
-        let (checks, visits) = cold_search(alloc, store.held(), version, &path, self.now)?;
+        let (checks, visits) = cold_search(alloc, store.held(), version, path, self.now)?;
         Ok(format!(in alloc; "{checks} checks, {visits} visits")?)
     }
 
@@ -199,7 +206,7 @@ impl Session {
             return Err(LineFault::NotUnderstood);
         };
         let is_same = find(&self.files, first)?.bytes == find(&self.files, second)?.bytes;
-        Ok(text_of(self.alloc, if is_same { "equal" } else { "different" })?)
+        text_of(self.alloc, if is_same { "equal" } else { "different" })
     }
 
     /// `key KEY`: the id of the key, and the key.
@@ -220,8 +227,8 @@ impl Session {
         }
         self.rows = None;
         match opened {
-            Ok(()) => Ok(text_of(self.alloc, line)?),
-            Err(fault) => Ok(text_of(self.alloc, fault_text(fault))?),
+            Ok(()) => text_of(self.alloc, line),
+            Err(fault) => text_of(self.alloc, fault_text(fault)),
         }
     }
 
@@ -239,7 +246,7 @@ impl Session {
             Ok(()) => "opened",
             Err(fault) => fault_text(fault),
         };
-        Ok(text_of(self.alloc, text)?)
+        text_of(self.alloc, text)
     }
 
     /// `sql TEXT`: changes the tables behind the store's back.
@@ -247,7 +254,7 @@ impl Session {
         let text = with_literals(self.alloc, &self.files, text)?;
         self.rows = None;
         let done = self.base.execute(text.as_str());
-        Ok(text_of(self.alloc, if done.is_ok() { "done" } else { "failed" })?)
+        text_of(self.alloc, if done.is_ok() { "done" } else { "failed" })
     }
 
     /// `rows`: a line for each row of the six tables.
@@ -259,12 +266,8 @@ impl Session {
         let Ok(rows) = rows else {
             return Err(LineFault::OutOfMemory);
         };
-        let mut text = text_of(self.alloc, "rows")?;
-        for line in &rows {
-            text.push_str("\n  ")?;
-            text.push_str(row_text(self.alloc, &self.files, line.as_str())?.as_str())?;
-        }
+        let text = rows_text(self.alloc, &self.files, &rows);
         self.rows = Some(rows);
-        Ok(text)
+        text
     }
 }

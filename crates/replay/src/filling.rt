@@ -4,7 +4,7 @@ use crate::session::Session;
 use case_databases::{Filling, put_rows};
 use script_words::{LineFault, find, number_of};
 
-impl Session {
+impl Session<'_> {
     /// `fill roots N`: roots 1 to N, one key, of seed 1, for all roles. `fill blobs N`: the blobs of the numbers below N, as four
     /// bytes each. `fill shelf N NAME`: the file at version 1 of N roles. `fill blob NAME`: the file as a blob.
     pub fn fill(&mut self, text: &str) -> Result<String, LineFault> {
@@ -28,6 +28,6 @@ impl Session {
             Some(conn) => put_rows(self.alloc, conn, &filling, count).is_ok(),
             None => false,
         };
-        Ok(text_of(self.alloc, if done { "done" } else { "failed" })?)
+        text_of(self.alloc, if done { "done" } else { "failed" })
     }
 }

@@ -28,7 +28,7 @@ pub fn response(
 pub const NO_MEMORY: &[u8] =
     b"HTTP/1.1 503 Service Unavailable\r\nContent-Type: application/json\r\nContent-Length: 18\r\nConnection: close\r\n\r\n{\"fault\":\"memory\"}";
 
-impl Session {
+impl Session<'_> {
     // The response over the store that is open.
     fn answer(&mut self, request: &[u8]) -> Result<Vec<u8>, LineFault> {
         let now = self.now;
@@ -50,16 +50,16 @@ impl Session {
             return self.respond_again(request);
         }
         self.rows = None;
-        Ok(response_text(self.alloc, &self.files, &given)?)
+        response_text(self.alloc, &self.files, &given)
     }
 
     fn respond_again(&mut self, request: &[u8]) -> Result<String, LineFault> {
         self.refusals = self.refusals.saturating_add(1);
         if !self.has_rows_of_before()? {
-            return Ok(text_of(self.alloc, "rows are changed by a refusal")?);
+            return text_of(self.alloc, "rows are changed by a refusal");
         }
         let given = self.answer(request)?;
         self.rows = None;
-        Ok(response_text(self.alloc, &self.files, &given)?)
+        response_text(self.alloc, &self.files, &given)
     }
 }

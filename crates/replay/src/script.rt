@@ -2,12 +2,10 @@
 use crate::failure::Failure;
 use crate::replies::text_of;
 use crate::session::Session;
+use case_databases::Base;
 use script_words::{LineFault, number_of};
 use std::alloc::Global;
 use std::io::{BufRead, Write};
-
-// Steps that are being kept.
-type Kept = Option<(String, Vec<String>)>;
 
 /// Answers each line of the script, up to one that is not understood, and says how often memory was refused in what it did.
 pub fn replay<R: BufRead, W: Write>(
@@ -15,14 +13,34 @@ pub fn replay<R: BufRead, W: Write>(
     input: &mut R,
     output: &mut W,
 ) -> Result<u64, Failure> {
-    let mut session = match Session::new(alloc) {
+    let mut base = Base::None;
+    let mut client = Base::None;
+    replay_over(alloc, &mut base, &mut client, input, output)
+}
+
+fn replay_over<R: BufRead, W: Write>(
+    alloc: Global,
+    base: &mut Base,
+    client: &mut Base,
+    input: &mut R,
+    output: &mut W,
+) -> Result<u64, Failure> {
+    let mut session = match Session::new(alloc, base, client) {
         Ok(session) => session,
         Err(fault) => return Err(failure_of(fault, 0)),
     };
     let answered = replay_lines(&mut session, input, output);
+    ended(output, answered, session.refusals)
+}
+
+fn ended<W: Write>(
+    output: &mut W,
+    answered: Result<(), Failure>,
+    refusals: u64,
+) -> Result<u64, Failure> {
     output.flush()?;
     answered?;
-    Ok(session.refusals)
+    Ok(refusals)
 }
 
 fn failure_of(fault: LineFault, line: u64) -> Failure {
@@ -33,52 +51,56 @@ fn failure_of(fault: LineFault, line: u64) -> Failure {
 }
 
 fn replay_lines<R: BufRead, W: Write>(
-    session: &mut Session,
+    session: &mut Session<'_>,
     input: &mut R,
     output: &mut W,
 ) -> Result<(), Failure> {
-    let mut kept = None;
     let mut line = Vec::new(session.alloc);
     for number in 1..u64::MAX {
-        line.clear();
-        if input.read_until(b'\n', &mut line)? == 0 {
+        if !replay_line(session, input, output, &mut line, number)? {
             return Ok(());
-        }
-        let Ok(text) = str::from_utf8(line.strip_suffix(b"\n").unwrap_or(&line)) else {
-            return Err(Failure::NotUnderstood(number));
-        };
-        match answer(session, &mut kept, text) {
-            Ok(reply) if reply.is_empty() => {}
-            Ok(reply) => writeln!(output, "{reply}")?,
-            Err(fault) => return Err(failure_of(fault, number)),
         }
     }
     Err(Failure::Stream)
 }
 
-// What a line is answered; nothing where it only sets something.
-fn answer(session: &mut Session, kept: &mut Kept, line: &str) -> Result<String, LineFault> {
-    let nothing = String::new(session.alloc);
-    if line.is_empty() || line.starts_with("#") {
-        return Ok(nothing);
+// Answers the next line, if there is one.
+fn replay_line<R: BufRead, W: Write>(
+    session: &mut Session<'_>,
+    input: &mut R,
+    output: &mut W,
+    line: &mut Vec<u8>,
+    number: u64,
+) -> Result<bool, Failure> {
+    line.clear();
+    if input.read_until(b'\n', line)? == 0 {
+        return Ok(false);
     }
-    if let Some((name, mut lines)) = kept.take() {
-        if line == "end" {
-            session.keep_steps(name, lines)?;
-        } else {
-            lines.push(String::from_str(session.alloc, line.trim_start())?)?;
-            *kept = Some((name, lines));
-        }
-        return Ok(nothing);
+    let Ok(text) = str::from_utf8(line.strip_suffix(b"\n").unwrap_or(line)) else {
+        return Err(Failure::NotUnderstood(number));
+    };
+    match answer(session, text) {
+        Ok(reply) if reply.is_empty() => {}
+        Ok(reply) => writeln!(output, "{reply}")?,
+        Err(fault) => return Err(failure_of(fault, number)),
+    }
+    Ok(true)
+}
+
+// What a line is answered; nothing where it only sets something.
+fn answer(session: &mut Session<'_>, line: &str) -> Result<String, LineFault> {
+    if line.is_empty() || line.starts_with("#") {
+        return Ok(String::new(session.alloc));
+    }
+    if let Some(kept) = session.kept.take() {
+        session.keep(kept, line)?;
+        return Ok(String::new(session.alloc));
     }
     let (word, rest) = line.split_once(' ').unwrap_or((line, ""));
     match word {
         "steps" => {
-            *kept = Some((
-                String::from_str(session.alloc, rest)?,
-                Vec::new(session.alloc),
-            ));
-            Ok(nothing)
+            session.begin_steps(rest)?;
+            Ok(String::new(session.alloc))
         }
         "begin" => replayed(session, rest),
         "repeat" => repeated(session, rest),
@@ -87,7 +109,7 @@ fn answer(session: &mut Session, kept: &mut Kept, line: &str) -> Result<String, 
 }
 
 // The lines that are kept under a name.
-fn lines_of(session: &Session, name: &str) -> Result<Vec<String>, LineFault> {
+fn lines_of(session: &Session<'_>, name: &str) -> Result<Vec<String>, LineFault> {
     for steps in &session.steps {
         if steps.name.as_str() == name {
             return Ok(steps.lines.clone()?);
@@ -97,7 +119,7 @@ fn lines_of(session: &Session, name: &str) -> Result<Vec<String>, LineFault> {
 }
 
 // `begin NAME`: the replies of the lines that are kept under the name, in one line.
-fn replayed(session: &mut Session, name: &str) -> Result<String, LineFault> {
+fn replayed(session: &mut Session<'_>, name: &str) -> Result<String, LineFault> {
     let lines = lines_of(session, name)?;
     let mut text = String::new(session.alloc);
     for line in &lines {
@@ -111,7 +133,7 @@ fn replayed(session: &mut Session, name: &str) -> Result<String, LineFault> {
 }
 
 // `repeat N NAME`: the same N times, and whether all of them were as the first.
-fn repeated(session: &mut Session, text: &str) -> Result<String, LineFault> {
+fn repeated(session: &mut Session<'_>, text: &str) -> Result<String, LineFault> {
     let (count, name) = text.split_once(' ').unwrap_or((text, ""));
     let first = replayed_in(session, name, 0)?;
     for time in 1..number_of(count)? {
@@ -123,14 +145,14 @@ fn repeated(session: &mut Session, text: &str) -> Result<String, LineFault> {
 }
 
 // The replies of the lines, where the file `ROUND` says how many times they were replayed before.
-fn replayed_in(session: &mut Session, name: &str, round: u32) -> Result<String, LineFault> {
+fn replayed_in(session: &mut Session<'_>, name: &str, round: u32) -> Result<String, LineFault> {
     let file = format!(in session.alloc; "ROUND = text {round}")?;
     set(session, "file", file.as_str())?;
     replayed(session, name)
 }
 
 // A line that is no word about other lines.
-fn answer_line(session: &mut Session, line: &str) -> Result<String, LineFault> {
+fn answer_line(session: &mut Session<'_>, line: &str) -> Result<String, LineFault> {
     let (word, rest) = line.split_once(' ').unwrap_or((line, ""));
     match word {
         "client" => over_client(session, rest),
@@ -146,7 +168,7 @@ fn answer_line(session: &mut Session, line: &str) -> Result<String, LineFault> {
 }
 
 // `client LINE`: the line over the client's database, which is begun where there is none.
-fn over_client(session: &mut Session, line: &str) -> Result<String, LineFault> {
+fn over_client(session: &mut Session<'_>, line: &str) -> Result<String, LineFault> {
     session.begin_client()?;
     session.turn();
     let reply = over_store(session, line);
@@ -155,7 +177,7 @@ fn over_client(session: &mut Session, line: &str) -> Result<String, LineFault> {
 }
 
 // A line about one database, or about none.
-fn over_store(session: &mut Session, line: &str) -> Result<String, LineFault> {
+fn over_store(session: &mut Session<'_>, line: &str) -> Result<String, LineFault> {
     let (word, rest) = line.split_once(' ').unwrap_or((line, ""));
     match word {
         "init" => session.init(rest),
@@ -180,12 +202,13 @@ fn over_store(session: &mut Session, line: &str) -> Result<String, LineFault> {
 }
 
 // A line that has no reply.
-fn set(session: &mut Session, word: &str, rest: &str) -> Result<String, LineFault> {
-    match word {
-        "now" => session.set_now(rest)?,
-        "file" => session.name_file(rest)?,
-        "source" => session.answer_for(rest)?,
-        _ => return Err(LineFault::NotUnderstood),
-    }
-    Ok(text_of(session.alloc, "")?)
+fn set(session: &mut Session<'_>, word: &str, rest: &str) -> Result<String, LineFault> {
+    let done = match word {
+        "now" => session.set_now(rest),
+        "file" => session.name_file(rest),
+        "source" => session.answer_for(rest),
+        _ => Err(LineFault::NotUnderstood),
+    };
+    done?;
+    text_of(session.alloc, "")
 }

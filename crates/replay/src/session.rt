@@ -16,19 +16,21 @@ pub struct Steps {
     pub lines: Vec<String>,
 }
 
-/// What a script works on: the moment, the files that it has named, the database of the case, that of its client, and what the client's
-/// source answers in place of what the server would.
+/// What a script works on: the moment, the files and the steps that it has named, the database of the case, that of its client, and what the
+/// client's source answers in place of what the server would. The databases are lent: what owns one is expensive to prove (docs/GATE.md).
 #[derive(Drop)]
-pub struct Session {
+pub struct Session<'b> {
     pub alloc: Global,
     pub keys: Keys,
     pub now: Moment,
     pub now_text: String,
     pub files: Vec<File>,
     pub steps: Vec<Steps>,
+    /// Steps whose lines are being kept.
+    pub kept: Option<Steps>,
     pub routes: Routes,
-    pub base: Base,
-    pub client: Base,
+    pub base: &'b mut Base,
+    pub client: &'b mut Base,
     pub answers: Vec<Answer>,
     /// The rows that were looked at last, where nothing was done since.
     pub rows: Option<Vec<String>>,
@@ -39,28 +41,37 @@ pub struct Session {
 // The moment at which a script begins.
 const START: &str = "2030-01-01T00:00:00Z";
 
-impl Session {
-    /// A session with nothing named and no database.
-    pub fn new(alloc: Global) -> Result<Session, LineFault> {
+impl<'b> Session<'b> {
+    /// A session with nothing named, over these databases.
+    pub fn new(
+        alloc: Global,
+        base: &'b mut Base,
+        client: &'b mut Base,
+    ) -> Result<Session<'b>, LineFault> {
         let Some(now) = read_date_time(START) else {
             return Err(LineFault::NotUnderstood);
         };
+        let now_text = String::from_str(alloc, START)?;
+        let routes = routes(alloc)?;
         Ok(Session {
             alloc,
             keys: Keys::new(alloc, OtsType::W4),
             now,
-            now_text: String::from_str(alloc, START)?,
+            now_text,
             files: Vec::new(alloc),
             steps: Vec::new(alloc),
-            routes: routes(alloc)?,
-            base: Base::None,
-            client: Base::None,
+            kept: None,
+            routes,
+            base,
+            client,
             answers: Vec::new(alloc),
             rows: None,
             refusals: 0,
         })
     }
+}
 
+impl Session<'_> {
     /// Sets the moment.
     pub fn set_now(&mut self, text: &str) -> Result<(), LineFault> {
         let Some(now) = read_date_time(text) else {
@@ -73,13 +84,13 @@ impl Session {
 
     /// Forgets the client's database, and what its source answers.
     pub fn forget_client(&mut self) {
-        self.client = Base::None;
+        *self.client = Base::None;
         self.answers.clear();
     }
 
     /// Puts the client's database in the place of the server's, and the server's in its own.
     pub fn turn(&mut self) {
-        exchange(&mut self.base, &mut self.client);
+        exchange(self.base, self.client);
         self.rows = None;
     }
 
@@ -123,12 +134,12 @@ impl Session {
     fn made(&mut self, form: &str) -> Result<(String, Vec<u8>), LineFault> {
         let (word, rest) = form.split_once(' ').unwrap_or((form, ""));
         let bytes = match word {
-            "text" => Vec::from_slice(self.alloc, rest.as_bytes())?,
-            "hex" => bytes_of_hex(self.alloc, rest)?,
-            "bytes" => expanded(self.alloc, &self.files, rest)?,
-            "many" => self.many(rest)?,
-            "cut" => self.cut(rest)?,
-            "signed" => self.signed(rest)?,
+            "text" => copied(self.alloc, rest.as_bytes()),
+            "hex" => bytes_of_hex(self.alloc, rest),
+            "bytes" => expanded(self.alloc, &self.files, rest),
+            "many" => self.many(rest),
+            "cut" => self.cut(rest),
+            "signed" => self.signed(rest),
             _ => {
                 return described(
                     self.alloc,
@@ -140,7 +151,7 @@ impl Session {
                 );
             }
         };
-        Ok((String::new(self.alloc), bytes))
+        Ok((String::new(self.alloc), bytes?))
     }
 
     // `N TEXT`: the bytes of the text, N times.
@@ -164,7 +175,7 @@ impl Session {
         let bytes = &find(&self.files, name)?.bytes;
         let count = (number_of(count)? as usize).min(bytes.len());
         let (front, _) = bytes.split_at(count);
-        Ok(Vec::from_slice(self.alloc, front)?)
+        copied(self.alloc, front)
     }
 
     // `NAME by LEAF ..`: the file whose signed part is the file of that name.
@@ -191,11 +202,36 @@ impl Session {
         Ok(bytes)
     }
 
-    /// Keeps lines under a name.
-    pub fn keep_steps(&mut self, name: String, lines: Vec<String>) -> Result<(), LineFault> {
-        self.steps.push(Steps { name, lines })?;
+    /// Begins steps of this name.
+    pub fn begin_steps(&mut self, name: &str) -> Result<(), LineFault> {
+        let name = String::from_str(self.alloc, name)?;
+        self.kept = Some(Steps {
+            name,
+            lines: Vec::new(self.alloc),
+        });
         Ok(())
     }
+
+    /// Keeps one more line of steps, or all of them at their end.
+    pub fn keep(&mut self, kept: Steps, line: &str) -> Result<(), LineFault> {
+        if line == "end" {
+            self.steps.push(kept)?;
+            return Ok(());
+        }
+        self.kept = Some(longer(self.alloc, kept, line.trim_start())?);
+        Ok(())
+    }
+}
+
+// The steps with one more line.
+fn longer(alloc: Global, steps: Steps, line: &str) -> Result<Steps, LineFault> {
+    let mut steps = steps;
+    steps.lines.push(String::from_str(alloc, line)?)?;
+    Ok(steps)
+}
+
+fn copied(alloc: Global, bytes: &[u8]) -> Result<Vec<u8>, LineFault> {
+    Ok(Vec::from_slice(alloc, bytes)?)
 }
 
 fn routes(alloc: Global) -> Result<Routes, AllocError> {

@@ -7,7 +7,7 @@ use http_serve::Routes;
 use metadata::Moment;
 use script_words::{File, LineFault, find};
 use sqlite::MemStore;
-use std::alloc::{AllocError, Global};
+use std::alloc::Global;
 
 /// What is answered in place of what the server would.
 #[derive(Drop)]
@@ -78,13 +78,20 @@ impl Source for Mirror<'_> {
         limit: usize,
     ) -> Result<Option<Vec<u8>>, FetchFault> {
         let answer = self.answer(alloc, name);
-        let asked = asked_of(alloc, self.files, name, limit, &answer)?;
-        self.asked.push(asked).map_err(AllocError::from)?;
-        answer
+        let asked = asked_of(alloc, self.files, name, limit, &answer);
+        match self.keep(asked) {
+            Ok(()) => answer,
+            Err(_) => Err(FetchFault::OutOfMemory),
+        }
     }
 }
 
 impl Mirror<'_> {
+    fn keep(&mut self, asked: Result<Asked, LineFault>) -> Result<(), LineFault> {
+        self.asked.push(asked?)?;
+        Ok(())
+    }
+
     fn answer(&mut self, alloc: Global, name: &str) -> Result<Option<Vec<u8>>, FetchFault> {
         match said_of(self.answers, name) {
             Some(Said::Nothing) => Ok(None),
@@ -136,7 +143,7 @@ fn asked_of(
     name: &str,
     limit: usize,
     answer: &Result<Option<Vec<u8>>, FetchFault>,
-) -> Result<Asked, AllocError> {
+) -> Result<Asked, LineFault> {
     let text = match answer {
         Ok(Some(bytes)) => bytes_text(alloc, files, bytes)?,
         Ok(None) => text_of(alloc, "none")?,
