@@ -52,6 +52,21 @@ pub fn get<O: Write, E: Write>(
     out: &mut O,
     notes: &mut Notes<'_, E>,
 ) -> Result<(), Fault> {
+    let bytes = fetched(rt, asked, at, notes)?;
+    if is_of_database(rt, asked.db, asked.out)? {
+        notes.tell(&asked.out, &"a file of the client's own database");
+        return Err(Fault::File);
+    }
+    put(rt, asked.out, &bytes, notes)?;
+    print(out, b"written\n", notes)
+}
+
+fn fetched<E: Write>(
+    rt: &HostRuntime,
+    asked: Getting<'_>,
+    at: Option<u64>,
+    notes: &mut Notes<'_, E>,
+) -> Result<Vec<u8>, Fault> {
     let now = moment(rt, at)?;
     let path = target_path(rt, asked.path, notes)?;
     let call = Call::begun(rt, asked.within)?;
@@ -62,13 +77,7 @@ pub fn get<O: Write, E: Write>(
         path: &path,
         now,
     };
-    let bytes = worked(rt, asked.db, &mut fetching, notes)?;
-    if is_of_database(rt, asked.db, asked.out)? {
-        notes.tell(&asked.out, &"a file of the client's own database");
-        return Err(Fault::File);
-    }
-    put(rt, asked.out, &bytes, notes)?;
-    print(out, b"written\n", notes)
+    worked(rt, asked.db, &mut fetching, notes)
 }
 
 // Whether a path leads to the file of a database, or to its log. Both are there once the database was opened.

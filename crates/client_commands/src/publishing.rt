@@ -22,26 +22,38 @@ pub fn publish_at<O: Write, E: Write>(
     let files = read_all(rt, &documents, notes)?;
     let body = batch_body(rt, arguments, &files, notes)?;
     let batch = batch_of(rt.alloc(), documents, &files)?;
+    let offered = Offered {
+        arguments,
+        batch: &batch,
+    };
+    publish_body(rt, port, offered, &body, out, notes)
+}
+
+// Sends what is offered.
+fn publish_body<O: Write, E: Write>(
+    rt: &HostRuntime,
+    port: u16,
+    offered: Offered<'_>,
+    body: &[u8],
+    out: &mut O,
+    notes: &mut Notes<'_, E>,
+) -> Result<(), Fault> {
     let mut asking = Asking { rt, port };
-    let had_timestamp = asking.before(&batch, notes);
+    let had_timestamp = asking.before(offered.batch, notes);
     let sending = Sending {
         rt,
         port,
         method: Method::Post,
         name: "batch",
-        body: &body,
+        body,
     };
     let sent = sending.send(notes);
-    let offered = Offered {
-        arguments,
-        batch: &batch,
-    };
     tell_why(&mut asking, &sent, offered, notes);
-    let reply = tell_argument(sent, arguments, notes)?;
+    let reply = tell_argument(sent, offered.arguments, notes)?;
     let Some((_, same)) = read_accepted(&reply) else {
         return Err(sending.unknown(Fault::Network, notes));
     };
-    asking.behind(arguments, &batch, had_timestamp, same, notes);
+    asking.behind(offered.arguments, offered.batch, had_timestamp, same, notes);
     print(out, &reply, notes)?;
     print(out, b"\n", notes)
 }
@@ -97,7 +109,18 @@ pub fn put_at<O: Write, E: Write>(
         notes.tell(&file, &"denied");
         return Err(Fault::Denied(Denial::BlobLength, None));
     }
-    let digits = digest_of(&bytes).digits();
+    put_bytes(rt, port, file, &bytes, out, notes)
+}
+
+fn put_bytes<O: Write, E: Write>(
+    rt: &HostRuntime,
+    port: u16,
+    file: &str,
+    bytes: &[u8],
+    out: &mut O,
+    notes: &mut Notes<'_, E>,
+) -> Result<(), Fault> {
+    let digits = digest_of(bytes).digits();
     let digits = str::from_utf8(&digits).unwrap_or("-");
     let name = format!(in rt.alloc(); "blobs/{digits}")?;
     let sending = Sending {
@@ -105,7 +128,7 @@ pub fn put_at<O: Write, E: Write>(
         port,
         method: Method::Put,
         name: name.as_str(),
-        body: &bytes,
+        body: bytes,
     };
     let reply = match sending.send(notes) {
         Ok(reply) => reply,

@@ -21,18 +21,49 @@ pub fn measure(
     layout: &str,
     links: &[String],
 ) -> Result<(), Failure> {
-    let alloc = rt.alloc();
-    let targets = read_targets_file(alloc, &fs::read(rt, targets)?)?;
-    let Some(listing) = targets.body.listing(path) else {
-        return Err(Failure::NotAllowed);
-    };
-    let layout = read_layout_file(alloc, &fs::read(rt, layout)?)?;
+    let targets = read_targets_file(rt.alloc(), &fs::read(rt, targets)?)?;
+    match targets.body.listing(path) {
+        Some(listing) => measure_listed(rt, rounds, listing, layout, links),
+        None => Err(Failure::NotAllowed),
+    }
+}
+
+// The same of a target that is listed so.
+fn measure_listed(
+    rt: &(impl Files + Clock + Print + AllocGlobal),
+    rounds: u32,
+    listing: &Listing,
+    layout: &str,
+    links: &[String],
+) -> Result<(), Failure> {
+    let layout = read_layout_file(rt.alloc(), &fs::read(rt, layout)?)?;
+    measure_layout(rt, rounds, listing, &layout, links)
+}
+
+fn measure_layout(
+    rt: &(impl Files + Clock + Print + AllocGlobal),
+    rounds: u32,
+    listing: &Listing,
+    layout: &File<Layout>,
+    links: &[String],
+) -> Result<(), Failure> {
     let links = links_of(rt, links)?;
-    let ruling = time_of_rules(rt, alloc, rounds, &layout.body.steps, &links)?;
-    let checking = time_of_layout(rt, alloc, rounds, listing, &layout, &links)?;
+    tell(rt, rounds, listing, layout, &links)
+}
+
+fn tell(
+    rt: &(impl Clock + Print + AllocGlobal),
+    rounds: u32,
+    listing: &Listing,
+    layout: &File<Layout>,
+    links: &[File<Link>],
+) -> Result<(), Failure> {
+    let steps = &layout.body.steps;
+    let ruling = time_of_rules(rt, rt.alloc(), rounds, steps, links)?;
+    let checking = time_of_layout(rt, rt.alloc(), rounds, listing, layout, links)?;
     println!(rt;
         "steps {} links {} rules {} layout {}",
-        layout.body.steps.len(),
+        steps.len(),
         links.len(),
         rate(1, rounds, ruling),
         rate(1, rounds, checking)
@@ -61,9 +92,19 @@ fn time_of_rules(
     for link in links.iter().take(steps.len()) {
         bodies.push(&link.body).map_err(AllocError::from)?;
     }
+    time_of_bodies(rt, alloc, rounds, steps, &bodies)
+}
+
+fn time_of_bodies(
+    rt: &impl Clock,
+    alloc: Global,
+    rounds: u32,
+    steps: &[Step],
+    links: &[&Link],
+) -> Result<Duration, Failure> {
     let start = now(rt)?;
     for _ in 0..rounds {
-        if !all_hold(alloc, steps, &bodies) {
+        if !all_hold(alloc, steps, links) {
             return Err(Failure::NotAllowed);
         }
     }

@@ -26,6 +26,17 @@ pub fn measure(rt: &(impl Clock + Print + AllocGlobal), rounds: u32) -> Result<(
     let w4 = measure_type(rt, "w4", OtsType::W4, &message, rounds)?;
     let w8 = measure_type(rt, "w8", OtsType::W8, &message, rounds)?;
     println!(rt; "sha2 {alone}")?;
+    tell_ratios(rt, alone, w1, w2, w4, w8)
+}
+
+fn tell_ratios(
+    rt: &(impl Print + AllocGlobal),
+    alone: u128,
+    w1: u128,
+    w2: u128,
+    w4: u128,
+    w8: u128,
+) -> Result<(), Failure> {
     println!(rt;
         "ratio w1 {} w2 {} w4 {} w8 {}",
         percent(w1, alone),
@@ -51,11 +62,22 @@ fn measure_type(
     let public = public_of(&SEED, params);
     let mut signature = Vec::new(rt.alloc());
     sign(&SEED, params, 0, message, &mut signature)?;
+    tell_type(rt, name, &public, message, &signature, rounds)
+}
+
+fn tell_type(
+    rt: &(impl Clock + Print + AllocGlobal),
+    name: &str,
+    public: &[u8; 56],
+    message: &[u8],
+    signature: &[u8],
+    rounds: u32,
+) -> Result<u128, Failure> {
     let mut steps = Steps::new();
-    if !verify_counted(&public, message, &signature, &mut steps) {
+    if !verify_counted(public, message, signature, &mut steps) {
         return Err(Failure::NotVerified);
     }
-    let verifying = time_of_verifying(rt, &public, message, &signature, rounds)?;
+    let verifying = time_of_verifying(rt, public, message, signature, rounds)?;
     let hashes = rate(steps.count(), rounds, verifying);
     println!(rt;
         "{name} verify {} hashes {hashes}",

@@ -25,7 +25,14 @@ fn main(rt: HostRuntime) -> ExitCode {
 // Makes the measurement that the words of the command line ask for. The first word is the program's name.
 fn run(rt: &(impl Env + Files + Clock + Print + AllocGlobal)) -> Result<(), Failure> {
     let words: Vec<String> = env::args(rt)?.collect(rt.alloc())?;
-    match words.as_slice() {
+    measured(rt, words.as_slice())
+}
+
+fn measured(
+    rt: &(impl Files + Clock + Print + AllocGlobal),
+    words: &[String],
+) -> Result<(), Failure> {
+    match words {
         [_, task, rounds] if task.as_str() == "lms" => lms_rates::measure(rt, rounds_of(rounds)?),
         [_, task, rounds, kind, file] if task.as_str() == "documents" => {
             documents::measure(rt, rounds_of(rounds)?, kind, file)

@@ -1,6 +1,6 @@
 //! `publish`: offers documents in order, which are taken together or not at all.
 use crate::put::put;
-use authoring::{complete_batch_in, empty, waiting_files};
+use authoring::{Batch, complete_batch_in, empty, waiting_files};
 use client_commands::publish_at;
 use command_line::Place;
 use command_support::{Fault, Notes, moment, print};
@@ -45,14 +45,37 @@ pub fn publish_in_folder<O: Write, E: Write>(
     let _now = moment(rt, at)?;
     let folder = Folder::new(rt, folder);
     let batch = complete_batch_in(rt.alloc(), folder, notes)?;
-    let files = waiting_files(rt.alloc(), folder, notes)?;
-    for file in &files {
+    put_waiting(rt, place, folder, at, notes)?;
+    publish_batch(rt, place, folder, &batch, at, out, notes)
+}
+
+// Puts the target files that wait in a folder.
+fn put_waiting<E: Write>(
+    rt: &HostRuntime,
+    place: &Place,
+    folder: Folder<'_>,
+    at: Option<u64>,
+    notes: &mut Notes<'_, E>,
+) -> Result<(), Fault> {
+    for file in &waiting_files(rt.alloc(), folder, notes)? {
         let mut unheard = Vec::new(rt.alloc());
         put(rt, place, file.as_str(), at, &mut unheard, notes)?;
     }
+    Ok(())
+}
+
+fn publish_batch<O: Write, E: Write>(
+    rt: &HostRuntime,
+    place: &Place,
+    folder: Folder<'_>,
+    batch: &Batch,
+    at: Option<u64>,
+    out: &mut O,
+    notes: &mut Notes<'_, E>,
+) -> Result<(), Fault> {
     let arguments = batch.arguments(rt.alloc(), folder)?;
     publish(rt, place, &arguments, at, out, notes)?;
-    empty(rt.alloc(), folder, &batch, notes)
+    empty(rt.alloc(), folder, batch, notes)
 }
 
 fn publish_in<O: Write, E: Write>(
