@@ -14,4 +14,3 @@ pub mod Once
 pub mod OneOfTwo
 pub mod PartsOnce
 pub mod Rising
-pub mod RuleWords

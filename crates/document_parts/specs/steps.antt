@@ -1,5 +1,4 @@
 -- Definitions that contracts of private functions cite.
 pub mod Faults
 pub mod Rising
-pub mod Words
 pub mod Tables

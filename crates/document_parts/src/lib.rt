@@ -17,6 +17,7 @@ pub mod members;
 pub mod moment;
 pub mod names;
 pub mod parts;
+pub mod required;
 pub mod rules;
 pub mod scopes;
 

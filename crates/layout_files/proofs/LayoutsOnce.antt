@@ -12,7 +12,7 @@ use Rattle.document_parts.proofs.Congruence.{same3, same4}
 use Rattle.document_parts.proofs.DelegationsOnce.{text-of-once}
 use Rattle.document_parts.proofs.Once.{IsOnce, IsOnceNamed, has-once, array-once, object-once}
 use Rattle.document_parts.proofs.PartsOnce.{expires-once, hashes-once, table-once, rule-once, pair-is}
-use Rattle.document_parts.proofs.RuleWords.{texts-once, words-once}
+use Rattle.layout_files.proofs.RuleWords.{texts-once, words-once}
 
 -- ---- layouts
 

@@ -1,2 +1,3 @@
 pub mod LayoutsNamed
 pub mod LayoutsOnce
+mod RuleWords

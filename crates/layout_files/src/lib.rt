@@ -4,4 +4,5 @@
 pub mod layout;
 pub mod link;
 pub mod rule_lists;
+pub mod rules;
 pub mod steps;

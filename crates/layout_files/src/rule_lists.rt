@@ -7,11 +7,12 @@ ghost use Rattle.document_parts.specs.RuleViews.{rule_view};
 ghost use Rattle.document_parts.specs.Rules.{ArtifactRule};
 ghost use Rattle.document_parts.specs.steps.Faults.{IsIll};
 
+use crate::rules::read_rule;
 use canonical_json::Value;
 use document_parts::documents::ShapeFault;
 use document_parts::keys::read_texts;
 use document_parts::members::items_of;
-use document_parts::rules::{Rule, read_rule};
+use document_parts::rules::Rule;
 use std::alloc::Global;
 
 // The most rules of one list.

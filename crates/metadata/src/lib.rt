@@ -35,7 +35,7 @@ pub use document_parts::keys::read_texts;
 pub use document_parts::links::{Artifacts, Link};
 pub use document_parts::members::{four_members, items_of, members_of, text_of, two_members};
 pub use document_parts::moment::{Moment, live};
-pub use document_parts::rules::{Match, Rule, Side, read_rule};
+pub use document_parts::rules::{Match, Rule, Side};
 pub use file::{
     File, read_layout_file, read_link_file, read_root_file, read_snapshot_file, read_targets_file,
     read_timestamp_file,
@@ -46,6 +46,7 @@ pub use laws::{
     snapshot_names,
 };
 pub use layout_files::link::read_artifacts;
+pub use layout_files::rules::read_rule;
 pub use path_patterns::{Digest, Pattern, RoleName, TargetPath};
 pub use signed::{SignedFile, read_signed};
 pub use snapshot::is_listable;

@@ -1,15 +1,13 @@
 // Root metadata (TUF 1.0, section 4.3).
-ghost use Rattle.std.specs.Prelude.{◌≡◌, ℕ, List, Option, codes, option_map, MatchOption, IfOk, IfErr};
+ghost use Rattle.std.specs.Prelude.{◌≡◌, ℕ, codes, MatchOption, IfOk, IfErr};
 ghost use Rattle.canonical_json.specs.Spelling.{IsProper};
 ghost use Rattle.canonical_json.specs.View.{view};
-ghost use Rattle.keys_roles.specs.Plain as plain;
 ghost use Rattle.keys_roles.specs.Views.{table_view};
-ghost use Rattle.path_patterns.specs.Grammar.{IsPattern};
-ghost use Rattle.document_parts.specs.Bodies.{Roles, AreRoles, AreTextsOf, HasRequired, HasRootHead, IsRoot};
+ghost use Rattle.document_parts.specs.Bodies.{Roles, AreRoles, HasRootHead, IsRoot};
 ghost use Rattle.document_parts.specs.Documents as documents;
 ghost use Rattle.document_parts.specs.steps.Faults.{IsIll, IsMisnamed, IsFaulty};
-ghost use Rattle.document_parts.specs.Members.{Has, MayHave};
-ghost use Rattle.document_parts.specs.Parts.{IsSpecVersionOf, IsTable, NamesAreIds};
+ghost use Rattle.document_parts.specs.Members.{Has};
+ghost use Rattle.document_parts.specs.Parts.{IsSpecVersionOf, NamesAreIds};
 ghost use Rattle.document_parts.specs.steps.Tables.{spelled_table, HasKeyed};
 ghost use Rattle.metadata.specs.steps.Spelled.{spelled_roles, keyed_view, AreOver};
 ghost use Rattle.document_parts.specs.Views.{profile_view, root_view};
@@ -23,9 +21,8 @@ use document_parts::keys::{
 use document_parts::members::{four_members, is_true_at, member_of};
 use document_parts::moment::Moment;
 use document_parts::parts::{profile_of, version_of};
-use document_parts::scopes::read_patterns;
+use document_parts::required::required_of;
 use keys_roles::{KeyTable, RoleRule};
-use path_patterns::Pattern;
 use std::alloc::Global;
 
 /// The rules of the four roles, as a file spells them.
@@ -95,35 +92,6 @@ fn profile_at(signed: &Value) -> Option<Profile>
     let found = member_of(signed, "spec_version")?;
     let profile = profile_of(found)?;
     Some(profile)
-}
-
-// The patterns of the paths that need a layout, if a root of this profile has them.
-fn required_of(
-    alloc: Global,
-    signed: &Value,
-    profile: Profile,
-) -> Result<Option<Vec<Pattern>>, ShapeFault>
-    requires { IsProper (view signed.now) }
-    ensures ok { IfOk result (λ o. HasRequired (view signed.now) (profile_view profile) (option_map (λ ps. ps.items) o)) }
-    ensures err { IfErr result (IsIll ((o : Option (List (List ℕ))) × HasRequired (view signed.now) (profile_view profile) o)) }
-{
-    match profile {
-        Profile::First => Ok(None),
-        Profile::Second => patterns_at(alloc, signed),
-    }
-}
-
-// The patterns that the object has under `layout_required`, if it has any.
-fn patterns_at(alloc: Global, signed: &Value) -> Result<Option<Vec<Pattern>>, ShapeFault>
-    requires { IsProper (view signed.now) }
-    ensures ok { IfOk result (λ o. MayHave (view signed.now) (codes "layout_required") (AreTextsOf IsPattern) (option_map (λ ps. ps.items) o)) }
-    ensures err { IfErr result (IsIll ((o : Option (List (List ℕ))) × MayHave (view signed.now) (codes "layout_required") (AreTextsOf IsPattern) o)) }
-{
-    let Some(found) = member_of(signed, "layout_required") else {
-        return Ok(None);
-    };
-    let patterns = read_patterns(alloc, found)?;
-    Ok(Some(patterns))
 }
 
 // The keys and the rules of the four roles that the object has, each key named by its id.

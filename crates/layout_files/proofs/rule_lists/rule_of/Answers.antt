@@ -2,7 +2,7 @@ use Rattle.std.proofs.Common.{refl, inr, List, ℕ, sym, ap, subst, ◌∙◌}
 use Rattle.canonical_json.specs.View.{view}
 use Rattle.document_parts.specs.Rules.{AreWordsOf}
 use Rattle.document_parts.specs.steps.Tables.{texts_view}
-use Rattle.document_parts.proofs.RuleWords.{texts-once}
+use Rattle.layout_files.proofs.RuleWords.{texts-once}
 use Rattle.layout_files.proofs.rule_lists.rule_of.Goals as goal
 
 pub returns-in_default-clause-err : goal.returns-in_default-clause-err

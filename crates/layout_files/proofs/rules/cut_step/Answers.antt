@@ -1,5 +1,5 @@
 use Rattle.std.proofs.Common.{rules, ◌≡◌, List, [], ◌∷◌, codes, length, string_bytes, refl, arith}
-use Rattle.document_parts.proofs.rules.cut_step.Goals as goal
+use Rattle.layout_files.proofs.rules.cut_step.Goals as goal
 
 none_left : {A : Type 0} (xs : List A) → length xs ≡ 0 → xs ≡ []
 none_left [] h = refl

@@ -5,7 +5,7 @@ use Rattle.path_patterns.specs.Grammar.{IsPattern}
 use Rattle.document_parts.specs.Bodies.{AreTextsOf}
 use Rattle.document_parts.proofs.Found.{held}
 use Rattle.document_parts.proofs.Ill.{ill_again}
-use Rattle.metadata.proofs.root.patterns_at.Goals as goal
+use Rattle.document_parts.proofs.required.patterns_at.Goals as goal
 
 pub returns-in_err-patterns-clause-err : goal.returns-in_err-patterns-clause-err
 returns-in_err-patterns-clause-err c =
