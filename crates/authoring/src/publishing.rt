@@ -2,11 +2,11 @@
 use crate::sealing::forgets_all;
 use command_support::{Fault, Notes, Slip};
 use drafts::{Folder, ListedFile, kind_of, offer_order, read_said};
-use machine::Offer;
 use metadata::{Digest, Kind, RoleName};
 use overviews::Growing;
 use std::alloc::{AllocError, Global};
 use std::io::Write;
+use subcommands::Offer;
 
 /// The documents of a folder of drafts, in the order in which they are offered: the roles with their files' places, and the bytes.
 #[derive(Drop)]

@@ -4,15 +4,13 @@ use command_line::Showing;
 use command_support::{Fault, Notes, moment, print};
 use drafts::Folder;
 use keys_roles::KeyId;
-use machine::{BatchRefusal, would_take};
 use metadata::Moment;
 use overview_rows::{drafts_in, put, show_standing};
 use overviews::{Drafts, drafts_as_json, drafts_as_lines, drafts_as_page};
-use repository_work::{Work, worked};
 use sqlite::Alter;
 use std::alloc::{AllocError, Global};
 use std::io::{IsTerminal, Write};
-use store::Store;
+use subcommands::{BatchRefusal, Offer, Store, Work, worked, would_take};
 
 /// Shows what a database holds, or what a folder of drafts has and what is to be done next; where both are given, also whether it is ready:
 /// what `publish` would be answered. Where something held expires within the days that are given, that is told last.
@@ -124,7 +122,7 @@ fn judge<E: Write>(
 #[derive(Clone, Copy)]
 struct Judging<'a> {
     alloc: Global,
-    offers: &'a [(machine::Offer, &'a [u8])],
+    offers: &'a [(Offer, &'a [u8])],
     now: Moment,
 }
 

@@ -2,11 +2,11 @@
 use delegations::{
     File, Moment, RoleName, Root, Row, Rows, Shelf, Snapshot, Steps, TargetPath, search_counted,
 };
-use machine::Held;
 use metadata::{read_root_file, read_snapshot_file, read_targets_file, read_timestamp_file};
 use path_patterns::metadata_name;
 use script_words::LineFault;
 use std::alloc::Global;
+use store::Held;
 
 /// How many signatures the search checks, and how many roles it visits, where a root, a timestamp and a snapshot are held.
 pub fn cold_search(

@@ -1,10 +1,11 @@
 //! The state that the rows of a case's database stand for. What is read is kept in place, so that nothing large is let go where a read fails.
 use crate::base::Base;
-use machine::{Contents, MetadataRows, State};
 use path_patterns::Digest;
+use repository_rows::{Contents, MetadataRows};
 use script_words::LineFault;
 use sqlite::{Connection, Error, MemStore, Row};
 use std::alloc::{AllocError, Global};
+use store::State;
 
 // A row of a version and bytes.
 type Versioned = (u32, Vec<u8>);

@@ -17,12 +17,12 @@ use crate::fault::{ClientFault, unmade};
 use crate::missing::missing;
 use crate::taking::take;
 use fetch::Source;
-use machine::{Denial, replies_tell};
 use metadata::Moment;
 use path_patterns::TargetPath;
 use sqlite::Alter;
 use std::alloc::Global;
-use store::{Command, Reply, Store, stands};
+use store::{Command, Denial, Reply, Store, stands};
+use trust_rules::replies_tell;
 
 // The most names that are fetched in one call: 128 metadata files and 66 target files, more than which no call needs.
 const MAX_NAMES: usize = 194;

@@ -13,12 +13,13 @@ use crate::fetching::fetch_target;
 use crate::laws::laws;
 use crate::updating::update;
 use fetch::{FetchFault, Source};
-use machine::{Refusal, State, metadata_file, target};
+use granting::target;
 use metadata::{Moment, one_document, one_shape};
 use path_patterns::{TargetPath, names_undo, read_asked};
 use sqlite::Alter;
 use std::alloc::Global;
-use store::Store;
+use store::{State, Store, metadata_file};
+use trusted_state::refusal::Refusal;
 
 // Answers from a state at a moment, as a server of it would.
 #[derive(Drop)]

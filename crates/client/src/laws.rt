@@ -3,12 +3,12 @@ ghost use Rattle.client.specs.Agreement.{AnchorIsBehind};
 ghost use Rattle.client.specs.steps.Laws.{GrantLaws, NewLaws, RootLaws, StepLaws};
 
 use delegations::missed_documents;
-use machine::{
+use metadata::{one_document, one_shape, snapshot_names};
+use path_patterns::names_undo;
+use trust_rules::{
     accepts_new, chains_go_on, granted_blobs, missed_files, names_find, offers_tell, one_chain,
     one_judgement, roots_are_taken, stays_valid,
 };
-use metadata::{one_document, one_shape, snapshot_names};
-use path_patterns::names_undo;
 
 /// A law, which does nothing: a client that trusts a server's first root alone, where at most 64 roots follow, is behind the server.
 pub fn anchor_is_behind()

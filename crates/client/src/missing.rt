@@ -6,9 +6,9 @@ ghost use Rattle.client.specs.Wanted as plain;
 ghost use Rattle.client.specs.WantedViews.{wanted_view};
 
 use crate::wanted::Wanted;
-use machine::Denial;
 use path_patterns::{NoMemory, RoleName};
 use std::alloc::Global;
+use store::Denial;
 
 // The file that a denial says is missing, if it says so.
 pub(crate) fn missing(alloc: Global, denial: &Denial) -> Result<Option<Wanted>, NoMemory>

@@ -14,11 +14,10 @@ use crate::fault::ClientFault;
 use crate::taking::take;
 use crate::wanted::Wanted;
 use fetch::Source;
-use machine::Denial;
 use metadata::Moment;
 use sqlite::Alter;
 use std::alloc::Global;
-use store::{Store, stands};
+use store::{Denial, Store, stands};
 
 // The most new roots of an update.
 const MAX_ROOTS: usize = 64;

@@ -8,9 +8,9 @@ ghost use Rattle.client.specs.Wanted as plain;
 ghost use Rattle.client.specs.WantedViews.{wanted_view};
 
 use limits::{BLOB_LIMIT, FILE_LIMIT};
-use machine::Offer;
 use path_patterns::{Digest, NoMemory, RoleName, TargetPath, consistent_name, metadata_name};
 use std::alloc::Global;
+use store::Offer;
 
 // What is made of a file.
 #[derive(Drop)]

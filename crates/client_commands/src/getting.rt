@@ -8,11 +8,10 @@ use command_support::{
 };
 use metadata::Moment;
 use path_patterns::TargetPath;
-use repository_work::{Work, worked};
 use sqlite::Alter;
 use std::alloc::AllocError;
 use std::io::Write;
-use store::Store;
+use subcommands::{Store, Work, worked};
 
 /// What is fetched, and where from and to: the file of the client's own state, the port or the mirrors, how many seconds all of it
 /// has, 600 where none are given, the file that is written, and the target's path.

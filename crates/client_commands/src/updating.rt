@@ -4,12 +4,10 @@ use crate::remote::{Call, Remote};
 use crate::server::Server;
 use command_support::{Fault, Notes, moment, print};
 use metadata::Moment;
-use repository_work::{Work, worked};
 use sqlite::Alter;
 use std::fmt;
 use std::io::{IsTerminal, Write};
-use store::Store;
-use subcommands::{FirstExpiry, Versions, tell_standing};
+use subcommands::{FirstExpiry, Store, Versions, Work, tell_standing, worked};
 
 /// Takes new roots, the timestamp and the snapshot from the repository at the port or the mirrors into the state in the database
 /// file, each where the state's own rules accept it, and prints `updated`. It warns where the repository has no timestamp, or the one that is

@@ -2,10 +2,9 @@
 use crate::files::Exporting;
 use command_support::{Fault, Notes, moment, print};
 use metadata::Moment;
-use repository_work::{Work, worked};
+use repository_work::{Store, Work, worked};
 use sqlite::Alter;
 use std::io::Write;
-use store::Store;
 
 /// Writes into a folder what the repository in the database file would answer for the names that clients ask for, each file where it
 /// is not there already, and prints how many were written.

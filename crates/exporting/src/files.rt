@@ -3,13 +3,12 @@ use command_support::{Denial, Fault, Notes, file_fault, put_in_place};
 use limits::BLOB_LIMIT;
 use metadata::{Body, Kind, Listing, Moment, digest_of};
 use path_patterns::consistent_name;
-use repository_work::fault_of_store;
+use repository_work::{Command, Reply, Store, fault_of_store};
 use served_files::{FileVisitor, visit_files};
 use sqlite::Alter;
 use std::alloc::{AllocError, Global};
 use std::fs::{self, File, Metadata};
 use std::io::{self, ErrorKind, Read, Write};
-use store::{Command, Reply, Store};
 
 // The mode of what is exported: everybody may read it, as far as the process's mask lets them.
 const FOR_ALL: u32 = 0o666;

@@ -9,8 +9,8 @@ ghost use Rattle.http_serve.specs.Serving.{Answered, AnsweredBy, Line, Serves};
 ghost use Rattle.store.specs.Standing.{IsClean, Moves, Standing};
 
 use http_messages::one_request;
-use machine::one_judgement;
 use path_patterns::names_undo;
+use trust_rules::one_judgement;
 
 /// A law, which does nothing: an input has one response at a moment, and leaves one state.
 pub fn one_response()

@@ -4,9 +4,9 @@ ghost use Rattle.std.specs.Prelude.{◌≡◌, IfOk};
 ghost use Rattle.trusted_state.specs.Views.{documents_view};
 ghost use Rattle.http_serve.specs.steps.Views.{offers_of as offers_of_lem};
 
-use machine::Offer;
 use path_patterns::RoleName;
 use std::alloc::{AllocError, Global};
+use store::Offer;
 
 // The documents with what is offered under their names. The error is want of memory.
 pub fn offers_of<'a>(

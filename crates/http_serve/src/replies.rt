@@ -13,9 +13,8 @@ use http_messages::{
     Cut, Fault, Kind, Status, Transmit, accepted_body, denial_body, pruned_body, stored_body,
     write_fault, write_response,
 };
-use machine::Denial;
 use std::alloc::Global;
-use store::{Command, Reply};
+use store::{Command, Denial, Reply};
 
 // The type of the files that a command is answered with.
 pub fn kind_of(command: &Command<'_>) -> Kind

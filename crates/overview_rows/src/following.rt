@@ -3,11 +3,10 @@ use command_support::{Denial, Fault, Notes};
 use drafts::{Folder, kind_of, read_said, version_in};
 use metadata::{Kind, Moment};
 use path_patterns::metadata_name;
-use repository_work::{Work, worked};
+use repository_work::{Command, Reply, Store, Work, worked};
 use sqlite::Alter;
 use std::alloc::Global;
 use std::io::Write;
-use store::{Command, Reply, Store};
 
 /// Puts into the folder what the database holds: the trusted root, the timestamp, the snapshot that it names, and the targets metadata that
 /// this lists. Drafts that are held by now are let go.

@@ -7,11 +7,10 @@ use command_support::{Fault, Notes, OWNER_ALONE, file_fault, print, put_in_place
 use keys_roles::KeyId;
 use metadata::Moment;
 use overviews::{Overview, as_bars, as_columns, as_json, as_page};
-use repository_work::{Work, worked};
+use repository_work::{Store, Work, worked};
 use sqlite::Alter;
 use std::alloc::AllocError;
 use std::io::{IsTerminal, Write};
-use store::Store;
 
 // What expires within so many days is shown as due, where it is not said otherwise.
 const DUE: u64 = 7;

@@ -5,9 +5,9 @@ use drafts::{Said, SaidRule, name_of_key, read_said};
 use keys_roles::KeyId;
 use metadata::{Digest, Moment, read_signed};
 use overviews::{Growing, KeyRow, Overview, Row};
+use repository_work::Store;
 use sqlite::Alter;
 use std::alloc::{AllocError, Global};
-use store::Store;
 
 // More roles than a snapshot lists are not looked at.
 const MOST_ROLES: usize = 4096;

@@ -6,9 +6,9 @@ use command_support::{Denial, Fault};
 use drafts::{ListedFile, Referred, SaidRule, covered_by, read_said, read_said_of, reference_of};
 use metadata::{Kind, Moment, SignedFile, TargetPath, read_signed};
 use overviews::{Growing, PathRow, StepRow};
+use repository_work::{Command, Reply, Store};
 use sqlite::Alter;
 use std::alloc::{AllocError, Global};
-use store::{Command, Reply, Store};
 
 // So many roles a search visits at most (TUF 1.0, section 5.6.7).
 const MOST_VISITS: usize = 4096;

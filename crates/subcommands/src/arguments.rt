@@ -5,9 +5,9 @@ ghost use Rattle.trusted_state.specs.Views.{offer_view};
 ghost use Rattle.subcommands.specs.Arguments.{AreDocuments, IsDocument, IsWhyNot};
 
 use crate::files::InputFile;
-use command_support::{Fault, Notes};
-use machine::{Denial, Offer};
+use command_support::{Denial, Fault, Notes};
 use path_patterns::RoleName;
+use repository_work::Offer;
 use std::alloc::{AllocError, Global};
 use std::io::Write;
 

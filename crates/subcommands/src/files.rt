@@ -2,7 +2,7 @@
 ghost use Rattle.std.specs.Prelude.{◌≡◌, IfOk, map};
 
 use command_support::{FILE_LIMIT, Fault, Notes, read_at_most};
-use machine::Offer;
+use repository_work::Offer;
 use std::io::Write;
 
 /// A file that was read: its path, and its bytes.

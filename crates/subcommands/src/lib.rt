@@ -12,7 +12,7 @@ pub use arguments::{batch_of, documents_of, tell_argument};
 pub use command_support::{Denial, Fault, Notes};
 pub use files::{InputFile, read_all};
 pub use forgetting::{FORGETS, FORGOTTEN, NOT_TAKEN, forgets, root_version_of};
-pub use machine::Offer;
 pub use reasons::HeldFiles;
+pub use repository_work::{BatchRefusal, Offer, Store, Work, worked, would_take};
 pub use standing::{FirstExpiry, Versions, tell_standing};
 pub use why::{Holding, Offered, tell_first_root, tell_listed};

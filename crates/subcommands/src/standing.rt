@@ -1,12 +1,12 @@
 //! What is told of a repository before it is served, and of a client's own state: what is trusted, and when the first of its documents expires.
 use command_support::{Notes, expiry_of};
 use metadata::{Body, Kind, Listing, Moment, ShapeFault, read_document};
+use repository_work::{Command, Reply, Store};
 use served_files::{FileVisitor, visit_files};
 use sqlite::Alter;
 use std::alloc::{AllocError, Global};
 use std::fmt;
 use std::io::Write;
-use store::{Command, Reply, Store};
 
 /// Tells the version of the trusted root, and the moment and the name of the document that expires first, of those that are in
 /// use: root, timestamp, snapshot, and the targets metadata that the snapshot lists.

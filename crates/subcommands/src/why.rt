@@ -1,13 +1,12 @@
 //! Why documents were denied, in words, and how many targets are listed.
 use command_support::Notes;
-use machine::Offer;
 use metadata::Moment;
 use reasons::{HeldFiles, listed_targets, reason};
+use repository_work::{Command, Offer, Reply, Store};
 use sqlite::Alter;
 use std::alloc::{AllocError, Global};
 use std::fmt::Display;
 use std::io::Write;
-use store::{Command, Reply, Store};
 
 /// What a repository holds at a moment.
 #[derive(Drop)]
