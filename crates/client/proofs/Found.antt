@@ -6,9 +6,9 @@ use Rattle.std.proofs.lemmas.List.{append_cancel_left}
 use Rattle.metadata.specs.File.{Bytes}
 use Rattle.denials.specs.Views.{denial_view}
 use Rattle.denials.specs.declared.denial.Denial.{Denial}
-use Rattle.trusted_state.specs.Answers.{Gives, denies, gives}
-use Rattle.trusted_state.specs.declared.refusal.Refusal.{Refusal}
-use Rattle.trusted_state.specs.declared.refusal.Refusal.TheVariants.{Denied}
+use Rattle.store.specs.Answers.{Gives, denies, gives}
+use Rattle.store.specs.DeclaredRefusal.{Refusal}
+use Rattle.store.specs.Refusals.{Denied}
 use Rattle.path_patterns.specs.Names.{IsNameOf}
 use Rattle.trust_rules.specs.State.{State}
 use Rattle.trust_rules.specs.Grants.{grants}

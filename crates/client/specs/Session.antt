@@ -6,7 +6,7 @@ use Rattle.denials.specs.Numbers as no
 use Rattle.denials.specs.Orders as orders
 use Rattle.trust_rules.specs.State.{State, IsSnapshotDue}
 use Rattle.trust_rules.specs.Grants.{grants}
-use Rattle.granting.specs.Serving.{HasLayout, is_by_layout}
+use Rattle.store.specs.Serving.{HasLayout, is_by_layout}
 use Rattle.trust_rules.specs.Runs.{Command, Reply, Refused, Steps}
 use Rattle.fetch.specs.Source.{Gives}
 use Rattle.fetch.specs.declared.FetchFault.{FetchFault}

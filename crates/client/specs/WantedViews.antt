@@ -1,7 +1,7 @@
 -- What the code's wanted files stand for.
 use Rattle.std.specs.Prelude.{string_bytes}
 use Rattle.metadata.specs.File.{Bytes}
-use Rattle.trusted_state.specs.Views.{offer_view}
+use Rattle.store.specs.StateViews.{offer_view}
 use Rattle.trust_rules.specs.Runs.{Command, OfferOne, PutBlob}
 use Rattle.client.specs.Wanted as plain
 use Rattle.client.specs.declared.wanted.Wanted.{Wanted}

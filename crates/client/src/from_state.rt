@@ -13,13 +13,11 @@ use crate::fetching::fetch_target;
 use crate::laws::laws;
 use crate::updating::update;
 use fetch::{FetchFault, Source};
-use granting::target;
 use metadata::{Moment, one_document, one_shape};
 use path_patterns::{TargetPath, names_undo, read_asked};
 use sqlite::Alter;
 use std::alloc::Global;
-use store::{State, Store, metadata_file};
-use trusted_state::refusal::Refusal;
+use store::{Refusal, State, Store, metadata_file, target};
 
 // Answers from a state at a moment, as a server of it would.
 #[derive(Drop)]

@@ -2,7 +2,7 @@
 ghost use Rattle.std.specs.Prelude.{◌≡◌, ◌++◌, IfOk, codes, string_bytes};
 ghost use Rattle.limits.specs.Limits.{file_limit};
 ghost use Rattle.trust_rules.specs.Runs as steps;
-ghost use Rattle.trusted_state.specs.Views.{offer_view};
+ghost use Rattle.store.specs.StateViews.{offer_view};
 ghost use Rattle.path_patterns.specs.Names.{IsNameOf, dotted};
 ghost use Rattle.client.specs.Wanted as plain;
 ghost use Rattle.client.specs.WantedViews.{wanted_view};

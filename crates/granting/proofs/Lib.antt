@@ -4,3 +4,4 @@ pub mod LoadedFiles
 pub mod ServedFrom
 pub mod ShortFiles
 pub mod TargetFiles
+pub use Rattle.trusted_state.proofs.ListedVerdicts

@@ -16,9 +16,9 @@ use delegations::Steps;
 use denials::Denial;
 use metadata::Moment;
 use path_patterns::{Digest, TargetPath};
-use state_parts::finding::blob_of;
 use std::alloc::Global;
 use trusted_state::held::Held;
+use trusted_state::pieces::finding::blob_of;
 use trusted_state::refusal::Refusal;
 use trusted_state::state::State;
 

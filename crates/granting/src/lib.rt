@@ -11,3 +11,4 @@ pub use getting::{
     get, get_counted, get_from, get_from_counted, target, target_from, target_from_counted,
 };
 pub use serving::{Blobs, GetFault, LoadFault, Served};
+pub use trusted_state as trusted;

@@ -15,18 +15,18 @@ ghost use Rattle.trust_rules.specs.Held.{OfEachState, length_at, bytes_at};
 ghost use Rattle.trusted_state.specs.Knowing.{ChecksFew, WantsFew};
 ghost use Rattle.trust_rules.specs.State as trust;
 ghost use Rattle.granting.specs.steps.Permitting.{listed_view};
-ghost use Rattle.state_parts.specs.Views.{length_views, trusted_view};
+ghost use Rattle.trusted_state.specs.PartViews.{length_views, trusted_view};
 
 use delegations::{Found, Rows, SearchDenial, Shelf, Steps, Verdicts, search_with_counted};
 use denials::Denial;
 use metadata::{Listing, Moment, Root};
 use path_patterns::{Digest, TargetPath};
-use state_parts::checks::are_same;
-use state_parts::finding::length_of;
-use state_parts::parts::{BlobLength, Trusted};
 use std::alloc::Global;
 use trusted_state::held::Held;
 use trusted_state::liveness::live_snapshot;
+use trusted_state::pieces::checks::are_same;
+use trusted_state::pieces::finding::length_of;
+use trusted_state::pieces::parts::{BlobLength, Trusted};
 use trusted_state::refusal::Refusal;
 
 /// A listing, the shelf on which it was found, and the root that the shelf stands under.

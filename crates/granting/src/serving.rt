@@ -8,9 +8,9 @@ ghost use Rattle.granting.specs.steps.Permitting.{IsLoaded, Reads};
 use denials::Denial;
 use layouts::LayoutFault;
 use path_patterns::Digest;
-use state_parts::finding::blob_of;
 use std::alloc::{AllocError, AllocFailed, Global};
 use thiserror::Error;
+use trusted_state::pieces::finding::blob_of;
 use trusted_state::refusal::Refusal;
 use trusted_state::state::State;
 

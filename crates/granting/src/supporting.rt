@@ -17,7 +17,7 @@ ghost use Rattle.trust_rules.specs.Held.{OfEachState, StandsFor, length_at, byte
 ghost use Rattle.granting.specs.Serving.{IsShapeDenial};
 ghost use Rattle.trust_rules.specs.State as trust;
 ghost use Rattle.trust_rules.specs.Grants as granted;
-ghost use Rattle.state_parts.specs.Views.{length_views};
+ghost use Rattle.trusted_state.specs.PartViews.{length_views};
 ghost use Rattle.granting.specs.steps.Permitting.{Finds, IsShapeAnswer, IsSupportOf, Reads, FindsLoaded, Told, all_bytes_at, is_short_in, names_missing};
 
 use crate::listing::{Listed, find_needed, listed_digest};
@@ -31,10 +31,10 @@ use metadata::{
     read_link_file,
 };
 use path_patterns::{Digest, TargetPath};
-use state_parts::finding::length_of;
-use state_parts::parts::BlobLength;
 use std::alloc::Global;
 use trusted_state::held::Held;
+use trusted_state::pieces::finding::length_of;
+use trusted_state::pieces::parts::BlobLength;
 use trusted_state::refusal::Refusal;
 
 /// Whether the layout of a listing, if it has one, allows the file. Its bytes and those of its links are loaded once all of them are

@@ -1,7 +1,7 @@
 // The documents of a batch as offers.
 
 ghost use Rattle.std.specs.Prelude.{◌≡◌, IfOk};
-ghost use Rattle.trusted_state.specs.Views.{documents_view};
+ghost use Rattle.store.specs.StateViews.{documents_view};
 ghost use Rattle.http_serve.specs.steps.Views.{offers_of as offers_of_lem};
 
 use path_patterns::RoleName;

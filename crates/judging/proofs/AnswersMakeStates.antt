@@ -5,8 +5,8 @@ use Rattle.trusted_state.specs.Answers.{Answers, changes, AnswersBatch, done}
 use Rattle.trust_rules.specs.Offers.{BatchOrder}
 use Rattle.trust_rules.specs.Effects.{applied}
 use Rattle.trust_rules.specs.State.{State, IsState}
-use Rattle.state_parts.specs.Views.{effects_view}
-use Rattle.state_parts.specs.declared.effects.Effects.{Effects}
+use Rattle.trusted_state.specs.PartViews.{effects_view}
+use Rattle.trusted_state.specs.DeclaredEffects.{Effects}
 use Rattle.trusted_state.specs.declared.outcome.Outcome.{Outcome}
 use Rattle.trusted_state.specs.declared.outcome.Outcome.TheVariants.{Changed}
 use Rattle.trusted_state.specs.declared.outcome.Batched.{Batched}

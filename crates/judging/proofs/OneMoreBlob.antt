@@ -13,8 +13,8 @@ use Rattle.trusted_state.specs.steps.Judging.{Judges, rejects, stops}
 use Rattle.trust_rules.specs.State.{State, IsState}
 use Rattle.trust_rules.specs.Effects as plain
 use Rattle.trust_rules.specs.Effects.{applied, no_effects}
-use Rattle.state_parts.specs.Views.{effects_view}
-use Rattle.state_parts.specs.declared.effects.Effects.{Effects}
+use Rattle.trusted_state.specs.PartViews.{effects_view}
+use Rattle.trusted_state.specs.DeclaredEffects.{Effects}
 use Rattle.trusted_state.specs.declared.outcome.Outcome.TheVariants.{Changed}
 use Rattle.trusted_state.specs.declared.refusal.Refusal.{Refusal}
 

@@ -18,13 +18,13 @@ use crate::calls::offer_one;
 use crate::compared::are_coherent;
 use denials::Denial;
 use metadata::Moment;
-use state_parts::effects::Effects;
 use std::alloc::Global;
 use trust_rules::stays_valid;
 use trusted_state::draft::Draft;
 use trusted_state::held::Held;
 use trusted_state::knowing::batch_with_verdicts;
 use trusted_state::outcome::{Batched, Offer};
+use trusted_state::pieces::effects::Effects;
 use trusted_state::refusal::{BatchRefusal, Refusal};
 use trusted_state::state::State;
 

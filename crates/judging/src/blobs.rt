@@ -10,19 +10,19 @@ ghost use Rattle.trusted_state.specs.steps.Judging.{Judges};
 ghost use Rattle.trust_rules.specs.Offers as commands;
 ghost use Rattle.trust_rules.specs.Effects.{no_effects};
 ghost use Rattle.limits.specs.Limits.{most_held};
-ghost use Rattle.state_parts.specs.Views.{effects_view, length_views};
+ghost use Rattle.trusted_state.specs.PartViews.{effects_view, length_views};
 
 use denials::Denial;
 use limits::MOST_HELD;
 use path_patterns::Digest;
-use state_parts::effects::{Blob, Effects};
-use state_parts::finding::{is_digest_of, is_short, length_of};
-use state_parts::parts::BlobLength;
 use std::alloc::{AllocError, Global};
 use trust_rules::stays_valid;
 use trusted_state::held::Held;
 use trusted_state::knowing::with_verdicts;
 use trusted_state::outcome::Outcome;
+use trusted_state::pieces::effects::{Blob, Effects};
+use trusted_state::pieces::finding::{is_digest_of, is_short, length_of};
+use trusted_state::pieces::parts::BlobLength;
 use trusted_state::refusal::Refusal;
 use trusted_state::state::State;
 

@@ -8,7 +8,7 @@ ghost use Rattle.trusted_state.specs.steps.Carrying.{LeavesTrusted};
 ghost use Rattle.trusted_state.specs.steps.Judging.{Ends};
 ghost use Rattle.trust_rules.specs.Offers as commands;
 ghost use Rattle.trust_rules.specs.Effects.{no_effects, on_state};
-ghost use Rattle.state_parts.specs.Views.{effects_view};
+ghost use Rattle.trusted_state.specs.PartViews.{effects_view};
 ghost use Rattle.trusted_state.specs.Views.{draft_view, offer_view};
 
 use crate::files::new_root;
@@ -18,14 +18,14 @@ use crate::targets_metadata::offer_targets;
 use crate::timestamps::offer_timestamp;
 use denials::Denial;
 use metadata::{File, Moment, Root};
-use state_parts::checks::is_signed;
-use state_parts::effects::{Changes, Effects};
 use std::alloc::{AllocError, Global};
 use trust_rules::stays_valid;
 use trusted_state::draft::Draft;
 use trusted_state::held::Held;
 use trusted_state::knowing::with_verdicts;
 use trusted_state::outcome::{Offer, Outcome};
+use trusted_state::pieces::checks::is_signed;
+use trusted_state::pieces::effects::{Changes, Effects};
 use trusted_state::refusal::Refusal;
 use trusted_state::state::State;
 

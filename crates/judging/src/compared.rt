@@ -11,7 +11,7 @@ ghost use Rattle.trust_rules.specs.State.{AreCoherent, HoldsAll};
 use delegations::{Rows, has_hash, has_length};
 use keys_roles::same_rule;
 use metadata::{File, Meta, Root, Snapshot, Timestamp};
-use state_parts::checks::names_snapshot;
+use trusted_state::pieces::checks::names_snapshot;
 
 /// Whether the rules of the timestamp and the snapshot role ask for the same keys.
 pub(crate) fn keeps_roles(old: &Root, new: &Root) -> bool

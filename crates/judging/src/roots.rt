@@ -11,9 +11,9 @@ use crate::compared::keeps_roles;
 use crate::files::new_root;
 use denials::Denial;
 use metadata::{File, Root};
-use state_parts::checks::{are_same, is_next, is_signed, keeps_profile};
 use std::alloc::Global;
 use trusted_state::draft::Draft;
+use trusted_state::pieces::checks::{are_same, is_next, is_signed, keeps_profile};
 use trusted_state::refusal::Refusal;
 
 // Whether a new root keeps the rules of the timestamp and the snapshot role, where it may follow the trusted one.

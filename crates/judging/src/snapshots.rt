@@ -12,10 +12,10 @@ use crate::files::new_snapshot;
 use delegations::{has_hash, has_length};
 use denials::Denial;
 use metadata::{File, Moment, Root, Snapshot, Timestamp, live};
-use state_parts::checks::{has_bytes, is_signed};
 use std::alloc::Global;
 use trusted_state::draft::Draft;
 use trusted_state::liveness::live_timestamp;
+use trusted_state::pieces::checks::{has_bytes, is_signed};
 use trusted_state::refusal::Refusal;
 
 // Whether a new snapshot may follow the held one.

@@ -13,10 +13,10 @@ use delegations::{Row, Shelf, has_hash, has_length, vouched};
 use denials::Denial;
 use metadata::{File, Meta, Moment, Root, Targets, live};
 use path_patterns::RoleName;
-use state_parts::checks::are_same;
 use std::alloc::{AllocError, Global};
 use trusted_state::draft::Draft;
 use trusted_state::liveness::live_snapshot;
+use trusted_state::pieces::checks::are_same;
 use trusted_state::refusal::Refusal;
 
 // Whether the snapshot's entry names a new targets document.

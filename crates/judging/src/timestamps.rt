@@ -9,9 +9,9 @@ ghost use Rattle.std.specs.Option.{option_map};
 use crate::files::new_timestamp;
 use denials::Denial;
 use metadata::{File, Moment, Root, Timestamp, live};
-use state_parts::checks::is_signed;
 use std::alloc::Global;
 use trusted_state::draft::Draft;
+use trusted_state::pieces::checks::is_signed;
 use trusted_state::refusal::Refusal;
 
 // Whether a new timestamp may follow the held one, or has its version.

@@ -1,2 +1,3 @@
 pub mod PrunedAnswers
 pub mod SentAgain
+pub use Rattle.granting.proofs.Counting

@@ -8,14 +8,14 @@ use Rattle.denials.specs.Orders.{Judged, Same, judges}
 use Rattle.denials.specs.Views.{denial_view}
 use Rattle.trust_rules.specs.State.{IsCoherent, State, Trusted}
 use Rattle.trust_rules.specs.Offers.{Batched, Ended, Offer, RootOffer, SnapshotOffer, TimestampOffer, batch, batch_from, coherent, going_on, incoherent, offer}
-use Rattle.trusted_state.specs.Answers.{AnswersBatch, denied, done, undone, IsAllSame}
+use Rattle.granting.specs.Answers.{AnswersBatch, denied, done, undone, IsAllSame}
 use Rattle.trust_rules.specs.Effects.{brought}
 use Rattle.trust_rules.specs.Resending.{IsInOrder, at_most_one, of_roles}
 use Rattle.trust_rules.specs.Runs.{Batch, BatchDone, Outcome, Refused, Steps, batch_outcome, leads, with_trusted}
-use Rattle.state_parts.specs.Views.{effects_view}
-use Rattle.trusted_state.specs.declared.outcome.Batched as code
-use Rattle.trusted_state.specs.declared.refusal.BatchRefusal.{BatchRefusal}
-use Rattle.trusted_state.specs.declared.refusal.BatchRefusal.TheVariants as refusals
+use Rattle.granting.specs.PartViews.{effects_view}
+use Rattle.granting.specs.DeclaredBatched as code
+use Rattle.granting.specs.DeclaredBatchRefusal.{BatchRefusal}
+use Rattle.granting.specs.BatchRefusals as refusals
 use Rattle.judging.proofs.BatchOneByOne.{so_far}
 use Rattle.trust_rules.proofs.CoherentSteps.{led}
 use Rattle.trust_rules.proofs.OfferedAgain.{Holds, Left, ListsOnce, holds_itself, holds_through, root_again, snapshot_again, snapshot_leaves, stood, targets_again, targets_leave, timestamp_again, timestamp_leaves, took}

@@ -6,12 +6,12 @@ ghost use Rattle.denials.specs.Orders.{Same};
 ghost use Rattle.trust_rules.specs.State.{Trusted, State, IsState};
 ghost use Rattle.trust_rules.specs.Offers.{Offer, Batched, offer, batch, prune};
 ghost use Rattle.trust_rules.specs.Grants.{GrantAlike, grants};
-ghost use Rattle.trusted_state.specs.Answers.{AnswersBatch, IsAllSame};
+ghost use Rattle.granting.specs.Answers.{AnswersBatch, IsAllSame};
 ghost use Rattle.trust_rules.specs.Resending.{IsInOrder};
 ghost use Rattle.trust_rules.specs.Runs.{Batch, BatchDone, Steps, with_trusted};
 ghost use Rattle.granting.specs.Serving.{IsFault, IsSameAnswer, Serves};
-ghost use Rattle.trusted_state.specs.declared.outcome.Batched as answered;
-ghost use Rattle.trusted_state.specs.declared.refusal.BatchRefusal.{BatchRefusal};
+ghost use Rattle.granting.specs.DeclaredBatched as answered;
+ghost use Rattle.granting.specs.DeclaredBatchRefusal.{BatchRefusal};
 ghost use Rattle.granting.specs.declared.serving.Served.{Served};
 ghost use Rattle.granting.specs.declared.serving.GetFault.{GetFault};
 

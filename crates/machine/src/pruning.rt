@@ -5,30 +5,30 @@ ghost use Rattle.delegations.specs.Rows.{Rises};
 ghost use Rattle.delegations.specs.Views.{row_views};
 ghost use Rattle.metadata.specs.FileViews.{snapshot_file};
 ghost use Rattle.document_parts.specs.Views.{listing_view};
-ghost use Rattle.trusted_state.specs.Answers.{Answers, ChangesNoGrant, CountsGone};
+ghost use Rattle.granting.specs.Answers.{Answers, ChangesNoGrant, CountsGone};
 ghost use Rattle.trust_rules.specs.Offers as commands;
 ghost use Rattle.trust_rules.specs.Offers.{kept_rows};
 ghost use Rattle.trust_rules.specs.Effects.{no_effects, without};
 ghost use Rattle.trust_rules.specs.Held.{OfEachState};
-ghost use Rattle.trusted_state.specs.Knowing.{CarriesKnown, CarriesVerdicts, IsKnown};
-ghost use Rattle.state_parts.specs.Views.{digest_views, effects_view, gone_view, length_views};
+ghost use Rattle.granting.specs.Knowing.{CarriesKnown, CarriesVerdicts, IsKnown};
+ghost use Rattle.granting.specs.PartViews.{digest_views, effects_view, gone_view, length_views};
 ghost use Rattle.trust_rules.specs.steps.Pruning.{digests_of, gone_of, listed_rows, unlisted_places, without_listed};
 
 use crate::laws::prune_keeps_answers;
 use delegations::Row;
 use denials::Denial;
+use granting::trusted::held::Held;
+use granting::trusted::knowing::listed_verdicts;
+use granting::trusted::outcome::Outcome;
+use granting::trusted::pieces::effects::{Changes, Effects, Gone};
+use granting::trusted::pieces::finding::{is_same, length_of};
+use granting::trusted::pieces::parts::BlobLength;
+use granting::trusted::refusal::Refusal;
+use granting::trusted::state::State;
 use metadata::{File, Listing, Snapshot};
 use path_patterns::{Digest, RoleName};
-use state_parts::effects::{Changes, Effects, Gone};
-use state_parts::finding::{is_same, length_of};
-use state_parts::parts::BlobLength;
 use std::alloc::{AllocError, Global};
 use trust_rules::stays_valid;
-use trusted_state::held::Held;
-use trusted_state::knowing::listed_verdicts;
-use trusted_state::outcome::Outcome;
-use trusted_state::refusal::Refusal;
-use trusted_state::state::State;
 
 /// Takes away the shelf rows at versions that the snapshot does not list, and the blobs that none of the rows that stay lists; without a
 /// snapshot, all of them. Each request for a target has the same end as before. Denial: no root is trusted.

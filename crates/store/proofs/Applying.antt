@@ -11,17 +11,17 @@ use Rattle.trust_rules.specs.State.{State, IsState, metadata_of}
 use Rattle.trust_rules.specs.Offers as commands
 use Rattle.trust_rules.specs.Effects.{applied, brought, on_state}
 use Rattle.trust_rules.specs.Runs.{Command, Leads, Outcome, Reply, Steps, leads, settled, Init, Batch, OfferOne, PutBlob, Prune, Metadata, Target, Begun, BatchDone, Offered, Stored, Pruned, FileBytes, Absent, Refused}
-use Rattle.trusted_state.specs.Answers.{Answers, CountsGone, changes, unchanged, refused, AnswersBatch, done, denied}
+use Rattle.machine.specs.Answers.{Answers, CountsGone, changes, unchanged, refused, AnswersBatch, done, denied}
 use Rattle.denials.specs.Views.{denial_view}
-use Rattle.state_parts.specs.Views.{effects_view}
-use Rattle.state_parts.specs.declared.effects.Effects.{Effects}
-use Rattle.trusted_state.specs.declared.outcome.Outcome.TheVariants.{Changed}
-use Rattle.trusted_state.specs.declared.outcome.Outcome.TheVariants as outcomes
-use Rattle.trusted_state.specs.declared.outcome.Batched.{Batched}
-use Rattle.trusted_state.specs.declared.refusal.Refusal.{Refusal}
-use Rattle.trusted_state.specs.declared.refusal.Refusal.TheVariants as refusals
-use Rattle.trusted_state.specs.declared.refusal.BatchRefusal.{BatchRefusal}
-use Rattle.trusted_state.specs.declared.refusal.BatchRefusal.TheVariants as batches
+use Rattle.machine.specs.PartViews.{effects_view}
+use Rattle.machine.specs.DeclaredEffects.{Effects}
+use Rattle.machine.specs.Outcomes.{Changed}
+use Rattle.machine.specs.Outcomes as outcomes
+use Rattle.machine.specs.DeclaredBatched.{Batched}
+use Rattle.machine.specs.DeclaredRefusal.{Refusal}
+use Rattle.machine.specs.Refusals as refusals
+use Rattle.machine.specs.DeclaredBatchRefusal.{BatchRefusal}
+use Rattle.machine.specs.BatchRefusals as batches
 use Rattle.sql_tables.specs.Outliving.{Outlives}
 use Rattle.sql_tables.proofs.Outlived.{outlives_by, outlives_then, untouched}
 use Rattle.table_rows.specs.Tables.{HoldsWhole}

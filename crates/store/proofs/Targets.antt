@@ -12,11 +12,11 @@ use Rattle.trust_rules.specs.State.{State}
 use Rattle.trust_rules.specs.Grants.{grants}
 use Rattle.trust_rules.specs.Held.{Held}
 use Rattle.trust_rules.specs.Runs.{Steps, Target, FileBytes, Refused, leads}
-use Rattle.granting.specs.Serving.{HasLayout, IsRefused, Refuses, Serves, by_layout, denies, serves, unread}
-use Rattle.granting.specs.declared.serving.Served.{Served}
-use Rattle.granting.specs.declared.serving.GetFault.{GetFault}
-use Rattle.granting.specs.declared.serving.GetFault.TheVariants as gets
-use Rattle.granting.specs.declared.serving.LoadFault.TheVariants as loads
+use Rattle.machine.specs.Serving.{HasLayout, IsRefused, Refuses, Serves, by_layout, denies, serves, unread}
+use Rattle.machine.specs.DeclaredServed.{Served}
+use Rattle.machine.specs.DeclaredGetFault.{GetFault}
+use Rattle.machine.specs.GetFaults as gets
+use Rattle.machine.specs.LoadFaults as loads
 use Rattle.table_rows.specs.declared.faults.StoreFault.{StoreFault}
 use Rattle.table_rows.specs.declared.faults.StoreFault.TheVariants.{Damaged, Database, OutOfMemory}
 use Rattle.store.specs.Applies.{Replies}

@@ -1,10 +1,10 @@
 -- Commands that check no signatures in a search.
 use Rattle.std.proofs.Common.{ℕ, refl}
 use Rattle.delegations.specs.Verdicts.{Table}
-use Rattle.trusted_state.specs.Knowing.{IsKnown}
+use Rattle.machine.specs.Knowing.{IsKnown}
 use Rattle.trust_rules.specs.Runs.{Command, Init, Batch, OfferOne, PutBlob, Prune, Metadata, Target}
 use Rattle.trust_rules.specs.State.{Trusted}
-use Rattle.granting.proofs.Counting.{counts_nothing}
+use Rattle.machine.proofs.Counting.{counts_nothing}
 use Rattle.store.specs.Ticks.{Ticks}
 
 pub no_ticks : (T : Trusted) (command : Command) (now count : ℕ) → (known : Table) × IsKnown T known → Ticks T command now count count

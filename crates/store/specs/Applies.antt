@@ -5,7 +5,7 @@ use Rattle.sqlite.specs.State.{HasCleanDisk}
 use Rattle.sqlite_trees.specs.Tree.{Trees}
 use Rattle.trust_rules.specs.State.{State}
 use Rattle.trust_rules.specs.Runs.{Command, Reply, Steps, Target, FileBytes, Refused}
-use Rattle.granting.specs.Serving.{HasLayout, is_by_layout}
+use Rattle.machine.specs.Serving.{HasLayout, is_by_layout}
 use Rattle.sql_tables.specs.Outliving.{StaysOpen}
 use Rattle.table_rows.specs.Tables.{HoldsWhole}
 use Rattle.store.specs.Standing.{Holds, IsClean, Keeps, Moves, Standing, StandsAt, seen}

@@ -4,3 +4,8 @@ pub mod StateRows
 pub mod Ticks
 pub mod Views
 pub mod steps
+pub use Rattle.machine.specs.Answers
+pub use Rattle.machine.specs.DeclaredRefusal
+pub use Rattle.machine.specs.Refusals
+pub use Rattle.machine.specs.Serving
+pub use Rattle.machine.specs.StateViews

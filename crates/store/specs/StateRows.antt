@@ -4,7 +4,7 @@ use Rattle.std.specs.Coded.{Coded, code_by, coded×}
 use Rattle.sqlite.specs.Held.{Held as Connection, held_code}
 use Rattle.trust_rules.specs.State.{State, IsState}
 use Rattle.trust_rules.specs.Held.{Held}
-use Rattle.trusted_state.specs.Room.{WithPlaces}
+use Rattle.machine.specs.Room.{WithPlaces}
 use Rattle.trust_rules.specs.Contents.{contents_of}
 use Rattle.repository_rows.specs.Contents.{Contents}
 use Rattle.sqlite.specs.Effect.{Database, IsDatabase}

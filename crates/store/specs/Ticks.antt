@@ -2,9 +2,9 @@
 use Rattle.std.specs.Prelude.{◌≡◌, ℕ}
 use Rattle.metadata.specs.File.{Bytes}
 use Rattle.delegations.specs.Verdicts.{Table}
-use Rattle.trusted_state.specs.Knowing.{IsKnown}
+use Rattle.machine.specs.Knowing.{IsKnown}
 use Rattle.trust_rules.specs.Runs.{Command, Target}
-use Rattle.granting.specs.Serving.{CountsFew}
+use Rattle.machine.specs.Serving.{CountsFew}
 use Rattle.trust_rules.specs.State.{Trusted}
 
 -- from the old count to the new one, in a request for a target: counted over some table that is true and complete

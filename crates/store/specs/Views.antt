@@ -2,7 +2,7 @@
 use Rattle.std.specs.Prelude.{option_map}
 use Rattle.trust_rules.specs.Runs as steps
 use Rattle.denials.specs.Views.{denial_view}
-use Rattle.trusted_state.specs.Views.{documents_view, offer_view}
+use Rattle.machine.specs.StateViews.{documents_view, offer_view}
 use Rattle.store.specs.declared.command.Command.{Command}
 use Rattle.store.specs.declared.command.Command.TheVariants as commands
 use Rattle.store.specs.declared.command.Reply.{Reply}

@@ -6,7 +6,7 @@ ghost use Rattle.sqlite.specs.State.{HasCleanDisk, Survives};
 ghost use Rattle.metadata.specs.FileViews.{root_file, snapshot_file, timestamp_file};
 ghost use Rattle.delegations.specs.Views.{row_views};
 ghost use Rattle.trust_rules.specs.Contents.{numbered, shelf_rows};
-ghost use Rattle.state_parts.specs.Views.{blob_views, digest_views, effects_view};
+ghost use Rattle.machine.specs.PartViews.{blob_views, digest_views, effects_view};
 ghost use Rattle.trust_rules.specs.State as trust;
 ghost use Rattle.trust_rules.specs.State.{IsState};
 ghost use Rattle.trust_rules.specs.Effects.{applied};

@@ -13,8 +13,8 @@ pub use closing::{apply_and_close, open_and_close};
 pub use command::{Command, Reply};
 pub use laws::{migration_keeps_answers, stands, trees_tell_state};
 pub use machine::{
-    BatchRefusal, Denial, Digest, Held, Moment, Offer, RoleName, State, TargetPath, get,
-    metadata_file, would_take,
+    BatchRefusal, Denial, Digest, Held, Moment, Offer, Refusal, RoleName, State, TargetPath, get,
+    metadata_file, target, would_take,
 };
 pub use opening::Unopened;
 pub use repository_tables::StoreFault;

@@ -11,11 +11,11 @@ ghost use Rattle.trust_rules.specs.State as trust;
 ghost use Rattle.trust_rules.specs.State.{IsSnapshotDue, IsState};
 ghost use Rattle.trust_rules.specs.Effects.{applied};
 ghost use Rattle.trust_rules.specs.Held.{held_with};
-ghost use Rattle.trusted_state.specs.Knowing.{IsKnown};
-ghost use Rattle.state_parts.specs.Views.{effects_view};
-ghost use Rattle.trusted_state.specs.Views.{documents_view, offer_view};
+ghost use Rattle.machine.specs.Knowing.{IsKnown};
+ghost use Rattle.machine.specs.PartViews.{effects_view};
+ghost use Rattle.machine.specs.StateViews.{documents_view, offer_view};
 ghost use Rattle.trust_rules.specs.Runs as steps;
-ghost use Rattle.granting.specs.Serving.{Refuses, Serves};
+ghost use Rattle.machine.specs.Serving.{Refuses, Serves};
 ghost use Rattle.delegations.specs.Verdicts.{Table};
 ghost use Rattle.store.specs.Ticks.{Ticks, TicksFew};
 ghost use Rattle.store.specs.Applies.{Applies};
@@ -56,7 +56,7 @@ impl<S: Alter> Model for Store<S> {
     ghost use Rattle.sqlite.specs.State.{HasCleanDisk};
     ghost use Rattle.trust_rules.specs.State as trust;
     ghost use Rattle.table_rows.specs.Tables.{IsStore};
-    ghost use Rattle.trusted_state.specs.contracts.held.Held as machine;
+    ghost use Rattle.machine.specs.HeldContracts as machine;
     ghost use Rattle.store.specs.Standing.{IsStateOf};
     ghost use Rattle.store.specs.StateRows.{Shown, shown_code, rows_of};
 

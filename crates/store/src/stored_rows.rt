@@ -7,7 +7,7 @@ ghost use Rattle.sqlite_trees.specs.Tree.{Trees};
 ghost use Rattle.trust_rules.specs.State as trust;
 ghost use Rattle.trust_rules.specs.State.{IsState};
 ghost use Rattle.trust_rules.specs.Effects.{applied};
-ghost use Rattle.state_parts.specs.Views.{effects_view};
+ghost use Rattle.machine.specs.PartViews.{effects_view};
 ghost use Rattle.repository_rows.specs.Contents.{Contents};
 ghost use Rattle.table_rows.specs.Tables.{HoldsWhole, IsStore};
 ghost use Rattle.store.specs.StateRows.{rows_of};

@@ -11,3 +11,5 @@ pub mod refusal;
 pub mod state;
 pub mod stored;
 pub mod updating;
+
+pub use state_parts as pieces;

@@ -6,13 +6,13 @@ use Rattle.store.specs.declared.command.Reply.{Reply as Answer}
 use Rattle.store.specs.declared.command.Reply.TheVariants as answers
 use Rattle.metadata.specs.File.{Bytes}
 use Rattle.std.proofs.Common.{Vec, Global}
-use Rattle.trusted_state.specs.declared.refusal.BatchRefusal.{BatchRefusal}
-use Rattle.trusted_state.specs.declared.refusal.BatchRefusal.TheVariants as batches
-use Rattle.granting.specs.declared.serving.GetFault.{GetFault}
-use Rattle.granting.specs.declared.serving.GetFault.TheVariants as gets
-use Rattle.granting.specs.declared.serving.LoadFault.TheVariants as loads
-use Rattle.trusted_state.specs.declared.refusal.Refusal.{Refusal}
-use Rattle.trusted_state.specs.declared.refusal.Refusal.TheVariants as refusals
+use Rattle.machine.specs.DeclaredBatchRefusal.{BatchRefusal}
+use Rattle.machine.specs.BatchRefusals as batches
+use Rattle.machine.specs.DeclaredGetFault.{GetFault}
+use Rattle.machine.specs.GetFaults as gets
+use Rattle.machine.specs.LoadFaults as loads
+use Rattle.machine.specs.DeclaredRefusal.{Refusal}
+use Rattle.machine.specs.Refusals as refusals
 
 -- a refusal of the machine as an answer
 abbrev pub IsRefusal : Refusal → Result Answer StoreFault → Type 0

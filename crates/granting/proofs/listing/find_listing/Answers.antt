@@ -12,7 +12,7 @@ use Rattle.trusted_state.specs.declared.refusal.Refusal.TheVariants.{Denied}
 use Rattle.trusted_state.specs.Answers.{Gives, denies, gives}
 use Rattle.trust_rules.specs.Grants.{listed, searched}
 use Rattle.trust_rules.specs.State.{Trusted}
-use Rattle.state_parts.specs.Views.{trusted_view}
+use Rattle.trusted_state.specs.PartViews.{trusted_view}
 use Rattle.granting.specs.steps.Permitting.{listed_view}
 use Rattle.trust_rules.proofs.OrderLines.{lacking, needed}
 use Rattle.trusted_state.proofs.OrderSteps.{denied_behind, denied_in, given_by}

@@ -1,5 +1,5 @@
 use Rattle.std.proofs.Common.{◌≡◌}
-use Rattle.trusted_state.specs.Views.{documents_view}
+use Rattle.store.specs.StateViews.{documents_view}
 use Rattle.http_serve.specs.steps.Views.{offers_of}
 use Rattle.http_serve.proofs.offers.offers_of.Given as goal
 

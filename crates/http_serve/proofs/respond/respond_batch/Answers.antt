@@ -1,7 +1,7 @@
 use Rattle.std.proofs.Common.{ap, subst, ◌∙◌}
 use Rattle.sqlite.specs.Held.{state}
 use Rattle.trust_rules.specs.Runs.{Batch}
-use Rattle.trusted_state.specs.Views.{documents_view}
+use Rattle.store.specs.StateViews.{documents_view}
 use Rattle.store.specs.Standing.{seen}
 use Rattle.http_serve.specs.steps.Views.{Performed}
 use Rattle.http_serve.proofs.Responding.{offered, served, wanting}

@@ -9,7 +9,7 @@ use Rattle.trust_rules.specs.Offers.{coherent, incoherent}
 use Rattle.trust_rules.specs.Effects as spec
 use Rattle.trust_rules.specs.Effects.{brought}
 use Rattle.trust_rules.specs.State.{State, Trusted, IsState}
-use Rattle.state_parts.specs.Views.{changes_view, effects_view, trusted_view}
+use Rattle.trusted_state.specs.PartViews.{changes_view, effects_view, trusted_view}
 use Rattle.trusted_state.specs.Views.{documents_view, draft_view}
 use Rattle.judging.proofs.BatchOneByOne.{so_far, batch_refused}
 use Rattle.trust_rules.proofs.OrderLines.{yes, no as not_so}

@@ -9,7 +9,7 @@ use Rattle.trusted_state.specs.declared.refusal.Refusal.TheVariants.{Denied}
 use Rattle.trust_rules.specs.Offers.{put_blob}
 use Rattle.repository_rows.specs.Contents.{lengths_of}
 use Rattle.trust_rules.specs.State.{State}
-use Rattle.state_parts.specs.Views.{length_views}
+use Rattle.trusted_state.specs.PartViews.{length_views}
 use Rattle.trusted_state.specs.steps.Judging.{Judges, accepts, keeps, rejects}
 use Rattle.trust_rules.proofs.OrderLines.{yes, no}
 use Rattle.judging.proofs.OneMoreBlob.{there, not_there}

@@ -9,7 +9,7 @@ use Rattle.trust_rules.specs.Effects as changed
 use Rattle.trust_rules.specs.Effects.{applied}
 use Rattle.trust_rules.specs.Held.{Held}
 use Rattle.trust_rules.specs.State.{State, Trusted, nothing_trusted}
-use Rattle.state_parts.specs.Views.{effects_view}
+use Rattle.trusted_state.specs.PartViews.{effects_view}
 use Rattle.trust_rules.proofs.OrderLines.{yes, no}
 use Rattle.trusted_state.proofs.OrderSteps.{given_by}
 use Rattle.judging.proofs.ChangesMake.{root_there, no_root, if_none, answered_in, answered_behind, began}

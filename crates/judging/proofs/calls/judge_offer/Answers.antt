@@ -5,7 +5,7 @@ use Rattle.trust_rules.specs.Offers as commands
 use Rattle.trust_rules.specs.Effects as spec
 use Rattle.trust_rules.specs.Effects.{brought}
 use Rattle.trust_rules.specs.State.{State, IsState}
-use Rattle.state_parts.specs.Views.{changes_view, effects_view, trusted_view}
+use Rattle.trusted_state.specs.PartViews.{changes_view, effects_view, trusted_view}
 use Rattle.trusted_state.specs.Views.{offer_view, draft_view}
 use Rattle.judging.proofs.ChangesMake.{OfTrustAlone, offered, offered_same, offered_refused, on_whole, trusted_alone}
 use Rattle.trust_rules.proofs.HeldStates.{same_trusted_held, bare}

@@ -1,5 +1,5 @@
 use Rattle.std.proofs.Common.{◌≡◌, ◌++◌, length, map}
-use Rattle.state_parts.specs.Views.{digest_views, length_views}
+use Rattle.granting.specs.PartViews.{digest_views, length_views}
 use Rattle.machine.proofs.pruning.digests.Given as goal
 
 abbrev pub invariant-blobs : goal.invariant-blobs

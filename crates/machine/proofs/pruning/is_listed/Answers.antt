@@ -10,7 +10,7 @@ use Rattle.document_parts.specs.declared.documents.Snapshot.{Snapshot}
 use Rattle.metadata.specs.declared.file.File.{File}
 use Rattle.delegations.proofs.Gathered.{listed_names, names_distinct}
 use Rattle.trust_rules.specs.Offers as commands
-use Rattle.trusted_state.proofs.ListedVerdicts.{listed_by}
+use Rattle.granting.proofs.ListedVerdicts.{listed_by}
 use Rattle.machine.proofs.pruning.is_listed.Goals as goal
 
 -- no name stands twice in a snapshot

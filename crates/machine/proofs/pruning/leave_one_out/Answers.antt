@@ -6,7 +6,7 @@ use Rattle.metadata.specs.File.{Bytes}
 use Rattle.delegations.specs.Delegation.{before}
 use Rattle.delegations.specs.Rows.{Rises}
 use Rattle.trust_rules.specs.Held.{length_at}
-use Rattle.state_parts.specs.Views.{length_views}
+use Rattle.granting.specs.PartViews.{length_views}
 use Rattle.trust_rules.proofs.GoneKeys.{map_filter, none_there}
 use Rattle.machine.proofs.pruning.leave_one_out.Goals as goal
 

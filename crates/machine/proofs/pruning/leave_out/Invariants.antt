@@ -3,7 +3,7 @@ use Rattle.document_parts.specs.Views.{listing_view}
 use Rattle.delegations.specs.Delegation.{before}
 use Rattle.delegations.specs.Rows.{Rises}
 use Rattle.trust_rules.specs.Effects.{without}
-use Rattle.state_parts.specs.Views.{length_views}
+use Rattle.granting.specs.PartViews.{length_views}
 use Rattle.trust_rules.specs.steps.Pruning.{digests_of}
 use Rattle.machine.proofs.pruning.leave_out.Given as goal
 

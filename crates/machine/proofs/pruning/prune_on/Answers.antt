@@ -4,12 +4,12 @@ use Rattle.std.proofs.lemmas.Result.{err_from_is_err_and}
 use Rattle.std.specs.Prelude.{IsSome}
 use Rattle.metadata.specs.FileViews.{root_file}
 use Rattle.denials.specs.Orders.{decide, fails}
-use Rattle.trusted_state.specs.Answers.{changes, refused, unanswered}
+use Rattle.granting.specs.Answers.{changes, refused, unanswered}
 use Rattle.trust_rules.specs.Effects.{Effects, no_effects}
 use Rattle.trust_rules.specs.Held.{Held, held_of}
-use Rattle.trusted_state.specs.Knowing.{IsKnown}
+use Rattle.granting.specs.Knowing.{IsKnown}
 use Rattle.trust_rules.specs.State.{Trusted}
-use Rattle.state_parts.specs.Views.{effects_view}
+use Rattle.granting.specs.PartViews.{effects_view}
 use Rattle.trust_rules.specs.steps.Pruning.{gone_of}
 use Rattle.trust_rules.proofs.HeldStates.{same_trusted_held}
 use Rattle.trust_rules.proofs.PrunedEffects.{blobs_counted, brought_pruned, prune_makes, root_is, root_is_not, rows_counted}

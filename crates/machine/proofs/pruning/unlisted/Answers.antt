@@ -1,7 +1,7 @@
 use Rattle.std.proofs.Common.{◌≡◌, ◌∙◌, ℕ, List, ap, map}
 use Rattle.metadata.specs.File.{Bytes}
 use Rattle.delegations.specs.Views.{row_views}
-use Rattle.state_parts.specs.Views.{digest_views, length_views, trusted_view}
+use Rattle.granting.specs.PartViews.{digest_views, length_views, trusted_view}
 use Rattle.trust_rules.specs.State.{Trusted}
 use Rattle.trust_rules.specs.steps.Pruning.{listed_rows, unlisted_places, unwanted_digests, without_listed}
 use Rattle.trust_rules.proofs.PrunedEffects.{without_listed_is}

@@ -3,7 +3,7 @@ use Rattle.metadata.specs.FileViews.{snapshot_file}
 use Rattle.delegations.specs.Delegation.{before}
 use Rattle.delegations.specs.Rows.{Rises}
 use Rattle.delegations.specs.Views.{row_views}
-use Rattle.state_parts.specs.Views.{length_views}
+use Rattle.granting.specs.PartViews.{length_views}
 use Rattle.trust_rules.specs.steps.Pruning.{listed_rows, without_listed}
 use Rattle.machine.proofs.pruning.unwanted.Given as goal
 

@@ -1,6 +1,6 @@
 use Rattle.std.proofs.Common.{◌≡◌, ◌∙◌, List, ap, subst}
 use Rattle.path_patterns.specs.declared.Digest.{Digest}
-use Rattle.state_parts.specs.Views.{digest_views}
+use Rattle.machine.specs.PartViews.{digest_views}
 use Rattle.repository_tables.specs.Changes.{after_all}
 use Rattle.store.specs.steps.Changed.{blobs_gone}
 use Rattle.store.proofs.Appending.{after_more}

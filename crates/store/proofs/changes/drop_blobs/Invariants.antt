@@ -1,5 +1,5 @@
 use Rattle.std.proofs.Common.{◌≡◌, length}
-use Rattle.state_parts.specs.Views.{digest_views}
+use Rattle.machine.specs.PartViews.{digest_views}
 use Rattle.repository_tables.specs.Changes.{after_all}
 use Rattle.repository_rows.specs.Contents.{Contents}
 use Rattle.store.specs.steps.Changed.{blobs_gone}

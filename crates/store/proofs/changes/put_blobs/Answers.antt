@@ -1,6 +1,6 @@
 use Rattle.std.proofs.Common.{◌≡◌, ◌∙◌, List, ap, subst}
 use Rattle.metadata.specs.File.{Bytes}
-use Rattle.state_parts.specs.Views.{blob_views}
+use Rattle.machine.specs.PartViews.{blob_views}
 use Rattle.repository_tables.specs.Changes.{after_all}
 use Rattle.store.specs.steps.Changed.{more_blobs}
 use Rattle.store.proofs.Appending.{after_more, blobs_then}

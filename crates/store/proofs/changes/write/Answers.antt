@@ -3,7 +3,7 @@ use Rattle.sqlite.proofs.StateLemmas.{survives_weaker}
 use Rattle.sqlite.specs.Held.{state}
 use Rattle.repository_rows.specs.Contents.{Contents}
 use Rattle.trust_rules.specs.Effects.{applied}
-use Rattle.state_parts.specs.Views.{effects_view}
+use Rattle.machine.specs.PartViews.{effects_view}
 use Rattle.table_rows.specs.Tables.{AreSame, IsStore}
 use Rattle.repository_tables.specs.Changes.{after_all}
 use Rattle.store.specs.StateRows.{rows_of}

@@ -3,7 +3,7 @@ use Rattle.std.specs.Prelude.{IsTrue, None}
 use Rattle.sqlite.specs.Held.{state}
 use Rattle.sqlite.specs.State.{HasCleanDisk}
 use Rattle.trust_rules.specs.Grants.{grants}
-use Rattle.granting.specs.Serving.{Refuses}
+use Rattle.machine.specs.Serving.{Refuses}
 use Rattle.trust_rules.specs.State.{State}
 use Rattle.store.specs.Standing.{StandsAt, seen}
 use Rattle.store.specs.StateRows.{rows_of}

@@ -1,6 +1,6 @@
 use Rattle.std.proofs.Common.{subst}
 use Rattle.delegations.specs.Verdicts.{Table}
-use Rattle.trusted_state.specs.Knowing.{IsKnown}
+use Rattle.machine.specs.Knowing.{IsKnown}
 use Rattle.store.proofs.store.Store.is_known.Goals as goal
 
 pub returns : goal.returns

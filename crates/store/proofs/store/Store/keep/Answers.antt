@@ -4,7 +4,7 @@ use Rattle.sqlite.specs.Held.{state}
 use Rattle.trust_rules.specs.Effects.{Effects, applied}
 use Rattle.trust_rules.specs.Held.{Held, IsHeld, held_of, held_with}
 use Rattle.trust_rules.specs.State.{State}
-use Rattle.state_parts.specs.Views.{effects_view}
+use Rattle.machine.specs.PartViews.{effects_view}
 use Rattle.store.specs.Standing.{IsStateOf, StandsAt, seen}
 use Rattle.store.specs.StateRows.{rows_of}
 use Rattle.store.proofs.Applying.{on_err}

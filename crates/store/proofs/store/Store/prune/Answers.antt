@@ -1,15 +1,15 @@
 use Rattle.std.proofs.Common.{◌≡◌, ℕ, Ok, Err, ap, length, subst, sym, ◌∙◌}
 use Rattle.sqlite.specs.Held.{state}
-use Rattle.trusted_state.specs.Answers.{Answers, CountsGone}
+use Rattle.machine.specs.Answers.{Answers, CountsGone}
 use Rattle.trust_rules.specs.Offers as commands
 use Rattle.trust_rules.specs.Effects.{applied}
 use Rattle.trust_rules.specs.Held.{OfEachState}
-use Rattle.trusted_state.specs.Knowing.{CarriesVerdicts}
+use Rattle.machine.specs.Knowing.{CarriesVerdicts}
 use Rattle.trust_rules.specs.Runs.{Prune, Pruned, Steps}
-use Rattle.state_parts.specs.Views.{effects_view}
-use Rattle.trusted_state.specs.declared.outcome.Outcome.{Outcome}
-use Rattle.trusted_state.specs.declared.outcome.Outcome.TheVariants.{Changed}
-use Rattle.trusted_state.specs.declared.outcome.Outcome.TheVariants as outcomes
+use Rattle.machine.specs.PartViews.{effects_view}
+use Rattle.machine.specs.DeclaredOutcome.{Outcome}
+use Rattle.machine.specs.Outcomes.{Changed}
+use Rattle.machine.specs.Outcomes as outcomes
 use Rattle.store.specs.declared.command.Reply.TheVariants as answers
 use Rattle.store.proofs.Applying.{is_valid, made_at, refusal_sound, still_at, unmade_at, prunes, prunes_same, prune_refused}
 use Rattle.store.proofs.Standings.{each}

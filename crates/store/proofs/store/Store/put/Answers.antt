@@ -1,13 +1,13 @@
 use Rattle.std.proofs.Common.{Ok, Err, ap, subst, true}
 use Rattle.sqlite.specs.Held.{state}
-use Rattle.trusted_state.specs.Answers.{Answers}
+use Rattle.machine.specs.Answers.{Answers}
 use Rattle.trust_rules.specs.Offers as commands
 use Rattle.trust_rules.specs.Held.{OfEachState}
-use Rattle.trusted_state.specs.Knowing.{CarriesVerdicts}
+use Rattle.machine.specs.Knowing.{CarriesVerdicts}
 use Rattle.trust_rules.specs.Runs.{PutBlob, Stored}
-use Rattle.trusted_state.specs.declared.outcome.Outcome.{Outcome}
-use Rattle.trusted_state.specs.declared.outcome.Outcome.TheVariants.{Changed}
-use Rattle.trusted_state.specs.declared.outcome.Outcome.TheVariants as outcomes
+use Rattle.machine.specs.DeclaredOutcome.{Outcome}
+use Rattle.machine.specs.Outcomes.{Changed}
+use Rattle.machine.specs.Outcomes as outcomes
 use Rattle.store.specs.declared.command.Reply.TheVariants as answers
 use Rattle.store.proofs.Applying.{is_valid, made_at, refusal_sound, still_at, unmade_at, puts, puts_same, put_refused}
 use Rattle.store.proofs.Standings.{each}

@@ -1,10 +1,10 @@
 use Rattle.std.proofs.Common.{Ok, Err, ap, subst}
 use Rattle.sqlite.specs.Held.{state}
-use Rattle.trusted_state.specs.Answers.{AnswersBatch}
+use Rattle.machine.specs.Answers.{AnswersBatch}
 use Rattle.trust_rules.specs.Offers as commands
-use Rattle.trusted_state.specs.Knowing.{BatchCarriesVerdicts}
+use Rattle.machine.specs.Knowing.{BatchCarriesVerdicts}
 use Rattle.trust_rules.specs.Runs.{Batch, BatchDone}
-use Rattle.trusted_state.specs.Views.{documents_view}
+use Rattle.machine.specs.StateViews.{documents_view}
 use Rattle.store.specs.declared.command.Reply.TheVariants as answers
 use Rattle.store.proofs.Applying.{batch_refusal_sound, batch_refused, batch_valid, batches_all, made_at, still_at, unmade_at}
 use Rattle.store.proofs.Standings.{each}

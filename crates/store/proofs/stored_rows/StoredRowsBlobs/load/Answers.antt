@@ -4,8 +4,8 @@ use Rattle.sqlite.specs.Held.{state}
 use Rattle.sqlite.specs.State.{HasCleanDisk}
 use Rattle.sha2.specs.Sha256.{sha256}
 use Rattle.repository_rows.specs.Contents.{Contents}
-use Rattle.granting.specs.Serving.{Leaves}
-use Rattle.granting.specs.declared.serving.LoadFault.{LoadFault}
+use Rattle.machine.specs.Serving.{Leaves}
+use Rattle.machine.specs.DeclaredLoadFault.{LoadFault}
 use Rattle.table_rows.specs.Tables.{IsStore}
 use Rattle.store.specs.steps.Loading.{HasFile}
 use Rattle.store.proofs.Loads.{file_of, row_of, same_files}
