@@ -1,8 +1,8 @@
 """How many jobs 'rt ci' is given: as many as there are processors, where there is memory for them.
 
 Left to itself 'rt ci' plans the memory of each proof with room to spare, holds a proof back until that much is free, and gives the large ones
-several processors. With RT_JOBS set it holds nothing back, and each proof has one processor. The largest proofs, those of 'release' and
-'replay', take 7.7 GB each and may meet; the others take 2 GB or less at a time.
+several processors. With RT_JOBS set it holds nothing back, and each proof has one processor. The largest proofs, those of the tests of
+'io_tests', of 'release' and of 'replay', take 5 to 7 GB each and may meet; what stands on sqlite takes up to 4, the others 2 GB or less at a time.
 """
 import os
 
