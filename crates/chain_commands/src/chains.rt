@@ -4,8 +4,8 @@ use command_line::{Drafting, LayoutDraft};
 use command_support::{FILE_LIMIT, Fault, Notes, Slip, read_at_most};
 use drafting::{Addition, Rule, TargetsChanges, draft_targets};
 use drafting_commands::{
-    Before, DAYS as TARGETS_DAYS, Known, RuleRead, addition_of, digest_in, drafted, kept_terms,
-    rule_of, see_unsigned, terms_of, usage,
+    Before, DAYS as TARGETS_DAYS, Known, RuleRead, addition_of, digest_in, drafted, items_in,
+    kept_terms, rule_of, see_unsigned, terms_of, usage,
 };
 use drafts::{
     Folder, chain_name, kind_of, layout_in, layout_name, layout_path, link_path, read_said,
@@ -145,7 +145,7 @@ fn artifacts_of(
     step: &str,
     list: &str,
 ) -> Result<ArtifactsRead, AllocError> {
-    let products = listed_in(alloc, list)?;
+    let products = items_in(alloc, list)?;
     let material_rules = rules_in(alloc, lines, step, "materials")?;
     let product_rules = rules_in(alloc, lines, step, "products")?;
     Ok(ArtifactsRead {
@@ -160,15 +160,6 @@ fn no_step(rt: &HostRuntime) -> Fault {
         rt.alloc(),
         "error: a step is STEP=RULE:PRODUCT[,PRODUCT..]\n\nFor more information, try '--help'.\n",
     )
-}
-
-// What stands between commas.
-fn listed_in(alloc: Global, list: &str) -> Result<Vec<String>, AllocError> {
-    let mut items = Vec::new(alloc);
-    for item in list.split(',') {
-        items.push(String::from_str(alloc, item)?)?;
-    }
-    Ok(items)
 }
 
 // The rules that lines say of a side of a step, each by its words.

@@ -1,9 +1,13 @@
 -- Objects as rows of names and values.
 use Rattle.std.proofs.Common.{◌≡◌, ℕ, List, [], ◌∷◌, ◌++◌, append_assoc, string_bytes, refl, ap, ◌∙◌}
-use Rattle.canonical_json.specs.Json.{Json, object, Members, member}
+use Rattle.canonical_json.specs.Json.{Json, object, Members, no_members, member}
 use Rattle.canonical_json.specs.View.{view, members_view}
 use Rattle.drafting.proofs.Rows.{Row, shown}
-use Rattle.chain_drafting.specs.steps.Rowed.{members_from, rows_view}
+use Rattle.drafting.specs.steps.Rows.{rows_view}
+
+abbrev pub members_from : List (List ℕ × Json) → Members
+members_from [] = no_members
+members_from (r ∷ rows) = member r.0 r.1 (members_from rows)
 
 from_rows : (ms : List Row) → members_view ms ≡ members_from (rows_view ms)
 from_rows [] = refl

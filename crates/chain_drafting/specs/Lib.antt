@@ -1,4 +1,6 @@
 pub mod Within
+pub mod Delegations
+pub mod Finding
 pub mod Layouts
 pub mod References
 pub mod Links

@@ -1,4 +1,5 @@
 -- Definitions that contracts of private functions cite.
+pub mod Delegated
+pub mod Found
 pub mod Said
 pub mod Recorded
-pub mod Rowed

@@ -3,22 +3,19 @@ ghost use Rattle.std.specs.Prelude.{◌≡◌, ◌⊎◌, codes, option_map, Non
 ghost use Rattle.canonical_json.specs.Json.{Json, object, array, no_items};
 ghost use Rattle.canonical_json.specs.View.{members_view};
 ghost use Rattle.document_parts.specs.declared.documents.Kind.TheVariants as kinds;
-ghost use Rattle.drafting.specs.Drafts.{IsDraft, IsTooLate, IsUndrafted, nothing_else};
+ghost use Rattle.drafting.specs.Drafts.{IsDraft, IsUndrafted, nothing_else};
 ghost use Rattle.drafting.specs.Members.{Puts, PutsAll};
 ghost use Rattle.chain_drafting.specs.Layouts.{DraftsLayout, chain};
-ghost use Rattle.chain_drafting.specs.steps.Recorded.{PutsSteps, PutsTerms};
+ghost use Rattle.chain_drafting.specs.steps.Recorded.{PutsSteps};
 ghost use Rattle.chain_drafting.specs.steps.Said.{steps_view};
 
 use crate::bases::layout_members;
 use crate::keys::{put_keys, put_names};
 use crate::steps::steps_value;
 use canonical_json::Value;
-use drafting::{DraftFault, Rule, Terms, date_text, finish, integer_value, put, string_value};
+use drafting::{DraftFault, Rule, Terms, finish, put, put_terms};
 use metadata::Kind;
 use std::alloc::{AllocError, Global};
-
-// The last integer of canonical JSON.
-const MOST: u64 = 9_223_372_036_854_775_807;
 
 /// A step (in-toto 1.0, section 4.3.1): its name, whose links count for it and from how many keys there must be one, and the patterns
 /// of what it makes, at most 31. Its artifact rules (section 4.3.3) say that it may use what the step before it left, and leaves that
@@ -83,22 +80,4 @@ fn put_no_inspection(alloc: Global, members: &mut Vec<(String, Value)>) -> Resul
     ensures { OnOk result (Puts (codes "inspect") (array no_items) (object (members_view members.old.items)) (object (members_view members.new.items))) }
 {
     put(alloc, members, "inspect", Value::List(Vec::new(alloc)))
-}
-
-// Puts the moment and the seconds that the terms say.
-fn put_terms(
-    alloc: Global,
-    members: &mut Vec<(String, Value)>,
-    terms: Terms,
-) -> Result<(), DraftFault>
-    ensures ok { OnOk result (PutsTerms terms (object (members_view members.old.items)) (object (members_view members.new.items))) }
-    ensures err { IfErr result (λ e. (e ≡ DraftFault.OutOfMemory) ⊎ ((e ≡ DraftFault.TooLate) × IsTooLate terms)) }
-{
-    if terms.seconds > MOST {
-        return Err(DraftFault::TooLate);
-    }
-    let text = date_text(alloc, terms.expires)?;
-    put(alloc, members, "expires", string_value(text))?;
-    put(alloc, members, "term", integer_value(terms.seconds as i64))?;
-    Ok(())
 }

@@ -4,7 +4,7 @@ ghost use Rattle.canonical_json.specs.Json.{array, text};
 ghost use Rattle.canonical_json.specs.View.{items_of, view};
 ghost use Rattle.drafting.specs.steps.Rows.{texts_view};
 ghost use Rattle.chain_drafting.specs.Layouts.{rule_list, texts};
-ghost use Rattle.chain_drafting.specs.steps.Rowed.{rows_view};
+ghost use Rattle.drafting.specs.steps.Rows.{rows_view};
 ghost use Rattle.chain_drafting.specs.steps.Said.{words_view};
 
 use canonical_json::Value;

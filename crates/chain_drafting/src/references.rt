@@ -10,7 +10,7 @@ ghost use Rattle.drafting.specs.Roots.{keys_of};
 ghost use Rattle.chain_drafting.specs.References.{DraftsReference, IsNoTarget, IsReference, PutsReference, RefersTarget};
 ghost use Rattle.chain_drafting.specs.Within.{Inside};
 ghost use Rattle.chain_drafting.specs.steps.Recorded.{IsUnreferred, owner_rows, place_rows};
-ghost use Rattle.chain_drafting.specs.steps.Rowed.{rows_view};
+ghost use Rattle.drafting.specs.steps.Rows.{rows_view};
 ghost use Rattle.chain_drafting.specs.steps.Said.{reference_view};
 
 use crate::bases::document_members;

@@ -3,7 +3,7 @@ ghost use Rattle.std.specs.Prelude.{◌≡◌, ◌++◌, None, IfOk, OnOk};
 ghost use Rattle.canonical_json.specs.View.{view};
 ghost use Rattle.chain_drafting.specs.Layouts.{chain, step_object};
 ghost use Rattle.chain_drafting.specs.steps.Recorded.{rule_rows};
-ghost use Rattle.chain_drafting.specs.steps.Rowed.{rows_view};
+ghost use Rattle.drafting.specs.steps.Rows.{rows_view};
 ghost use Rattle.chain_drafting.specs.steps.Said.{step_view, steps_view, text_of};
 
 use crate::artifact_rules::{material_rules, product_rules};

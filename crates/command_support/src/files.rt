@@ -1,4 +1,4 @@
-//! Input files, and standard output.
+//! Input files and folders, and standard output.
 use crate::fault::{Fault, file_fault};
 use crate::notes::Notes;
 use std::fs::{self, File};
@@ -40,6 +40,17 @@ fn beginning(rt: &HostRuntime, path: &str, limit: usize) -> io::Result<Vec<u8>> 
 fn unread<E: Write>(path: &str, error: &io::Error, notes: &mut Notes<'_, E>) -> Fault {
     notes.tell(&path, error);
     file_fault(error)
+}
+
+/// The names of what stands in a folder, in their order.
+pub fn names_of(rt: &HostRuntime, folder: &str) -> io::Result<Vec<String>> {
+    let mut names = Vec::new(rt.alloc());
+    for entry in fs::read_dir(rt, folder)? {
+        let entry = entry?;
+        names.push(String::from_str(rt.alloc(), entry.file_name())?)?;
+    }
+    names.sort_unstable();
+    Ok(names)
 }
 
 /// Prints these bytes. A write that fails is a fault of a file.

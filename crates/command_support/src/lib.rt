@@ -1,10 +1,11 @@
 //! What the subcommands of the program `release` have in common and needs no repository: why a command was not done, with its text and
-//! its exit status, the moment, input files, standard output, files that come into their places, and what is told besides.
+//! its exit status, the moment, input files, standard output, files that come into their places, folders of drafts, and what is told besides.
 #![tactic(auto)]
 
 mod databases;
 mod fault;
 mod files;
+mod folder;
 mod moments;
 mod notes;
 mod placing;
@@ -13,7 +14,8 @@ pub use command_line::Usage;
 pub use databases::connected;
 pub use denials::Denial;
 pub use fault::{Fault, Slip, file_fault};
-pub use files::{print, read, read_at_most};
+pub use files::{names_of, print, read, read_at_most};
+pub use folder::Folder;
 pub use limits::FILE_LIMIT;
 pub use loose_json::CanonFault;
 pub use moments::{expiry_of, moment};

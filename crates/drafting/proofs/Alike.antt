@@ -1,10 +1,10 @@
 -- Values with the same members but for some names.
 use Rattle.std.proofs.Common.{◌≡◌, ◌≢◌, ℕ, List, [], ◌∷◌, ◌++◌, codes, get_or, refl, ap, arith, pos}
 use Rattle.canonical_json.specs.Json.{Json, integer, text}
-use Rattle.document_parts.specs.Dates.{IsDateTime}
-use Rattle.drafting.specs.Members.{IsNoneOf, AlikeBut, Puts}
+use Rattle.drafting.specs.Members.{IsLast, IsNoneOf, AlikeBut, Puts}
 use Rattle.drafting.specs.Drafts.{Follows}
 use Rattle.drafting.specs.declared.terms.Terms.{Terms}
+use Rattle.drafting.specs.steps.Rows.{PutsTerms}
 
 pub alike_self : (names : List (List ℕ)) (a : Json) → AlikeBut names a a
 alike_self names a = record { kept = λ name x other h. h; no_more = λ name x other h. h }
@@ -45,18 +45,23 @@ other_head name v e t =
 
 -- ---- the head
 
-pub headed : (a b c d : Json) (version : ℕ) (terms : Terms) (t : List ℕ) → IsDateTime t terms.expires
-    → Puts (codes "expires") (text t) a b → Puts (codes "term") (integer (pos terms.seconds)) b c → Puts (codes "version") (integer (pos version)) c d
-    → Follows version terms [] a d
-headed a b c d version terms t date p q r = record {
-  version = r.has;
-  expires = (text t, r.others.kept (codes "expires") (text t) (version_expires, tt) (q.others.kept (codes "expires") (text t) (term_expires, tt) p.has), (t, refl, date));
-  term = r.others.kept (codes "term") (integer (pos terms.seconds)) (version_term, tt) q.has;
-  others = record {
-    kept = λ name x other h. r.others.kept name x (other.0, tt) (q.others.kept name x (other.1.1.0, tt) (p.others.kept name x (other.1.0, tt) h));
-    no_more = λ name x other h. p.others.no_more name x (other.1.0, tt) (q.others.no_more name x (other.1.1.0, tt) (r.others.no_more name x (other.0, tt) h));
-  };
-}
+pub headed : (a b c : Json) (version : ℕ) (terms : Terms) → PutsTerms terms a b → Puts (codes "version") (integer (pos version)) b c → Follows version terms [] a c
+headed a b c version terms p r =
+    let expires = text p.0 in
+    let term = integer (pos terms.seconds) in
+    let last_expires : IsLast ((codes "expires", expires) ∷ (codes "term", term) ∷ []) (codes "expires") expires =
+    record { front = []; back = (codes "term", term) ∷ []; is = refl; last = (term_expires, tt) } in
+    let last_term : IsLast ((codes "expires", expires) ∷ (codes "term", term) ∷ []) (codes "term") term =
+    record { front = (codes "expires", expires) ∷ []; back = []; is = refl; last = tt } in
+    record {
+      version = r.has;
+      expires = (expires, r.others.kept (codes "expires") expires (version_expires, tt) (p.2.named (codes "expires") expires last_expires), (p.0, refl, p.1));
+      term = r.others.kept (codes "term") term (version_term, tt) (p.2.named (codes "term") term last_term);
+      others = record {
+        kept = λ name x other h. r.others.kept name x (other.0, tt) (p.2.others.kept name x (other.1.0, (other.1.1.0, tt)) h);
+        no_more = λ name x other h. p.2.others.no_more name x (other.1.0, (other.1.1.0, tt)) (r.others.no_more name x (other.0, tt) h);
+      };
+    }
 
 pub follows_on : (version : ℕ) (terms : Terms) (names : List (List ℕ)) (a b c : Json) → AlikeBut names a b → Follows version terms [] b c → Follows version terms names a c
 follows_on version terms names a b c p f = record {

@@ -21,8 +21,8 @@ const SPEC_VERSION: &str = "1.0.31";
 // The last version.
 const LAST: u32 = 4_294_967_295;
 
-// The version that the document says.
-fn version_of(body: &Body) -> u32
+/// The version that the document says, and 0 where it has none.
+pub fn version_of(body: &Body) -> u32
     ensures { result ≡ version_said (body_view body.now) }
 {
     match body {

@@ -24,7 +24,7 @@ struct Shown {
 }
 
 /// The text of the moment, `YYYY-MM-DDTHH:MM:SSZ` (RFC 3339, section 5.6).
-pub fn date_text(alloc: Global, moment: Moment) -> Result<String, DraftFault>
+pub(crate) fn date_text(alloc: Global, moment: Moment) -> Result<String, DraftFault>
     ensures ok { IfOk result (λ t. IsDateTime (string_bytes t) moment) }
     ensures err { IfErr result (λ e. (e ≡ DraftFault.OutOfMemory) ⊎ ((e ≡ DraftFault.TooLate) × ((t : List ℕ) → IsDateTime t moment → ⊥))) }
 {

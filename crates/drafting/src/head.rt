@@ -3,6 +3,7 @@ ghost use Rattle.std.specs.Prelude.{◌≡◌, ◌⊎◌, [], OnOk, IfErr};
 ghost use Rattle.canonical_json.specs.Json.{object};
 ghost use Rattle.canonical_json.specs.View.{members_view};
 ghost use Rattle.drafting.specs.Drafts.{Follows, IsTooLate};
+ghost use Rattle.drafting.specs.steps.Rows.{PutsTerms};
 
 use crate::dates::date_text;
 use crate::faults::DraftFault;
@@ -24,12 +25,25 @@ pub fn put_head(
     ensures ok { OnOk result (Follows version terms [] (object (members_view members.old.items)) (object (members_view members.new.items))) }
     ensures err { IfErr result (λ e. (e ≡ DraftFault.OutOfMemory) ⊎ ((e ≡ DraftFault.TooLate) × IsTooLate terms)) }
 {
+    put_terms(alloc, members, terms)?;
+    put(alloc, members, "version", number_value(version))?;
+    Ok(())
+}
+
+/// Puts the moment and the seconds that the terms say.
+pub fn put_terms(
+    alloc: Global,
+    members: &mut Vec<(String, Value)>,
+    terms: Terms,
+) -> Result<(), DraftFault>
+    ensures ok { OnOk result (PutsTerms terms (object (members_view members.old.items)) (object (members_view members.new.items))) }
+    ensures err { IfErr result (λ e. (e ≡ DraftFault.OutOfMemory) ⊎ ((e ≡ DraftFault.TooLate) × IsTooLate terms)) }
+{
     if terms.seconds > MOST {
         return Err(DraftFault::TooLate);
     }
     let text = date_text(alloc, terms.expires)?;
     put(alloc, members, "expires", string_value(text))?;
     put(alloc, members, "term", integer_value(terms.seconds as i64))?;
-    put(alloc, members, "version", number_value(version))?;
     Ok(())
 }

@@ -23,20 +23,18 @@ mod terms;
 mod texts;
 mod timestamps;
 
-pub use base::{base_members, next_version, part_members};
-pub use dates::date_text;
+pub use base::{base_members, next_version, part_members, version_of};
 pub use denials::Denial;
 pub use faults::{DraftFault, TopRole, begun_fault, held_fault};
 pub use finishing::{file_of, finish, written};
-pub use head::put_head;
+pub use head::{put_head, put_terms};
 pub use looking::{Look, look_at};
 pub use members::{
-    integer_value, is_there, number_value, object_value, put, string_value, take_list, take_object,
-    take_out, text_value,
+    is_there, number_value, object_value, put, take_list, take_object, take_out, text_value,
 };
 pub use metadata::Moment;
 pub use named::keep_named;
-pub use names::{name_of_key, number_in, text_in};
+pub use names::{name_of_key, number_in};
 pub use roots::draft_root;
 pub use rules::{NamedKey, Rule, ids_value};
 pub use snapshots::draft_snapshot;

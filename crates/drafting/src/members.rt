@@ -136,14 +136,14 @@ pub fn number_value(number: u32) -> Value
 }
 
 /// A number of any size.
-pub fn integer_value(number: i64) -> Value
+pub(crate) fn integer_value(number: i64) -> Value
     ensures { view result ≡ integer number }
 {
     Value::Int(number)
 }
 
 /// The text, as a value.
-pub fn string_value(said: String) -> Value
+pub(crate) fn string_value(said: String) -> Value
     ensures { view result ≡ text (string_bytes said) }
 {
     Value::Text(said)

@@ -17,11 +17,6 @@ pub fn number_in(signed: &[u8], name: &str) -> Option<u64> {
     digits.parse::<u64>().ok()
 }
 
-/// The text that a member has, if it has one without a quotation mark or a backslash.
-pub fn text_in<'a>(signed: &'a [u8], name: &str) -> Option<&'a str> {
-    text_of(member(signed, name)?)
-}
-
 // What stands between two quotation marks, where nothing in it stands behind a backslash.
 fn text_of(spelled: &[u8]) -> Option<&str> {
     let spelled = str::from_utf8(spelled).ok()?;

@@ -1,12 +1,12 @@
 //! Keys and rules, as words.
 use crate::drafting_faults::drafted;
+use chain_drafting::{Found, find_key};
 use command_support::{Fault, Notes, Slip, read_at_most};
 use drafting::NamedKey;
 use drafts::{KEY_FILE_LIMIT, key_in};
-use key_finding::{Found, find_key};
 use keys_roles::Key;
 use metadata::Kind;
-use std::alloc::Global;
+use std::alloc::{AllocError, Global};
 use std::io::Write;
 
 /// A rule that was read: how many of these keys have to sign.
@@ -72,6 +72,15 @@ fn key_of<E: Write>(
         &"no key is called so in what is held; a file ends in .key",
     );
     Err(Fault::Slip(Slip::Key))
+}
+
+/// What stands between commas.
+pub fn items_in(alloc: Global, list: &str) -> Result<Vec<String>, AllocError> {
+    let mut items = Vec::new(alloc);
+    for item in list.split(',') {
+        items.push(String::from_str(alloc, item)?)?;
+    }
+    Ok(items)
 }
 
 /// What stands behind the last slash.

@@ -1,17 +1,17 @@
 //! `draft targets`.
 use crate::drafting_faults::{drafted, usage};
-use crate::keys::{Known, RuleRead, rule_of};
+use crate::keys::{Known, RuleRead, items_in, rule_of};
 use crate::saving::Before;
 use crate::terms::terms_of;
+use chain_drafting::{Delegated, DelegationChanges, draft_delegations};
 use command_line::{Drafting, TargetsDraft};
-use command_support::{Denial, Fault, Notes, file_fault, read_at_most};
-use delegation_drafting::{Delegated, DelegationChanges, draft_delegations};
+use command_support::{Denial, Fault, Notes, file_fault, names_of, read_at_most};
 use drafting::{Addition, Rule, TargetsChanges, Terms, draft_targets};
 use drafts::Folder;
 use limits::BLOB_LIMIT;
 use metadata::{Kind, Moment, RoleName, TargetPath, digest_of};
 use std::alloc::{AllocError, Global};
-use std::io::{self, IsTerminal, Write};
+use std::io::{IsTerminal, Write};
 use std::{fmt, fs};
 
 // The days that a first one is valid.
@@ -173,10 +173,7 @@ fn delegation_of<'a, E: Write>(
         return Err(no_delegation(rt));
     };
     let rule = rule_of(rt, known, rule, notes)?;
-    let mut patterns = Vec::new(rt.alloc());
-    for pattern in list.split(',') {
-        patterns.push(String::from_str(rt.alloc(), pattern)?)?;
-    }
+    let patterns = items_in(rt.alloc(), list)?;
     Ok(DelegationRead {
         name,
         rule,
@@ -394,15 +391,4 @@ fn is_folder(rt: &HostRuntime, path: &str) -> bool {
         Ok(found) => found.is_dir(),
         Err(_) => false,
     }
-}
-
-// The names of what stands in a folder, in their order.
-fn names_of(rt: &HostRuntime, folder: &str) -> io::Result<Vec<String>> {
-    let mut names = Vec::new(rt.alloc());
-    for entry in fs::read_dir(rt, folder)? {
-        let entry = entry?;
-        names.push(String::from_str(rt.alloc(), entry.file_name())?)?;
-    }
-    names.sort_unstable();
-    Ok(names)
 }

@@ -29,19 +29,19 @@ impl Before {
 
     /// What is held.
     pub fn held(&self) -> Option<&[u8]> {
-        lent(&self.held)
+        self.held.as_deref()
     }
 
     /// What is begun.
     pub fn begun(&self) -> Option<&[u8]> {
-        lent(&self.begun)
+        self.begun.as_deref()
     }
 
     /// What is begun, or else what is held.
     pub fn latest(&self) -> Option<&[u8]> {
         match &self.begun {
             Some(bytes) => Some(bytes),
-            None => lent(&self.held),
+            None => self.held.as_deref(),
         }
     }
 }
@@ -63,11 +63,4 @@ pub fn see_unsigned<E: Write>(
         return Err(Fault::Slip(Slip::Signed));
     }
     Ok(())
-}
-
-fn lent(bytes: &Option<Vec<u8>>) -> Option<&[u8]> {
-    match bytes {
-        Some(bytes) => Some(bytes),
-        None => None,
-    }
 }

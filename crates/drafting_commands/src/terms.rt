@@ -1,4 +1,5 @@
 //! When a draft expires.
+use crate::drafting_faults::usage;
 use command_support::Fault;
 use drafting::{Terms, number_in};
 use drafts::read_said;
@@ -39,7 +40,7 @@ pub fn terms_of(
             expires,
             seconds: expires.seconds().saturating_sub(now.seconds()),
         }),
-        None => Err(no_term(alloc)),
+        None => Err(usage(alloc, NO_TERM)),
     }
 }
 
@@ -49,7 +50,7 @@ pub fn kept_terms(alloc: Global, role: &str, draft: &[u8], first: u64) -> Result
     let said = read_said(alloc, role, draft)?;
     match said.expires {
         Some(expires) => Ok(Terms { expires, seconds }),
-        None => Err(no_term(alloc)),
+        None => Err(usage(alloc, NO_TERM)),
     }
 }
 
@@ -57,14 +58,7 @@ pub fn kept_terms(alloc: Global, role: &str, draft: &[u8], first: u64) -> Result
 fn behind(alloc: Global, now: Moment, seconds: u64) -> Result<Terms, Fault> {
     match Moment::new(now.seconds().saturating_add(seconds)) {
         Some(expires) => Ok(Terms { expires, seconds }),
-        None => Err(no_term(alloc)),
-    }
-}
-
-fn no_term(alloc: Global) -> Fault {
-    match String::from_str(alloc, NO_TERM) {
-        Ok(text) => Fault::Usage(text),
-        Err(_) => Fault::Memory,
+        None => Err(usage(alloc, NO_TERM)),
     }
 }
 

@@ -1,8 +1,8 @@
 //! Layouts and links as targets (this project's profile of TUF 1.0, section 4.5, custom).
+use crate::roles::kind_of;
 use crate::said::{Said, read_said_of};
 use crate::vouching::{Vouching, vouching_of};
-use command_support::{Fault, Notes};
-use draft_folders::{Folder, kind_of};
+use command_support::{Fault, Folder, Notes};
 use drafting::{Look, look_at};
 use keys_roles::KeyId;
 use metadata::{

@@ -1,7 +1,7 @@
 //! How many keys of a rule have signed.
+use crate::roles::kind_of;
 use crate::vouching::{Vouching, rules_for};
-use command_support::{Fault, Notes};
-use draft_folders::{Folder, kind_of};
+use command_support::{Fault, Folder, Notes};
 use drafting::{Look, look_at};
 use keys_roles::{KeyId, RoleRule, meets};
 use metadata::{Document, SignedFile};

@@ -5,6 +5,8 @@ mod chains;
 mod changes;
 mod counting;
 mod covering;
+mod key_files;
+mod roles;
 mod said;
 mod vouching;
 
@@ -14,11 +16,12 @@ pub use chains::{
     target_of_layout,
 };
 pub use changes::changes_of;
-pub use command_support::{Fault, Notes, Slip};
+pub use command_support::{Fault, Folder, Notes, Slip};
 pub use counting::{Count, count_of, has_signatures, has_signed};
 pub use covering::{Covering, covered_by};
-pub use draft_folders::{Folder, KEY_FILE_LIMIT, key_in, kind_of, offer_order, sign_order};
 pub use drafting::{name_of_key, number_in};
+pub use key_files::{KEY_FILE_LIMIT, key_in};
+pub use roles::{kind_of, offer_order, sign_order};
 pub use said::{
     ListedFile, Said, SaidRule, held_said, read_said, read_said_of, typed_kind, version_in,
 };

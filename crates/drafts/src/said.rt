@@ -1,8 +1,8 @@
 //! What a document says, as far as drafts are about it.
+use crate::roles::kind_of;
 use canonical_json::member;
-use command_support::{Fault, Notes, expiry_of};
-use draft_folders::{Folder, kind_of};
-use drafting::{Look, look_at};
+use command_support::{Fault, Folder, Notes, expiry_of};
+use drafting::{Look, look_at, version_of};
 use keys_roles::{KeyId, RoleRule};
 use metadata::{
     Body, Delegation, Digest, Document, Kind, Listing, Meta, Moment, Pattern, Root, Scope, Step,
@@ -109,16 +109,6 @@ fn said_by(alloc: Global, body: &Body) -> Result<Said, AllocError> {
         files,
         rules,
     })
-}
-
-fn version_of(body: &Body) -> u32 {
-    match body {
-        Body::Root(root) => root.version,
-        Body::Timestamp(timestamp) => timestamp.version,
-        Body::Snapshot(snapshot) => snapshot.version,
-        Body::Targets(targets) => targets.version,
-        Body::Layout(_) | Body::Link(_) => 0,
-    }
 }
 
 // The documents that a timestamp or a snapshot names.

@@ -1,6 +1,6 @@
 //! The rules that a document has to meet.
-use command_support::{Fault, Notes};
-use draft_folders::{Folder, kind_of};
+use crate::roles::kind_of;
+use command_support::{Fault, Folder, Notes};
 use drafting::{Look, look_at};
 use keys_roles::{KeyTable, RoleRule};
 use metadata::{Body, Delegations, Document, Kind, Root};

@@ -1,11 +1,9 @@
 -- What of a draft is put by one function.
-use Rattle.std.specs.Prelude.{◌≡◌, ℕ, pos, Option, List, [], ◌∷◌, codes}
-use Rattle.canonical_json.specs.Json.{Json, integer, text, array, object, no_items, no_members, member}
+use Rattle.std.specs.Prelude.{◌≡◌, ℕ, Option, List, [], ◌∷◌, codes}
+use Rattle.canonical_json.specs.Json.{Json, text, array, object, no_items, no_members, member}
 use Rattle.canonical_json.specs.View.{items_of}
-use Rattle.document_parts.specs.Dates.{IsDateTime}
 use Rattle.drafting.specs.Members.{HasNone, IsObjectAt, Puts, PutsAll}
 use Rattle.drafting.specs.Roots.{ids_of}
-use Rattle.drafting.specs.declared.terms.Terms.{Terms}
 use Rattle.chain_drafting.specs.Layouts.{Step, chain, rule_list, said_or, step_keys, step_names, texts, usual_materials, usual_products}
 use Rattle.chain_drafting.specs.References.{Said}
 use Rattle.chain_drafting.specs.Links.{IsLinkPart}
@@ -13,11 +11,6 @@ use Rattle.chain_drafting.specs.Links.{IsLinkPart}
 -- a table of these rows, from nothing, comes in
 abbrev pub PutsTable : List ℕ → List (List ℕ × Json) → Json → Json → Type 0
 PutsTable name rows before after = (table : Json) × PutsAll rows (object no_members) table × Puts name table before after
-
--- the moment and the seconds come in
-abbrev pub PutsTerms : Terms → Json → Json → Type 0
-PutsTerms terms before after = (expires : List ℕ) × IsDateTime expires terms.expires
-    × PutsAll ((codes "expires", text expires) ∷ (codes "term", integer (pos terms.seconds)) ∷ []) before after
 
 -- a file of a signed part that is a link's
 abbrev pub IsLinkFile : Json → Type 0

@@ -1,12 +1,14 @@
 -- What the code's rows stand for, and what putting them in does to a signed part.
-use Rattle.std.specs.Prelude.{ℕ, List, [], ◌∷◌, codes, map, String, string_bytes}
+use Rattle.std.specs.Prelude.{ℕ, pos, List, [], ◌∷◌, codes, map, String, string_bytes}
 use Rattle.std.specs.declared.alloc.Global.{Global}
-use Rattle.canonical_json.specs.Json.{Json}
+use Rattle.canonical_json.specs.Json.{Json, integer, text}
 use Rattle.canonical_json.specs.View.{view}
 use Rattle.canonical_json.specs.declared.Value.{Value}
-use Rattle.drafting.specs.Members.{AlikeBut, IsObjectAt, Puts, Rows}
+use Rattle.document_parts.specs.Dates.{IsDateTime}
+use Rattle.drafting.specs.Members.{AlikeBut, IsObjectAt, Puts, PutsAll, Rows}
 use Rattle.drafting.specs.Snapshots.{ListsRoles}
 use Rattle.drafting.specs.Targets.{Said, Changes, ChangesTargets, IsListing}
+use Rattle.drafting.specs.declared.terms.Terms.{Terms}
 use Rattle.drafting.specs.declared.targets.Addition.{Addition}
 use Rattle.drafting.specs.declared.targets.TargetsChanges.{TargetsChanges}
 
@@ -27,6 +29,11 @@ additions_view additions = map addition_view additions
 
 abbrev pub changes_view : TargetsChanges → Changes
 changes_view c = record { removed = texts_view c.remove.now; added = additions_view c.add.now }
+
+-- the moment and the seconds come in
+abbrev pub PutsTerms : Terms → Json → Json → Type 0
+PutsTerms terms before after = (expires : List ℕ) × IsDateTime expires terms.expires
+    × PutsAll ((codes "expires", text expires) ∷ (codes "term", integer (pos terms.seconds)) ∷ []) before after
 
 -- the entries of these roles come into `meta`, and nothing else changes
 pub record PutsMeta (roles : List (List ℕ × ℕ)) (before after : Json) : Type 0 where

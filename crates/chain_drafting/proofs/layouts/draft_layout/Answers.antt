@@ -3,11 +3,12 @@ use Rattle.canonical_json.specs.Json.{Json, integer, text}
 use Rattle.document_parts.specs.declared.documents.Kind.TheVariants as kinds
 use Rattle.drafting.specs.Drafts.{File, nothing_else}
 use Rattle.drafting.specs.declared.terms.Terms.{Terms}
+use Rattle.drafting.specs.steps.Rows.{PutsTerms}
 use Rattle.drafting.proofs.Refusals.{unfinished}
 use Rattle.drafting.proofs.Results.{if_err, if_ok}
 use Rattle.drafting.proofs.Rows.{shown}
 use Rattle.chain_drafting.specs.Layouts.{DraftsLayout, IsLayoutBase, Step}
-use Rattle.chain_drafting.specs.steps.Recorded.{PutsSteps, PutsTerms}
+use Rattle.chain_drafting.specs.steps.Recorded.{PutsSteps}
 use Rattle.chain_drafting.specs.steps.Said.{steps_view}
 use Rattle.chain_drafting.proofs.layouts.draft_layout.Goals as goal
 

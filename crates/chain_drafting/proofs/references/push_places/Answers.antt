@@ -2,7 +2,7 @@ use Rattle.std.proofs.Common.{◌≡◌, [], ◌∷◌, ◌++◌, codes, ◌∙�
 use Rattle.canonical_json.specs.Json.{text}
 use Rattle.drafting.proofs.Results.{on_ok}
 use Rattle.chain_drafting.specs.Layouts.{texts}
-use Rattle.chain_drafting.specs.steps.Rowed.{rows_view}
+use Rattle.drafting.specs.steps.Rows.{rows_view}
 use Rattle.chain_drafting.specs.steps.Said.{reference_view}
 use Rattle.chain_drafting.proofs.Rowed.{four_more}
 use Rattle.chain_drafting.proofs.references.push_places.Goals as goal

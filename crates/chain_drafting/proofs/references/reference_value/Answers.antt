@@ -2,7 +2,7 @@ use Rattle.std.proofs.Common.{◌≡◌, pos, List, [], ◌∷◌, ◌++◌, cod
 use Rattle.canonical_json.specs.Json.{integer}
 use Rattle.drafting.proofs.Rows.{Row}
 use Rattle.chain_drafting.specs.steps.Recorded.{owner_rows, place_rows}
-use Rattle.chain_drafting.specs.steps.Rowed.{rows_view}
+use Rattle.drafting.specs.steps.Rows.{rows_view}
 use Rattle.chain_drafting.specs.steps.Said.{reference_view}
 use Rattle.chain_drafting.proofs.Rowed.{object_from}
 use Rattle.chain_drafting.proofs.references.reference_value.Goals as goal

@@ -1,6 +1,6 @@
 use Rattle.std.proofs.Common.{◌≡◌, [], ◌∷◌, ◌++◌, codes, ◌∙◌}
 use Rattle.chain_drafting.specs.Layouts.{rule_list, said_or, usual_materials, usual_products}
-use Rattle.chain_drafting.specs.steps.Rowed.{rows_view}
+use Rattle.drafting.specs.steps.Rows.{rows_view}
 use Rattle.chain_drafting.specs.steps.Said.{step_view, text_of}
 use Rattle.chain_drafting.proofs.Rowed.{two_more}
 use Rattle.chain_drafting.proofs.steps.push_rules.Goals as goal

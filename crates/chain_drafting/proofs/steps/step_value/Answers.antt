@@ -4,7 +4,7 @@ use Rattle.canonical_json.specs.View.{items_of}
 use Rattle.drafting.specs.Roots.{ids_of}
 use Rattle.drafting.proofs.Rows.{Row}
 use Rattle.chain_drafting.specs.steps.Recorded.{rule_rows}
-use Rattle.chain_drafting.specs.steps.Rowed.{rows_view}
+use Rattle.drafting.specs.steps.Rows.{rows_view}
 use Rattle.chain_drafting.specs.steps.Said.{step_view, text_of}
 use Rattle.chain_drafting.proofs.Rowed.{object_from}
 use Rattle.chain_drafting.proofs.steps.step_value.Goals as goal

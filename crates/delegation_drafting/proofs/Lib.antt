@@ -1,2 +1,0 @@
-pub mod RoleRows
-pub mod DelegationParts

@@ -1,2 +1,0 @@
-pub mod Delegations
-pub mod steps
