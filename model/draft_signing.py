@@ -1,16 +1,17 @@
 """Drafts that keys of three files sign: what `sign --key` looks at before a leaf is spent, as a function of a folder of drafts, of books and of a moment.
 
-A folder is what stands under its names: `ROLE.json`, `layouts/NAME`, `links/STEP.json`, `files/DIGEST` and `held/ROLE.json`, each with its bytes.
+A folder is what stands under its names: `ROLE.json`, `layouts/NAME`, `links/STEP.json`, `files/DIGEST`, `held/ROLE.json` and `spent/DIGEST.json`, each
+with its bytes.
 """
 import canonical_json
 import chain_drafting
 from denials import Denied, deny_unless
-from documents import is_live, meets, read_document, read_envelope
+from documents import is_live, meets, read_document, read_envelope, verifies
 from drafting import Refused
 from leaf_book import with_entry
 from signed_documents import digest
 
-ORDER = {"root": 0, "snapshot": 3, "timestamp": 4}
+ORDER = {"root": 0, "snapshot": 4, "timestamp": 5}
 OF_CHAINS = 1
 OF_TARGETS = 2
 
@@ -30,7 +31,8 @@ class Draft:
             self.order, self.told = OF_CHAINS, name
             self.kind = "layout" if self.file.endswith(".layout.json") else "link"
         else:
-            self.order, self.told = ORDER.get(self.role, OF_TARGETS), self.role
+            # the top-level targets metadata come before those of delegated roles
+            self.order, self.told = ORDER.get(self.role, OF_TARGETS + (self.role != "targets")), self.role
             self.kind = self.role if self.role in ORDER else "targets"
 
     def is_named(self, named):
@@ -39,13 +41,19 @@ class Draft:
 
 def drafts_of(folder):
     """All that may be signed. The links of `layouts/` are signed elsewhere."""
-    found = [Draft(name) for name in folder if not name.startswith(("files/", "held/"))]
+    found = [Draft(name) for name in folder if not name.startswith(("files/", "held/", "spent/"))]
     return sorted((it for it in found if it.folder != "layouts" or it.kind == "layout"), key=lambda it: (it.order, place_of(it.name)))
 
 
 def entries_of(text):
     """The ids of those who signed, each with its signature."""
     return {keyid: signature for keyid, signature in read_envelope(text)[0]}
+
+
+def signature_of(key, text):
+    """The key's signature of a file. An entry of its id that does not verify is none: anybody can write it."""
+    signature = entries_of(text).get(key.id)
+    return signature if signature is not None and verifies(key.public.hex(), read_envelope(text)[2], signature) else None
 
 
 def document_at(folder, kind, name):
@@ -97,7 +105,7 @@ def is_chosen(folder, draft, key, named):
         return (not named or draft.is_named(named)) and not entries_of(folder[draft.name])
     if named:
         return draft.is_named(named)
-    return has_rule(folder, draft, key) and key.id not in entries_of(folder[draft.name])
+    return has_rule(folder, draft, key) and signature_of(key, folder[draft.name]) is None
 
 
 def judge_shape(folder, draft, key):
@@ -114,15 +122,15 @@ def judge_book(folder, key, book):
     if not book.is_made or key.id not in book.leaves:
         raise Refused("book")
     for name in sorted((it for it in folder if not it.startswith("files/")), key=place_of):
-        signature = entries_of(folder[name]).get(key.id)
+        signature = signature_of(key, folder[name])
         if signature is not None and book.leaves[key.id].get(read_envelope(folder[name])[2]) != int.from_bytes(signature[:4], "big"):
             raise Refused("book")
 
 
 def place_of(name):
-    """What is held comes first, then the drafts, each by their roles, then layouts and links by their names."""
+    """What is held comes first, then the drafts, each by their roles, then layouts, links and what was taken off by their names."""
     inner, _, file = name.rpartition("/")
-    place = ("held", "", "layouts", "links").index(inner)
+    place = ("held", "", "layouts", "links", "spent").index(inner)
     return place, file.removesuffix(".json") if place < 2 else file
 
 

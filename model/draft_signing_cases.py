@@ -64,7 +64,10 @@ class Case:
         self.files[name] = canonical_json.write({"signatures": entries, "signed": signed})
 
     def signature(self, name, said):
-        return KEYS[name].sign_with(self.books[name].reserve(KEYS[name], said), said).hex()
+        return self.signature_by(name, said).hex()
+
+    def signature_by(self, name, said):
+        return KEYS[name].sign_with(self.books[name].reserve(KEYS[name], said), said)
 
     def said(self, role, step):
         """The signed part of a role's document: what is held, or what is drafted behind it."""
@@ -251,6 +254,26 @@ def signature_is_spoilt(case):
     case.files[name] = canonical_json.write(envelope)
 
 
+def has_an_entry_of_nobody(case):
+    """An entry of the key that does not verify, in any document of the folder."""
+    name = case.random.choice([name for name in case.files if not name.startswith("files/")])
+    envelope = json.loads(case.files[name])
+    envelope["signatures"] = [it for it in envelope["signatures"] if it["keyid"] != KEYS[case.key].id][:15]
+    envelope["signatures"].append({"keyid": KEYS[case.key].id, "sig": case.random.choice(("", "00000007", "00000000" + "ab" * 100))})
+    case.files[name] = canonical_json.write(envelope)
+
+
+def signatures_were_taken_off(case):
+    """A document that the key signed once, which is kept apart: by a leaf that the book has, or has not."""
+    said = canonical_json.write({"_type": "x", "n": case.random.randrange(100)})
+    leaves = case.books[case.key].leaves.get(KEYS[case.key].id)
+    signature = KEYS[case.key].sign_with(case.random.choice((0, 1, 30)), said) if leaves is None else case.signature_by(case.key, said)
+    text = canonical_json.write({"signatures": [{"keyid": KEYS[case.key].id, "sig": signature.hex()}], "signed": json.loads(said)})
+    case.files[f"spent/{digest(text)}.json"] = text
+    if leaves is not None and case.random.random() < 0.5:
+        leaves.pop(said)
+
+
 def file_is_otherwise(case):
     """A file that waits is not there, or has other bytes, or is longer."""
     name = case.random.choice([name for name in case.files if name.startswith("files/")])
@@ -273,6 +296,7 @@ def chain_is_signed_since(case):
 FLAWS = (
     is_ill, is_spelt_otherwise, has_many_signatures, book_is_not_there, book_is_of_another, book_is_older, book_has_another_message, book_has_the_version,
     book_is_full, follows_otherwise, expires_early, signature_is_spoilt, file_is_otherwise, chain_is_signed_since,
+    has_an_entry_of_nobody, signatures_were_taken_off,
 )
 
 

@@ -95,6 +95,7 @@ def of_databases_and_words(chosen):
     yield "signing by hand", signing_cases.compare_by_hand
     yield "signing: order of faults", signing_cases.compare_faults
     yield "signing: several keys over one book", signing_cases.compare_histories, 2 * chosen.histories
+    yield "signing: widths and heights of one seed", signing_cases.compare_trees, 2 * chosen.histories
     yield "drafts: keys that are made", signing_cases.compare_new_keys, 1 + chosen.histories // 10
     yield "drafts: roots", drafting_cases.compare_roots, chosen.histories
     yield "drafts: targets metadata", drafting_cases.compare_targets, chosen.histories

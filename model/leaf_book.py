@@ -11,6 +11,8 @@ class Book:
 
     def __init__(self, path):
         self.path, self.is_made, self.leaves = path, False, {}
+        # of each seed, the width and height of each tree that is registered, by the key's id
+        self.trees = {}
 
     def opened(self):
         """What is told where the book is made."""
@@ -18,10 +20,27 @@ class Book:
         self.is_made = True
         return told
 
+    def other_tree(self, key):
+        """The width and height of another tree that the seed has in the book: its one-time keys are the same, whatever these are (RFC 8554, A)."""
+        trees = self.trees.get((key.identifier, key.seed), {})
+        return next((trees[it] for it in sorted(trees, key=trees.get) if it != key.id), None)
+
+    def refused(self, key):
+        """What is told of a key that may not sign for another tree of its seed, or None."""
+        other = self.other_tree(key)
+        if other is None:
+            return None
+        words = "--ots %d --height %d" % other
+        if key.id in self.leaves:
+            return self.told(f"two trees of this seed stand here, this one and that of {words}, and have the same one-time keys: replace both keys by a new root")
+        return self.told(f"the seed signs here with {words}, and at another width or height it has the same one-time keys: sign with {words}, "
+                         "or by a key with a seed of its own")
+
     def registered(self, key):
         """What is told where the key is put into the book."""
         told = b"" if key.id in self.leaves else self.told("a new key ID")
         self.leaves.setdefault(key.id, {})
+        self.trees.setdefault((key.identifier, key.seed), {})[key.id] = (key.width, key.height)
         return told
 
     def told(self, fact):
@@ -74,6 +93,9 @@ def sign(book, key, text, known=False):
     except Denied as denied:
         status, printed, line = denied_line(denied)
         return status, printed, told + line
+    refused = book.refused(key)
+    if refused is not None:
+        return DENIED, b"", told + refused + b"refused book\n"
     told += book.registered(key)
     leaf = book.reserve(key, signed)
     if leaf is None:

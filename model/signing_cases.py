@@ -1,7 +1,12 @@
 """The commands `key` and `sign`: seeds of all widths, files by hand and at random, over one book each time."""
+import copy
 import os
 import re
+import shutil
 import sqlite3
+import subprocess
+import tempfile
+import time
 
 import canonical_json
 import leaf_book
@@ -180,6 +185,98 @@ def compare_histories(session, random, count):
         session.check("sign: random", wanted, session.run("sign", *known, "--book", str(path), *words_of(session, key), str(file)), text)
         if wanted[0] == 0:
             files.append(wanted[1])
+    session.check("sign: rows of the book", book.rows(), kept(path))
+
+
+class Trees:
+    """Keys of four seeds at several widths and heights. Two of the seeds have one identifier, and are two seeds all the same."""
+
+    SEEDS = [(bytes([1] * 16), bytes([2] * 32)), (bytes([1] * 16), bytes([3] * 32)), (bytes([4] * 16), bytes([2] * 32)), (bytes([5] * 16), bytes([6] * 32))]
+    PARAMETERS = [(1, 5), (2, 5), (4, 5), (1, 10)]
+    made = {}
+
+    @classmethod
+    def any(cls, random):
+        seed, parameters = random.choice(cls.SEEDS), random.choice(cls.PARAMETERS)
+        if (seed, parameters) not in cls.made:
+            cls.made[seed, parameters] = KeyOfSeed((seed[0] + seed[1]).hex(), *parameters)
+        return cls.made[seed, parameters]
+
+
+class OneTimeKeys:
+    """Which message each one-time key has signed, by its seed and its leaf, whatever the width and the height."""
+
+    def __init__(self):
+        self.signed = {}
+
+    def has_signed_one(self, key, text):
+        signatures, _, signed = read_envelope(text)
+        leaf = int.from_bytes(dict(signatures)[key.id][:4], "big")
+        return self.signed.setdefault((key.identifier, key.seed, leaf), signed) == signed
+
+
+def killed(session, book, key, text, words, random):
+    """The program is killed at some moment. Its book is then the one before, the one that has the key, or the one that has the leaf, too: the one
+    whose rows are found, or None where there is none."""
+    process = subprocess.Popen([session.program, *words], stdout=subprocess.DEVNULL, stderr=subprocess.DEVNULL)
+    time.sleep(random.uniform(0, 0.04))
+    process.kill()
+    process.wait()
+    found = rows_apart(book.path)
+    made, with_key, signed = copy.deepcopy(book), copy.deepcopy(book), copy.deepcopy(book)
+    made.is_made = True
+    leaf_book.sign(signed, key, text)
+    if signed.leaves.keys() != book.leaves.keys():
+        with_key.opened()
+        with_key.registered(key)
+    for outcome in (book, made, with_key, signed):
+        if ((set(outcome.leaves), outcome.rows()) if outcome.is_made else None) == found:
+            return outcome
+    return None
+
+
+def rows_apart(path):
+    """The keys of a book and its leaves, as SQLite reads a copy of the files, the log among them. None where there is no book yet."""
+    with tempfile.TemporaryDirectory() as room:
+        for ending in ("", "-wal"):
+            if os.path.exists(f"{path}{ending}"):
+                shutil.copy(f"{path}{ending}", f"{room}/copy{ending}")
+        try:
+            return {row[0] for row in signers_of(f"{room}/copy")}, kept(f"{room}/copy")
+        except sqlite3.Error:
+            return None
+
+
+def copied(path, to):
+    if path.exists():
+        shutil.copyfile(path, to)
+        os.chmod(to, 0o600)
+    return to
+
+
+def compare_trees(session, random, count):
+    """Several widths and heights of few seeds over one book, which is copied away now and then, and whose signer is killed: no one-time key
+    signs two messages."""
+    path, number_of = session.folder / "book of trees 0", 0
+    book, keys = leaf_book.Book(path), OneTimeKeys()
+    file = session.folder / "file"
+    for number in range(count):
+        key, text = Trees.any(random), file_of([], {"_type": "x", "n": random.randrange(count)})
+        file.write_bytes(text)
+        words = ["sign", "--book", str(path), *words_of(session, key), str(file)]
+        if random.random() < 0.2:
+            left = killed(session, book, key, text, words, random)
+            session.check("sign: what a kill leaves of the book", True, left is not None, text)
+            book = left or book
+            continue
+        wanted = leaf_book.sign(book, key, text)
+        session.check("sign: trees", wanted, session.run(*words), text)
+        if wanted[0] == 0:
+            session.check("sign: a one-time key signs one message", True, keys.has_signed_one(key, wanted[1]), text)
+        if random.random() < 0.1:
+            # the book is its file alone: its log stays where it was
+            number_of += 1
+            path = book.path = copied(path, session.folder / f"book of trees {number_of}")
     session.check("sign: rows of the book", book.rows(), kept(path))
 
 

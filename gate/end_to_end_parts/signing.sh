@@ -174,10 +174,44 @@ books_that_are_known() {
     rows "$new" 'SELECT (SELECT count(*) FROM signer), (SELECT count(*) FROM leaf)' '1|1\n'
     "$release" sign --book "$new" --seed "$other" --ots 4 --height 5 "$unsigned" >/dev/null 2>"$folder/told" || fail "a second key"
     told "$new" 'a new key ID'
+    trees_of_one_seed
     document 0 '{"a":2}' >"$unsigned"
     wants 1 '' "$(printf 'warning: %s: a new book' "$folder/denied.book")\ndenied 3 WrongShape\n" sign --book "$folder/denied.book" --seed "$seed" --ots 4 --height 5 "$unsigned"
     wants 1 '' 'unknown key\n' sign --known --book "$folder/denied.book" --seed "$seed" --ots 4 --height 5 "$unsigned"
     wants 3 '' 'fault database\n' sign --known --book "$folder/other" --seed "$seed" --ots 8 --height 5 "$signed"
+}
+
+# Another width or height of a seed has the same one-time keys: it is refused, nothing is written, and the first tree signs as before. Of two
+# trees that stand there already neither signs.
+trees_of_one_seed() {
+    local two=$folder/two.book id tree
+    local first="warning: $new: the seed signs here with --ots 4 --height 5, and at another width or height it has the same one-time keys: sign with --ots 4 --height 5, or by a key with a seed of its own\nrefused book\n"
+    for tree in '8 --height 5' '1 --height 5' '1 --height 10'; do
+        # shellcheck disable=SC2086
+        wants 1 '' "$first" sign --book "$new" --seed "$seed" --ots $tree "$unsigned"
+    done
+    rows "$new" 'SELECT (SELECT count(*) FROM signer), (SELECT count(*) FROM leaf)' '2|2\n'
+    "$release" sign "${one[@]}" --known "$unsigned" >/dev/null 2>"$folder/told" || fail "the first tree signs as before"
+    told "$new"
+    two_trees_stand_there
+}
+
+# As an older release left them.
+two_trees_stand_there() {
+    local both="two trees of this seed stand here, this one and that of"
+    local then="and have the same one-time keys: replace both keys by a new root\nrefused book\n"
+    id=$(printf %s "$("$release" key --seed "$seed" --ots 8 --height 5)" | sha256sum | cut -c1-64)
+    dump "$new" "$folder/dump"
+    sqlite3 "$two" <"$folder/dump"
+    sqlite3 "$two" "INSERT INTO signer VALUES ('$id', 4, 5)"
+    wants 1 '' "warning: $two: $both --ots 4 --height 5, $then" sign --known --book "$two" --seed "$seed" --ots 8 --height 5 "$unsigned"
+    wants 1 '' "warning: $two: $both --ots 8 --height 5, $then" sign --known --book "$two" --seed "$seed" --ots 4 --height 5 "$unsigned"
+    "$release" sign --known --book "$two" --seed "$other" --ots 4 --height 5 "$unsigned" >/dev/null 2>"$folder/told" || fail "another seed in the same book"
+    mkdir "$folder/trees"
+    cp "$two" "$folder/trees/k.book"
+    cp "$seed" "$folder/trees/k.seed"
+    "$release" key --seed "$seed" --ots 8 --height 5 >"$folder/trees/k.key"
+    wants 1 '' "warning: $folder/trees/k: $both --ots 4 --height 5, $then" show --at "$at" --in "$folder/trees" --key "$folder/trees/k"
 }
 
 # Three of 32 leaves are taken so far. When all are, a document that has one is signed again, and no other.

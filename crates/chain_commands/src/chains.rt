@@ -320,7 +320,14 @@ impl Chain<'_> {
         notes: &mut Notes<'_, E>,
     ) -> Result<Vec<u8>, Fault> {
         let begun = layout_in(self.alloc(), self.folder, self.target, notes)?;
-        see_unsigned(self.alloc(), "layout", begun.as_deref(), asked.anew, notes)?;
+        see_unsigned(
+            self.alloc(),
+            self.folder,
+            "layout",
+            begun.as_deref(),
+            asked.anew,
+            notes,
+        )?;
         self.layout_behind(begun.as_deref(), asked, steps, now, notes)
     }
 

@@ -20,7 +20,14 @@ pub fn draft_step<E: Write>(
     let step = told.step.as_str();
     let name = format!(in rt.alloc(); "links/{step}.json")?;
     let begun = folder.file(name.as_str(), notes)?;
-    see_unsigned(rt.alloc(), name.as_str(), begun.as_deref(), anew, notes)?;
+    see_unsigned(
+        rt.alloc(),
+        folder,
+        name.as_str(),
+        begun.as_deref(),
+        anew,
+        notes,
+    )?;
     let draft = link_of(rt, begun.as_deref(), told, notes)?;
     folder.make_inner("links", notes)?;
     folder.put_named(name.as_str(), &draft, notes)

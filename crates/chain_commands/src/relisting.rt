@@ -99,7 +99,14 @@ fn over_target<E: Write>(
     }
     match task {
         Task::Relist { anew } => relist_one(chain, &added, anew, notes),
-        Task::See => see_unsigned(chain.rt.alloc(), chain.role, Some(bytes), false, notes),
+        Task::See => see_unsigned(
+            chain.rt.alloc(),
+            chain.folder,
+            chain.role,
+            Some(bytes),
+            false,
+            notes,
+        ),
     }
 }
 

@@ -13,8 +13,8 @@ use std::io::{self, ErrorKind, Write};
 const FOR_ALL: u32 = 0o666;
 
 /// A folder of drafts: `ROLE.json` of each document that is on its way, `held/ROLE.json` of what is held, `files/DIGEST` of each target
-/// file that waits to be put, `layouts/PATH` of each layout and link that is listed as a target, with `~` for each slash of its path, and
-/// `links/STEP.json` of each link that is made here.
+/// file that waits to be put, `layouts/PATH` of each layout and link that is listed as a target, with `~` for each slash of its path,
+/// `links/STEP.json` of each link that is made here, and `spent/DIGEST.json` of each file whose signatures were taken off.
 #[derive(Clone, Copy)]
 pub struct Folder<'a> {
     rt: &'a HostRuntime,
@@ -140,6 +140,18 @@ impl<'a> Folder<'a> {
         self.read_if_there(place.as_str(), notes)
     }
 
+    /// The file of this name. That it is there is for the caller to see to: else it is an empty one.
+    pub fn file_or_none<E: Write>(
+        &self,
+        name: &str,
+        notes: &mut Notes<'_, E>,
+    ) -> Result<Vec<u8>, Fault> {
+        match self.file(name, notes)? {
+            Some(bytes) => Ok(bytes),
+            None => Ok(Vec::new(self.alloc())),
+        }
+    }
+
     /// Writes the file of this name.
     pub fn put_named<E: Write>(
         &self,
@@ -151,8 +163,16 @@ impl<'a> Folder<'a> {
         self.put(place.as_str(), bytes, notes)
     }
 
-    /// The names of the layouts and links that are listed as targets, or of the links that are made here: those in `layouts` or `links`
-    /// with their ending, in order.
+    /// Keeps a file whose signatures are taken off, under its digest: the leaves that they are by are spent.
+    pub fn put_spent<E: Write>(&self, bytes: &[u8], notes: &mut Notes<'_, E>) -> Result<(), Fault> {
+        let digits = digest_of(bytes).text(self.alloc())?;
+        self.make_inner("spent", notes)?;
+        let name = format!(in self.alloc(); "spent/{digits}.json")?;
+        self.put_named(name.as_str(), bytes, notes)
+    }
+
+    /// The names of the layouts and links that are listed as targets, of the links that are made here, or of what is spent: those in
+    /// `layouts`, `links` or `spent` with their ending, in order.
     pub fn chain_files<E: Write>(
         &self,
         inner: &str,

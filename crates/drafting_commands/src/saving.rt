@@ -23,7 +23,7 @@ impl Before {
     ) -> Result<Before, Fault> {
         let held = folder.held(role, notes)?;
         let begun = folder.draft(role, notes)?;
-        see_unsigned(rt.alloc(), role, begun.as_deref(), anew, notes)?;
+        see_unsigned(rt.alloc(), folder, role, begun.as_deref(), anew, notes)?;
         Ok(Before { held, begun })
     }
 
@@ -46,9 +46,11 @@ impl Before {
     }
 }
 
-/// What is begun under this name has no signatures, or they are to be taken off.
+/// What is begun under this name has no signatures, or they are to be taken off: then it is kept as spent, by which the guard of the book
+/// finds them.
 pub fn see_unsigned<E: Write>(
     alloc: Global,
+    folder: Folder<'_>,
     name: &str,
     begun: Option<&[u8]>,
     anew: bool,
@@ -58,9 +60,12 @@ pub fn see_unsigned<E: Write>(
         return Ok(());
     };
     let file = read_signed(alloc, bytes)?;
-    if !anew && !file.signatures.is_empty() {
-        notes.warn(&name, &"its draft has signatures; --anew takes them off");
-        return Err(Fault::Slip(Slip::Signed));
+    if file.signatures.is_empty() {
+        return Ok(());
     }
-    Ok(())
+    if anew {
+        return folder.put_spent(bytes, notes);
+    }
+    notes.warn(&name, &"its draft has signatures; --anew takes them off");
+    Err(Fault::Slip(Slip::Signed))
 }

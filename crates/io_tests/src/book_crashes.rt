@@ -1,6 +1,6 @@
 // A book over two files in memory, each of which stops at each of its calls in turn, and is opened again after the crash.
-use crate::files::{closed, connected, files_that_stop, is_same_value};
-use leaf_book::{Book, BookFault};
+use crate::files::{Disks, closed, connected, files_that_stop, is_same_value};
+use leaf_book::{Book, BookFault, close_into_file};
 use lms::{KeyPair, OtsType, Params, Seed, SigningHeight};
 use signer::sign_message;
 use sqlite::types::ValueRef;
@@ -335,5 +335,73 @@ fn the_log_stops_beside_copies(rt: HostRuntime) -> Result<(), Fail> {
 fn the_database_stops_at_each_call(rt: HostRuntime) -> Result<(), Fail> {
     let calls = stops_at_each_call(&rt, false, 1)?;
     assert!(rt; calls > 10, "{calls}");
+    Ok(())
+}
+
+// The steps over a book, which is then closed into its file alone: what was made, and the file where that is answered.
+fn closed_over(
+    alloc: Global,
+    mut book: Book<Disks>,
+    pair: &KeyPair,
+) -> (Made, Option<Fuse<Memory>>) {
+    let made = make(alloc, &mut book, pair);
+    match close_into_file(book) {
+        Ok(files) => (made, Some(files.db)),
+        Err(_) => (made, None),
+    }
+}
+
+// The same over new files.
+fn run_alone(
+    alloc: Global,
+    pair: &KeyPair,
+    files: Files<Fuse<Memory>>,
+) -> (Made, Option<Fuse<Memory>>) {
+    let conn = match connected(alloc, files, options(1_000)) {
+        Ok(conn) => conn,
+        Err(_) => return (NOTHING, None),
+    };
+    match opened_over(alloc, conn) {
+        Ok(book) => closed_over(alloc, book, pair),
+        Err(_) => (NOTHING, None),
+    }
+}
+
+// Whether the database file alone, with an empty log beside it, is the whole book after a crash.
+fn is_whole_alone(alloc: Global, pair: &KeyPair, made: &Made, db: Fuse<Memory>) -> bool {
+    let log = Fuse::new(Memory::new(alloc), u64::MAX);
+    is_whole_after(alloc, pair, made, Files { log, db }, 1_000)
+}
+
+// The file stops at each of its calls in turn, until none is left. Where the close is answered, the database file alone is the book, by a copy
+// of it as by itself. It answers how many of the stops were in the close.
+fn closes_at_each_stop(rt: &(impl Abort + AllocGlobal), stops_log: bool) -> Result<u64, Fail> {
+    let alloc = rt.alloc();
+    let pair = low_pair(alloc)?;
+    let mut in_close = 0u64;
+    for calls in 0..1_000u64 {
+        let (made, db) = run_alone(alloc, &pair, files_that_stop(alloc, stops_log, calls));
+        let is_done = made.count() == 3;
+        match db {
+            Some(db) => {
+                if !is_whole_alone(alloc, &pair, &made, db) {
+                    panic!(rt; "after {calls} calls");
+                }
+                if is_done {
+                    return Ok(in_close);
+                }
+            }
+            None if is_done => in_close = in_close.saturating_add(1),
+            None => {}
+        }
+    }
+    Err(Fail::from("never at the end"))
+}
+
+#[test]
+fn a_closed_book_needs_no_log(rt: HostRuntime) -> Result<(), Fail> {
+    let log = closes_at_each_stop(&rt, true)?;
+    let db = closes_at_each_stop(&rt, false)?;
+    assert!(rt; log > 0 && db > 0, "{log} {db}");
     Ok(())
 }

@@ -6,3 +6,4 @@ pub mod Autocommit
 pub mod Texts
 pub mod Statements
 pub mod Reopening
+pub mod Trees

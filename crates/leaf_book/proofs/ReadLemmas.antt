@@ -1,5 +1,6 @@
 -- What rows say of a book.
-use Rattle.std.proofs.Common.{◌≡◌, ◌<◌, ◌≤◌, ◌^◌, ◌+◌, ℕ, pos, inl, inr, List, [], ◌∷◌, ◌++◌, take, drop, refl, sym, ap, subst, ◌∙◌, arith}
+use Rattle.std.proofs.Common.{◌≡◌, ◌≢◌, ◌⊎◌, ◌<◌, ◌≤◌, ◌^◌, ◌+◌, ℕ, pos, inl, inr, List, [], ◌∷◌, ◌++◌, take, drop, refl, sym, ap, subst, ◌∙◌, arith}
+use Rattle.std.proofs.lemmas.Bool.{cases_eq}
 use Rattle.std.proofs.lemmas.List.{take-append-drop}
 use Rattle.sqlite.specs.declared.types.Value.{Value}
 use Rattle.sqlite.specs.declared.types.Value.TheVariants.{Int, Text, Blob}
@@ -46,6 +47,23 @@ height_one signing.H10 signing.H10 e = refl
 
 params_one : (p q : Params) → ots_code p.ots ≡ ots_code q.ots → height (signing_type p.height) ≡ height (signing_type q.height) → p ≡ q
 params_one p q a b = ap (λ o. record { ots = o; height = p.height }) (ots_one p.ots q.ots a) ∙ ap (λ h. record { ots = q.ots; height = h }) (height_one p.height q.height b)
+
+-- parameters are the same or not
+ots_decided : (a b : OtsType) → (a ≡ b) ⊎ (a ≢ b)
+ots_decided a b = elim (cases_eq (ots_code a) (ots_code b)) [ inl same ↦ inl (ots_one a b same) | inr differs ↦ inr (λ is. differs (ap ots_code is)) ]
+
+height_decided : (a b : SigningHeight) → (a ≡ b) ⊎ (a ≢ b)
+height_decided a b =
+    elim (cases_eq (height (signing_type a)) (height (signing_type b))) [ inl same ↦ inl (height_one a b same) | inr differs ↦ inr (λ is. differs (ap (λ h. height (signing_type h)) is)) ]
+
+pub same_or_not : (p q : Params) → (p ≡ q) ⊎ (p ≢ q)
+same_or_not p q = elim (ots_decided p.ots q.ots) [
+  | inl ots ↦ elim (height_decided p.height q.height) [
+    | inl high ↦ inl (params_one p q (ap ots_code ots) (ap (λ h. height (signing_type h)) high))
+    | inr differs ↦ inr (λ is. differs (ap (λ (r : Params). r.height) is))
+  ]
+  | inr differs ↦ inr (λ is. differs (ap (λ (r : Params). r.ots) is))
+]
 
 same_text : (a b : List ℕ) → ◌≡◌ {A = Value} (Text a) (Text b) → a ≡ b
 same_text a b e = cc

@@ -33,6 +33,7 @@ opened_same trees b (Err fault.Damaged) right (d, dt, ds, inl (has, holds)) (e, 
 opened_same trees b (Err fault.Damaged) right (d, dt, ds, inr (none, empty)) (e, et, es, has, other) = absurd (both_or_none e d es ds (et ∙ sym dt) has none)
 opened_same trees b (Err fault.LeavesSpent) right stands opens = absurd opens
 opened_same trees b (Err fault.UnknownKey) right stands opens = absurd opens
+opened_same trees b (Err fault.OtherTree) right stands opens = absurd opens
 opened_same trees b (Err fault.Database) right stands opens = inl refl
 opened_same trees b (Err fault.OutOfMemory) right stands opens = inr refl
 

@@ -4,8 +4,8 @@ use Rattle.lms.specs.declared.Params.{Params}
 use Rattle.lms.specs.declared.Seed.{Seed}
 use Rattle.lms.specs.Keys.{leaf_count, signature_of}
 use Rattle.leaf_book.specs.declared.faults.BookFault.{BookFault}
-use Rattle.leaf_book.specs.declared.faults.BookFault.TheVariants.{LeavesSpent, UnknownKey, Damaged, Database, OutOfMemory}
-use Rattle.leaf_plans.specs.Book.{Book, IsLeastUnused, IsRegistered, IsUsed, Keeps, LacksMessage, key_of, with_leaf, with_signer}
+use Rattle.leaf_book.specs.declared.faults.BookFault.TheVariants.{LeavesSpent, UnknownKey, Damaged, OtherTree, Database, OutOfMemory}
+use Rattle.leaf_plans.specs.Book.{Book, HasOtherTree, IsLeastUnused, IsRegistered, IsUsed, Keeps, LacksMessage, LacksOtherTree, key_of, with_leaf, with_signer}
 
 -- A leaf that was answered and is to be spent: one of the key's tree with these parameters, for this message.
 pub record Reserved : Type 0 where
@@ -15,12 +15,14 @@ pub record Reserved : Type 0 where
   pub message : List ℕ
 
 -- The key of a seed is registered: nothing changes where it is there with the same parameters, and it is `Damaged` where it is there
--- with others.
+-- with others. It is `OtherTree` where the seed has a tree there with other parameters, whose one-time keys are the same, and then the
+-- key is not answered, even where it is there.
 abbrev pub Registers : Book → Seed → Params → Result (List ℕ) BookFault → Book → Type 0
 Registers b seed params (Ok key) c =
-    (key ≡ key_of seed params)
+    (key ≡ key_of seed params) × LacksOtherTree b seed params
     × ((IsRegistered b key params × (c ≡ b)) ⊎ (((other : Params) → IsRegistered b key other → ⊥) × (c ≡ with_signer key params b)))
 Registers b seed params (Err Damaged) c = ((other : Params) × IsRegistered b (key_of seed params) other × (other ≢ params)) × (c ≡ b)
+Registers b seed params (Err OtherTree) c = HasOtherTree b seed params × (c ≡ b)
 Registers b seed params (Err LeavesSpent) c = ⊥
 Registers b seed params (Err UnknownKey) c = ⊥
 Registers b seed params (Err Database) c = c ≡ b
@@ -37,6 +39,7 @@ Reserves b key message (Err LeavesSpent) c =
     ((params : Params) × IsRegistered b key params × ((leaf : ℕ) → leaf < leaf_count params → IsUsed b key leaf)) × LacksMessage b key message × (c ≡ b)
 Reserves b key message (Err UnknownKey) c = ((params : Params) → IsRegistered b key params → ⊥) × (c ≡ b)
 Reserves b key message (Err Damaged) c = ⊥
+Reserves b key message (Err OtherTree) c = ⊥
 Reserves b key message (Err Database) c = c ≡ b
 Reserves b key message (Err OutOfMemory) c = c ≡ b
 

@@ -10,7 +10,7 @@ pub use Rattle.sql_tables.specs.Opening.{IsSettled}
 use Rattle.lms.specs.Parameters.{height, ots_code, signing_type}
 use Rattle.leaf_plans.specs.Book.{AreSame, Book, IsBook, LeafRow, Signer, no_book}
 use Rattle.leaf_book.specs.declared.faults.BookFault.{BookFault}
-use Rattle.leaf_book.specs.declared.faults.BookFault.TheVariants.{LeavesSpent, UnknownKey, Damaged, Database as Faulty, OutOfMemory}
+use Rattle.leaf_book.specs.declared.faults.BookFault.TheVariants.{LeavesSpent, UnknownKey, Damaged, OtherTree, Database as Faulty, OutOfMemory}
 use Rattle.leaf_book.specs.Faults.{IsOutside}
 use Rattle.leaf_book.specs.Schema.{HasBoth, no_schema}
 
@@ -69,6 +69,7 @@ OpensTo trees (Ok b) = IsBook b × TreesStand trees b
 OpensTo trees (Err Damaged) = HoldsNoBook trees
 OpensTo trees (Err LeavesSpent) = ⊥
 OpensTo trees (Err UnknownKey) = ⊥
+OpensTo trees (Err OtherTree) = ⊥
 OpensTo trees (Err Faulty) = Unit {0}
 OpensTo trees (Err OutOfMemory) = Unit {0}
 

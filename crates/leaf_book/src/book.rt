@@ -1,15 +1,17 @@
 //! The book: its keys and the leaf history, whose rows the tables hold.
-ghost use Rattle.std.specs.Prelude.{◌≡◌, map, IfErr, IsTrue, MatchOption, OnErr, OnOk};
+ghost use Rattle.std.specs.Prelude.{◌≡◌, ◌≢◌, map, IfErr, IsTrue, MatchBool, MatchOption, OnErr, OnOk};
 ghost use Rattle.lms.specs.declared.Params.{Params};
+ghost use Rattle.lms.specs.declared.SigningHeight.{SigningHeight};
 ghost use Rattle.sqlite.specs.Held.{state};
 ghost use Rattle.sqlite.specs.State.{HasCleanDisk, Survives};
 ghost use Rattle.sql_tables.specs.Outliving.{Outlives, StaysOpen};
 ghost use Rattle.lms.specs.Keys.{leaf_count};
 ghost use Rattle.keys_roles.specs.Keys.{id_of};
 ghost use Rattle.keys_roles.specs.Views.{id_text, key_view};
-ghost use Rattle.leaf_plans.specs.Book.{IsBook, IsLeastUnused, IsRegistered, LacksMessage, key_of, with_leaf, with_signer};
+ghost use Rattle.leaf_plans.specs.Book.{HasOtherTree, HasTree, IsBook, IsLeastUnused, IsRegistered, LacksMessage, LacksOtherTree, key_of, with_leaf, with_signer};
 ghost use Rattle.leaf_book.specs.Calls.{Registers, Reserves};
 ghost use Rattle.leaf_book.specs.Faults.{IsOutside};
+ghost use Rattle.leaf_book.specs.Rows.{HoldsWhole};
 ghost use Rattle.leaf_book.specs.Standing.{CrashLeaves, CrashLeavesEither, LeavesOnly, RestsOn, StaysClean, WasOpen};
 ghost use Rattle.leaf_plans.specs.Views.{book_view, kept_view};
 ghost use Rattle.leaf_book.specs.Views.{id_answer};
@@ -20,8 +22,8 @@ use crate::faults::BookFault;
 use crate::leaf::Leaf;
 use crate::writing::{check_open, put_leaf, put_signer};
 use keys_roles::{Key, KeyId, key_id};
-use leaf_plans::{LeafRow, Plan, Signer, params_of, plan_for, same_params};
-use lms::{KeyPair, Params, Seed, public_of};
+use leaf_plans::{LeafRow, Plan, Signer, has_params, params_of, plan_for, same_params};
+use lms::{KeyPair, OtsType, Params, Seed, SigningHeight, public_of};
 use sqlite::{Alter, Connection};
 use std::alloc::Global;
 use std::marker::Model;
@@ -75,8 +77,11 @@ impl<S: Alter> Book<S> {
 
     /// Registers the key of a seed under parameters, and answers its id. Where it is registered with the same parameters nothing
     /// changes. It writes by one statement at most, outside a transaction, as its last call of the database, and takes no memory
-    /// after it. Whatever it answers, the book may be used on, unless a call of the disk answered a fault.
+    /// after it. Whatever it answers, the book may be used on, unless a call of the disk answered a fault. It hashes the tree, and one
+    /// more for each other width and height that keys of the book have.
     ///
+    /// - `OtherTree`: the seed has a tree in the book with other parameters, which has the same one-time keys. Also where the key is
+    ///   registered, so that of two trees that an older release has put there neither signs.
     /// - `Damaged`: the key is registered with other parameters.
     /// - `Database`: a call of the database answered a fault.
     /// - `OutOfMemory`: memory was refused.
@@ -158,11 +163,12 @@ impl<S: Alter> Book<S> {
         self.conn
     }
 
-    // A law, which does nothing: the rows are those of the book, and a crash leaves just these, in both tables.
-    pub(crate) fn rests(&self)
+    /// A law, which does nothing: the rows are those of the book, and a crash leaves just these, in both tables.
+    pub fn rests(&self)
         ensures right { IsBook self.now.book }
         ensures rows { RestsOn (state S.Store self.now.conn) self.now.book }
         ensures left { LeavesOnly (state S.Store self.now.conn) self.now.book }
+        ensures whole { HasCleanDisk (state S.Store self.now.conn) → IsTrue (state S.Store self.now.conn).is_open → HoldsWhole (state S.Store self.now.conn).committed.trees self.now.book }
     {
         let _ = self.conn.schema();
     }
@@ -237,6 +243,64 @@ impl<S: Alter> Book<S> {
         self.alloc
     }
 
+    /// Whether the tree of the seed with these parameters is registered. It is hashed only where some key has these parameters. It takes
+    /// no memory.
+    pub fn has_tree(&self, seed: &Seed, params: Params) -> bool
+        ensures { MatchBool result (HasTree self.now.book seed.now params) (HasTree self.now.book seed.now params → ⊥) }
+    {
+        self.rests();
+        if !has_params(self.signers.as_slice(), params) {
+            return false;
+        }
+        let key = key_by(self.alloc, &Key::Lms(public_of(seed, params)));
+        match self.registered(&key) {
+            Some(held) => same_params(held, params),
+            None => false,
+        }
+    }
+
+    // Whether a tree of the seed with these parameters is registered, other than this one.
+    fn has_other(&self, seed: &Seed, other: Params, params: Params) -> bool
+        ensures { MatchBool result ((other ≢ params) × HasTree self.now.book seed.now other) (other ≢ params → HasTree self.now.book seed.now other → ⊥) }
+    {
+        !same_params(other, params) && self.has_tree(seed, other)
+    }
+
+    // The same of a tree of this width and any height.
+    fn has_other_wide(&self, seed: &Seed, ots: OtsType, params: Params) -> bool
+        ensures { MatchBool result ((height : SigningHeight) × ((record { ots = ots; height = height }) ≢ params) × HasTree self.now.book seed.now (record { ots = ots; height = height }))
+            ((height : SigningHeight) → (record { ots = ots; height = height }) ≢ params → HasTree self.now.book seed.now (record { ots = ots; height = height }) → ⊥) }
+    {
+        let low = Params {
+            ots,
+            height: SigningHeight::H5,
+        };
+        let high = Params {
+            ots,
+            height: SigningHeight::H10,
+        };
+        if self.has_other(seed, low, params) {
+            return true;
+        }
+        self.has_other(seed, high, params)
+    }
+
+    // Whether another tree of the seed is registered.
+    fn has_other_tree(&self, seed: &Seed, params: Params) -> bool
+        ensures { MatchBool result (HasOtherTree self.now.book seed.now params) (LacksOtherTree self.now.book seed.now params) }
+    {
+        if self.has_other_wide(seed, OtsType::W1, params) {
+            return true;
+        }
+        if self.has_other_wide(seed, OtsType::W2, params) {
+            return true;
+        }
+        if self.has_other_wide(seed, OtsType::W4, params) {
+            return true;
+        }
+        self.has_other_wide(seed, OtsType::W8, params)
+    }
+
     // Registers the key of a seed, which has this id.
     fn enter(&mut self, key: KeyId, seed: &Seed, params: Params) -> Result<KeyId, BookFault>
         requires { id_text key ≡ key_of seed.now params }
@@ -250,6 +314,9 @@ impl<S: Alter> Book<S> {
         match self.touch() {
             Ok(()) => {}
             Err(fault) => return Err(fault),
+        }
+        if self.has_other_tree(seed, params) {
+            return Err(BookFault::OtherTree);
         }
         match self.registered(&key) {
             None => {}

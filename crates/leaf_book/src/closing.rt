@@ -1,5 +1,5 @@
 //! The end of a book over two files: what the next open finds in them.
-ghost use Rattle.std.specs.Prelude.{◌≡◌, ◌⊎◌, false, IfOk, IsSomeAnd, IsTrue, Ok, Result};
+ghost use Rattle.std.specs.Prelude.{◌≡◌, ◌⊎◌, [], false, IfErr, IfOk, IsSomeAnd, IsTrue, Ok, Result};
 ghost use Rattle.sqlite.specs.Files.{file_state};
 ghost use Rattle.sqlite.specs.Held.{state};
 ghost use Rattle.sqlite.specs.State.{HasCleanDisk};
@@ -12,6 +12,7 @@ ghost use Rattle.sql_tables.specs.Opening.{IsFound};
 ghost use Rattle.leaf_plans.specs.Book as plain;
 ghost use Rattle.leaf_plans.specs.Book.{IsBook};
 ghost use Rattle.leaf_book.specs.Calls.{Registers, Reserves};
+ghost use Rattle.leaf_book.specs.Faults.{IsOutside};
 ghost use Rattle.leaf_book.specs.Rows.{Begins, OpensTo, Recovers, Reopens, TreesStand};
 
 use crate::book::Book;
@@ -27,7 +28,7 @@ use std::alloc::Global;
 
 /// Reserves a leaf, as `Book::reserve` does, and hands back the two files. Whatever a crash leaves of them, inside the call or
 /// after it, is the whole database of the book before the call or of the book after it, and after a leaf was answered of the book that
-/// keeps it; `Book::open` over it answers this book, faults of memory and of the database aside. A crash inside the call is one from
+/// keeps it; `Book::open_over` over it answers this book, faults of memory and of the database aside. A crash inside the call is one from
 /// which on each call of the disks fails. Nothing is said where the connection was shut and no leaf is answered, nor where a wrong answer
 /// of the disks was taken as true.
 pub fn reserve_and_close<D: Disk + Drop>(
@@ -86,6 +87,31 @@ pub fn open_and_close<D: Disk + Drop>(
         Some(conn) => (result, Some(close(conn))),
         None => (result, None),
     }
+}
+
+/// Closes a book: what its log has is copied into the database file, which then holds the book by itself. Whatever a crash leaves of
+/// the two files, an opening finds the book, and so it does where the log is lost, or left behind, and an empty one stands in its place.
+/// On a fault the book needs its log still. Nothing is said where a wrong answer of the disks was taken as true.
+pub fn close_into_file<D: Disk + Drop>(book: Book<FileStore<D>>) -> Result<Files<D>, BookFault>
+    ensures both { IfOk result (λ files. AreClean D.Disk files.log files.db
+        → (left : Image) → outcomes D.Disk files.log files.db left → (found : Trees) → IsFound left found → ∥ Recovers found book.book ∥₁) }
+    ensures alone { IfOk result (λ files. AreClean D.Disk files.log files.db
+        → (left : Image) → outcomes D.Disk files.log files.db left → (found : Trees) → IsFound (record left { log = [] }) found → ∥ Recovers found book.book ∥₁) }
+    ensures fault { IfErr result IsOutside }
+{
+    let conn = at_rest(book);
+    match conn.close_files() {
+        Ok(files) => Ok(files),
+        Err((error, _)) => Err(BookFault::from(error)),
+    }
+}
+
+// The connection of a book, whose last commit is that of the book.
+fn at_rest<S: Alter>(book: Book<S>) -> Connection<S>
+    ensures { HasCleanDisk (state S.Store result) → IsTrue (state S.Store result).is_open → Recovers (state S.Store result).committed.trees book.book }
+{
+    book.rests();
+    book.into_connection()
 }
 
 // Reserves a leaf, and hands back the connection.

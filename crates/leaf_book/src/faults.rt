@@ -18,6 +18,9 @@ pub enum BookFault {
     /// The key is registered with other parameters; at the opening, the rows are those of no book.
     #[error("damaged")]
     Damaged,
+    /// Another tree of the same seed is registered, of another width or height, which has the same one-time keys.
+    #[error("another tree of this seed signs here")]
+    OtherTree,
     /// A call of the database answered a fault other than want of memory; at the opening, also where its tables are not those of a book.
     #[error("database")]
     Database,

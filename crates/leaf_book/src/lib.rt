@@ -15,7 +15,7 @@ mod reading;
 mod writing;
 
 pub use book::Book;
-pub use closing::{open_and_close, register_and_close, reserve_and_close};
+pub use closing::{close_into_file, open_and_close, register_and_close, reserve_and_close};
 pub use faults::{BookFault, NoMemory};
 pub use keys_roles::KeyId;
 pub use laws::{never_twice, one_book, reopens};

@@ -36,23 +36,11 @@ impl<S: Alter + Drop> Book<S> {
     /// - `Database`: a call of the database answered a fault, or it has tables, and the two of a book do not come first, in their
     ///   order, or a further one has a foreign key onto one of them.
     /// - `OutOfMemory`: memory was refused.
-    pub fn open(alloc: Global, conn: Connection<S>) -> Result<Book<S>, BookFault>
-        ensures opened { IfOk result (λ b. HasCleanDisk (state S.Store b.conn) → OpensTo (state S.Store conn).committed.trees (Ok b.book)) }
-        ensures rows { IfOk result (λ b. HasCleanDisk (state S.Store b.conn) → IsRecorded (state S.Store b.conn) b.book) }
-        ensures right { IfOk result (λ b. IsBook b.book) }
-        ensures damaged { ((c : _) → HasCleanDisk (state S.Store c)) → result ≡ Err BookFault.Damaged → OpensTo (state S.Store conn).committed.trees (Err BookFault.Damaged) }
-        ensures fault { IfErr result (λ f. (f ≡ BookFault.Damaged) ⊎ ((f ≡ BookFault.Database) ⊎ (f ≡ BookFault.OutOfMemory))) }
-    {
-        match Book::open_over(alloc, conn) {
-            Ok(book) => Ok(book),
-            Err(unopened) => Err(unopened.fault),
-        }
-    }
-
-    /// The same as `open`. Where the rows are those of no book, the connection is given back, so that it can be said of every kind
-    /// of disk; `open` says it of those that cannot give a wrong answer, such as one in memory. Where no transaction was under way
-    /// the connection is given back on each fault, and whether it opens or not, a crash leaves what it left before, or the empty
-    /// book where there was no table: what stood for a book stands for it.
+    ///
+    /// Where the rows are those of no book, the connection is given back, so that it can be said of every kind of disk. Where no
+    /// transaction was under way the connection is given back on each fault, and whether it opens or not, a crash leaves what it left
+    /// before, or the empty book where there was no table: what stood for a book stands for it. There is no call that opens a book and
+    /// lets go of the connection of one that does not open, since nothing could be said of the rows then.
     pub fn open_over(alloc: Global, conn: Connection<S>) -> Result<Book<S>, Unopened<S>>
         ensures opened { IfOk result (λ b. HasCleanDisk (state S.Store b.conn) → OpensTo (state S.Store conn).committed.trees (Ok b.book)) }
         ensures rows { IfOk result (λ b. HasCleanDisk (state S.Store b.conn) → IsRecorded (state S.Store b.conn) b.book) }

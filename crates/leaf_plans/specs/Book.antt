@@ -1,6 +1,6 @@
 -- The book of leaves: the signing keys with their parameters, and the leaf history, which is the set of the leaves that are kept
 -- for messages (RFC 8554, section 9: a leaf must sign one message only).
-use Rattle.std.specs.Prelude.{◌≡◌, ◌<◌, ℕ, List, [], ◌∷◌, ◌++◌, length}
+use Rattle.std.specs.Prelude.{◌≡◌, ◌≢◌, ◌<◌, ℕ, List, [], ◌∷◌, ◌++◌, length}
 use Rattle.std.specs.List.{AllByRecursion}
 use Rattle.hex.specs.Hex.{encode_lower}
 use Rattle.lms.specs.declared.Params.{Params}
@@ -86,3 +86,21 @@ with_leaf key leaf message b = record b { leaves = b.leaves ++ record { key = ke
 -- the id of the key of a seed: that of the key object of its public key (TUF 1.0, section 4.2)
 abbrev pub key_of : Seed → Params → List ℕ
 key_of seed params = id_of (lms (public_of seed params))
+
+-- ---- one-time keys
+
+-- A one-time key is what a seed makes at a number q. Its private elements are digests of I, q, their own number and SEED (RFC 8554,
+-- appendix A; `derived` of lms/specs/Keys), and of nothing else: neither the width of the signatures nor the height of the tree. So two
+-- trees of one seed have one-time keys in common, from q = 0 on, and at most one tree of a seed may sign.
+
+-- a tree of the seed with these parameters is registered
+abbrev pub HasTree : Book → Seed → Params → Type 0
+HasTree b seed params = IsRegistered b (key_of seed params) params
+
+-- a tree of the seed with other parameters is registered
+abbrev pub HasOtherTree : Book → Seed → Params → Type 0
+HasOtherTree b seed params = (other : Params) × (other ≢ params) × HasTree b seed other
+
+-- none is
+abbrev pub LacksOtherTree : Book → Seed → Params → Type 0
+LacksOtherTree b seed params = (other : Params) → other ≢ params → HasTree b seed other → ⊥

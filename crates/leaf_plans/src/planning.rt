@@ -9,7 +9,7 @@ ghost use Rattle.leaf_plans.specs.Planning.{IsPlan};
 
 use crate::compared::is_same;
 use crate::entries::{LeafRow, Signer};
-use crate::parameters::leaves_of;
+use crate::parameters::{leaves_of, same_params};
 use keys_roles::{KeyId, same_id};
 use lms::Params;
 
@@ -26,6 +26,21 @@ pub fn params_of(signers: &[Signer], key: &KeyId) -> Option<Params>
         rest = later;
     }
     None
+}
+
+/// Whether a key stands there with these parameters.
+pub fn has_params(signers: &[Signer], params: Params) -> bool
+    ensures { MatchBool result ((key : List ℕ) × Has (map signer_view signers.now) (record { key = key; params = params }))
+        ((key : List ℕ) → Has (map signer_view signers.now) (record { key = key; params = params }) → ⊥) }
+{
+    let mut rest = signers;
+    'signers: while let Some((signer, later)) = rest.split_first() {
+        if same_params(signer.params, params) {
+            return true;
+        }
+        rest = later;
+    }
+    false
 }
 
 // The leaf of the key that is kept for the message.

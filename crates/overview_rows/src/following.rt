@@ -1,7 +1,7 @@
 //! What a folder of drafts follows: the documents that a database holds.
 use command_support::{Denial, Fault, Notes};
 use drafts::{Folder, kind_of, read_said, version_in};
-use metadata::{Kind, Moment};
+use metadata::{Kind, Moment, read_signed};
 use path_patterns::metadata_name;
 use repository_work::{Command, Reply, Store, Work, worked};
 use sqlite::Alter;
@@ -122,10 +122,28 @@ fn let_go<E: Write>(
         let role = role.as_str();
         if is_held(alloc, folder, role, notes)? {
             notes.warn(&role, &"its draft is let go: one of its version is held");
+            keep_signatures(alloc, folder, role, notes)?;
             folder.drop_draft(role, notes)?;
         }
     }
     Ok(())
+}
+
+// Keeps a draft that has signatures as spent: what is held may be another document.
+fn keep_signatures<E: Write>(
+    alloc: Global,
+    folder: Folder<'_>,
+    role: &str,
+    notes: &mut Notes<'_, E>,
+) -> Result<(), Fault> {
+    let draft = folder.draft_or_none(role, notes)?;
+    if folder.held(role, notes)?.as_deref() == Some(draft.as_slice()) {
+        return Ok(());
+    }
+    if read_signed(alloc, &draft)?.signatures.is_empty() {
+        return Ok(());
+    }
+    folder.put_spent(&draft, notes)
 }
 
 // Whether the draft of a role is of a version that is held, or of an earlier one. A draft that has just the bytes that are held may have come

@@ -4,6 +4,7 @@ pub mod KeptEntries
 pub mod Allowed
 pub mod SignedFiles
 pub mod Reserving
+pub mod Crashes
 pub mod SeedFiles
 pub mod Members
 pub mod Rivals
@@ -11,3 +12,4 @@ pub mod OneVersion
 pub mod LeafDigits
 pub mod JoinedEntries
 pub mod JoinedFiles
+pub mod OneTime

@@ -13,7 +13,7 @@ use Rattle.document_parts.specs.declared.documents.ShapeFault.TheVariants as sha
 use Rattle.leaf_plans.specs.Book.{Book, LeafRow, key_of, with_leaf}
 use Rattle.leaf_book.specs.Calls.{Registers, Reserved, Reserves}
 use Rattle.leaf_book.specs.declared.faults.BookFault.{BookFault}
-use Rattle.leaf_book.specs.declared.faults.BookFault.TheVariants.{LeavesSpent, UnknownKey, Damaged, Database, OutOfMemory}
+use Rattle.leaf_book.specs.declared.faults.BookFault.TheVariants.{LeavesSpent, UnknownKey, Damaged, OtherTree, Database, OutOfMemory}
 use Rattle.signer.specs.Faults.{of_shape}
 use Rattle.signer.specs.Files.{IsUnsignedFile}
 use Rattle.signer.specs.Messages.{IsBegun, IsUnsigned}
@@ -41,9 +41,10 @@ leaves_of b c same = ap (λ (d : Book). d.leaves) same
 
 -- a registration leaves the leaf history
 registers_leaves : (b c : Book) (seed : Seed) (params : Params) (r : Result (List ℕ) BookFault) → Registers b seed params r c → c.leaves ≡ b.leaves
-registers_leaves b c seed params (Ok key) (id, inl held) = leaves_of b c held.1
-registers_leaves b c seed params (Ok key) (id, inr new) = ap (λ (d : Book). d.leaves) new.1
+registers_leaves b c seed params (Ok key) (id, lacks, inl held) = leaves_of b c held.1
+registers_leaves b c seed params (Ok key) (id, lacks, inr new) = ap (λ (d : Book). d.leaves) new.1
 registers_leaves b c seed params (Err Damaged) r = leaves_of b c r.1
+registers_leaves b c seed params (Err OtherTree) r = leaves_of b c r.1
 registers_leaves b c seed params (Err LeavesSpent) r = absurd r
 registers_leaves b c seed params (Err UnknownKey) r = absurd r
 registers_leaves b c seed params (Err Database) r = leaves_of b c r
@@ -90,6 +91,7 @@ reserves_safe b c key message (Ok r) lacks none (k, m, registered, below, inr ne
 reserves_safe b c key message (Err LeavesSpent) lacks none r = stays b c r.2 none
 reserves_safe b c key message (Err UnknownKey) lacks none r = stays b c r.1 none
 reserves_safe b c key message (Err Damaged) lacks none r = absurd r
+reserves_safe b c key message (Err OtherTree) lacks none r = absurd r
 reserves_safe b c key message (Err Database) lacks none r = stays b c r none
 reserves_safe b c key message (Err OutOfMemory) lacks none r = stays b c r none
 
@@ -110,6 +112,7 @@ begun_safe b d seed params message lacks none (inr (c, was, inr (leaf, then))) =
 unsigned_safe : (b d : Book) (seed : Seed) (params : Params) (message : List ℕ) (fault : BookFault) → LacksRivals b (key_of seed params) message → HasNoRivals b
     → IsUnsigned b seed params message fault d → HasNoRivals d
 unsigned_safe b d seed params message Damaged lacks none u = same_leaves b d (registers_leaves b d seed params (Err Damaged) u) none
+unsigned_safe b d seed params message OtherTree lacks none u = same_leaves b d (registers_leaves b d seed params (Err OtherTree) u) none
 unsigned_safe b d seed params message LeavesSpent lacks none (c, was, then) =
     both_safe b c d seed params (key_of seed params) message (Ok (key_of seed params)) (Err LeavesSpent) lacks none was then
 unsigned_safe b d seed params message UnknownKey lacks none u = absurd u

@@ -6,7 +6,7 @@ use Rattle.lms.specs.declared.Seed.{Seed}
 use Rattle.leaf_plans.specs.Book.{Book, IsBook, IsRegistered, Signer}
 use Rattle.leaf_book.specs.Calls.{Registers, Reserved, Reserves}
 use Rattle.leaf_book.specs.declared.faults.BookFault.{BookFault}
-use Rattle.leaf_book.specs.declared.faults.BookFault.TheVariants.{LeavesSpent, UnknownKey, Damaged, Database, OutOfMemory}
+use Rattle.leaf_book.specs.declared.faults.BookFault.TheVariants.{LeavesSpent, UnknownKey, Damaged, OtherTree, Database, OutOfMemory}
 use Rattle.leaf_plans.specs.Book.{key_of}
 use Rattle.signer.specs.Messages.{IsUnsigned}
 
@@ -15,8 +15,8 @@ last_has [] x = inl refl
 last_has (y ∷ ys) x = inr (last_has ys x)
 
 registered : (b c : Book) (seed : Seed) (params : Params) (key : List ℕ) → Registers b seed params (Ok key) c → IsRegistered c key params
-registered b c seed params key (same, inl h) = subst (λ (d : Book). IsRegistered d key params) (sym h.1) h.0
-registered b c seed params key (same, inr h) = subst (λ (d : Book). IsRegistered d key params) (sym h.1) (last_has b.signers (record { key = key; params = params }))
+registered b c seed params key (same, lacks, inl h) = subst (λ (d : Book). IsRegistered d key params) (sym h.1) h.0
+registered b c seed params key (same, lacks, inr h) = subst (λ (d : Book). IsRegistered d key params) (sym h.1) (last_has b.signers (record { key = key; params = params }))
 
 -- it is one of the seed's key, under the same parameters
 pub same_params : (b c d : Book) (seed : Seed) (params : Params) (key message : List ℕ) (r : Reserved) → IsBook c → Registers b seed params (Ok key) c
@@ -30,6 +30,7 @@ pub unreserved : (b c d : Book) (seed : Seed) (params : Params) (message : List 
 unreserved b c d seed params message LeavesSpent was then = (c, was, then)
 unreserved b c d seed params message UnknownKey was then = absurd (then.0 params (registered b c seed params (key_of seed params) was))
 unreserved b c d seed params message Damaged was then = absurd then
+unreserved b c d seed params message OtherTree was then = absurd then
 unreserved b c d seed params message Database was then = inr (c, was, inl then)
 unreserved b c d seed params message OutOfMemory was then = inr (c, was, inl then)
 

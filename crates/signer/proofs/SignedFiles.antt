@@ -172,6 +172,7 @@ pub unsigned_file : (b : Book) (seed : Seed) (params : Params) (file : List ℕ)
 unsigned_file b seed params file entries message books.LeavesSpent after f u = (entries, message, f, u)
 unsigned_file b seed params file entries message books.UnknownKey after f u = (entries, message, f, u)
 unsigned_file b seed params file entries message books.Damaged after f u = (entries, message, f, u)
+unsigned_file b seed params file entries message books.OtherTree after f u = (entries, message, f, u)
 unsigned_file b seed params file entries message books.Database after f u = (entries, message, f, u)
 unsigned_file b seed params file entries message books.OutOfMemory after f u = inr (entries, message, f, u)
 

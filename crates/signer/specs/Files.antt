@@ -66,10 +66,14 @@ IsSigningDenial seed params file denials.WrongShape =
     ⊎ ((entries : List Signature) × (part : Json) × (type_name : List ℕ) × IsSignedFile file entries part type_name × HasNoRoom (key_of seed params) entries)
 IsSigningDenial seed params file denial = ⊥
 
+-- as far as the signing of a file may have come: nothing was done, or that of its signed part has begun
+abbrev pub IsBegunFile : Book → Seed → Params → List ℕ → Book → Type 0
+IsBegunFile before seed params file after =
+    (after ≡ before) ⊎ ((entries : List Signature) × (message : List ℕ) × IsSignedBy file entries message × IsBegun before seed params message after)
+
 -- Why a file is not signed, and what the book is then. A file that is denied costs no leaf.
 abbrev pub IsUnsignedFile : Book → Seed → Params → List ℕ → SignFileFault → Book → Type 0
 IsUnsignedFile before seed params file (Denied denial) after = IsSigningDenial seed params file denial × (after ≡ before)
 IsUnsignedFile before seed params file (OfBook fault) after =
     (entries : List Signature) × (message : List ℕ) × IsSignedBy file entries message × IsUnsigned before seed params message fault after
-IsUnsignedFile before seed params file OutOfMemory after =
-    (after ≡ before) ⊎ ((entries : List Signature) × (message : List ℕ) × IsSignedBy file entries message × IsBegun before seed params message after)
+IsUnsignedFile before seed params file OutOfMemory after = IsBegunFile before seed params file after

@@ -5,5 +5,6 @@ pub mod Files
 pub mod Versions
 pub mod Once
 pub mod Leaves
+pub mod OneTime
 pub mod Joining
 pub mod steps

@@ -10,7 +10,8 @@ ghost use Rattle.keys_roles.specs.Views.{entries_view, id_text};
 ghost use Rattle.metadata.specs.Shape.{IsSignedBy};
 ghost use Rattle.leaf_plans.specs.Book.{key_of};
 ghost use Rattle.leaf_book.specs.Rows.{HoldsWhole, IsRecorded};
-ghost use Rattle.signer.specs.Files.{IsUnsignedFile, SignsFile, others as others_of};
+ghost use Rattle.signer.specs.Files.{IsBegunFile, IsUnsignedFile, SignsFile, others as others_of};
+ghost use Rattle.signer.specs.Messages.{CrashLeavesOf, IsBegun};
 ghost use Rattle.signer.specs.steps.Texts.{parts_text};
 
 use crate::entries::{are_bytes, has_digits, others, with_entry};
@@ -27,7 +28,8 @@ use std::alloc::Global;
 
 /// The file with a signature of the seed's key over its signed part, in canonical JSON: the key's entry stands last, and an older one of
 /// the key is taken out. The leaf is the one that the book keeps for this signed part; the book keeps it before anything is signed. The
-/// same file, signed or not, gives the same bytes.
+/// same file, signed or not, gives the same bytes. A crash inside the call, or behind it, leaves the whole database of a book as far as
+/// the signing may have come.
 ///
 /// - `Denied`: `TooLong`, `NotCanonical` or `WrongShape` of the file's envelope, in this order; then `WrongShape` where the result would
 ///   have over 16 entries, and `TooLong` where it would have over 262,144 bytes. Nothing is registered and no leaf reserved.
@@ -44,7 +46,9 @@ pub fn sign_file<S: Alter>(
     ensures unsigned { IfErr result (λ fault. IsUnsignedFile book.old.book seed.now params file.now fault book.new.book) }
     ensures kept { HasCleanDisk (state S.Store book.new.conn) → OnOk result (IsRecorded (state S.Store book.new.conn) book.new.book
         × ((trees : Trees) → (state S.Store book.new.conn).may_leave trees → HoldsWhole trees book.new.book)) }
+    ensures crash { CrashLeavesOf (state S.Store book.old.conn) (state S.Store book.new.conn) (IsBegunFile book.old.book seed.now params file.now) }
 {
+    book.rests();
     match KeyPair::new(alloc, seed, params) {
         Ok(pair) => sign_file_with(alloc, book, &pair, file),
         Err(_) => Err(SignFileFault::OutOfMemory),
@@ -62,7 +66,9 @@ pub fn sign_file_with<S: Alter>(
     ensures unsigned { IfErr result (λ fault. IsUnsignedFile book.old.book pair.now.seed pair.now.params file.now fault book.new.book) }
     ensures kept { HasCleanDisk (state S.Store book.new.conn) → OnOk result (IsRecorded (state S.Store book.new.conn) book.new.book
         × ((trees : Trees) → (state S.Store book.new.conn).may_leave trees → HoldsWhole trees book.new.book)) }
+    ensures crash { CrashLeavesOf (state S.Store book.old.conn) (state S.Store book.new.conn) (IsBegunFile book.old.book pair.now.seed pair.now.params file.now) }
 {
+    book.rests();
     match read_signed(alloc, file) {
         Ok(signed) => sign_parts(alloc, book, pair, &signed),
         Err(fault) => Err(SignFileFault::from(fault)),
@@ -82,7 +88,9 @@ pub(crate) fn sign_parts<S: Alter>(
         → IsUnsignedFile book.old.book pair.now.seed pair.now.params bytes fault book.new.book) }
     ensures kept { HasCleanDisk (state S.Store book.new.conn) → OnOk result (IsRecorded (state S.Store book.new.conn) book.new.book
         × ((trees : Trees) → (state S.Store book.new.conn).may_leave trees → HoldsWhole trees book.new.book)) }
+    ensures crash { CrashLeavesOf (state S.Store book.old.conn) (state S.Store book.new.conn) (IsBegun book.old.book pair.now.seed pair.now.params file.now.signed.now) }
 {
+    book.rests();
     let id = id_of(alloc, pair);
     has_digits(&id);
     match judge_result(alloc, file, &id, pair.signature_len()) {

@@ -8,7 +8,7 @@ ghost use Rattle.lms.specs.Verifies.{Verifies};
 ghost use Rattle.keys_roles.specs.Views.{id_text};
 ghost use Rattle.leaf_plans.specs.Book.{IsBook, key_of};
 ghost use Rattle.leaf_book.specs.Rows.{HoldsWhole, IsRecorded};
-ghost use Rattle.signer.specs.Messages.{IsUnsigned, Signs};
+ghost use Rattle.signer.specs.Messages.{CrashLeavesOf, IsBegun, IsUnsigned, Signs};
 
 use keys_roles::KeyId;
 use leaf_book::{Book, BookFault, sign_with};
@@ -22,6 +22,8 @@ use std::alloc::Global;
 ///
 /// Errors: as `Book::register_pair` and `Book::reserve` say it, and `OutOfMemory` where the signature had no memory. A leaf may then
 /// be kept for the message: the same message gets this leaf again.
+///
+/// A crash inside the call, or behind it, leaves the whole database of a book as far as the signing may have come.
 pub fn sign_message<S: Alter>(
     alloc: Global,
     book: &mut Book<S>,
@@ -36,6 +38,7 @@ pub fn sign_message<S: Alter>(
     ensures rows { HasCleanDisk (state S.Store book.new.conn) → IsTrue (state S.Store book.new.conn).is_open → IsRecorded (state S.Store book.new.conn) book.new.book }
     ensures kept { HasCleanDisk (state S.Store book.new.conn) → OnOk result (IsTrue (state S.Store book.new.conn).is_open
         × ((trees : Trees) → (state S.Store book.new.conn).may_leave trees → HoldsWhole trees book.new.book)) }
+    ensures crash { CrashLeavesOf (state S.Store book.old.conn) (state S.Store book.new.conn) (IsBegun book.old.book pair.now.seed pair.now.params message.now) }
 {
     let id = match book.register_pair(pair) {
         Ok(id) => id,

@@ -1,5 +1,5 @@
 //! Files that get a signature where the key has signed no other document of their kind and version.
-ghost use Rattle.std.specs.Prelude.{◌≡◌, List, ℕ, Ok, Err, IfErr, IfOk, OnOk};
+ghost use Rattle.std.specs.Prelude.{◌≡◌, ◌⊎◌, List, ℕ, Ok, Err, IfErr, IfOk, OnOk, Result};
 ghost use Rattle.sqlite.specs.Held.{state};
 ghost use Rattle.sqlite.specs.State.{HasCleanDisk};
 ghost use Rattle.sqlite_trees.specs.Tree.{Trees};
@@ -9,6 +9,7 @@ ghost use Rattle.keys_roles.specs.Views.{entries_view};
 ghost use Rattle.metadata.specs.Shape.{IsSignedBy};
 ghost use Rattle.leaf_plans.specs.Book.{Book as PlainBook};
 ghost use Rattle.leaf_book.specs.Rows.{HoldsWhole, IsRecorded};
+ghost use Rattle.signer.specs.Messages.{CrashLeavesOf};
 ghost use Rattle.signer.specs.Once.{Event, Runs, SignsOnce};
 ghost use Rattle.signer.specs.Versions.{HasNoRivals};
 
@@ -29,6 +30,9 @@ use std::alloc::Global;
 /// - `Other`: the leaf that is kept for another document of this kind and version. The file's envelope is in order. Nothing is registered
 ///   and no leaf reserved.
 /// - `Unsigned`: as `sign_file_with` says it. What is wrong with the file's envelope comes before `Other`, all else behind it.
+///
+/// A crash inside the call, or behind it, leaves the whole database of the book before it or of one that it makes: the event
+/// `crash_in_sign_once` of `one_document_a_version`.
 pub fn sign_file_once<S: Alter>(
     alloc: Global,
     book: &mut Book<S>,
@@ -39,8 +43,11 @@ pub fn sign_file_once<S: Alter>(
     ensures unsigned { IfErr result (λ fault. SignsOnce book.old.book pair.now.seed pair.now.params file.now (Err fault) book.new.book) }
     ensures kept { HasCleanDisk (state S.Store book.new.conn) → OnOk result (IsRecorded (state S.Store book.new.conn) book.new.book
         × ((trees : Trees) → (state S.Store book.new.conn).may_leave trees → HoldsWhole trees book.new.book)) }
+    ensures crash { CrashLeavesOf (state S.Store book.old.conn) (state S.Store book.new.conn)
+        (λ c. (c ≡ book.old.book) ⊎ ((r : Result (List ℕ) SignOnceFault) × SignsOnce book.old.book pair.now.seed pair.now.params file.now r c)) }
 {
     one_spelling();
+    book.rests();
     match read_signed(alloc, file) {
         Ok(signed) => sign_parts_once(alloc, book, pair, &signed),
         Err(fault) => Err(SignOnceFault::Unsigned(SignFileFault::from(fault))),
@@ -61,8 +68,11 @@ fn sign_parts_once<S: Alter>(
         → SignsOnce book.old.book pair.now.seed pair.now.params bytes (Err fault) book.new.book) }
     ensures kept { HasCleanDisk (state S.Store book.new.conn) → OnOk result (IsRecorded (state S.Store book.new.conn) book.new.book
         × ((trees : Trees) → (state S.Store book.new.conn).may_leave trees → HoldsWhole trees book.new.book)) }
+    ensures crash { CrashLeavesOf (state S.Store book.old.conn) (state S.Store book.new.conn) (λ c. (c ≡ book.old.book) ⊎ ((bytes : List ℕ) → IsSignedBy bytes (entries_view file.now.signatures.items) file.now.signed.now
+        → SignsOnce book.old.book pair.now.seed pair.now.params bytes (Err (SignOnceFault.Unsigned SignFileFault.OutOfMemory)) c)) }
 {
     one_spelling();
+    book.rests();
     let id = id_of(alloc, pair);
     match rival_of(alloc, book, &id, file.signed) {
         Ok(None) => {}

@@ -1,23 +1,25 @@
 //! What is looked at before a leaf is spent on a draft, in this order; the first that fails is the answer.
+use crate::guarding::{Guard, Signer};
 use command_support::{Denial, Fault, Notes, Slip};
 use drafts::{
     Folder, Said, Vouching, has_signatures, held_said, kind_of, listed_otherwise, owners_of,
     read_said, read_said_of, rules_for, see_link,
 };
 use keys_roles::KeyId;
-use metadata::{Kind, Moment, SignedFile, read_signed};
+use metadata::{Kind, Moment};
 use reasons::place_of;
-use signer::{Book, keeps, leaf_of};
+use signer::Book;
 use sqlite::Alter;
 use std::alloc::Global;
 use std::io::Write;
 
-/// By what a draft is judged: the folder, the key, and the moment.
+/// By what a draft is judged: the folder, the key with its name, and the moment.
 #[derive(Clone, Copy)]
 pub struct Judged<'a> {
     pub alloc: Global,
     pub folder: Folder<'a>,
-    pub id: &'a KeyId,
+    pub signer: &'a Signer,
+    pub name: &'a str,
     pub now: Moment,
 }
 
@@ -89,7 +91,7 @@ impl Judged<'_> {
         bytes: &[u8],
         notes: &mut Notes<'_, E>,
     ) -> Result<(), Fault> {
-        if let Err(fault) = see_link(self.alloc, bytes, self.id) {
+        if let Err(fault) = see_link(self.alloc, bytes, self.signer.id()) {
             notes.warn(&name, &"it is no link");
             return Err(fault);
         }
@@ -99,7 +101,7 @@ impl Judged<'_> {
     // The owners of a target's layout have the key.
     fn see_owners<E: Write>(&self, target: &str, notes: &mut Notes<'_, E>) -> Result<(), Fault> {
         let owners = owners_of(self.alloc, self.folder, target, notes)?;
-        if have_key(&owners, self.id) {
+        if have_key(&owners, self.signer.id()) {
             return Ok(());
         }
         notes.warn(&target, &"its layout's owners do not have this key");
@@ -138,7 +140,7 @@ impl Judged<'_> {
     // A rule has the key for the role's document.
     fn see_rule<E: Write>(&self, role: &str, notes: &mut Notes<'_, E>) -> Result<(), Fault> {
         let rules = rules_for(self.alloc, self.folder, role, notes)?;
-        if have_key(&rules, self.id) {
+        if have_key(&rules, self.signer.id()) {
             return Ok(());
         }
         notes.warn(&role, &"no rule has this key for it");
@@ -151,83 +153,13 @@ impl Judged<'_> {
         book: &Book<S>,
         notes: &mut Notes<'_, E>,
     ) -> Result<(), Fault> {
-        for role in &self.folder.held_roles(notes)? {
-            let held = self.folder.held(role.as_str(), notes)?;
-            self.see_entries(book, role.as_str(), held.as_deref(), notes)?;
-        }
-        self.see_drafts(book, notes)?;
-        self.see_chains(book, "layouts", notes)?;
-        self.see_chains(book, "links", notes)
-    }
-
-    // The same of the drafts.
-    fn see_drafts<S: Alter, E: Write>(
-        &self,
-        book: &Book<S>,
-        notes: &mut Notes<'_, E>,
-    ) -> Result<(), Fault> {
-        for role in &self.folder.roles(notes)? {
-            let draft = self.folder.draft(role.as_str(), notes)?;
-            self.see_entries(book, role.as_str(), draft.as_deref(), notes)?;
-        }
-        Ok(())
-    }
-
-    // And of the layouts and links in one of the folder's two for them.
-    fn see_chains<S: Alter, E: Write>(
-        &self,
-        book: &Book<S>,
-        inner: &str,
-        notes: &mut Notes<'_, E>,
-    ) -> Result<(), Fault> {
-        for name in &self.folder.chain_files(inner, notes)? {
-            self.see_chain(book, inner, name.as_str(), notes)?;
-        }
-        Ok(())
-    }
-
-    fn see_chain<S: Alter, E: Write>(
-        &self,
-        book: &Book<S>,
-        inner: &str,
-        name: &str,
-        notes: &mut Notes<'_, E>,
-    ) -> Result<(), Fault> {
-        let place = format!(in self.alloc; "{inner}/{name}")?;
-        let bytes = self.folder.file(place.as_str(), notes)?;
-        self.see_entries(book, name, bytes.as_deref(), notes)
-    }
-
-    // The book knows each signature of the key that these bytes have.
-    fn see_entries<S: Alter, E: Write>(
-        &self,
-        book: &Book<S>,
-        role: &str,
-        bytes: Option<&[u8]>,
-        notes: &mut Notes<'_, E>,
-    ) -> Result<(), Fault> {
-        let Some(bytes) = bytes else {
-            return Ok(());
+        let guard = Guard {
+            alloc: self.alloc,
+            folder: self.folder,
+            signer: self.signer,
+            name: self.name,
         };
-        let file = read_signed(self.alloc, bytes)?;
-        if self.are_kept(book, &file) {
-            return Ok(());
-        }
-        notes.warn(
-            &role,
-            &"the book of the key does not know its signature here: another book has signed it",
-        );
-        Err(Fault::Slip(Slip::Book))
-    }
-
-    // Whether the book keeps each entry of the key.
-    fn are_kept<S: Alter>(&self, book: &Book<S>, file: &SignedFile<'_>) -> bool {
-        for entry in &file.signatures {
-            if entry.keyid == *self.id && !is_kept(book, self.id, entry.sig.as_str(), file.signed) {
-                return false;
-            }
-        }
-        true
+        guard.see(book, notes)
     }
 
     // A snapshot or timestamp is over documents that have their signatures.
@@ -290,14 +222,6 @@ pub fn have_key(rules: &[Vouching], id: &KeyId) -> bool {
         }
     }
     false
-}
-
-// Whether the book keeps the leaf of a signature for the message that it is over.
-fn is_kept<S: Alter>(book: &Book<S>, id: &KeyId, sig: &str, message: &[u8]) -> bool {
-    match leaf_of(sig) {
-        Some(leaf) => keeps(book, id, leaf, message),
-        None => false,
-    }
 }
 
 // The first denial of a document behind the one that is held: 8, 13, 14, 21, 22.

@@ -1,17 +1,16 @@
 //! `sign --key`: signs drafts by a key that is kept in three files.
-use crate::books::{BookAt, BookWork, book_fault, has_bytes, worked_over};
+use crate::books::{BookAt, BookWork, has_bytes, worked_over};
 use crate::files::{KeyFiles, book_place};
+use crate::one::{Judging, Knowing, SigningOne, What};
 use command_support::{Fault, Notes, Slip, moment, print};
 use drafts::{
     Folder, Said, changes_of, held_said, owners_of, read_said, rules_for, sign_order,
     target_of_layout,
 };
-use keys_roles::KeyId;
 use lms::KeyPair;
 use metadata::{Moment, SignedFile, read_signed};
-use signer::{Book, SignFileFault, SignOnceFault, leaf_of, sign_file_once, sign_file_with};
-use signing_checks::{Judged, have_key};
-use sqlite::Alter;
+use signer::leaf_of;
+use signing_checks::{Judged, Signer, have_key};
 use std::alloc::Global;
 use std::io::{IsTerminal, Write};
 
@@ -79,21 +78,25 @@ fn signed_by<'a, O: Write, E: Write>(
 ) -> Result<u64, Fault> {
     let files = KeyFiles::read(rt, key, notes)?;
     let book = book_place(rt, key)?;
+    let signer = Signer::new(rt.alloc(), files.half.public)?;
     let at = BookAt {
         place: book.as_str(),
         name: key,
-        known: false,
+        known: true,
     };
-    let signing = Signing {
+    let mut signing = Signing {
         rt,
         asked,
         key,
         folder: Folder::new(rt, asked.folder),
         files: &files,
+        signer: &signer,
+        at,
         now,
         done: 0,
     };
-    worked_over(rt, at, &mut Telling { signing, out }, notes)
+    signing.sign_all(out, notes)?;
+    Ok(signing.done)
 }
 
 // Without a terminal nobody can be asked.
@@ -106,27 +109,6 @@ fn unasked(rt: &HostRuntime) -> Fault {
     }
 }
 
-// A signing whose lines are printed.
-#[derive(Drop)]
-struct Telling<'a, 'o, O: Write> {
-    signing: Signing<'a>,
-    out: &'o mut O,
-}
-
-impl<O: Write> BookWork for Telling<'_, '_, O> {
-    type Done = u64;
-
-    fn work<S: Alter, E: Write>(
-        &mut self,
-        book: &mut Book<S>,
-        _is_new: bool,
-        notes: &mut Notes<'_, E>,
-    ) -> Result<u64, Fault> {
-        self.signing.sign_all(book, self.out, notes)?;
-        Ok(self.signing.done)
-    }
-}
-
 // A signing that is under way, and how many documents are signed.
 #[derive(Clone, Copy)]
 struct Signing<'a> {
@@ -135,6 +117,8 @@ struct Signing<'a> {
     key: &'a str,
     folder: Folder<'a>,
     files: &'a KeyFiles,
+    signer: &'a Signer,
+    at: BookAt<'a>,
     now: Moment,
     done: u64,
 }
@@ -144,35 +128,50 @@ impl Signing<'_> {
         self.rt.alloc()
     }
 
-    fn sign_all<S: Alter, O: Write, E: Write>(
+    // The book is asked before the tree is hashed, which may take seconds.
+    fn sign_all<O: Write, E: Write>(
         &mut self,
-        book: &mut Book<S>,
         out: &mut O,
         notes: &mut Notes<'_, E>,
     ) -> Result<(), Fault> {
+        let id = self.signer.id();
+        if !self.over_book(&mut Knowing { id }, notes)? {
+            return Err(self.unknown(notes));
+        }
         let pair = self.files.pair(self.rt, notes)?;
-        self.sign_by(book, &pair, out, notes)
+        self.sign_by(&pair, out, notes)
     }
 
-    fn sign_by<S: Alter, O: Write, E: Write>(
+    fn sign_by<O: Write, E: Write>(
         &mut self,
-        book: &mut Book<S>,
         pair: &KeyPair,
         out: &mut O,
         notes: &mut Notes<'_, E>,
     ) -> Result<(), Fault> {
-        if book.registered(&self.files.half.id).is_none() {
-            notes.warn(&self.key, &"its book does not have the key");
-            return Err(Fault::Slip(Slip::Book));
-        }
         let roles = self.roles(notes)?;
-        self.sign_each(book, pair, &roles, out, notes)
+        self.sign_each(pair, &roles, out, notes)
+    }
+
+    // Does what is to be done over the key's book, which has to be there and to have the key.
+    fn over_book<W: BookWork, E: Write>(
+        &self,
+        work: &mut W,
+        notes: &mut Notes<'_, E>,
+    ) -> Result<W::Done, Fault> {
+        match worked_over(self.rt, self.at, work, notes) {
+            Err(Fault::UnknownKey) => Err(self.unknown(notes)),
+            done => done,
+        }
+    }
+
+    fn unknown<E: Write>(&self, notes: &mut Notes<'_, E>) -> Fault {
+        notes.warn(&self.key, &"its book does not have the key");
+        Fault::Slip(Slip::Book)
     }
 
     // Signs the documents of these roles, and layouts and links, in their order.
-    fn sign_each<S: Alter, O: Write, E: Write>(
+    fn sign_each<O: Write, E: Write>(
         &mut self,
-        book: &mut Book<S>,
         pair: &KeyPair,
         roles: &[String],
         out: &mut O,
@@ -181,21 +180,20 @@ impl Signing<'_> {
         for order in 0..5u8 {
             for role in roles {
                 if sign_order(role.as_str()) == order {
-                    self.sign(book, pair, role.as_str(), out, notes)?;
+                    self.sign_one(pair, What::Draft(role.as_str()), out, notes)?;
                 }
             }
             if order == 0 {
-                self.sign_layouts(book, pair, out, notes)?;
-                self.sign_links(book, pair, out, notes)?;
+                self.sign_layouts(pair, out, notes)?;
+                self.sign_links(pair, out, notes)?;
             }
         }
         Ok(())
     }
 
     // Signs the layouts that are named, or whose owners have the key and that lack its signature.
-    fn sign_layouts<S: Alter, O: Write, E: Write>(
+    fn sign_layouts<O: Write, E: Write>(
         &mut self,
-        book: &mut Book<S>,
         pair: &KeyPair,
         out: &mut O,
         notes: &mut Notes<'_, E>,
@@ -203,16 +201,15 @@ impl Signing<'_> {
         for name in &self.folder.chain_files("layouts", notes)? {
             let name = name.as_str();
             if let Some(target) = target_of_layout(self.alloc(), name)? {
-                self.sign_layout(book, pair, name, target.as_str(), out, notes)?;
+                self.sign_layout(pair, name, target.as_str(), out, notes)?;
             }
         }
         Ok(())
     }
 
     // Signs the layout of a target, if it is wanted.
-    fn sign_layout<S: Alter, O: Write, E: Write>(
+    fn sign_layout<O: Write, E: Write>(
         &mut self,
-        book: &mut Book<S>,
         pair: &KeyPair,
         name: &str,
         target: &str,
@@ -220,95 +217,65 @@ impl Signing<'_> {
         notes: &mut Notes<'_, E>,
     ) -> Result<(), Fault> {
         let place = format!(in self.alloc(); "layouts/{name}")?;
-        let bytes = self.bytes_at(place.as_str(), notes)?;
-        if !self.is_layout_wanted(name, target, &bytes, notes)? {
+        let place = place.as_str();
+        if !self.is_layout_wanted(name, target, place, notes)? {
             return Ok(());
         }
-        self.judged().judge_layout(book, target, &bytes, notes)?;
-        self.sign_chain(book, pair, place.as_str(), &bytes, out, notes)
+        self.sign_one(pair, What::Layout { target, place }, out, notes)
     }
 
     fn is_layout_wanted<E: Write>(
         &self,
         name: &str,
         target: &str,
-        bytes: &[u8],
+        place: &str,
         notes: &mut Notes<'_, E>,
     ) -> Result<bool, Fault> {
         if !self.asked.documents.is_empty() {
             return Ok(self.is_asked(name));
         }
+        let bytes = self.folder.file_or_none(place, notes)?;
         let owners = owners_of(self.alloc(), self.folder, target, notes)?;
-        Ok(have_key(&owners, &self.files.half.id) && !self.has_signed(bytes)?)
+        Ok(have_key(&owners, self.signer.id()) && !self.has_signed(&bytes)?)
     }
 
     // Signs the links that are named, or all that have no signature: a link has one.
-    fn sign_links<S: Alter, O: Write, E: Write>(
+    fn sign_links<O: Write, E: Write>(
         &mut self,
-        book: &mut Book<S>,
         pair: &KeyPair,
         out: &mut O,
         notes: &mut Notes<'_, E>,
     ) -> Result<(), Fault> {
         for name in &self.folder.chain_files("links", notes)? {
-            self.sign_link(book, pair, name.as_str(), out, notes)?;
+            self.sign_link(pair, name.as_str(), out, notes)?;
         }
         Ok(())
     }
 
     // Signs a link, if it is wanted.
-    fn sign_link<S: Alter, O: Write, E: Write>(
+    fn sign_link<O: Write, E: Write>(
         &mut self,
-        book: &mut Book<S>,
         pair: &KeyPair,
         name: &str,
         out: &mut O,
         notes: &mut Notes<'_, E>,
     ) -> Result<(), Fault> {
         let place = format!(in self.alloc(); "links/{name}")?;
-        let bytes = self.bytes_at(place.as_str(), notes)?;
+        let place = place.as_str();
+        let bytes = self.folder.file_or_none(place, notes)?;
         let is_wanted = self.asked.documents.is_empty() || self.is_asked(name);
         if !is_wanted || !is_unsigned(self.alloc(), &bytes)? {
             return Ok(());
         }
-        self.judged().judge_link(book, name, &bytes, notes)?;
-        self.sign_chain(book, pair, place.as_str(), &bytes, out, notes)
-    }
-
-    // Signs a layout or a link.
-    fn sign_chain<S: Alter, O: Write, E: Write>(
-        &mut self,
-        book: &mut Book<S>,
-        pair: &KeyPair,
-        place: &str,
-        bytes: &[u8],
-        out: &mut O,
-        notes: &mut Notes<'_, E>,
-    ) -> Result<(), Fault> {
-        if !self.asked.yes {
-            notes.progress(&format!(in self.alloc(); "sign {place}? [y/N]")?);
-            if !is_yes(self.rt) {
-                return Ok(());
-            }
-        }
-        let signed = self.signed(book, pair, place, bytes, notes)?;
-        self.folder.put_named(place, &signed, notes)?;
-        self.done = self.done.saturating_add(1);
-        self.tell(place, &signed, out, notes)
-    }
-
-    fn bytes_at<E: Write>(&self, place: &str, notes: &mut Notes<'_, E>) -> Result<Vec<u8>, Fault> {
-        match self.folder.file(place, notes)? {
-            Some(bytes) => Ok(bytes),
-            None => Ok(Vec::new(self.alloc())),
-        }
+        self.sign_one(pair, What::Link { name, place }, out, notes)
     }
 
     fn judged(&self) -> Judged<'_> {
         Judged {
             alloc: self.alloc(),
             folder: self.folder,
-            id: &self.files.half.id,
+            signer: self.signer,
+            name: self.key,
             now: self.now,
         }
     }
@@ -327,7 +294,7 @@ impl Signing<'_> {
     // Whether the key has signed the file.
     fn has_signed(&self, bytes: &[u8]) -> Result<bool, Fault> {
         match read_signed(self.alloc(), bytes) {
-            Ok(file) => Ok(has_entry(&file, &self.files.half.id)),
+            Ok(file) => Ok(self.signer.has_signed(&file)),
             Err(fault) => Err(Fault::from(fault)),
         }
     }
@@ -349,88 +316,86 @@ impl Signing<'_> {
         Ok(roles)
     }
 
-    // Whether a rule of the role has the key, and the draft no entry of it.
+    // Whether a rule of the role has the key, and the key has not signed the draft.
     fn may_sign<E: Write>(&self, role: &str, notes: &mut Notes<'_, E>) -> Result<bool, Fault> {
         let rules = rules_for(self.alloc(), self.folder, role, notes)?;
-        if !have_key(&rules, &self.files.half.id) {
+        if !have_key(&rules, self.signer.id()) {
             return Ok(false);
         }
         let bytes = self.folder.draft_or_none(role, notes)?;
         Ok(!self.has_signed(&bytes)?)
     }
 
-    // Signs the draft of a role.
-    fn sign<S: Alter, O: Write, E: Write>(
+    // Signs one document, if the operator agrees. The book is opened for it and closed before the document is put in its place, so that the
+    // book's file alone has the leaf then. While a question stands it is not open; what is answered to is looked at again behind the answer.
+    fn sign_one<O: Write, E: Write>(
         &mut self,
-        book: &mut Book<S>,
         pair: &KeyPair,
-        role: &str,
+        what: What<'_>,
         out: &mut O,
         notes: &mut Notes<'_, E>,
     ) -> Result<(), Fault> {
-        let bytes = self.folder.draft_or_none(role, notes)?;
-        self.sign_bytes(book, pair, role, &bytes, out, notes)
-    }
-
-    fn sign_bytes<S: Alter, O: Write, E: Write>(
-        &mut self,
-        book: &mut Book<S>,
-        pair: &KeyPair,
-        role: &str,
-        bytes: &[u8],
-        out: &mut O,
-        notes: &mut Notes<'_, E>,
-    ) -> Result<(), Fault> {
-        self.judged().judge(book, role, bytes, notes)?;
-        if !self.is_agreed(role, bytes, notes)? {
+        let bytes = what.bytes(self.folder, notes)?;
+        if self.asked.yes {
+            return self.sign_bytes(pair, what, &bytes, out, notes);
+        }
+        if !self.is_agreed(what, &bytes, notes)? {
             return Ok(());
         }
-        let signed = self.signed(book, pair, role, bytes, notes)?;
-        self.folder.put_draft(role, &signed, notes)?;
-        self.done = self.done.saturating_add(1);
-        self.tell(role, &signed, out, notes)
+        let latest = what.bytes(self.folder, notes)?;
+        if !have_one_part(self.alloc(), &bytes, &latest)? {
+            notes.warn(&what.name(), &"it has changed since it was shown");
+            return Err(Fault::Slip(Slip::Different));
+        }
+        self.sign_bytes(pair, what, &latest, out, notes)
     }
 
-    // The draft with the key's signature.
-    fn signed<S: Alter, E: Write>(
-        &self,
-        book: &mut Book<S>,
+    // Signs one document, and tells by which leaf.
+    fn sign_bytes<O: Write, E: Write>(
+        &mut self,
         pair: &KeyPair,
-        role: &str,
+        what: What<'_>,
         bytes: &[u8],
+        out: &mut O,
         notes: &mut Notes<'_, E>,
-    ) -> Result<Vec<u8>, Fault> {
-        if self.asked.again {
-            return match sign_file_with(self.alloc(), book, pair, bytes) {
-                Ok(signed) => Ok(signed),
-                Err(fault) => Err(fault_of_signing(fault)),
-            };
-        }
-        match sign_file_once(self.alloc(), book, pair, bytes) {
-            Ok(signed) => Ok(signed),
-            Err(SignOnceFault::Other(_)) => {
-                notes.warn(
-                    &role,
-                    &"the key has signed another document of this kind and version; --again goes on",
-                );
-                Err(Fault::Slip(Slip::Other))
-            }
-            Err(SignOnceFault::Unsigned(fault)) => Err(fault_of_signing(fault)),
-        }
+    ) -> Result<(), Fault> {
+        let mut one = SigningOne {
+            judging: Judging {
+                judged: self.judged(),
+                what,
+                bytes,
+            },
+            pair,
+            again: self.asked.again,
+        };
+        let signed = self.over_book(&mut one, notes)?;
+        what.put(self.folder, &signed, notes)?;
+        self.done = self.done.saturating_add(1);
+        self.tell(what.name(), &signed, out, notes)
     }
 
-    // Whether the operator agrees: with `--yes`, or by the answer `y` to the question, behind what the draft changes.
+    // Whether the operator agrees, by the answer `y` to the question, which stands behind what the document changes. It is judged first.
     fn is_agreed<E: Write>(
         &self,
-        role: &str,
+        what: What<'_>,
         bytes: &[u8],
         notes: &mut Notes<'_, E>,
     ) -> Result<bool, Fault> {
-        if self.asked.yes {
-            return Ok(true);
+        let mut judging = Judging {
+            judged: self.judged(),
+            what,
+            bytes,
+        };
+        self.over_book(&mut judging, notes)?;
+        match what {
+            What::Draft(role) => {
+                let said = read_said(self.alloc(), role, bytes)?;
+                self.ask_of(role, &said, notes)?;
+            }
+            What::Layout { place, .. } | What::Link { place, .. } => {
+                notes.progress(&format!(in self.alloc(); "sign {place}? [y/N]")?);
+            }
         }
-        let said = read_said(self.alloc(), role, bytes)?;
-        self.ask_of(role, &said, notes)?;
         Ok(is_yes(self.rt))
     }
 
@@ -481,14 +446,11 @@ impl Signing<'_> {
     }
 }
 
-// Whether the file has an entry of the key.
-fn has_entry(file: &SignedFile<'_>, id: &KeyId) -> bool {
-    for entry in &file.signatures {
-        if entry.keyid == *id {
-            return true;
-        }
-    }
-    false
+// Whether two files are over one signed part.
+fn have_one_part(alloc: Global, one: &[u8], other: &[u8]) -> Result<bool, Fault> {
+    let one = read_signed(alloc, one)?;
+    let other = read_signed(alloc, other)?;
+    Ok(one.signed == other.signed)
 }
 
 // Whether the file has no entry.
@@ -518,13 +480,5 @@ fn is_yes(rt: &HostRuntime) -> bool {
     match rt.stdin().read_line(&mut line) {
         Ok(_) => line.as_str().trim() == "y" || line.as_str().trim() == "yes",
         Err(_) => false,
-    }
-}
-
-fn fault_of_signing(fault: SignFileFault) -> Fault {
-    match fault {
-        SignFileFault::Denied(denial) => Fault::Denied(denial, None),
-        SignFileFault::Book(fault) => book_fault(fault),
-        SignFileFault::OutOfMemory => Fault::Memory,
     }
 }

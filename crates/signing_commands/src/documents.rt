@@ -1,13 +1,13 @@
 //! `sign`: signs a document by a leaf that no other document gets.
-use crate::books::{BookAt, BookWork, book_fault, worked_over};
+use crate::books::{BookAt, BookWork, book_fault, tell_of_other_tree, worked_over};
 use crate::seeds::seed_at;
-use command_support::{FILE_LIMIT, Fault, Notes, moment, print, read_at_most};
+use command_support::{FILE_LIMIT, Fault, Notes, Slip, moment, print, read_at_most};
 use drafts::typed_kind;
 use keys_roles::{Key, KeyId, key_id};
 use lms::{KeyPair, Params, SigningHeight};
 use metadata::read_signed;
 use reasons::place_of;
-use signer::{Book, Seed, SignFileFault, sign_file_with};
+use signer::{Book, BookFault, Seed, SignFileFault, sign_file_with};
 use sqlite::Alter;
 use std::alloc::Global;
 use std::io::{IsTerminal, Write};
@@ -143,6 +143,11 @@ fn signed_with<S: Alter, E: Write>(
     }
     match signed {
         Ok(signed) => Ok(signed),
+        Err(SignFileFault::Book(BookFault::OtherTree)) => {
+            let tree = (seed, asked.params, &id);
+            tell_of_other_tree(alloc, asked.book, book, tree, notes)?;
+            Err(Fault::Slip(Slip::Book))
+        }
         Err(fault) => Err(tell_fault(fault, asked, notes)),
     }
 }

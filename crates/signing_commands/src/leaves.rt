@@ -1,13 +1,16 @@
 //! How many leaves keys have left.
-use crate::books::{BookAt, BookWork, has_bytes, worked_over};
+use crate::books::{BookAt, BookWork, has_bytes, tell_of_other_tree, worked_over};
 use crate::files::{PublicHalf, book_place};
+use crate::seeds::seed_at;
 use command_support::{Fault, Notes, Slip};
 use keys_roles::KeyId;
-use signer::Book;
+use signer::{Book, Seed};
 use sqlite::Alter;
+use std::alloc::Global;
 use std::io::Write;
 
-/// Of each key of these names, by its public half and its book: its id, how many leaves are left, and of how many.
+/// Of each key of these names, by its public half and its book: its id, how many leaves are left, and of how many. Where its seed is there
+/// too, and has another tree in the book, no key may sign any more: that is refused.
 pub fn leaves_of<E: Write>(
     rt: &HostRuntime,
     names: &[String],
@@ -16,7 +19,7 @@ pub fn leaves_of<E: Write>(
     let mut found = Vec::new(rt.alloc());
     for name in names {
         let half = PublicHalf::read(rt, name.as_str(), notes)?;
-        let used = used_of(rt, name.as_str(), &half.id, notes)?;
+        let used = used_of(rt, name.as_str(), &half, notes)?;
         let most = half.leaves();
         found.push((half.id, most.saturating_sub(used), most))?;
     }
@@ -27,7 +30,7 @@ pub fn leaves_of<E: Write>(
 fn used_of<E: Write>(
     rt: &HostRuntime,
     name: &str,
-    id: &KeyId,
+    half: &PublicHalf,
     notes: &mut Notes<'_, E>,
 ) -> Result<u32, Fault> {
     let book = book_place(rt, name)?;
@@ -35,18 +38,41 @@ fn used_of<E: Write>(
         notes.warn(&book, &"no such book");
         return Err(Fault::Slip(Slip::Book));
     }
+    let seed = seed_if_there(rt, name, notes)?;
     let at = BookAt {
         place: book.as_str(),
         name: book.as_str(),
         known: false,
     };
-    worked_over(rt, at, &mut Counting { id }, notes)
+    let mut counting = Counting {
+        alloc: rt.alloc(),
+        name,
+        half,
+        seed,
+    };
+    worked_over(rt, at, &mut counting, notes)
 }
 
-// Counts the leaves of a key.
+// The seed of the key of this name, which need not be where leaves are counted.
+fn seed_if_there<E: Write>(
+    rt: &HostRuntime,
+    name: &str,
+    notes: &mut Notes<'_, E>,
+) -> Result<Option<Seed>, Fault> {
+    let place = format!(in rt.alloc(); "{name}.seed")?;
+    if !has_bytes(rt, place.as_str()) {
+        return Ok(None);
+    }
+    Ok(Some(seed_at(rt, place.as_str(), notes)?))
+}
+
+// Counts the leaves of a key, if its seed has no other tree.
 #[derive(Clone, Copy)]
 struct Counting<'a> {
-    id: &'a KeyId,
+    alloc: Global,
+    name: &'a str,
+    half: &'a PublicHalf,
+    seed: Option<Seed>,
 }
 
 impl BookWork for Counting<'_> {
@@ -56,9 +82,16 @@ impl BookWork for Counting<'_> {
         &mut self,
         book: &mut Book<S>,
         _is_new: bool,
-        _notes: &mut Notes<'_, E>,
+        notes: &mut Notes<'_, E>,
     ) -> Result<u32, Fault> {
-        Ok(count_of(book, self.id))
+        let id = &self.half.id;
+        if let Some(seed) = &self.seed {
+            let tree = (seed, self.half.params, id);
+            if tell_of_other_tree(self.alloc, self.name, book, tree, notes)? {
+                return Err(Fault::Slip(Slip::Book));
+            }
+        }
+        Ok(count_of(book, id))
     }
 }
 

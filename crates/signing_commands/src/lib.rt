@@ -8,6 +8,7 @@ mod documents;
 mod files;
 mod key;
 mod leaves;
+mod one;
 mod seeds;
 
 pub use by_key::{SigningIn, sign_in};

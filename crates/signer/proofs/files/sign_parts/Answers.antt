@@ -1,4 +1,4 @@
-use Rattle.std.proofs.Common.{◌<◌, ℕ, List, ap, sym, subst, ◌∙◌}
+use Rattle.std.proofs.Common.{◌<◌, ℕ, List, inl, refl, ap, sym, subst, ◌∙◌}
 use Rattle.std.specs.List.{AllByRecursion}
 use Rattle.hex.specs.Hex.{encode_lower}
 use Rattle.keys_roles.specs.Views.{entries_view, id_text}
@@ -39,3 +39,6 @@ pub returns-in-Ok-with_entry-clause-kept : goal.returns-in-Ok-with_entry-clause-
 returns-in-Ok-with_entry-clause-kept g c clean =
     let kept = c.in-Ok-sign_message.ensures.kept clean in
     (c.in-Ok-sign_message.ensures.rows clean kept.0, kept.1)
+
+pub returns-in-Err-clause-crash : goal.returns-in-Err-clause-crash
+returns-in-Err-clause-crash g c clean was trees may = (c.args.book.now.book, inl refl, c.rests.ensures.left clean was trees may)

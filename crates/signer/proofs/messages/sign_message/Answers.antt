@@ -5,6 +5,7 @@ use Rattle.lms.specs.declared.Params.{Params}
 use Rattle.keys_roles.specs.Views.{id_text}
 use Rattle.leaf_plans.specs.Book.{key_of}
 use Rattle.leaf_book.specs.Calls.{Registers, Reserves}
+use Rattle.signer.proofs.Crashes.{left_early, left_late}
 use Rattle.signer.proofs.Reserving.{same_params, unreserved, unspent}
 use Rattle.signer.proofs.messages.sign_message.Goals as goal
 
@@ -39,6 +40,7 @@ returns-in-Ok-sign_with-clause-signs g c =
       leaf = c.in-Ok-reserve.leaf;
       registers = subst (λ (key : List ℕ). Registers before c.args.pair.now.seed c.args.pair.now.params (Ok key) registered) same c.in-Ok.ensures.registers;
       reserves = subst (λ (key : List ℕ). Reserves registered key c.args.message.now (Ok c.in-Ok-reserve.leaf) after) same c.in-Ok-reserve.ensures.reserves;
+      own = sym (same_params _ _ _ c.args.pair.now.seed c.args.pair.now.params (id_text c.in-Ok.id) c.args.message.now c.in-Ok-reserve.leaf c.in-Ok.ensures.right c.in-Ok.ensures.registers c.in-Ok-reserve.ensures.reserves);
       signs = c.in-Ok-sign_with.ensures.signature;
     }
 
@@ -66,3 +68,22 @@ pub returns-in-Ok-sign_with-clause-kept : goal.returns-in-Ok-sign_with-clause-ke
 returns-in-Ok-sign_with-clause-kept g c clean =
     let live = c.in-Ok-reserve.ensures.live clean in
     (live.1, c.in-Ok-reserve.ensures.durable clean live.1)
+
+pub returns-in-Err-clause-crash : goal.returns-in-Err-clause-crash
+returns-in-Err-clause-crash g c clean was trees may =
+    left_early trees c.args.book.now.book c.args.pair.now.seed c.args.pair.now.params c.args.message.now (c.register_pair.ensures.crash clean was trees may)
+
+pub returns-in-Err-reserve-clause-crash : goal.returns-in-Err-reserve-clause-crash
+returns-in-Err-reserve-clause-crash g c clean was trees may =
+    left_late trees c.args.book.now.book c.register_pair.new.self.book c.args.pair.now.seed c.args.pair.now.params (id_text c.in-Ok.id) c.args.message.now c.in-Ok.ensures.registers
+    (c.reserve.ensures.crash clean (c.in-Ok.ensures.live (c.reserve.ensures.clean clean)).1 trees may)
+
+pub returns-in-Ok-sign_with-clause-crash : goal.returns-in-Ok-sign_with-clause-crash
+returns-in-Ok-sign_with-clause-crash g c clean was trees may =
+    left_late trees c.args.book.now.book c.register_pair.new.self.book c.args.pair.now.seed c.args.pair.now.params (id_text c.in-Ok.id) c.args.message.now c.in-Ok.ensures.registers
+    (c.reserve.ensures.crash clean (c.in-Ok.ensures.live (c.reserve.ensures.clean clean)).1 trees may)
+
+pub returns-in-Err-sign_with-clause-crash : goal.returns-in-Err-sign_with-clause-crash
+returns-in-Err-sign_with-clause-crash g c clean was trees may =
+    left_late trees c.args.book.now.book c.register_pair.new.self.book c.args.pair.now.seed c.args.pair.now.params (id_text c.in-Ok.id) c.args.message.now c.in-Ok.ensures.registers
+    (c.reserve.ensures.crash clean (c.in-Ok.ensures.live (c.reserve.ensures.clean clean)).1 trees may)

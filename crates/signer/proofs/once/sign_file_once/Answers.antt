@@ -1,7 +1,8 @@
-use Rattle.std.proofs.Common.{Ok, Err, sym, subst}
+use Rattle.std.proofs.Common.{Ok, Err, inl, inr, refl, sym, subst}
 use Rattle.keys_roles.specs.Views.{entries_view}
 use Rattle.signer.specs.Once.{SignsOnce}
 use Rattle.signer.specs.declared.faults.SignFileFault.{SignFileFault}
+use Rattle.signer.specs.declared.faults.SignFileFault.TheVariants.{OutOfMemory}
 use Rattle.signer.specs.declared.faults.SignOnceFault.TheVariants.{Unsigned}
 use Rattle.signer.proofs.OneVersion.{unread}
 use Rattle.signer.proofs.Rivals.{signed_canonical}
@@ -20,3 +21,14 @@ pub returns-in-Err-clause-unsigned : goal.returns-in-Err-clause-unsigned
 returns-in-Err-clause-unsigned g c =
     subst (λ (e : SignFileFault). SignsOnce c.args.book.now.book c.args.pair.now.seed c.args.pair.now.params c.args.file.now (Err (Unsigned e)) c.args.book.now.book) (sym c.from.ensures)
     (unread c.one_spelling.ensures.one_value c.args.book.now.book c.args.pair.now.seed c.args.pair.now.params c.args.file.now c.in-Err.fault c.in-Err.ensures.fault)
+
+pub returns-in-Err-clause-crash : goal.returns-in-Err-clause-crash
+returns-in-Err-clause-crash g c clean was trees may = (c.args.book.now.book, inl refl, c.rests.ensures.left clean was trees may)
+
+pub returns-in-Ok-clause-crash : goal.returns-in-Ok-clause-crash
+returns-in-Ok-clause-crash g c clean was trees may =
+    let left = c.sign_parts_once.ensures.crash clean was trees may in (
+      left.0,
+      elim left.1 [ inl same ↦ inl same | inr does ↦ inr (Err (Unsigned OutOfMemory), does c.args.file.now c.in-Ok.ensures.file) ],
+      left.2,
+    )

@@ -1,4 +1,4 @@
-use Rattle.std.proofs.Common.{ℕ, List, inl, subst}
+use Rattle.std.proofs.Common.{ℕ, List, inl, inr, refl, subst}
 use Rattle.keys_roles.specs.Views.{entries_view}
 use Rattle.signer.specs.Versions.{LacksRivals}
 use Rattle.signer.proofs.OneVersion.{lacks_of}
@@ -18,3 +18,35 @@ returns-in-Err-sign_parts-clause-unsigned g c bytes f = (
       lacks_of c.one_spelling.ensures.one_value c.args.book.now.book _ bytes (entries_view c.args.file.now.signatures.items) c.args.file.now.signed.now f
       (subst (λ (key : List ℕ). LacksRivals c.args.book.now.book key c.args.file.now.signed.now) c.id_of-id.ensures (rw c.in-Ok-None.field-0-is at c.in-Ok-None.ensures))),
 )
+
+pub returns-in-Ok-clause-crash : goal.returns-in-Ok-clause-crash
+returns-in-Ok-clause-crash g c clean was trees may =
+    let left = c.sign_parts.ensures.crash clean was trees may in (
+      left.0,
+      inr (λ bytes f. (
+        inr (entries_view c.args.file.now.signatures.items, c.args.file.now.signed.now, f, left.1),
+        inl (
+            lacks_of c.one_spelling.ensures.one_value c.args.book.now.book _ bytes (entries_view c.args.file.now.signatures.items) c.args.file.now.signed.now f
+            (subst (λ (key : List ℕ). LacksRivals c.args.book.now.book key c.args.file.now.signed.now) c.id_of-id.ensures (rw c.in-Ok-None.field-0-is at c.in-Ok-None.ensures))),
+      )),
+      left.2,
+    )
+
+pub returns-in-Err-sign_parts-clause-crash : goal.returns-in-Err-sign_parts-clause-crash
+returns-in-Err-sign_parts-clause-crash g c clean was trees may =
+    let left = c.sign_parts.ensures.crash clean was trees may in (
+      left.0,
+      inr (λ bytes f. (
+        inr (entries_view c.args.file.now.signatures.items, c.args.file.now.signed.now, f, left.1),
+        inl (
+            lacks_of c.one_spelling.ensures.one_value c.args.book.now.book _ bytes (entries_view c.args.file.now.signatures.items) c.args.file.now.signed.now f
+            (subst (λ (key : List ℕ). LacksRivals c.args.book.now.book key c.args.file.now.signed.now) c.id_of-id.ensures (rw c.in-Ok-None.field-0-is at c.in-Ok-None.ensures))),
+      )),
+      left.2,
+    )
+
+pub returns-in-Ok-Some-clause-crash : goal.returns-in-Ok-Some-clause-crash
+returns-in-Ok-Some-clause-crash g c clean was trees may = (c.args.book.now.book, inl refl, c.rests.ensures.left clean was trees may)
+
+pub returns-in-Err-clause-crash : goal.returns-in-Err-clause-crash
+returns-in-Err-clause-crash g c clean was trees may = (c.args.book.now.book, inl refl, c.rests.ensures.left clean was trees may)

@@ -17,3 +17,11 @@ returns-clause-left g c =
     (λ clean is_open trees left.
     let is = c.self.invariant.1 clean is_open in
     rests_whole s book trees c.schema.ensures.live is (ap (λ (d : Database). d.trees) is.settled ∙ sym (g.met.S.Store.settled conn.store trees is_open left)))
+
+pub returns-clause-whole : goal.returns-clause-whole
+returns-clause-whole g c =
+    let conn = c.self.inside.conn in
+    let s = state g.S.Store conn in
+    let book = book_view c.self.inside.signers.items c.self.inside.leaves.items in
+    subst (λ b. HasCleanDisk (state g.S.Store b.conn) → IsTrue (state g.S.Store b.conn).is_open → HoldsWhole (state g.S.Store b.conn).committed.trees b.book) c.self.view_is
+    (λ clean is_open. let is = c.self.invariant.1 clean is_open in rests_whole s book s.committed.trees c.schema.ensures.live is (ap (λ (d : Database). d.trees) is.settled))
