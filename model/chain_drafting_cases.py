@@ -1,5 +1,6 @@
 """The command `draft` over folders: layouts, links, and what `take` brings in, one call behind the other, beside the model."""
 import copy
+import json
 import os
 import shutil
 from contextlib import contextmanager
@@ -48,6 +49,7 @@ class Folder:
         os.makedirs(self.path / "files")
         os.makedirs(self.sent)
         self.model = Drafts({})
+        self.spent = {}
         for role, signed in documents:
             self.model.documents[role] = File(signed)
             (self.path / f"{role}.json").write_bytes(File(signed).bytes())
@@ -65,7 +67,8 @@ class Folder:
         wanted = ended_by(lambda: self.model.see_listable("--anew" in words) or make_draft(self.model))
         status, _, told = self.session.run("draft", "--at", str(now), "--in", str(self.path), *words)
         if wanted is None:
-            return self.session.check(f"{label}: drafts", *without_same((0, self.model.files()), (status, self.files())), " ".join(words))
+            self.spent.update(taken_off(before.files(), self.model.files()))
+            return self.session.check(f"{label}: drafts", *without_same((0, {**self.model.files(), **self.spent}), (status, self.files())), " ".join(words))
         self.model = before
         is_refused = self.session.check(f"{label}: refused", (1, [wanted]), (status, told.decode().splitlines()[-1:]), " ".join(words))
         if label.startswith("take") and wanted == "refused signed":
@@ -89,6 +92,16 @@ class Folder:
         place = self.sent / name
         place.write_bytes(file.bytes())
         return str(place)
+
+
+def taken_off(before, behind):
+    """What had signatures and has none any more: it is kept under its digest."""
+    are_gone = [text for name, text in before.items() if name in behind and signatures_in(text) and not signatures_in(behind[name])]
+    return {f"spent/{digest(text)}.json": text for text in are_gone}
+
+
+def signatures_in(text):
+    return json.loads(text, strict=False)["signatures"]
 
 
 def without_same(wanted, found):
@@ -220,18 +233,21 @@ def compare_link(folder, random, begun):
     words += [word for option, side in zip(("--materials", "--products"), sides) for path, _ in side for word in (option, path)]
     said = {path: digest(read(path)) for side in sides for path, _ in side}
     materials, products = ([(path, said[path]) for path, _ in side] for side in sides)
-    wanted = ended_by(lambda: draft_link(begun, name, materials, products, bool(anew)))
+    wanted = ended_by(lambda: draft_link(folder, begun, name, materials, products, bool(anew)))
     status, _, told = folder.session.run("draft", "--in", str(folder.path), *words)
     if wanted is not None:
         folder.session.check("link: refused", (1, [wanted]), (status, told.decode().splitlines()[-1:]), " ".join(words))
-    files = {f"links/{step}.json": link.bytes() for step, link in begun.items()}
+    files = {**{f"links/{step}.json": link.bytes() for step, link in begun.items()}, **folder.spent}
     return folder.session.check("link: drafts", (0 if wanted is None else 1, files), (status, folder.files()), " ".join(words))
 
 
-def draft_link(begun, name, materials, products, anew):
+def draft_link(folder, begun, name, materials, products, anew):
+    """A signature that is taken off is kept, whatever becomes of the draft."""
     old = begun.get(name)
     if old and old.entries and not anew:
         raise Refused("signed")
+    if old and old.entries:
+        folder.spent[f"spent/{digest(old.bytes())}.json"] = old.bytes()
     if any(path.startswith(("/", "./")) for path, _ in materials + products):
         raise Denied("denied 3 WrongShape")
     begun[name] = File(chain_drafting.next_link(old and old.signed, name, materials, products))

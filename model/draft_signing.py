@@ -166,6 +166,28 @@ def judge_order(folder, draft):
             raise Refused("order")
 
 
+def is_finished(folder, target):
+    """Whether the layout of a target that is on its way has its owners' signatures, and each of its steps as many links as it asks for."""
+    name = f"layouts/{chain_drafting.file_name(chain_drafting.layout_path(target))}"
+    layout = document_at(folder, "layout", name)
+    if layout is None:
+        return True
+    if not all(meets(rule, layout) for rule in rules_of(folder, Draft(name))):
+        return False
+    return all(len(links_of(folder, target, step)) >= step.rule.threshold for step in layout.steps)
+
+
+def links_of(folder, target, step):
+    paths = {chain_drafting.link_path(target, step.name, keyid) for keyid in step.rule.keyids}
+    return [path for path in paths if f"layouts/{chain_drafting.file_name(path)}" in folder]
+
+
+def judge_layouts(folder, draft, document):
+    """Targets metadata list layouts and links as they stand, so these come first."""
+    if draft.kind == "targets" and not all(is_finished(folder, target) for target in document.references):
+        raise Refused("order")
+
+
 def held_files(folder):
     """The files that what is held lists, by their digests and lengths."""
     documents = [document_at(folder, "targets", f"held/{role}.json") for role in targets_roles(folder)]
@@ -206,6 +228,7 @@ def judge(folder, draft, key, book, again, now):
     if not is_live(document, now):
         raise Refused("past")
     judge_order(folder, draft)
+    judge_layouts(folder, draft, document)
     judge_files(folder, draft, document)
     if draft.kind != "layout" and not again:
         judge_other(key, book, document)

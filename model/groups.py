@@ -25,6 +25,7 @@ import prune_rows
 import rule_cases
 import scenes
 import signature_cases
+import shown_changes_cases
 import signing_cases
 import words
 from documents import DELEGATIONS_ARE_READ
@@ -103,6 +104,7 @@ def of_databases_and_words(chosen):
     yield "drafts: layouts", chain_drafting_cases.compare_layouts, chosen.histories
     yield "drafts: links", chain_drafting_cases.compare_links, chosen.histories
     yield "drafts: what is taken", chain_drafting_cases.compare_takes, chosen.histories
+    yield "drafts: what is shown", shown_changes_cases.compare, 4 * chosen.histories
     yield "drafts: what is signed", draft_signing_cases.compare_signing, chosen.histories
     yield "random histories", histories.compare_histories, chosen.histories
 

@@ -48,6 +48,11 @@ is_told() {
     checks=$((checks + 1))
 }
 
+# eight: the first 8 digits of the SHA-256 of what comes in.
+eight() {
+    sha256sum | cut -c1-8
+}
+
 an_index_by_drafts() {
     local here=$PWD now=$at life=$folder/life
     mkdir -p "$life" && cd "$life"
@@ -88,9 +93,12 @@ an_index_is_published() {
     mkdir tree && echo one >tree/one && mkdir tree/deep && echo two >tree/deep/two
     draft targets --add hello.txt --add files=tree --delegate tools=tools.key:tools/*
     is_told 'targets 1 (held: 0), expires in 90 days'
-    is_told '  + hello.txt: 6 bytes'
-    is_told '  + files/deep/two: 4 bytes'
-    is_told '  + delegation to tools'
+    is_told "  + hello.txt: 6 bytes, $(eight <hello.txt)"
+    is_told "  + files/deep/two: 4 bytes, $(eight <tree/deep/two)"
+    is_told '  + delegation to tools: 1 of 1 keys'
+    is_told "  + delegation to tools key tools $(digits_of tools) (named by the draft)"
+    is_told '  + delegation to tools paths[0]: "tools/*"'
+    is_told '  + delegation to tools terminating: false'
     signs targets
     draft targets --role tools
     is_told 'next: release sign --key tools --in d'
@@ -124,8 +132,9 @@ an_index_goes_on() {
     echo 'hello again' >hello.txt
     draft targets --add hello.txt --remove files/one
     is_told 'targets 2 (held: 1), expires in 90 days'
-    is_told '  ~ hello.txt: 12 bytes'
-    is_told '  - files/one'
+    is_told "  ~ hello.txt: 6 bytes, $(echo hello | eight), now 12 bytes, $(eight <hello.txt)"
+    is_told '  ~ version: 1, now 2'
+    is_told "  - files/one: 4 bytes, $(eight <tree/one)"
     signs targets
     draft seal
     is_told '  ~ targets 1, now 2'
@@ -149,6 +158,10 @@ the_timestamps_key_changes() {
     makes_key timestamp2
     draft root timestamp=timestamp2.key
     is_told '  ~ timestamp: 1 of 1 keys, now 1 of 1 keys'
+    is_told "  - timestamp key timestamp $(digits_of timestamp)"
+    is_told "  + timestamp key timestamp2 $(digits_of timestamp2) (named by the draft)"
+    is_told '  0 of 2 have signed by the rule of root 1'
+    is_told '  0 of 2 have signed by the rule of root 2'
     ends_with 1 'refused order' draft --at $now --db repository.db --in d seal
     signs alice
     signs carol
@@ -172,7 +185,7 @@ a_team_sends_its_release() {
     kill $pid && wait $pid || true
     echo tool >fmt.bin
     "$release" draft --at $now --db repository.db --in t targets --role tools --add tools/fmt.bin=fmt.bin >"$folder/out"
-    is_told '  + tools/fmt.bin: 5 bytes'
+    is_told "  + tools/fmt.bin: 5 bytes, $(eight <fmt.bin)"
     "$release" sign --at $now --key tools --in t --yes >"$folder/out"
     is_told 'signed tools with leaf 1 of 32'
     draft take t/tools.json
@@ -198,7 +211,7 @@ a_layout_is_drafted() {
     is_told 'layout of tool.tgz'
     is_told '  step build: 0 of 1 links'
     is_told '  0 of 1 have signed'
-    is_told "next: release sign --key $(head -c -1 owner.key | sha256sum | cut -c1-64) --in d"
+    is_told "next: release sign --key $(digits_of owner) --in d"
     a_folder_is_shown
     slips order draft --at $now --db repository.db --in d seal
     slips stranger sign --at $now --key builder --in d --yes tool.tgz.layout.json

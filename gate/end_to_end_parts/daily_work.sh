@@ -110,11 +110,11 @@ links_are_sent() {
 a_file_has_versions() {
     echo 'echo hello again' >files/hello.sh && cp files/hello.sh .
     draft targets --add hello.sh
-    is_told '  ~ hello.sh: 17 bytes'
+    is_told "  ~ hello.sh: 11 bytes, $(echo echo hello | eight), now 17 bytes, $(eight <hello.sh)"
     goes_on targets/targets seal snapshot/snapshot timestamp/timestamp
     clients_get hello.sh tool.tgz
     draft targets --remove hello.sh
-    is_told '  - hello.sh'
+    is_told "  - hello.sh: 17 bytes, $(eight <hello.sh)"
     goes_on targets/targets seal snapshot/snapshot timestamp/timestamp
     clients_get hello.sh- tool.tgz
 }
@@ -124,7 +124,7 @@ the_team_works_over_its_client() {
     echo format 2 >files/tools/fmt.bin
     "$release" draft --at $now --db client.db --in t targets --role tools --add tools/fmt.bin=files/tools/fmt.bin >"$folder/out"
     is_told 'tools 2 (held: 1), expires in 90 days'
-    is_told '  ~ tools/fmt.bin: 9 bytes'
+    is_told "  ~ tools/fmt.bin: 7 bytes, $(echo format | eight), now 9 bytes, $(eight <files/tools/fmt.bin)"
     spares 'refused stranger' sign --at $now --key targets/targets --in t --yes tools
     "$release" sign --at $now --key tools/tools --in t --yes >"$folder/out"
     draft take t/tools.json

@@ -13,22 +13,24 @@ on_a_terminal() {
 
 # A layout of two steps that nobody has signed, over a draft that lists another target.
 a_folder_is_shown() {
+    local builder packer targets owner
+    builder="builder $(digits_of builder)" packer="packer $(digits_of packer)" targets="targets $(digits_of targets)" owner=$(digits_of owner)
     "$release" show --at $now --in d --json >"$folder/out"
     it_holds '[d["role"] for d in it["drafts"]] == ["targets"] and "answer" not in it'
     it_holds 'any(change.startswith("+ tool.tgz") for change in it["drafts"][0]["changes"])'
-    it_holds '[(l["target"], [(s["name"], s["links"], s["threshold"], s["keys"]) for s in l["steps"]]) for l in it["layouts"]] == [("tool.tgz", [("build", 0, 1, ["builder"]), ("pack", 0, 1, ["packer"])])]'
-    it_holds 'it["drafts"][0]["rules"] == [{"signed": [], "threshold": 1, "unsigned": ["targets"]}]'
-    it_holds 'it["next"][0] == "next: release sign --key targets --in d"'
+    it_holds '[(l["target"], [(s["name"], s["links"], s["threshold"], s["keys"]) for s in l["steps"]]) for l in it["layouts"]] == [("tool.tgz", [("build", 0, 1, ["'"$builder"'"]), ("pack", 0, 1, ["'"$packer"'"])])]'
+    it_holds 'it["drafts"][0]["rules"] == [{"signed": [], "threshold": 1, "unsigned": ["'"$targets"'"]}]'
+    it_holds 'it["next"] == ["next: release sign --key '"$owner"' --in d"]'
     on_a_terminal show --at $now --in d
     grep -q '^<ESC>32m  + tool.tgz' "$folder/out" || fail "a change without its colour: $(cat "$folder/out")"
-    grep -q '^<ESC>31m  \[build\]  0 of 1 links  builder<ESC>0m$' "$folder/out" || fail "no chain: $(cat "$folder/out")"
+    grep -q '^<ESC>31m  \[build\]  0 of 1 links  '"$builder"'<ESC>0m$' "$folder/out" || fail "no chain: $(cat "$folder/out")"
     grep -q '^    +-> tool.tgz$' "$folder/out" || fail "the chain has no end: $(cat "$folder/out")"
-    grep -q '^  0 of 1 have signed<ESC>31m  \[ \] targets<ESC>0m$' "$folder/out" || fail "no gap: $(cat "$folder/out")"
+    grep -q '^  0 of 1 have signed<ESC>31m  \[ \] '"$targets"'<ESC>0m$' "$folder/out" || fail "no gap: $(cat "$folder/out")"
     "$release" show --at $now --in d --html drafts.html >"$folder/out"
     is_told 'layout of tool.tgz'
     ! grep -q -e '<script' -e 'http' drafts.html || fail "the page fetches or runs something"
     grep -q '<table id="drafts">' drafts.html || fail "no drafts in the page"
-    grep -q '<p class="chain"><span class="step due"><b>build</b> 0 of 1 links builder</span>' drafts.html || fail "no chain in the page"
+    grep -q '<p class="chain"><span class="step due"><b>build</b> 0 of 1 links '"$builder"'</span>' drafts.html || fail "no chain in the page"
     checks=$((checks + 7))
 }
 
@@ -37,11 +39,11 @@ a_ready_folder_is_shown() {
     "$release" show --at $now --in d --db repository.db --json --html drafts.html >"$folder/out"
     it_holds 'it["answer"] == "ready" and it["next"] == ["next: release publish --db repository.db --in d"]'
     it_holds '[s["links"] for s in it["layouts"][0]["steps"]] == [1, 1]'
-    it_holds 'it["drafts"][0]["rules"] == [{"signed": ["targets"], "threshold": 1, "unsigned": []}]'
+    it_holds 'it["drafts"][0]["rules"] == [{"signed": ["targets '"$(digits_of targets)"'"], "threshold": 1, "unsigned": []}]'
     grep -q '<p id="answer" class="granted">ready</p>' drafts.html || fail "the page does not say that it is ready"
     if command -v chromium >/dev/null; then
         chromium --headless --no-sandbox --disable-gpu --dump-dom "file://$PWD/drafts.html" >"$folder/dom" 2>/dev/null || fail "the page is not rendered"
-        grep -q '<span class="step"><b>pack</b> 1 of 1 links packer</span>' "$folder/dom" || fail "no chain in the page that is rendered"
+        grep -q '<span class="step"><b>pack</b> 1 of 1 links packer '"$(digits_of packer)"'</span>' "$folder/dom" || fail "no chain in the page that is rendered"
         checks=$((checks + 1))
     fi
     # Behind the expiry of the root it is denied, and the page and the object say for what.
@@ -57,10 +59,10 @@ a_chain_is_shown() {
     is_told '  step build: 1 of 1 links'
     is_told '  step pack: 1 of 1 links'
     "$release" show --at $now --db repository.db --json tool.tgz >"$folder/out"
-    it_holds '[(s["name"], s["keys"], s["links"]) for s in it["target"]["steps"]] == [("build", ["builder"], 1), ("pack", ["packer"], 1)]'
+    it_holds '[(s["name"], s["keys"], s["links"]) for s in it["target"]["steps"]] == [("build", ["builder '"$(digits_of builder)"'"], 1), ("pack", ["packer '"$(digits_of packer)"'"], 1)]'
     on_a_terminal show --at $now --db repository.db tool.tgz
-    grep -q '^<ESC>32m  \[pack\]  1 of 1 links  packer<ESC>0m$' "$folder/out" || fail "no chain of the target: $(cat "$folder/out")"
+    grep -q '^<ESC>32m  \[pack\]  1 of 1 links  packer '"$(digits_of packer)"'<ESC>0m$' "$folder/out" || fail "no chain of the target: $(cat "$folder/out")"
     "$release" show --at $now --db repository.db --html page.html tool.tgz >"$folder/out"
-    grep -q '<span class="step"><b>build</b> 1 of 1 links builder</span>' page.html || fail "no chain in the page of the target"
+    grep -q '<span class="step"><b>build</b> 1 of 1 links builder '"$(digits_of builder)"'</span>' page.html || fail "no chain in the page of the target"
     checks=$((checks + 2))
 }

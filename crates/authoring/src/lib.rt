@@ -11,7 +11,7 @@ use command_support::{Fault, Notes, moment};
 use drafting_commands::{draft_listing, draft_rules};
 use drafts::Folder;
 use overview_rows::follow;
-pub use publishing::{Batch, complete_batch_in, empty, waiting_files};
+pub use publishing::{Batch, complete_batch_in, empty, waiting_file, waiting_files};
 use sealing::seal;
 pub use showing::show;
 use showing::show_folder;

@@ -2,6 +2,7 @@
 use crate::sealing::forgets_all;
 use command_support::{Fault, Notes, Slip};
 use drafts::{Folder, ListedFile, kind_of, offer_order, read_said};
+use limits::BLOB_LIMIT;
 use metadata::{Digest, Kind, RoleName};
 use overviews::Growing;
 use std::alloc::{AllocError, Global};
@@ -131,19 +132,43 @@ fn remove_file<E: Write>(
     folder.remove(place.as_str(), notes)
 }
 
-/// The places of the target files that wait to be put, those that a draft lists.
+/// The digests of the target files that wait to be put, those that a draft lists. One that is no regular file of its digest is refused.
 pub fn waiting_files<E: Write>(
     alloc: Global,
     folder: Folder<'_>,
     notes: &mut Notes<'_, E>,
-) -> Result<Vec<String>, Fault> {
+) -> Result<Vec<Digest>, Fault> {
     let mut waiting = Waiting {
         alloc,
         folder,
         digests: Vec::new(alloc),
     };
     waiting.look(notes)?;
-    waiting.places(notes)
+    let digests = waiting.waiting(notes)?;
+    for digest in &digests {
+        let _bytes = waiting_file(folder, digest, notes)?;
+    }
+    Ok(digests)
+}
+
+/// The bytes of a target file that waits to be put. It is read with its digest in hand: another file is refused.
+pub fn waiting_file<E: Write>(
+    folder: Folder<'_>,
+    digest: &Digest,
+    notes: &mut Notes<'_, E>,
+) -> Result<Vec<u8>, Fault> {
+    match folder.file_of(digest, BLOB_LIMIT, notes)? {
+        Some(bytes) => Ok(bytes),
+        None => {
+            let digits = digest.digits();
+            let digits = str::from_utf8(&digits).unwrap_or("-");
+            notes.warn(
+                &digits,
+                &"its file in the folder is another one than its name says",
+            );
+            Err(Fault::Slip(Slip::File))
+        }
+    }
 }
 
 // The digests of the target files that drafts list.
@@ -173,18 +198,16 @@ impl Waiting<'_> {
         Ok(())
     }
 
-    fn places<E: Write>(&self, notes: &mut Notes<'_, E>) -> Result<Vec<String>, Fault> {
-        let mut places = Growing::new(self.alloc);
+    fn waiting<E: Write>(&self, notes: &mut Notes<'_, E>) -> Result<Vec<Digest>, Fault> {
+        let mut waiting = Vec::new(self.alloc);
         for name in &self.folder.files(notes)? {
-            let is_listed = match Digest::read(name.as_str()) {
-                Some(digest) => self.digests.contains(&digest),
-                None => false,
-            };
-            if is_listed {
-                places.put(place_in(self.alloc, self.folder, "files", name.as_str()));
+            if let Some(digest) = Digest::read(name.as_str()) {
+                if self.digests.contains(&digest) {
+                    waiting.push(digest)?;
+                }
             }
         }
-        Ok(places.done()?)
+        Ok(waiting)
     }
 }
 

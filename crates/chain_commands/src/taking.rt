@@ -1,13 +1,15 @@
 //! `draft take`: what another machine sends back.
 use crate::linking::take_link;
-use command_support::{Denial, FILE_LIMIT, Fault, Notes, Slip, read_at_most};
+use command_support::{Denial, FILE_LIMIT, Fault, Notes, Slip, read_regular};
 use drafting_commands::last_segment;
-use drafts::{Folder, ListedFile, kind_of, read_said, version_in};
+use drafts::{
+    Folder, ListedFile, Vouching, kind_of, owners_of, read_said, rules_for, signatures_in,
+    target_of_layout, version_in, without_false_entries,
+};
 use limits::BLOB_LIMIT;
-use metadata::{Digest, Kind, RoleName};
+use metadata::{Digest, Kind, RoleName, digest_of};
 use signer::{JoinFault, join};
 use std::alloc::Global;
-use std::fs;
 use std::io::Write;
 
 /// Takes each of the files: one over the same signed part as a draft joins its signatures, and a delegated role's document of which there is
@@ -32,7 +34,10 @@ fn take<E: Write>(
     file: &str,
     notes: &mut Notes<'_, E>,
 ) -> Result<(), Fault> {
-    let bytes = read_at_most(rt, file, FILE_LIMIT, notes)?;
+    let Some(bytes) = read_regular(rt, file, FILE_LIMIT, notes)? else {
+        notes.warn(&file, &"it is not there");
+        return Err(Fault::File);
+    };
     if take_link(rt, folder, target, &bytes, notes)?
         || take_layout(rt, folder, file, &bytes, notes)?
     {
@@ -109,7 +114,16 @@ fn take_layout<E: Write>(
     let Some(begun) = folder.file(name.as_str(), notes)? else {
         return Ok(false);
     };
-    let joined = joined(&begun, bytes, file, rt.alloc(), notes)?;
+    let rules = match target_of_layout(rt.alloc(), last)? {
+        Some(target) => owners_of(rt.alloc(), folder, target.as_str(), notes)?,
+        None => Vec::new(rt.alloc()),
+    };
+    let joining = Joining {
+        alloc: rt.alloc(),
+        rules: &rules,
+        file,
+    };
+    let joined = joining.joined(&begun, bytes, notes)?;
     folder.put_named(name.as_str(), &joined, notes)?;
     Ok(true)
 }
@@ -125,24 +139,58 @@ fn join_in<E: Write>(
     notes: &mut Notes<'_, E>,
 ) -> Result<(), Fault> {
     version_in(rt.alloc(), role, bytes)?;
-    let joined = joined(draft, bytes, file, rt.alloc(), notes)?;
+    let rules = rules_for(rt.alloc(), folder, role, notes)?;
+    let joining = Joining {
+        alloc: rt.alloc(),
+        rules: &rules,
+        file,
+    };
+    let joined = joining.joined(draft, bytes, notes)?;
     folder.put_draft(role, &joined, notes)
 }
 
-fn joined<E: Write>(
-    draft: &[u8],
-    bytes: &[u8],
-    file: &str,
+// A file whose signatures are joined with those of a draft, and the rules of the draft.
+#[derive(Clone, Copy)]
+struct Joining<'a> {
     alloc: Global,
-    notes: &mut Notes<'_, E>,
-) -> Result<Vec<u8>, Fault> {
-    match join(alloc, draft, bytes) {
-        Ok(joined) => Ok(joined),
-        Err(JoinFault::Different) => Err(different(file, notes)),
-        Err(JoinFault::First(denial) | JoinFault::Second(denial) | JoinFault::Denied(denial)) => {
-            Err(Fault::Denied(denial, None))
+    rules: &'a [Vouching],
+    file: &'a str,
+}
+
+impl Joining<'_> {
+    // The draft with the signatures of the file. Of the rules' keys only what verifies counts, here and there.
+    fn joined<E: Write>(
+        &self,
+        draft: &[u8],
+        bytes: &[u8],
+        notes: &mut Notes<'_, E>,
+    ) -> Result<Vec<u8>, Fault> {
+        let before = without_false_entries(self.alloc, self.rules, draft)?;
+        let further = without_false_entries(self.alloc, self.rules, bytes)?;
+        let joined = self.join(&before, &further, notes)?;
+        let had = signatures_in(self.alloc, self.rules, &before)?;
+        if signatures_in(self.alloc, self.rules, &joined)? == had {
+            notes.warn(
+                &self.file,
+                &"it adds no signature of a key that has to sign",
+            );
         }
-        Err(JoinFault::OutOfMemory) => Err(Fault::Memory),
+        Ok(joined)
+    }
+
+    fn join<E: Write>(
+        &self,
+        draft: &[u8],
+        bytes: &[u8],
+        notes: &mut Notes<'_, E>,
+    ) -> Result<Vec<u8>, Fault> {
+        match join(self.alloc, draft, bytes) {
+            Ok(joined) => Ok(joined),
+            Err(JoinFault::Different) => Err(different(self.file, notes)),
+            Err(JoinFault::First(denial) | JoinFault::Second(denial) | JoinFault::Denied(denial)) =>
+                Err(Fault::Denied(denial, None)),
+            Err(JoinFault::OutOfMemory) => Err(Fault::Memory),
+        }
     }
 }
 
@@ -157,25 +205,25 @@ fn take_files<E: Write>(
     for listing in files {
         let digits = listing.digest.text(rt.alloc())?;
         let place = format!(in rt.alloc(); "{beside}/files/{digits}")?;
-        if fs::metadata(rt, place.as_str()).is_ok() {
-            take_file(rt, folder, place.as_str(), &listing.digest, notes)?;
+        if let Some(bytes) = read_regular(rt, place.as_str(), BLOB_LIMIT, notes)? {
+            take_file(folder, place.as_str(), &bytes, &listing.digest, notes)?;
         }
     }
     Ok(())
 }
 
-// Takes the target file of a digest.
+// Takes the target file of a digest, if it is that file.
 fn take_file<E: Write>(
-    rt: &HostRuntime,
     folder: Folder<'_>,
     place: &str,
+    bytes: &[u8],
     digest: &Digest,
     notes: &mut Notes<'_, E>,
 ) -> Result<(), Fault> {
-    let bytes = read_at_most(rt, place, BLOB_LIMIT, notes)?;
-    if folder.put_file(&bytes, notes)? != *digest {
+    if digest_of(bytes) != *digest {
         notes.warn(&place, &"another file than its name says");
         return Err(Fault::Denied(Denial::DigestMismatch, None));
     }
+    folder.put_file(bytes, notes)?;
     Ok(())
 }

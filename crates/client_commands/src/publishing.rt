@@ -9,17 +9,19 @@ use std::io::Write;
 use subcommands::{InputFile, Offered, batch_of, documents_of, read_all, tell_argument};
 
 /// Offers the documents to the server, together, and prints how many were accepted and how many were held already, as `publish` over a
-/// database does. Documents that are together longer than a server takes are a fault of a file, before it is asked. What `publish` over a
-/// database warns of is warned of, and why a document was denied is told, as far as the server answers what it holds.
+/// database does. The first of the documents are given, and the others are read. Documents that are together longer than a server takes are a
+/// fault of a file, before it is asked. What `publish` over a database warns of is warned of, and why a document was denied is told, as far as
+/// the server answers what it holds.
 pub fn publish_at<O: Write, E: Write>(
     rt: &HostRuntime,
     port: u16,
     arguments: &[String],
+    given: &[Vec<u8>],
     out: &mut O,
     notes: &mut Notes<'_, E>,
 ) -> Result<(), Fault> {
     let documents = tell_argument(documents_of(rt.alloc(), arguments), arguments, notes)?;
-    let files = read_all(rt, &documents, notes)?;
+    let files = read_all(rt, &documents, given, notes)?;
     let body = batch_body(rt, arguments, &files, notes)?;
     let batch = batch_of(rt.alloc(), documents, &files)?;
     let offered = Offered {
@@ -109,10 +111,11 @@ pub fn put_at<O: Write, E: Write>(
         notes.tell(&file, &"denied");
         return Err(Fault::Denied(Denial::BlobLength, None));
     }
-    put_bytes(rt, port, file, &bytes, out, notes)
+    put_bytes_at(rt, port, file, &bytes, out, notes)
 }
 
-fn put_bytes<O: Write, E: Write>(
+/// The same of bytes that were read already, at most as many as a file may have. What is told of them has this name.
+pub fn put_bytes_at<O: Write, E: Write>(
     rt: &HostRuntime,
     port: u16,
     file: &str,

@@ -1,8 +1,9 @@
 //! Input files and folders, and standard output.
 use crate::fault::{Fault, file_fault};
 use crate::notes::Notes;
-use std::fs::{self, File};
-use std::io::{self, Read, Write};
+use std::fs::{self, File, Metadata};
+use std::io::{self, ErrorKind, Read, Write};
+use std::os::unix::fs::MetadataExt;
 
 /// The bytes of a file.
 pub fn read<E: Write>(
@@ -37,17 +38,77 @@ fn beginning(rt: &HostRuntime, path: &str, limit: usize) -> io::Result<Vec<u8>> 
     Ok(bytes)
 }
 
+/// The bytes of a file in a folder that may come from somebody else, and none where nothing stands there: of a file that is longer than it may
+/// be these and one more. No link is followed, and what is no regular file is a fault, which is warned of, and is not waited for.
+pub fn read_regular<E: Write>(
+    rt: &HostRuntime,
+    path: &str,
+    limit: usize,
+    notes: &mut Notes<'_, E>,
+) -> Result<Option<Vec<u8>>, Fault> {
+    match regular(rt, path, limit) {
+        Ok(bytes) => Ok(bytes),
+        Err(error) => {
+            notes.warn(&path, &error);
+            Err(file_fault(&error))
+        }
+    }
+}
+
+fn regular(rt: &HostRuntime, path: &str, limit: usize) -> io::Result<Option<Vec<u8>>> {
+    let Some(stands) = standing(rt, path)? else {
+        return Ok(None);
+    };
+    if !stands.is_file() {
+        return Err(no_regular_file());
+    }
+    let file = File::open(rt, path)?;
+    let opened = file.metadata()?;
+    if opened.dev() != stands.dev() || opened.ino() != stands.ino() {
+        return Err(no_regular_file());
+    }
+    let mut bytes = Vec::new(rt.alloc());
+    let most = (limit as u64).saturating_add(1);
+    file.take(most).read_to_end(&mut bytes)?;
+    Ok(Some(bytes))
+}
+
+/// What stands at a path, if anything does. A link is not followed.
+pub(crate) fn standing(rt: &HostRuntime, path: &str) -> io::Result<Option<Metadata>> {
+    match fs::symlink_metadata(rt, path) {
+        Ok(found) => Ok(Some(found)),
+        Err(error) if error.kind() == ErrorKind::NotFound => Ok(None),
+        Err(error) => Err(error),
+    }
+}
+
+fn no_regular_file() -> io::Error {
+    io::Error::new(
+        ErrorKind::InvalidInput,
+        "no regular file, and no link is followed",
+    )
+}
+
 fn unread<E: Write>(path: &str, error: &io::Error, notes: &mut Notes<'_, E>) -> Fault {
     notes.tell(&path, error);
     file_fault(error)
 }
 
-/// The names of what stands in a folder, in their order.
-pub fn names_of(rt: &HostRuntime, folder: &str) -> io::Result<Vec<String>> {
+/// The names of what stands in a folder, in their order. A name that is no UTF-8 is warned of and passed over.
+pub fn names_of<E: Write>(
+    rt: &HostRuntime,
+    folder: &str,
+    notes: &mut Notes<'_, E>,
+) -> io::Result<Vec<String>> {
     let mut names = Vec::new(rt.alloc());
     for entry in fs::read_dir(rt, folder)? {
-        let entry = entry?;
-        names.push(String::from_str(rt.alloc(), entry.file_name())?)?;
+        match entry {
+            Ok(entry) => names.push(String::from_str(rt.alloc(), entry.file_name())?)?,
+            Err(error) if error.kind() == ErrorKind::InvalidFilename => {
+                notes.warn(&folder, &"a name in it is no UTF-8, and is passed over");
+            }
+            Err(error) => return Err(error),
+        }
     }
     names.sort_unstable();
     Ok(names)

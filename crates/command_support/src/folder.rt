@@ -1,6 +1,6 @@
 //! The files of a folder of drafts.
 use crate::fault::{Fault, file_fault};
-use crate::files::{names_of, read_at_most};
+use crate::files::{names_of, read_regular, standing};
 use crate::notes::Notes;
 use crate::placing::put_in_place;
 use limits::FILE_LIMIT;
@@ -106,16 +106,33 @@ impl<'a> Folder<'a> {
         }
     }
 
+    // The bytes of a file of the folder, where it is there. The folder in which it stands is no link either.
     fn read_if_there<E: Write>(
         &self,
         place: &str,
         notes: &mut Notes<'_, E>,
     ) -> Result<Option<Vec<u8>>, Fault> {
-        if !is_there(self.rt, place) {
-            return Ok(None);
+        self.see_folder_of(place, notes)?;
+        read_regular(self.rt, place, FILE_LIMIT, notes)
+    }
+
+    // A folder in this one is no link: what stands behind one is not of this folder.
+    fn see_folder_of<E: Write>(&self, place: &str, notes: &mut Notes<'_, E>) -> Result<(), Fault> {
+        match place.rsplit_once('/') {
+            Some((inner, _)) if inner != self.path => self.see_inner(inner, notes),
+            _ => Ok(()),
         }
-        let bytes = read_at_most(self.rt, place, FILE_LIMIT, notes)?;
-        Ok(Some(bytes))
+    }
+
+    fn see_inner<E: Write>(&self, inner: &str, notes: &mut Notes<'_, E>) -> Result<(), Fault> {
+        match standing(self.rt, inner) {
+            Ok(Some(found)) if !found.is_dir() => {
+                notes.warn(&inner, &"no folder, and no link is followed");
+                Err(Fault::File)
+            }
+            Ok(_) => Ok(()),
+            Err(error) => Err(unused(inner, &error, notes)),
+        }
     }
 
     /// The draft of a role's document. That there is one is for the caller to see to: else it is an empty file, which is no document.
@@ -256,11 +273,26 @@ impl<'a> Folder<'a> {
         }
     }
 
-    /// The bytes of a target file that waits to be put, and none where it is not there.
+    /// The bytes of a target file that waits to be put, and none where it is not there. A link is none.
     pub fn length_of_file(&self, digest: &Digest) -> Result<Option<u64>, AllocError> {
         let place = self.file_place(digest)?;
-        match fs::metadata(self.rt, place.as_str()) {
-            Ok(found) if found.is_file() => Ok(Some(found.len())),
+        match standing(self.rt, place.as_str()) {
+            Ok(Some(found)) if found.is_file() => Ok(Some(found.len())),
+            _ => Ok(None),
+        }
+    }
+
+    /// The target file of this digest that waits to be put, of at most so many bytes, where it is there and is that file.
+    pub fn file_of<E: Write>(
+        &self,
+        digest: &Digest,
+        limit: usize,
+        notes: &mut Notes<'_, E>,
+    ) -> Result<Option<Vec<u8>>, Fault> {
+        let place = self.file_place(digest)?;
+        self.see_folder_of(place.as_str(), notes)?;
+        match read_regular(self.rt, place.as_str(), limit, notes)? {
+            Some(bytes) if digest_of(&bytes) == *digest => Ok(Some(bytes)),
             _ => Ok(None),
         }
     }
@@ -275,9 +307,7 @@ impl<'a> Folder<'a> {
         if self.length_of_file(digest)? != Some(u64::from(length)) {
             return Ok(false);
         }
-        let place = self.file_place(digest)?;
-        let bytes = read_at_most(self.rt, place.as_str(), length as usize, notes)?;
-        Ok(digest_of(&bytes) == *digest)
+        Ok(self.file_of(digest, length as usize, notes)?.is_some())
     }
 
     /// The roles of the drafts, in the order of their names.
@@ -329,19 +359,14 @@ impl<'a> Folder<'a> {
     ) -> Result<Vec<String>, Fault> {
         let path = self.path;
         let folder = format!(in self.alloc(); "{path}{inner}")?;
-        match names_of(self.rt, folder.as_str()) {
+        if !inner.is_empty() {
+            self.see_inner(folder.as_str(), notes)?;
+        }
+        match names_of(self.rt, folder.as_str(), notes) {
             Ok(names) => Ok(names),
             Err(error) if error.kind() == ErrorKind::NotFound => Ok(Vec::new(self.alloc())),
             Err(error) => Err(unused(folder.as_str(), &error, notes)),
         }
-    }
-}
-
-// Whether something stands there. What the system does not say so of is read, and then has its own fault.
-fn is_there(rt: &HostRuntime, place: &str) -> bool {
-    match fs::metadata(rt, place) {
-        Ok(_) => true,
-        Err(error) => error.kind() != ErrorKind::NotFound,
     }
 }
 

@@ -14,7 +14,7 @@ pub use command_line::Usage;
 pub use databases::connected;
 pub use denials::Denial;
 pub use fault::{Fault, Slip, file_fault};
-pub use files::{names_of, print, read, read_at_most};
+pub use files::{names_of, print, read, read_at_most, read_regular};
 pub use folder::Folder;
 pub use limits::FILE_LIMIT;
 pub use loose_json::CanonFault;

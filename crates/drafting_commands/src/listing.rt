@@ -281,7 +281,7 @@ impl Adding<'_, '_> {
         notes: &mut Notes<'_, E>,
     ) -> Result<(), Fault> {
         let alloc = self.rt.alloc();
-        let names = match names_of(self.rt, folder) {
+        let names = match names_of(self.rt, folder, notes) {
             Ok(names) => names,
             Err(error) => {
                 notes.tell(&folder, &error);
@@ -289,7 +289,10 @@ impl Adding<'_, '_> {
             }
         };
         for name in &names {
-            waiting.push(both_below(alloc, path, folder, name.as_str())?)?;
+            let both = both_below(alloc, path, folder, name.as_str())?;
+            if is_followed(self.rt, both.1.as_str(), notes) {
+                waiting.push(both)?;
+            }
         }
         Ok(())
     }
@@ -385,6 +388,21 @@ fn length_of(bytes: &[u8]) -> Result<u32, Fault> {
 
 // More files and folders than these are not looked at: a listing has room for fewer.
 const MOST_FOUND: u32 = 16_384;
+
+// Whether what stands in an added folder is added: files and folders are. A link, which may lead anywhere, and whatever else there is are
+// warned of and passed by.
+fn is_followed<E: Write>(rt: &HostRuntime, path: &str, notes: &mut Notes<'_, E>) -> bool {
+    match fs::symlink_metadata(rt, path) {
+        Ok(found) if !found.is_file() && !found.is_dir() => {
+            notes.warn(
+                &path,
+                &"a link or no file, which is passed by: name it to add it",
+            );
+            false
+        }
+        _ => true,
+    }
+}
 
 fn is_folder(rt: &HostRuntime, path: &str) -> bool {
     match fs::metadata(rt, path) {

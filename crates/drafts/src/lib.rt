@@ -5,6 +5,7 @@ mod chains;
 mod changes;
 mod counting;
 mod covering;
+mod entries;
 mod key_files;
 mod roles;
 mod said;
@@ -13,13 +14,15 @@ mod vouching;
 pub use chains::{
     Referred, chain_name, layout_in, layout_name, layout_path, layout_said, link_name, link_path,
     links_in, listed_otherwise, owners_of, path_of, reference_of, see_link, signed_step,
-    target_of_layout,
+    target_of_layout, unfinished_layout,
 };
-pub use changes::changes_of;
+pub use change_lines::{Names, key_text};
+pub use changes::{changes_of, signed_in};
 pub use command_support::{Fault, Folder, Notes, Slip};
 pub use counting::{Count, count_of, has_signatures, has_signed};
 pub use covering::{Covering, covered_by};
 pub use drafting::{name_of_key, number_in};
+pub use entries::{signatures_in, without_false_entries};
 pub use key_files::{KEY_FILE_LIMIT, key_in};
 pub use roles::{kind_of, offer_order, sign_order};
 pub use said::{

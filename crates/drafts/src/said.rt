@@ -292,21 +292,3 @@ impl Said {
         false
     }
 }
-
-impl SaidRule {
-    /// Whether both rules take as many of the same keys.
-    pub fn is_like(&self, other: &SaidRule) -> bool {
-        self.threshold == other.threshold
-            && are_among(&self.keyids, &other.keyids)
-            && are_among(&other.keyids, &self.keyids)
-    }
-}
-
-fn are_among(ids: &[KeyId], others: &[KeyId]) -> bool {
-    for id in ids {
-        if !others.contains(id) {
-            return false;
-        }
-    }
-    true
-}

@@ -1,18 +1,35 @@
 //! The rules that a document has to meet.
+use crate::changes::signed_in;
 use crate::roles::kind_of;
+use change_lines::{Names, key_text};
 use command_support::{Fault, Folder, Notes};
-use drafting::{Look, look_at};
-use keys_roles::{KeyTable, RoleRule};
+use drafting::{Look, look_at, version_of};
+use keys_roles::{KeyId, KeyTable, RoleRule};
 use metadata::{Body, Delegations, Document, Kind, Root};
 use std::alloc::{AllocError, Global};
 use std::io::Write;
 
-/// A rule, the keys of its table, and the signed part that has them, which may have names for them.
+/// A rule, the keys of its table, and the signed part that has them, which may have names for them; the signed part of the same document that
+/// is held, if one is; and the role and the version of the document that has the rule.
 #[derive(Drop)]
 pub struct Vouching {
     pub rule: RoleRule,
     pub keys: KeyTable,
     pub said: Vec<u8>,
+    pub held: Option<Vec<u8>>,
+    pub of: String,
+    pub version: u32,
+}
+
+impl Vouching {
+    /// A key of the rule, as a person reads it: its name and the first digits of its id. A name that the draft alone gives is marked.
+    pub fn key_text(&self, alloc: Global, id: &KeyId) -> Result<String, AllocError> {
+        let names = Names {
+            held: self.held.as_deref(),
+            draft: &self.said,
+        };
+        key_text(alloc, names, id, false)
+    }
 }
 
 /// The rules of a role: of a root those of the root that is held and its own, of another role that has its rule in the root the last root's,
@@ -26,79 +43,111 @@ pub fn rules_for<E: Write>(
     let mut rules = Vec::new(alloc);
     match role {
         "root" => {
-            add_of_root(alloc, folder.held("root", notes)?, role, &mut rules)?;
-            add_of_root(alloc, folder.draft("root", notes)?, role, &mut rules)?;
+            let held = folder.held("root", notes)?;
+            let draft = folder.draft("root", notes)?;
+            let mut gathering = Gathering::new(role, "root", &mut rules, held.as_deref());
+            gathering.add_of_file(alloc, Kind::Root, held.as_deref())?;
+            gathering.add_of_file(alloc, Kind::Root, draft.as_deref())?;
         }
         "targets" | "snapshot" | "timestamp" => {
-            add_of_root(alloc, folder.latest("root", notes)?, role, &mut rules)?;
+            let held = folder.held("root", notes)?;
+            let latest = folder.latest("root", notes)?;
+            let mut gathering = Gathering::new(role, "root", &mut rules, held.as_deref());
+            gathering.add_of_file(alloc, Kind::Root, latest.as_deref())?;
         }
         _ => add_of_delegations(alloc, folder, role, &mut rules, notes)?,
     }
     Ok(rules)
 }
 
-// The rule of a role in a root, if there is one.
-fn add_of_root(
-    alloc: Global,
-    root: Option<Vec<u8>>,
-    role: &str,
-    rules: &mut Vec<Vouching>,
-) -> Result<(), Fault> {
-    match root {
-        Some(bytes) => add_of_file(alloc, Kind::Root, &bytes, role, rules),
-        None => Ok(()),
-    }
-}
-
-// The rules of a role in a root or in targets metadata.
-fn add_of_file(
-    alloc: Global,
-    kind: Kind,
-    bytes: &[u8],
-    role: &str,
-    rules: &mut Vec<Vouching>,
-) -> Result<(), Fault> {
-    let mut gathering = Gathering { role, rules };
-    match look_at(alloc, kind, bytes, &mut gathering) {
-        Ok(()) => Ok(()),
-        Err(fault) => Err(Fault::from(fault)),
-    }
-}
-
-// Looks for the rules of a role, and adds them.
+// Looks for the rules of a role, and adds them. Of the document that has them one may be held, whose names for keys count.
 #[derive(Drop)]
-struct Gathering<'a, 'b> {
+struct Gathering<'a, 'b, 'h> {
     role: &'a str,
+    of: &'a str,
     rules: &'b mut Vec<Vouching>,
+    held: Option<&'h [u8]>,
 }
 
-impl Look for Gathering<'_, '_> {
+impl<'a, 'b, 'h> Gathering<'a, 'b, 'h> {
+    fn new(
+        role: &'a str,
+        of: &'a str,
+        rules: &'b mut Vec<Vouching>,
+        held: Option<&'h [u8]>,
+    ) -> Gathering<'a, 'b, 'h> {
+        Gathering {
+            role,
+            of,
+            rules,
+            held: held.map(signed_in),
+        }
+    }
+
+    // The rules of the role in a root or in targets metadata, if there are any.
+    fn add_of_file(&mut self, alloc: Global, kind: Kind, file: Option<&[u8]>) -> Result<(), Fault> {
+        let Some(bytes) = file else {
+            return Ok(());
+        };
+        match look_at(alloc, kind, bytes, self) {
+            Ok(()) => Ok(()),
+            Err(fault) => Err(Fault::from(fault)),
+        }
+    }
+
+    fn add_of_document(
+        &mut self,
+        alloc: Global,
+        document: &Document<'_>,
+    ) -> Result<(), AllocError> {
+        match &document.body {
+            Body::Root(root) => self.add(alloc, rule_in(root, self.role), &root.keys, document),
+            Body::Targets(targets) => match &targets.delegations {
+                Some(delegations) => self.add_of_list(alloc, delegations, document),
+                None => Ok(()),
+            },
+            _ => Ok(()),
+        }
+    }
+
+    fn add_of_list(
+        &mut self,
+        alloc: Global,
+        delegations: &Delegations,
+        document: &Document<'_>,
+    ) -> Result<(), AllocError> {
+        for delegation in &delegations.roles {
+            if delegation.name.as_str() == self.role {
+                self.add(alloc, &delegation.rule, &delegations.keys, document)?;
+            }
+        }
+        Ok(())
+    }
+
+    fn add(
+        &mut self,
+        alloc: Global,
+        rule: &RoleRule,
+        keys: &KeyTable,
+        document: &Document<'_>,
+    ) -> Result<(), AllocError> {
+        let mut vouching = vouching_of(alloc, rule, keys, document.signed)?;
+        if let Some(held) = self.held {
+            vouching.held = Some(Vec::from_slice(alloc, held)?);
+        }
+        vouching.of = String::from_str(alloc, self.of)?;
+        vouching.version = version_of(&document.body);
+        self.rules.push(vouching)?;
+        Ok(())
+    }
+}
+
+impl Look for Gathering<'_, '_, '_> {
     type Seen = ();
 
     fn look(&mut self, alloc: Global, document: &Document<'_>) -> Result<(), AllocError> {
-        add_of_document(alloc, document, self.role, self.rules)
+        self.add_of_document(alloc, document)
     }
-}
-
-fn add_of_document(
-    alloc: Global,
-    document: &Document<'_>,
-    role: &str,
-    rules: &mut Vec<Vouching>,
-) -> Result<(), AllocError> {
-    match &document.body {
-        Body::Root(root) => {
-            let vouching = vouching_of(alloc, rule_in(root, role), &root.keys, document.signed)?;
-            rules.push(vouching)?;
-        }
-        Body::Targets(targets) => {
-            if let Some(delegations) = &targets.delegations {
-                add_of_list(alloc, delegations, document.signed, role, rules)?;
-            }
-        }
-        _ => {}
-    }
-    Ok(())
 }
 
 // The rule of a role in a root.
@@ -121,48 +170,32 @@ fn add_of_delegations<E: Write>(
 ) -> Result<(), Fault> {
     let drafted = folder.roles(notes)?;
     for name in &drafted {
-        let draft = folder.draft(name.as_str(), notes)?;
-        add_of_targets(alloc, draft, name.as_str(), role, rules)?;
+        add_of_role(alloc, folder, name.as_str(), role, rules, notes)?;
     }
     for name in &folder.held_roles(notes)? {
         if !drafted.contains(name) {
-            let held = folder.held(name.as_str(), notes)?;
-            add_of_targets(alloc, held, name.as_str(), role, rules)?;
+            add_of_role(alloc, folder, name.as_str(), role, rules, notes)?;
         }
     }
     Ok(())
 }
 
 // The rules of a role in the targets metadata of another, if it is such and there are any.
-fn add_of_targets(
+fn add_of_role<E: Write>(
     alloc: Global,
-    bytes: Option<Vec<u8>>,
+    folder: Folder<'_>,
     name: &str,
     role: &str,
     rules: &mut Vec<Vouching>,
+    notes: &mut Notes<'_, E>,
 ) -> Result<(), Fault> {
-    match bytes {
-        Some(bytes) if kind_of(name) == Kind::Targets => {
-            add_of_file(alloc, Kind::Targets, &bytes, role, rules)
-        }
-        _ => Ok(()),
+    if kind_of(name) != Kind::Targets {
+        return Ok(());
     }
-}
-
-fn add_of_list(
-    alloc: Global,
-    delegations: &Delegations,
-    said: &[u8],
-    role: &str,
-    rules: &mut Vec<Vouching>,
-) -> Result<(), AllocError> {
-    for delegation in &delegations.roles {
-        if delegation.name.as_str() == role {
-            let vouching = vouching_of(alloc, &delegation.rule, &delegations.keys, said)?;
-            rules.push(vouching)?;
-        }
-    }
-    Ok(())
+    let held = folder.held(name, notes)?;
+    let latest = folder.latest(name, notes)?;
+    let mut gathering = Gathering::new(role, name, rules, held.as_deref());
+    gathering.add_of_file(alloc, Kind::Targets, latest.as_deref())
 }
 
 /// A rule with its keys.
@@ -182,5 +215,8 @@ pub(crate) fn vouching_of(
         },
         keys: KeyTable { entries },
         said,
+        held: None,
+        of: String::new(alloc),
+        version: 0,
     })
 }

@@ -1,17 +1,20 @@
 //! What a folder of drafts has.
-use canonical_json::member;
 use command_support::{Fault, Notes};
 use drafts::{
-    Folder, Said, SaidRule, Vouching, changes_of, has_signed, held_said, layout_in, links_in,
+    Folder, Names, Said, SaidRule, Vouching, changes_of, has_signed, key_text, layout_in, links_in,
     listed_otherwise, name_of_key, owners_of, read_said, read_said_of, rules_for, sign_order,
-    target_of_layout,
+    signed_in, target_of_layout, unfinished_layout, version_in,
 };
 use keys_roles::KeyId;
 use metadata::{Kind, Moment, SignedFile, read_signed};
 use overviews::{DraftRow, Drafts, Growing, LayoutRow, RuleRow, StepRow};
 use path_patterns::Digest;
+use plain_text::{is_plain_name, plain};
 use std::alloc::{AllocError, Global};
 use std::io::Write;
+
+// So many digits of a key's id stand where it has no name that can stand as a word.
+const FIRST_DIGITS: usize = 8;
 
 /// What a folder has: each draft with its version and the held one, when it expires, what it changes, who has signed and who has not; the
 /// layouts and links; and what is to be done next, over the database where one is given.
@@ -28,6 +31,7 @@ pub fn drafts_in<E: Write>(
         db,
         are_met: true,
         is_sealed: false,
+        is_waiting: false,
         lacks_targets: false,
         next: Growing::new(alloc),
         shown: Drafts {
@@ -61,6 +65,7 @@ struct Looking<'a> {
     db: Option<&'a str>,
     are_met: bool,
     is_sealed: bool,
+    is_waiting: bool,
     lacks_targets: bool,
     next: Growing<String>,
     shown: Drafts,
@@ -75,9 +80,11 @@ impl Looking<'_> {
     }
 
     fn look<E: Write>(&mut self, notes: &mut Notes<'_, E>) -> Result<(), Fault> {
-        self.look_at_drafts(notes)?;
         self.look_at_layouts(notes)?;
-        self.shown.links = self.folder.chain_files("links", notes)?;
+        self.look_at_drafts(notes)?;
+        for link in &self.folder.chain_files("links", notes)? {
+            self.shown.links.push(plain(self.alloc, link.as_str())?)?;
+        }
         self.lacks_targets = lacks_targets(self.folder, notes)?;
         if self.are_met && self.begins(notes)? {
             let folder = self.folder.path();
@@ -117,10 +124,16 @@ impl Looking<'_> {
         let bytes = self.folder.draft_or_none(role, notes)?;
         let said = read_said(self.alloc, role, &bytes)?;
         self.see_listed(role, &said, notes)?;
-        let held = held_said(self.alloc, self.folder, role, notes)?;
+        let held = self.folder.held(role, notes)?;
+        let version = match &held {
+            Some(held) => version_in(self.alloc, role, held)?,
+            None => 0,
+        };
+        let changes = changes_of(self.alloc, held.as_deref(), &bytes, notes.are_told())?;
         let rules = rules_for(self.alloc, self.folder, role, notes)?;
+        self.is_waiting = unfinished_layout(self.alloc, self.folder, &said, notes)?.is_some();
         let rules = self.signers_in(&rules, &bytes)?;
-        self.put_draft(role, held.as_ref(), &said, rules)
+        self.put_draft(role, version, changes, &said, rules)
     }
 
     // Targets metadata that list a layout or a link otherwise than it stands by now are drafted again before they are signed.
@@ -144,16 +157,16 @@ impl Looking<'_> {
     fn put_draft(
         &mut self,
         role: &str,
-        held: Option<&Said>,
+        held: u32,
+        changes: Vec<String>,
         said: &Said,
         rules: Vec<RuleRow>,
     ) -> Result<(), Fault> {
-        let changes = changes_of(self.alloc, role, held, said)?;
         let role = String::from_str(self.alloc, role)?;
         self.shown.drafts.push(DraftRow {
             role,
             version: said.version,
-            held: held.map_or(0, |held| held.version),
+            held,
             expires: said.expires.map_or(0, |expires| expires.seconds()),
             changes,
             rules,
@@ -224,27 +237,34 @@ impl Looking<'_> {
         let mut rows = Vec::new(self.alloc);
         self.are_met &= !rules.is_empty();
         for vouching in rules {
-            let row = rule_row(self.alloc, vouching, file)?;
-            self.want_all(&row);
+            let row = rule_row(self.alloc, vouching, file, rules.len())?;
+            if !row.is_met() {
+                self.are_met = false;
+                self.want_all(vouching, file)?;
+            }
             rows.push(row)?;
         }
         Ok(rows)
     }
 
-    fn want_all(&mut self, row: &RuleRow) {
-        if row.is_met() {
-            return;
+    // Each key of the rule that has not signed is wanted, unless what it would sign waits for a layout.
+    fn want_all(&mut self, vouching: &Vouching, file: &SignedFile<'_>) -> Result<(), AllocError> {
+        if self.is_waiting {
+            return Ok(());
         }
-        self.are_met = false;
-        for name in &row.unsigned {
-            self.want(name.as_str());
+        for id in &vouching.rule.keyids {
+            if !has_signed(self.alloc, vouching, id, file)? {
+                let word = key_word(self.alloc, &vouching.said, id)?;
+                self.want(word.as_str());
+            }
         }
+        Ok(())
     }
 
     // A key that is wanted, once.
-    fn want(&mut self, name: &str) {
+    fn want(&mut self, word: &str) {
         let folder = self.folder.path();
-        let line = format!(in self.alloc; "next: release sign --key {name} --in {folder}");
+        let line = format!(in self.alloc; "next: release sign --key {word} --in {folder}");
         let is_said = match &line {
             Ok(line) => self.next.parts().contains(line),
             Err(_) => false,
@@ -278,16 +298,17 @@ impl Looking<'_> {
     }
 }
 
-// Who of a rule's keys has signed the file, and who has not.
+// Who of a rule's keys has signed the file, and who has not. Where there are several rules each says whose it is.
 fn rule_row(
     alloc: Global,
     vouching: &Vouching,
     file: &SignedFile<'_>,
+    rules: usize,
 ) -> Result<RuleRow, AllocError> {
     let mut signed = Growing::new(alloc);
     let mut unsigned = Growing::new(alloc);
     for id in &vouching.rule.keyids {
-        let name = key_name(alloc, &vouching.said, id);
+        let name = vouching.key_text(alloc, id);
         if has_signed(alloc, vouching, id, file)? {
             signed.put(name);
         } else {
@@ -296,7 +317,14 @@ fn rule_row(
     }
     let signed = signed.done()?;
     let unsigned = unsigned.done()?;
+    let by = if rules > 1 {
+        let (of, version) = (vouching.of.as_str(), vouching.version);
+        format!(in alloc; "{of} {version}")?
+    } else {
+        String::new(alloc)
+    };
     Ok(RuleRow {
+        by,
         threshold: vouching.rule.threshold,
         signed,
         unsigned,
@@ -310,13 +338,17 @@ pub fn step_row(
     rule: &SaidRule,
     links: usize,
 ) -> Result<StepRow, AllocError> {
-    let said = member(file, "signed").unwrap_or(b"");
+    let said = signed_in(file);
+    let names = Names {
+        held: Some(said),
+        draft: said,
+    };
     let mut keys = Growing::new(alloc);
     for id in &rule.keyids {
-        keys.put(key_name(alloc, said, id));
+        keys.put(key_text(alloc, names, id, false));
     }
     let keys = keys.done()?;
-    let name = String::from_str(alloc, rule.role.as_str())?;
+    let name = plain(alloc, rule.role.as_str())?;
     Ok(StepRow {
         name,
         threshold: rule.threshold,
@@ -325,10 +357,13 @@ pub fn step_row(
     })
 }
 
-// What a document calls a key, or else its id.
-fn key_name(alloc: Global, said: &[u8], id: &KeyId) -> Result<String, AllocError> {
+// What `--key` takes for a key: what a document calls it, where that can stand as a word, or else the first digits of its id.
+fn key_word(alloc: Global, said: &[u8], id: &KeyId) -> Result<String, AllocError> {
     match name_of_key(said, id) {
-        Some(name) => String::from_str(alloc, name),
-        None => Digest::new(id.0).text(alloc),
+        Some(name) if is_plain_name(name) => String::from_str(alloc, name),
+        _ => {
+            let digits = Digest::new(id.0).text(alloc)?;
+            String::from_str(alloc, digits.as_str().get(..FIRST_DIGITS).unwrap_or("-"))
+        }
     }
 }

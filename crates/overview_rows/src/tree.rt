@@ -5,6 +5,7 @@ use drafts::{Said, SaidRule, name_of_key, read_said};
 use keys_roles::KeyId;
 use metadata::{Digest, Moment, read_signed};
 use overviews::{Growing, KeyRow, Overview, Row};
+use plain_text::plain;
 use repository_work::Store;
 use sqlite::Alter;
 use std::alloc::{AllocError, Global};
@@ -235,7 +236,7 @@ impl<'a> Looking<'a> {
     fn name_of(&self, signed: &[u8], id: &KeyId) -> Result<String, AllocError> {
         let digits = Digest::new(id.0).digits();
         let first = str::from_utf8(&digits[..8]).unwrap_or("-");
-        String::from_str(self.alloc, name_of_key(signed, id).unwrap_or(first))
+        plain(self.alloc, name_of_key(signed, id).unwrap_or(first))
     }
 
     fn leaves_of(&self, id: &KeyId) -> (Option<u32>, u32) {

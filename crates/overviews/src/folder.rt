@@ -1,9 +1,11 @@
 //! What a folder of drafts has.
 use crate::chain::StepRow;
 
-/// A rule that a document has to meet: how many of its keys, by their names, have to sign: those that have, and those that have not.
+/// A rule that a document has to meet: the document that has the rule, where there is more than one rule and else nothing; how many of its
+/// keys have to sign: those that have, and those that have not.
 #[derive(Drop)]
 pub struct RuleRow {
+    pub by: String,
     pub threshold: u8,
     pub signed: Vec<String>,
     pub unsigned: Vec<String>,

@@ -77,7 +77,13 @@ fn say_rules(text: &mut Text, rules: &[RuleRow]) {
 }
 
 fn say_rule(text: &mut Text, rule: &RuleRow) {
-    text.say("{\"signed\":");
+    text.say("{");
+    if !rule.by.is_empty() {
+        text.say("\"by\":");
+        text.quoted(rule.by.as_str());
+        text.say(",");
+    }
+    text.say("\"signed\":");
     text.list(&rule.signed);
     text.say(",\"threshold\":");
     text.number(u64::from(rule.threshold));

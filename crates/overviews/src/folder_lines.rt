@@ -86,6 +86,10 @@ fn say_rules(text: &mut Text, rules: &[RuleRow], on_terminal: bool) {
 fn say_rule(text: &mut Text, rule: &RuleRow, on_terminal: bool) {
     let (count, threshold) = (rule.signed.len(), rule.threshold);
     text.formed(format!(in text.alloc; "  {count} of {threshold} have signed"));
+    if !rule.by.is_empty() {
+        text.say(" by the rule of ");
+        text.say(rule.by.as_str());
+    }
     if on_terminal {
         text.say(if rule.is_met() { GREEN } else { RED });
         say_names(text, "  [x] ", &rule.signed);

@@ -77,6 +77,10 @@ fn say_rule(text: &mut Text, rule: &RuleRow) {
     text.number(rule.signed.len() as u64);
     text.say(" of ");
     text.number(u64::from(rule.threshold));
+    if !rule.by.is_empty() {
+        text.say(" by ");
+        text.escaped(rule.by.as_str());
+    }
     text.say("</div>");
     say_names(text, "&#9745; ", &rule.signed);
     say_names(text, "&#9744; ", &rule.unsigned);

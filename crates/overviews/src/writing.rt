@@ -87,14 +87,14 @@ impl Text {
         }
     }
 
-    /// Says the text as JSON has it, with its quotation marks. Control bytes are left out.
+    /// Says the text as JSON has it, with its quotation marks.
     pub(crate) fn quoted(&mut self, text: &str) {
         self.say("\"");
         for byte in text.as_bytes() {
             match *byte {
                 b'"' => self.say("\\\""),
                 b'\\' => self.say("\\\\"),
-                byte if byte < 0x20 => {}
+                byte if byte < 0x20 => self.formed(format!(in self.alloc; "\\u{byte:04x}")),
                 byte => self.say_byte(byte),
             }
         }

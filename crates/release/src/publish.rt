@@ -1,6 +1,6 @@
 //! `publish`: offers documents in order, which are taken together or not at all.
-use crate::put::put;
-use authoring::{Batch, complete_batch_in, empty, waiting_files};
+use crate::put::put_bytes;
+use authoring::{Batch, complete_batch_in, empty, waiting_file, waiting_files};
 use client_commands::publish_at;
 use command_line::Place;
 use command_support::{Fault, Notes, moment, print};
@@ -27,13 +27,28 @@ pub fn publish<O: Write, E: Write>(
     out: &mut O,
     notes: &mut Notes<'_, E>,
 ) -> Result<(), Fault> {
+    publish_given(rt, place, arguments, &[], at, out, notes)
+}
+
+// The same where the first documents were read already.
+fn publish_given<O: Write, E: Write>(
+    rt: &HostRuntime,
+    place: &Place,
+    arguments: &[String],
+    given: &[Vec<u8>],
+    at: Option<u64>,
+    out: &mut O,
+    notes: &mut Notes<'_, E>,
+) -> Result<(), Fault> {
     match place {
-        Place::Database(db) => publish_in(rt, db, arguments, at, out, notes),
-        Place::Port(port) => publish_at(rt, *port, arguments, out, notes),
+        Place::Database(db) => publish_in(rt, db, arguments, given, at, out, notes),
+        Place::Port(port) => publish_at(rt, *port, arguments, given, out, notes),
     }
 }
 
-/// Puts the target files that wait in a folder of drafts, offers its documents together, and empties it behind that.
+/// Puts the target files that wait in a folder of drafts, offers its documents together, and empties it behind that. Each document is read
+/// once, so what is held in the folder behind that is what was offered. A waiting file that is not the one of its digest is refused before
+/// anything is sent.
 pub fn publish_in_folder<O: Write, E: Write>(
     rt: &HostRuntime,
     place: &Place,
@@ -57,9 +72,12 @@ fn put_waiting<E: Write>(
     at: Option<u64>,
     notes: &mut Notes<'_, E>,
 ) -> Result<(), Fault> {
-    for file in &waiting_files(rt.alloc(), folder, notes)? {
+    for digest in &waiting_files(rt.alloc(), folder, notes)? {
+        let bytes = waiting_file(folder, digest, notes)?;
+        let digits = digest.digits();
+        let name = str::from_utf8(&digits).unwrap_or("-");
         let mut unheard = Vec::new(rt.alloc());
-        put(rt, place, file.as_str(), at, &mut unheard, notes)?;
+        put_bytes(rt, place, name, &bytes, at, &mut unheard, notes)?;
     }
     Ok(())
 }
@@ -74,7 +92,7 @@ fn publish_batch<O: Write, E: Write>(
     notes: &mut Notes<'_, E>,
 ) -> Result<(), Fault> {
     let arguments = batch.arguments(rt.alloc(), folder)?;
-    publish(rt, place, &arguments, at, out, notes)?;
+    publish_given(rt, place, &arguments, &batch.files, at, out, notes)?;
     empty(rt.alloc(), folder, batch, notes)
 }
 
@@ -82,13 +100,14 @@ fn publish_in<O: Write, E: Write>(
     rt: &HostRuntime,
     db: &str,
     arguments: &[String],
+    given: &[Vec<u8>],
     at: Option<u64>,
     out: &mut O,
     notes: &mut Notes<'_, E>,
 ) -> Result<(), Fault> {
     let now = moment(rt, at)?;
     let documents = tell_argument(documents_of(rt.alloc(), arguments), arguments, notes)?;
-    let files = read_all(rt, &documents, notes)?;
+    let files = read_all(rt, &documents, given, notes)?;
     let batch = batch_of(rt.alloc(), documents, &files)?;
     let mut offering = Offering {
         alloc: rt.alloc(),

@@ -55,7 +55,7 @@ fn perform_task<O: Write, E: Write>(
     err: &mut E,
 ) -> Result<(), Fault> {
     let at = task.at;
-    let notes = &mut Notes::new(err, task.verbose);
+    let notes = &mut Notes::new(rt.alloc(), err, task.verbose);
     match &task.subcommand {
         Subcommand::Canon { file } => print_canon(rt, file, at, out, notes),
         Subcommand::Draft(drafting) => draft(rt, drafting, at, out, notes),

@@ -3,7 +3,7 @@ use crate::guarding::{Guard, Signer};
 use command_support::{Denial, Fault, Notes, Slip};
 use drafts::{
     Folder, Said, Vouching, has_signatures, held_said, kind_of, listed_otherwise, owners_of,
-    read_said, read_said_of, rules_for, see_link,
+    read_said, read_said_of, rules_for, see_link, unfinished_layout,
 };
 use keys_roles::KeyId;
 use metadata::{Kind, Moment};
@@ -134,6 +134,7 @@ impl Judged<'_> {
         }
         self.see_expiry(role, said, notes)?;
         self.see_order(role, notes)?;
+        self.see_layouts(said, notes)?;
         self.see_files(held, said, notes)
     }
 
@@ -179,6 +180,18 @@ impl Judged<'_> {
             }
         }
         Ok(())
+    }
+
+    // Targets metadata list layouts and links as they stand, so these are signed first.
+    fn see_layouts<E: Write>(&self, said: &Said, notes: &mut Notes<'_, E>) -> Result<(), Fault> {
+        let Some(target) = unfinished_layout(self.alloc, self.folder, said, notes)? else {
+            return Ok(());
+        };
+        notes.warn(
+            &target,
+            &"its layout is not signed, or links are wanting: it would be listed otherwise behind that",
+        );
+        Err(Fault::Slip(Slip::Order))
     }
 
     // Each listed file is in the folder, or is listed so in what is held.

@@ -1,17 +1,18 @@
 //! `sign --key`: signs drafts by a key that is kept in three files.
 use crate::books::{BookAt, BookWork, has_bytes, worked_over};
 use crate::files::{KeyFiles, book_place};
+use crate::finding::names_of_keys;
 use crate::one::{Judging, Knowing, SigningOne, What};
 use command_support::{Fault, Notes, Slip, moment, print};
 use drafts::{
-    Folder, Said, changes_of, held_said, owners_of, read_said, rules_for, sign_order,
-    target_of_layout,
+    Folder, Vouching, changes_of, owners_of, rules_for, sign_order, target_of_layout, version_in,
 };
 use lms::KeyPair;
 use metadata::{Moment, SignedFile, read_signed};
+use plain_text::plain;
 use signer::leaf_of;
 use signing_checks::{Judged, Signer, have_key};
-use std::alloc::Global;
+use std::alloc::{AllocError, Global};
 use std::io::{IsTerminal, Write};
 
 /// What is signed: the keys, the folder, the documents that are named, whether it is done without being asked, and whether another document
@@ -39,21 +40,17 @@ pub fn sign_in<O: Write, E: Write>(
     if !asked.yes && !rt.stdin().is_terminal() {
         return Err(unasked(rt));
     }
-    for key in asked.keys {
+    let keys = names_of_keys(rt, asked.keys, notes)?;
+    for key in &keys {
         see_key(rt, key.as_str(), notes)?;
     }
-    let mut done = 0u64;
-    for key in asked.keys {
-        done = done.saturating_add(signed_by(rt, asked, key.as_str(), now, out, notes)?);
+    let mut count = Signed::default();
+    for key in &keys {
+        let signed = signed_by(rt, asked, key.as_str(), now, out, notes)?;
+        count.done = count.done.saturating_add(signed.done);
+        count.declined = count.declined.saturating_add(signed.declined);
     }
-    if done == 0 {
-        notes.warn(
-            &asked.folder,
-            &"no document that the key may sign and has not signed",
-        );
-        return Err(Fault::Slip(Slip::Nothing));
-    }
-    Ok(())
+    count.end(asked.folder, notes)
 }
 
 // The key's three files are there.
@@ -67,6 +64,29 @@ fn see_key<E: Write>(rt: &HostRuntime, key: &str, notes: &mut Notes<'_, E>) -> R
     Ok(())
 }
 
+// How many documents were signed, and how many were asked for and not agreed to.
+#[derive(Clone, Copy, Default)]
+struct Signed {
+    done: u64,
+    declined: u64,
+}
+
+impl Signed {
+    // Nothing signed is told by why it was not.
+    fn end<E: Write>(&self, folder: &str, notes: &mut Notes<'_, E>) -> Result<(), Fault> {
+        if self.done > 0 {
+            return Ok(());
+        }
+        let why = if self.declined > 0 {
+            "nothing is signed: no question was answered by y"
+        } else {
+            "no document that the key may sign and has not signed"
+        };
+        notes.warn(&folder, &why);
+        Err(Fault::Slip(Slip::Nothing))
+    }
+}
+
 // Signs by one key: how many documents.
 fn signed_by<'a, O: Write, E: Write>(
     rt: &'a HostRuntime,
@@ -75,7 +95,7 @@ fn signed_by<'a, O: Write, E: Write>(
     now: Moment,
     out: &mut O,
     notes: &mut Notes<'_, E>,
-) -> Result<u64, Fault> {
+) -> Result<Signed, Fault> {
     let files = KeyFiles::read(rt, key, notes)?;
     let book = book_place(rt, key)?;
     let signer = Signer::new(rt.alloc(), files.half.public)?;
@@ -93,10 +113,10 @@ fn signed_by<'a, O: Write, E: Write>(
         signer: &signer,
         at,
         now,
-        done: 0,
+        signed: Signed::default(),
     };
     signing.sign_all(out, notes)?;
-    Ok(signing.done)
+    Ok(signing.signed)
 }
 
 // Without a terminal nobody can be asked.
@@ -120,7 +140,7 @@ struct Signing<'a> {
     signer: &'a Signer,
     at: BookAt<'a>,
     now: Moment,
-    done: u64,
+    signed: Signed,
 }
 
 impl Signing<'_> {
@@ -340,6 +360,7 @@ impl Signing<'_> {
             return self.sign_bytes(pair, what, &bytes, out, notes);
         }
         if !self.is_agreed(what, &bytes, notes)? {
+            self.signed.declined = self.signed.declined.saturating_add(1);
             return Ok(());
         }
         let latest = what.bytes(self.folder, notes)?;
@@ -370,7 +391,7 @@ impl Signing<'_> {
         };
         let signed = self.over_book(&mut one, notes)?;
         what.put(self.folder, &signed, notes)?;
-        self.done = self.done.saturating_add(1);
+        self.signed.done = self.signed.done.saturating_add(1);
         self.tell(what.name(), &signed, out, notes)
     }
 
@@ -387,41 +408,53 @@ impl Signing<'_> {
             bytes,
         };
         self.over_book(&mut judging, notes)?;
-        match what {
-            What::Draft(role) => {
-                let said = read_said(self.alloc(), role, bytes)?;
-                self.ask_of(role, &said, notes)?;
-            }
-            What::Layout { place, .. } | What::Link { place, .. } => {
-                notes.progress(&format!(in self.alloc(); "sign {place}? [y/N]")?);
-            }
-        }
+        self.ask(what, bytes, notes)?;
         Ok(is_yes(self.rt))
     }
 
-    fn ask_of<E: Write>(
-        &self,
-        role: &str,
-        said: &Said,
-        notes: &mut Notes<'_, E>,
-    ) -> Result<(), Fault> {
-        let held = held_said(self.alloc(), self.folder, role, notes)?;
-        self.ask(role, held.as_ref(), said, notes)
-    }
-
-    // What the draft changes, and the question.
+    // What is signed, the rules that it has to meet, and the question.
     fn ask<E: Write>(
         &self,
-        role: &str,
-        held: Option<&Said>,
-        said: &Said,
+        what: What<'_>,
+        bytes: &[u8],
         notes: &mut Notes<'_, E>,
     ) -> Result<(), Fault> {
-        for change in &changes_of(self.alloc(), role, held, said)? {
+        let held = match what {
+            What::Draft(role) => self.folder.held(role, notes)?,
+            What::Layout { .. } | What::Link { .. } => None,
+        };
+        for change in &changes_of(self.alloc(), held.as_deref(), bytes, notes.are_told())? {
             notes.progress(change);
         }
-        let version = said.version;
-        notes.progress(&format!(in self.alloc(); "sign {role} {version}? [y/N]")?);
+        self.tell_rules(what, notes)?;
+        let question = self.question(what, bytes)?;
+        notes.progress(&question);
+        Ok(())
+    }
+
+    fn question(&self, what: What<'_>, bytes: &[u8]) -> Result<String, Fault> {
+        match what {
+            What::Draft(role) => {
+                let version = version_in(self.alloc(), role, bytes)?;
+                Ok(format!(in self.alloc(); "sign {role} {version}? [y/N]")?)
+            }
+            What::Layout { place, .. } | What::Link { place, .. } => {
+                Ok(format!(in self.alloc(); "sign {place}? [y/N]")?)
+            }
+        }
+    }
+
+    // The rules that what is signed has to meet. A link has none here.
+    fn tell_rules<E: Write>(&self, what: What<'_>, notes: &mut Notes<'_, E>) -> Result<(), Fault> {
+        let rules = match what {
+            What::Draft(role) => rules_for(self.alloc(), self.folder, role, notes)?,
+            What::Layout { target, .. } => owners_of(self.alloc(), self.folder, target, notes)?,
+            What::Link { .. } => Vec::new(self.alloc()),
+        };
+        for vouching in &rules {
+            let line = rule_line(self.alloc(), vouching, rules.len())?;
+            notes.progress(&line);
+        }
         Ok(())
     }
 
@@ -438,12 +471,31 @@ impl Signing<'_> {
             Err(fault) => return Err(Fault::from(fault)),
         };
         let count = self.files.half.leaves();
+        let role = plain(self.alloc(), role)?;
         let text = format!(in self.alloc(); "signed {role} with leaf {leaf} of {count}\n")?;
         if (u64::from(leaf) + 1) * 4 >= u64::from(count) * 3 {
             notes.warn(&self.key, &"a quarter of its leaves or fewer are left");
         }
         print(out, text.as_bytes(), notes)
     }
+}
+
+// A rule in a line: how many of which keys. Where there are several each says whose it is.
+fn rule_line(alloc: Global, vouching: &Vouching, rules: usize) -> Result<String, AllocError> {
+    let threshold = vouching.rule.threshold;
+    let mut line = if rules > 1 {
+        let (of, version) = (vouching.of.as_str(), vouching.version);
+        format!(in alloc; "rule of {of} {version}: {threshold} of")?
+    } else {
+        format!(in alloc; "rule: {threshold} of")?
+    };
+    let mut between = " ";
+    for id in &vouching.rule.keyids {
+        line.push_str(between)?;
+        line.push_str(vouching.key_text(alloc, id)?.as_str())?;
+        between = ", ";
+    }
+    Ok(line)
 }
 
 // Whether two files are over one signed part.

@@ -6,6 +6,7 @@ mod books;
 mod by_key;
 mod documents;
 mod files;
+mod finding;
 mod key;
 mod leaves;
 mod one;

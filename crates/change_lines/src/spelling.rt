@@ -1,0 +1,51 @@
+//! Values and texts on one line.
+use crate::lines::LinesFault;
+use canonical_json::{Value, write};
+use path_patterns::Digest;
+use plain_text::plain;
+use std::alloc::{AllocError, Global};
+
+// So many digits of a digest or of a key's id stand where not all are wanted.
+const FIRST_DIGITS: usize = 8;
+
+/// The value as canonical JSON spells it, on one line. A text that is a digest stands by its first digits where not all are wanted.
+pub(crate) fn spelled(alloc: Global, value: &Value, whole: bool) -> Result<String, LinesFault> {
+    if let Value::Text(text) = value {
+        if !whole && Digest::read(text.as_str()).is_some() {
+            let digits = digits_of(text.as_str(), whole);
+            return Ok(format!(in alloc; "\"{digits}..\"")?);
+        }
+    }
+    let mut bytes = Vec::new(alloc);
+    write(value, &mut bytes)?;
+    match str::from_utf8(&bytes) {
+        Ok(text) => Ok(plain(alloc, text)?),
+        Err(_) => Err(LinesFault::NotCanonical),
+    }
+}
+
+/// All digits, or the first ones.
+pub(crate) fn digits_of(digits: &str, whole: bool) -> &str {
+    if whole {
+        return digits;
+    }
+    digits.get(..FIRST_DIGITS).unwrap_or(digits)
+}
+
+/// The name of a member as a part of a place: as it stands where it is of letters, digits, `-` and `_` alone, and else between quotation
+/// marks, so that no name reads as two. One that is a digest stands by its first digits where not all are wanted.
+pub(crate) fn member_words(alloc: Global, name: &str, whole: bool) -> Result<String, AllocError> {
+    if !whole && Digest::read(name).is_some() {
+        let digits = digits_of(name, whole);
+        return format!(in alloc; "{digits}..");
+    }
+    let plain = plain(alloc, name)?;
+    if !name.is_empty() && name.as_bytes().iter().all(|byte| is_word_byte(*byte)) {
+        return Ok(plain);
+    }
+    format!(in alloc; "\"{plain}\"")
+}
+
+fn is_word_byte(byte: u8) -> bool {
+    byte.is_ascii_alphanumeric() || byte == b'-' || byte == b'_'
+}

@@ -1,0 +1,4 @@
+pub mod OneText
+pub mod PlainAnswer
+pub mod Shapes
+pub mod Spelled

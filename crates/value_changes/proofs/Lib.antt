@@ -1,0 +1,9 @@
+pub mod Listed
+pub mod Places
+pub mod Covering
+pub mod Names
+pub mod ByName
+pub mod ByIndex
+pub mod Depths
+pub mod Proper
+pub mod Parts
