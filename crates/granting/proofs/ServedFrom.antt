@@ -1,5 +1,5 @@
 -- What a request for a target serves from bytes that are elsewhere.
-use Rattle.std.proofs.Common.{◌≡◌, List, [], ◌∷◌, Bool, true, false, Option, Some, None, Result, Ok, Err, refl, sym, ap, ◌∙◌, subst}
+use Rattle.std.proofs.Common.{◌≡◌, ℕ, List, [], ◌∷◌, Bool, true, false, Option, Some, None, Result, Ok, Err, refl, sym, ap, ◌∙◌, subst}
 use Rattle.std.proofs.lemmas.Bool.{true≢false}
 use Rattle.std.proofs.lemmas.List.Elements.{recursion_from_All}
 use Rattle.std.proofs.lemmas.Slice.Eq.{bytes_eq-Decides}
@@ -10,8 +10,8 @@ use Rattle.metadata.specs.File.{Bytes}
 use Rattle.denials.specs.Orders.{Order}
 use Rattle.delegations.specs.Rows.{value_at}
 use Rattle.trust_rules.specs.Held.{Held, StandsFor, held_of, length_at, bytes_at}
-use Rattle.granting.specs.Serving.{Serves, serves, fails}
-use Rattle.trust_rules.specs.State.{State, IsBlob, IsState, blob_at}
+use Rattle.granting.specs.Serving.{ListsDigest, Serves, serves, fails}
+use Rattle.trust_rules.specs.State.{State, Trusted, IsBlob, IsState, blob_at}
 use Rattle.granting.specs.steps.Permitting.{IsLoaded}
 use Rattle.granting.specs.declared.serving.Served.{Served}
 use Rattle.granting.specs.declared.serving.LoadFault.TheVariants.{Missing, Database}
@@ -83,3 +83,9 @@ own_digest S digest b valid e =
     each : (rows : List (Bytes × Bytes)) → AllByRecursion IsBlob rows → AllByRecursion (λ row. sha256 row.1 ≡ row.0) rows
     each [] all = tt
     each (row ∷ rows) all = (all.0.digest, each rows all.1)
+
+-- what is loaded of a digest that is listed
+pub load_lists : {T : Trusted} {path : Bytes} {asked : Option Bytes} {now : ℕ} (honest : Type 0) (Holds : Bytes → Bytes → Type 0) (digest : Bytes) (r : Result Served GetFault)
+    → ListsDigest T path asked now digest → IsLoaded honest Holds digest r → IfOk r (λ s. ListsDigest T path asked now s.digest.0)
+load_lists {T} {path} {asked} {now} honest Holds digest (Ok s) lists h = subst (ListsDigest T path asked now) (sym h.0) lists
+load_lists honest Holds digest (Err fault) lists h = tt

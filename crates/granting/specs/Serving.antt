@@ -1,5 +1,5 @@
 -- Bytes by their digests, wherever they are, and what a request for a target answers from them.
-use Rattle.std.specs.Prelude.{◌≡◌, ◌≢◌, ◌++◌, ◌+◌, ◌-◌, ◌≤◌, ℕ, Bool, false, ◌&&◌, ◌||◌, ◌==◌, nat_le, Some, Result, Ok, Err, IsSome, IsTrue}
+use Rattle.std.specs.Prelude.{◌≡◌, ◌≢◌, ◌++◌, ◌+◌, ◌-◌, ◌≤◌, ℕ, Bool, false, ◌&&◌, ◌||◌, ◌==◌, nat_le, Option, Some, Result, Ok, Err, IfSome, IsSome, IsTrue}
 use Rattle.sha2.specs.Sha256.{sha256}
 use Rattle.metadata.specs.File.{Bytes}
 use Rattle.denials.specs.Numbers as no
@@ -31,6 +31,13 @@ pub data Serves (S : State) (m : Order Bytes) : Result Served GetFault → Type 
   denies : {d : Denial} → m (Err (orders.Denied (denial_view d))) → Serves S m (Err (Denied d))
   fails : {fault : LoadFault} → fault ≢ Missing → Serves S m (Err (Load fault))
   forgoes : Serves S m (Err OutOfMemory)
+
+-- what is trusted lists the path under this digest, and it is the one that is asked for, if one is
+pub record ListsDigest (T : Trusted) (path : Bytes) (asked : Option Bytes) (now : ℕ) (digest : Bytes) : Type 0 where
+  pub at : Listed
+  pub lists : listed T path now (Ok at)
+  pub digest_is : digest ≡ at.listing.digest
+  pub asked_is : IfSome asked (λ d. at.listing.digest ≡ d)
 
 -- what is trusted lists the path with a layout
 pub record HasLayout (T : Trusted) (path : Bytes) (now : ℕ) : Type 0 where

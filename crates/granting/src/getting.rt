@@ -4,7 +4,7 @@ ghost use Rattle.sha2.specs.Sha256.{sha256};
 ghost use Rattle.trusted_state.specs.Answers.{Gives};
 ghost use Rattle.trust_rules.specs.Grants as granted;
 ghost use Rattle.trust_rules.specs.Held.{StandsFor, held_of, length_at, bytes_at};
-ghost use Rattle.granting.specs.Serving.{CountsFew, HasLayout, Refuses, RefusesLong, Serves};
+ghost use Rattle.granting.specs.Serving.{CountsFew, HasLayout, ListsDigest, Refuses, RefusesLong, Serves};
 ghost use Rattle.trust_rules.specs.State as trust;
 ghost use Rattle.trust_rules.specs.State.{blob_at};
 ghost use Rattle.granting.specs.steps.Permitting.{IsLentSo, Reads, FindsLoaded};
@@ -108,6 +108,7 @@ pub fn get_from<B: Blobs>(
     ensures denial { Refuses held.now.held (λ S. granted.grants S path.now None now) path.now now (blobs.new ≡ blobs.old) (B.HasLoaded blobs.new) result }
     ensures long { RefusesLong held.now.held path.now now (blobs.new ≡ blobs.old) result }
     ensures digest { IfOk result (λ s. sha256 s.bytes.items ≡ s.digest.0) }
+    ensures lists { IfOk result (λ s. ListsDigest held.now.held.trusted path.now None now s.digest.0) }
     ensures becomes { (blobs.new ≡ blobs.old) ⊎ B.MayBecome blobs.old blobs.new }
     ensures loaded { OnOk result (B.HasLoaded blobs.new) }
 {
@@ -128,6 +129,7 @@ pub fn get_from_counted<B: Blobs>(
     ensures denial { Refuses held.now.held (λ S. granted.grants S path.now None now) path.now now (blobs.new ≡ blobs.old) (B.HasLoaded blobs.new) result }
     ensures long { RefusesLong held.now.held path.now now (blobs.new ≡ blobs.old) result }
     ensures digest { IfOk result (λ s. sha256 s.bytes.items ≡ s.digest.0) }
+    ensures lists { IfOk result (λ s. ListsDigest held.now.held.trusted path.now None now s.digest.0) }
     ensures becomes { (blobs.new ≡ blobs.old) ⊎ B.MayBecome blobs.old blobs.new }
     ensures loaded { OnOk result (B.HasLoaded blobs.new) }
     ensures counted { CountsFew held.now.held.trusted held.now.verdicts path.now now checks.old checks.new }
@@ -152,6 +154,7 @@ pub fn target_from<B: Blobs>(
     ensures denial { Refuses held.now.held (λ S. granted.grants S path.now (option_map (λ d. d.0) asked) now) path.now now (blobs.new ≡ blobs.old) (B.HasLoaded blobs.new) result }
     ensures long { RefusesLong held.now.held path.now now (blobs.new ≡ blobs.old) result }
     ensures digest { IfOk result (λ s. sha256 s.bytes.items ≡ s.digest.0) }
+    ensures lists { IfOk result (λ s. ListsDigest held.now.held.trusted path.now (option_map (λ d. d.0) asked) now s.digest.0) }
     ensures becomes { (blobs.new ≡ blobs.old) ⊎ B.MayBecome blobs.old blobs.new }
     ensures loaded { OnOk result (B.HasLoaded blobs.new) }
 {
@@ -174,6 +177,7 @@ pub fn target_from_counted<B: Blobs>(
     ensures denial { Refuses held.now.held (λ S. granted.grants S path.now (option_map (λ d. d.0) asked) now) path.now now (blobs.new ≡ blobs.old) (B.HasLoaded blobs.new) result }
     ensures long { RefusesLong held.now.held path.now now (blobs.new ≡ blobs.old) result }
     ensures digest { IfOk result (λ s. sha256 s.bytes.items ≡ s.digest.0) }
+    ensures lists { IfOk result (λ s. ListsDigest held.now.held.trusted path.now (option_map (λ d. d.0) asked) now s.digest.0) }
     ensures becomes { (blobs.new ≡ blobs.old) ⊎ B.MayBecome blobs.old blobs.new }
     ensures loaded { OnOk result (B.HasLoaded blobs.new) }
     ensures counted { CountsFew held.now.held.trusted held.now.verdicts path.now now checks.old checks.new }
@@ -204,6 +208,7 @@ fn permitted<B: Blobs>(
     ensures reads { Reads B.IsHonest B.Holds B.MayBecome blobs.old blobs.new }
     ensures long { RefusesLong held.now.held path.now now (blobs.new ≡ blobs.old) result }
     ensures held { IfOk result (λ d. IsSome (length_at held.now.held.blobs d.0)) }
+    ensures lists { IfOk result (λ d. ListsDigest held.now.held.trusted path.now (option_map (λ d. d.0) asked) now d.0) }
     ensures counted { CountsFew held.now.held.trusted held.now.verdicts path.now now checks.old checks.new }
 {
     let at = find_listing(alloc, held, path, now, checks)?;

@@ -205,6 +205,7 @@ pub(crate) fn listed_digest(
     ensures answer { (S : trust.State) → lengths_of S.blobs ≡ length_views lengths.now
         → Gives (granted.blob_of S path.now (listing_view listing.now)) (λ d. bytes_at S d.0) result }
     ensures held { IfOk result (λ d. IsSome (length_at (length_views lengths.now) d.0)) }
+    ensures listed { IfOk result (λ d. d.0 ≡ (listing_view listing.now).digest) }
 {
     let Some(length) = length_of(lengths, &listing.digest) else {
         return Err(missing_blob(path, listing));

@@ -2,10 +2,11 @@
 use crate::documents::ROOT;
 use http_serve::{Moment, Routes, Store, serve_one};
 use sqlite::{Connection, MemStore};
+use std::alloc::Global;
 use std::io::{Read, Write};
 use std::net::{Ipv4Addr, SocketAddr, TcpListener, TcpStream};
 use std::test::Fail;
-use store::Command;
+use store::{Command, StoreFault};
 
 const REQUEST: &[u8] = b"GET /metadata/1.root.json HTTP/1.1\r\n\r\n";
 
@@ -43,9 +44,17 @@ fn exchange(rt: HostRuntime, store: &mut Store<MemStore>) -> Result<(), Fail> {
     is_answered(rt, &mut client)
 }
 
+// The store over a connection in memory.
+fn opened(alloc: Global, conn: Connection<MemStore>) -> Result<Store<MemStore>, StoreFault> {
+    match Store::open_over(alloc, conn) {
+        Ok(store) => Ok(store),
+        Err(unopened) => Err(unopened.fault),
+    }
+}
+
 #[test]
 fn loopback(rt: HostRuntime) -> Result<(), Fail> {
     let conn = Connection::open_in_memory(rt.alloc())?;
-    let mut store = Store::open(rt.alloc(), conn)?;
+    let mut store = opened(rt.alloc(), conn)?;
     exchange(rt, &mut store)
 }

@@ -1,5 +1,5 @@
 // The making of the tables, and a connection between two transactions.
-ghost use Rattle.std.specs.Prelude.{◌≡◌, ◌≢◌, ◌<◌, ◌≤◌, ◌+◌, Ok, Err, false, [], IsTrue, IfOk, OnOk};
+ghost use Rattle.std.specs.Prelude.{◌≡◌, ◌≢◌, ◌<◌, ◌≤◌, ◌+◌, Ok, Err, true, false, [], IsTrue, IfOk, OnOk};
 ghost use Rattle.sqlite.specs.State.{HasCleanDisk, Survives};
 ghost use Rattle.sqlite.specs.Held.{state};
 ghost use Rattle.sqlite_trees.specs.Tree.{Trees};
@@ -86,6 +86,8 @@ pub fn renew<S: Alter + Drop>(
     ensures same { IfOk result (λ c. HasCleanDisk (state S.Store c) → IsTrue (state S.Store c).is_open → (state S.Store c).now.trees ≡ (state S.Store conn).committed.trees) }
     ensures autocommit { IfOk result (λ c. c.in_transaction ≡ false) }
     ensures untouched { conn.in_transaction ≡ false → result ≡ Ok conn }
+    ensures was_open { IfOk result (λ c. HasCleanDisk (state S.Store c) → IsTrue (state S.Store c).is_open → IsTrue (state S.Store conn).is_open) }
+    ensures anew { conn.in_transaction ≡ true → IfOk result (λ c. HasCleanDisk (state S.Store c) → IsTrue (state S.Store c).is_open) }
     ensures fault { result ≢ Err StoreFault.Damaged }
 {
     Ok(sql_tables::renew(alloc, conn)?)

@@ -8,7 +8,7 @@ use sqlite::{Alter, Connection, FileStore};
 use sqlite_disk::Disk;
 use std::io::Write;
 use std::time::Instant;
-use store::{Command, Reply, Store, StoreFault};
+use store::{Command, Reply, Store, StoreFault, Unopened, close_into_file};
 
 /// What is done over an open repository.
 pub trait Work {
@@ -35,7 +35,8 @@ pub fn worked<W: Work, E: Write>(
     worked_in(rt, began, conn, db, work, notes)
 }
 
-// The same over a connection to two files, which is closed.
+// The same over a connection to two files, which is closed. Whatever an opening answers, what stood in the rows stands (`stays` of
+// `Store::open_over`).
 fn worked_in<D: Disk + Drop, W: Work, E: Write>(
     rt: &HostRuntime,
     began: Option<Instant>,
@@ -44,47 +45,65 @@ fn worked_in<D: Disk + Drop, W: Work, E: Write>(
     work: &mut W,
     notes: &mut Notes<'_, E>,
 ) -> Result<W::Done, Fault> {
-    let (done, conn) = worked_over(rt, began, conn, db, work, notes);
-    if let Some(conn) = conn {
-        let _ = conn.close();
+    match opened(rt, began, conn, db, notes) {
+        Ok(repository) => worked_and_closed(repository, db, work, notes),
+        Err((fault, conn)) => {
+            if let Some(conn) = conn {
+                let _ = conn.close();
+            }
+            Err(fault)
+        }
     }
-    done
 }
 
-// The same over a connection, which is given back where a repository was opened.
-fn worked_over<S: Alter + Drop, W: Work, E: Write>(
+// The repository over a connection, which is given back where none is opened.
+fn opened<S: Alter + Drop, E: Write>(
     rt: &HostRuntime,
     began: Option<Instant>,
     conn: Connection<S>,
     db: &str,
-    work: &mut W,
     notes: &mut Notes<'_, E>,
-) -> (Result<W::Done, Fault>, Option<Connection<S>>) {
+) -> Result<Store<S>, (Fault, Option<Connection<S>>)> {
     let is_first = has_first_schema(conn.schema());
     let has_others = has_others_behind(conn.schema());
-    match Store::open(rt.alloc(), conn) {
+    match Store::open_over(rt.alloc(), conn) {
         Ok(repository) => {
             if is_first {
                 notes.tell(&db, &"schema 1 was brought to schema 2");
             }
-            let mut repository = repository;
             if notes.are_told() {
                 tell_opening(rt, began, db, repository.held().known_signatures(), notes);
             }
-            let done = work.work(&mut repository, notes);
-            (done, Some(repository.into_connection()))
+            Ok(repository)
         }
-        Err(fault) => {
-            notes.tell(&db, &fault);
+        Err(unopened) => {
+            notes.tell(&db, &unopened.fault);
             if has_others {
                 notes.tell(
                     &db,
                     &"other tables, indexes or views stand behind those of schema 1",
                 );
             }
-            (Err(fault_of_store(fault)), None)
+            let Unopened { fault, conn } = unopened;
+            Err((fault_of_store(fault), conn))
         }
     }
+}
+
+// Does the work over an open repository, and closes it. What was done stands in the rows before it is answered (`durable` of
+// `Store::apply`), so where the log cannot be copied, the answer stays: the next open reads the log.
+fn worked_and_closed<D: Disk + Drop, W: Work, E: Write>(
+    repository: Store<FileStore<D>>,
+    db: &str,
+    work: &mut W,
+    notes: &mut Notes<'_, E>,
+) -> Result<W::Done, Fault> {
+    let mut repository = repository;
+    let done = work.work(&mut repository, notes);
+    if close_into_file(repository).is_err() {
+        notes.tell(&db, &"its log is not copied into it");
+    }
+    done
 }
 
 // Tells how many signatures an opening checked, and how long it took since it began.

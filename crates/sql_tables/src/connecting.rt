@@ -1,5 +1,5 @@
 // A connection between two transactions, and whether it still answers.
-ghost use Rattle.std.specs.Prelude.{◌≡◌, ◌⊎◌, [], Ok, false, IsTrue, IfOk, List, OnOk, ℕ};
+ghost use Rattle.std.specs.Prelude.{◌≡◌, ◌⊎◌, [], Ok, true, false, IsTrue, IfOk, List, OnOk, ℕ};
 ghost use Rattle.sqlite_value.specs.declared.keys.Key.{Key};
 ghost use Rattle.sqlite.specs.Order.{Row};
 ghost use Rattle.sqlite.specs.Schema.{Schema};
@@ -32,6 +32,8 @@ pub fn renew<S: Alter + Drop>(alloc: Global, conn: Connection<S>) -> Result<Conn
     ensures same { IfOk result (λ c. HasCleanDisk (state S.Store c) → IsTrue (state S.Store c).is_open → (state S.Store c).now.trees ≡ (state S.Store conn).committed.trees) }
     ensures autocommit { IfOk result (λ c. c.in_transaction ≡ false) }
     ensures untouched { conn.in_transaction ≡ false → result ≡ Ok conn }
+    ensures was_open { IfOk result (λ c. HasCleanDisk (state S.Store c) → IsTrue (state S.Store c).is_open → IsTrue (state S.Store conn).is_open) }
+    ensures anew { conn.in_transaction ≡ true → IfOk result (λ c. HasCleanDisk (state S.Store c) → IsTrue (state S.Store c).is_open) }
 {
     if conn.is_autocommit() {
         return Ok(conn);

@@ -10,7 +10,7 @@ use Rattle.denials.specs.Orders.{Order, Same}
 use Rattle.trust_rules.specs.State.{State, IsState, metadata_of}
 use Rattle.trust_rules.specs.Offers as commands
 use Rattle.trust_rules.specs.Effects.{applied, brought, on_state}
-use Rattle.trust_rules.specs.Runs.{Command, Leads, Outcome, Reply, Steps, leads, settled, Init, Batch, OfferOne, PutBlob, Prune, Metadata, Target, Begun, BatchDone, Offered, Stored, Pruned, FileBytes, Absent, Refused}
+use Rattle.trust_rules.specs.Runs.{Command, Reply, Steps, leads, Init, Batch, OfferOne, PutBlob, Prune, Metadata, Target, Begun, BatchDone, Offered, Stored, Pruned, FileBytes, Absent, Refused}
 use Rattle.machine.specs.Answers.{Answers, CountsGone, changes, unchanged, refused, AnswersBatch, done, denied}
 use Rattle.denials.specs.Views.{denial_view}
 use Rattle.machine.specs.PartViews.{effects_view}
@@ -47,34 +47,20 @@ on_ok P (Err e) p = tt
 
 -- ---- replies
 
-invert : {A : Type 0} {m : A → Type 0} {out : A → Outcome} {o : Outcome} → Leads m out o → (j : A) × m j × (o ≡ out j)
-invert (leads j h) = (j, h, refl)
+-- a command that asks for no target
+abbrev pub IsOther : Command → Type 0
+IsOther (Target path asked) = ⊥
+IsOther c = Unit {0}
 
--- a request for a target changes nothing
-target_stays : (S T : State) (path : Bytes) (asked : Option Bytes) (now : ℕ) (reply : Reply) → Steps S (Target path asked) now (T, reply) → T ≡ S
-target_stays S T path asked now reply h = let (j, m, e) = invert h in of j e
-  where
-    of : (j : orders.Judged Bytes) → ◌≡◌ {A = Outcome} (T, reply) (settled S (λ b. (S, FileBytes b)) Absent j) → T ≡ S
-    of (Ok b) e = ap (λ (o : Outcome). o.0) e
-    of (Err Same) e = ap (λ (o : Outcome). o.0) e
-    of (Err (orders.Denied d)) e = ap (λ (o : Outcome). o.0) e
-
--- a step is a reply whatever the disk answered
-pub step_replies : (trusted : Type 0) (S : State) (c : Command) (now : ℕ) (T : State) (reply : Reply) → Steps S c now (T, reply) → Replies trusted S c now T reply
-step_replies trusted S (Init b) now T reply h = h
-step_replies trusted S (Batch os) now T reply h = h
-step_replies trusted S (OfferOne o b) now T reply h = h
-step_replies trusted S (PutBlob digest b) now T reply h = h
-step_replies trusted S Prune now T reply h = h
-step_replies trusted S (Metadata name) now T reply h = h
-step_replies trusted S (Target path asked) now T (FileBytes b) h = (target_stays S T path asked now (FileBytes b) h, λ sure. h)
-step_replies trusted S (Target path asked) now T Begun h = h
-step_replies trusted S (Target path asked) now T (BatchDone a s) h = h
-step_replies trusted S (Target path asked) now T (Offered s) h = h
-step_replies trusted S (Target path asked) now T (Stored n) h = h
-step_replies trusted S (Target path asked) now T (Pruned b n) h = h
-step_replies trusted S (Target path asked) now T Absent h = h
-step_replies trusted S (Target path asked) now T (Refused d i) h = (target_stays S T path asked now (Refused d i) h, λ sure. h)
+-- its step is a reply whatever the disk answered
+step_replies : (trusted : Type 0) (S : State) (c : Command) (now : ℕ) (T : State) (reply : Reply) → IsOther c → Steps S c now (T, reply) → Replies trusted S c now T reply
+step_replies trusted S (Init b) now T reply other h = h
+step_replies trusted S (Batch os) now T reply other h = h
+step_replies trusted S (OfferOne o b) now T reply other h = h
+step_replies trusted S (PutBlob digest b) now T reply other h = h
+step_replies trusted S Prune now T reply other h = h
+step_replies trusted S (Metadata name) now T reply other h = h
+step_replies trusted S (Target path asked) now T reply other h = absurd other
 
 -- and a reply is a step where it is to be trusted
 pub replies_step : (trusted : Type 0) (S : State) (c : Command) (now : ℕ) (T : State) (reply : Reply) → trusted → Replies trusted S c now T reply → Steps S c now (T, reply)
@@ -93,10 +79,10 @@ replies_step trusted S (Target path asked) now T (Pruned b n) sure h = h
 replies_step trusted S (Target path asked) now T Absent sure h = h
 replies_step trusted S (Target path asked) now T (Refused d i) sure h = h.1 (λ by has. sure)
 
-pub replies_if : (trusted : Type 0) (S T : State) (c : Command) (now : ℕ) (r : Result Answer StoreFault) → IfOk r (λ reply. Steps S c now (T, reply_view reply))
+replies_if : (trusted : Type 0) (S T : State) (c : Command) (now : ℕ) (r : Result Answer StoreFault) → IsOther c → IfOk r (λ reply. Steps S c now (T, reply_view reply))
     → IfOk r (λ reply. Replies trusted S c now T (reply_view reply))
-replies_if trusted S T c now (Ok reply) h = step_replies trusted S c now T (reply_view reply) h
-replies_if trusted S T c now (Err fault) h = tt
+replies_if trusted S T c now (Ok reply) other h = step_replies trusted S c now T (reply_view reply) other h
+replies_if trusted S T c now (Err fault) other h = tt
 
 abbrev Left : State → database.State → Type 0
 Left S old = HasCleanDisk old → IsTrue old.is_open → (trees : Trees) → old.may_leave trees → HoldsWhole trees (rows_of S)
@@ -107,10 +93,10 @@ Resting kept old =
     HasCleanDisk old → IsTrue old.is_open → (U : State) → StandsAt (seen kept old) U → (trees : Trees) → old.may_leave trees → HoldsWhole trees (rows_of U)
 
 -- nothing was written
-still : (S : State) (old : database.State) (c : Command) (now : ℕ) (r : Result Answer StoreFault) → Left S old
+still : (S : State) (old : database.State) (c : Command) (now : ℕ) → IsOther c → (r : Result Answer StoreFault) → Left S old
     → IfOk r (λ reply. Steps S c now (S, reply_view reply)) → (r ≡ Err Damaged → ⊥) → Does S S old old c now r
-still S old c now r left step sound = record {
-  step = replies_if _ S S c now r step;
+still S old c now other r left step sound = record {
+  step = replies_if _ S S c now r other step;
   kept = on_err (S ≡ S) r refl;
   sound = sound;
   clean = λ clean. clean;
@@ -123,11 +109,11 @@ abbrev Crash : State → State → database.State → database.State → Type 0
 Crash S U old new = HasCleanDisk new → IsTrue old.is_open → (trees : Trees) → new.may_leave trees → HoldsWhole trees (rows_of S) ⊎ HoldsWhole trees (rows_of U)
 
 -- the step was made, and written
-made : (S T : State) (old new : database.State) (c : Command) (now : ℕ) (e : Effects) (reply : Answer) → T ≡ applied S (effects_view e)
+made : (S T : State) (old new : database.State) (c : Command) (now : ℕ) → IsOther c → (e : Effects) (reply : Answer) → T ≡ applied S (effects_view e)
     → Steps S c now (applied S (effects_view e), reply_view reply) → (HasCleanDisk new → HasCleanDisk old) → (HasCleanDisk new → IsTrue old.is_open → IsTrue new.is_open)
     → Crash S (applied S (effects_view e)) old new → Outlives old new → Does S T old new c now (Ok reply)
-made S T old new c now e reply is step tidy live crash outlives = record {
-  step = step_replies _ S c now T (reply_view reply) (subst (λ (U : State). Steps S c now (U, reply_view reply)) (sym is) step);
+made S T old new c now other e reply is step tidy live crash outlives = record {
+  step = step_replies _ S c now T (reply_view reply) other (subst (λ (U : State). Steps S c now (U, reply_view reply)) (sym is) step);
   kept = tt;
   sound = λ same. let k : ◌≡◌ {A = Result Answer StoreFault} (Ok reply) (Err Damaged) = same in cc;
   clean = tidy;
@@ -152,24 +138,24 @@ unmade S T old new c now e reply fault is step sound tidy crash outlives = recor
 
 -- ---- the same for each state at which a store stands
 
-pub still_at : (kept : Held) (old : database.State) (c : Command) (now : ℕ) (r : Result Answer StoreFault) → Resting kept old
+pub still_at : (kept : Held) (old : database.State) (c : Command) (now : ℕ) → IsOther c → (r : Result Answer StoreFault) → Resting kept old
     → ((S : State) → IsStateOf kept S → IfOk r (λ reply. Steps S c now (S, reply_view reply))) → (r ≡ Err Damaged → ⊥) → DoesAt kept kept old old c now r
-still_at kept old c now r rests step sound S at = (S, at, still S old c now r (λ clean there. rests clean there S at) (step S at.state) sound)
+still_at kept old c now other r rests step sound S at = (S, at, still S old c now other r (λ clean there. rests clean there S at) (step S at.state) sound)
 
 abbrev CrashAt : Held → database.State → database.State → Effects → Type 0
 CrashAt kept old new e =
     HasCleanDisk new → IsTrue old.is_open → (U : State) → StandsAt (seen kept old) U → (trees : Trees) → new.may_leave trees
     → HoldsWhole trees (rows_of U) ⊎ HoldsWhole trees (rows_of (applied U (effects_view e)))
 
-pub made_at : (kept left : Held) (old new : database.State) (c : Command) (now : ℕ) (e : Effects) (reply : Answer)
+pub made_at : (kept left : Held) (old new : database.State) (c : Command) (now : ℕ) → IsOther c → (e : Effects) (reply : Answer)
     → ((S : State) → StandsAt (seen kept old) S → StandsAt (seen left new) (applied S (effects_view e)))
     → ((S : State) → IsStateOf kept S → Steps S c now (applied S (effects_view e), reply_view reply))
     → (HasCleanDisk new → HasCleanDisk old) → (HasCleanDisk new → IsTrue old.is_open → IsTrue new.is_open) → CrashAt kept old new e → Outlives old new
     → DoesAt kept left old new c now (Ok reply)
-made_at kept left old new c now e reply leaves steps tidy live crash outlives S at = (
+made_at kept left old new c now other e reply leaves steps tidy live crash outlives S at = (
   applied S (effects_view e),
   leaves S at,
-  made S (applied S (effects_view e)) old new c now e reply refl (steps S at.state) tidy live (λ clean there. crash clean there S at) outlives,
+  made S (applied S (effects_view e)) old new c now other e reply refl (steps S at.state) tidy live (λ clean there. crash clean there S at) outlives,
 )
 
 pub unmade_at : (kept left : Held) (old new : database.State) (c : Command) (now : ℕ) (e : Effects) (reply : Reply) (fault : StoreFault)

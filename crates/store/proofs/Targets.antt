@@ -8,11 +8,12 @@ use Rattle.denials.specs.Orders as orders
 use Rattle.denials.specs.Orders.{Order}
 use Rattle.denials.specs.Views.{denial_view}
 use Rattle.denials.specs.declared.denial.Denial.{Denial}
-use Rattle.trust_rules.specs.State.{State}
+use Rattle.trust_rules.specs.State.{State, Trusted}
 use Rattle.trust_rules.specs.Grants.{grants}
 use Rattle.trust_rules.specs.Held.{Held}
 use Rattle.trust_rules.specs.Runs.{Steps, Target, FileBytes, Refused, leads}
-use Rattle.machine.specs.Serving.{HasLayout, IsRefused, Refuses, Serves, by_layout, denies, serves, unread}
+use Rattle.sha2.specs.Sha256.{sha256}
+use Rattle.machine.specs.Serving.{HasLayout, ListsDigest, IsRefused, Refuses, Serves, by_layout, denies, serves, unread}
 use Rattle.machine.specs.DeclaredServed.{Served}
 use Rattle.machine.specs.DeclaredGetFault.{GetFault}
 use Rattle.machine.specs.GetFaults as gets
@@ -34,16 +35,27 @@ use Rattle.store.proofs.Standings.{stands_on}
 serves_step : (S : State) (path : Bytes) (asked : Option Bytes) (now : ℕ) (s : Served) → Serves S (grants S path asked now) (Ok s) → Steps S (Target path asked) now (S, FileBytes s.bytes.items)
 serves_step S path asked now s (serves h blob) = leads (Ok s.bytes.items) h
 
+-- what is served has the digest under which it is served
+pub hashed : (T : Trusted) (path : Bytes) (asked : Option Bytes) (now : ℕ) (r : Result Served GetFault) → IfOk r (λ s. sha256 s.bytes.items ≡ s.digest.0)
+    → IfOk r (λ s. ListsDigest T path asked now s.digest.0) → IfOk r (λ s. ListsDigest T path asked now (sha256 s.bytes.items))
+hashed T path asked now (Ok s) same lists = subst (ListsDigest T path asked now) (sym same) lists
+hashed T path asked now (Err fault) same lists = tt
+
 -- the file was loaded
 pub served : (kept left : Held) (old new : database.State) (path : Bytes) (asked : Option Bytes) (now : ℕ) (s : Served) → Resting kept old
     → left ≡ kept → ReadsOnly old new → (HasCleanDisk new → IsTrue new.is_open)
     → (HasCleanDisk new → IsTrue new.is_open → (U : State) → StandsAt (seen kept old) U → Serves U (grants U path asked now) (Ok s))
+    → ListsDigest kept.trusted path asked now (sha256 s.bytes.items)
     → DoesAt kept left old new (Target path asked) now (Ok (answers.Bytes s.bytes))
-served kept left old new path asked now s rests same reads there answer S at = (
+served kept left old new path asked now s rests same reads there answer lists S at = (
   S,
   stands_on kept left old new same reads S at,
   record {
-    step = (refl, λ clean. serves_step S path asked now s (answer clean (there clean) S at));
+    step = (
+      refl,
+      (λ clean. serves_step S path asked now s (answer clean (there clean) S at)),
+      subst (λ (H : Held). ListsDigest H.trusted path asked now (sha256 s.bytes.items)) (sym at.state.held) lists,
+    );
     kept = tt;
     sound = λ is. let k : ◌≡◌ {A = Result Answer StoreFault} (Ok (answers.Bytes s.bytes)) (Err Damaged) = is in cc;
     clean = λ clean. omega (arith, clean, reads.survives.clean);

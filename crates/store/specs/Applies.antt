@@ -5,7 +5,8 @@ use Rattle.sqlite.specs.State.{HasCleanDisk}
 use Rattle.sqlite_trees.specs.Tree.{Trees}
 use Rattle.trust_rules.specs.State.{State}
 use Rattle.trust_rules.specs.Runs.{Command, Reply, Steps, Target, FileBytes, Refused}
-use Rattle.machine.specs.Serving.{HasLayout, is_by_layout}
+use Rattle.sha2.specs.Sha256.{sha256}
+use Rattle.machine.specs.Serving.{HasLayout, ListsDigest, is_by_layout}
 use Rattle.sql_tables.specs.Outliving.{StaysOpen}
 use Rattle.table_rows.specs.Tables.{HoldsWhole}
 use Rattle.store.specs.Standing.{Holds, IsClean, Keeps, Moves, Standing, StandsAt, seen}
@@ -29,9 +30,11 @@ abbrev pub IsEither : State → Command → ℕ → State → Type 0
 IsEither S command now T = (T ≡ S) ⊎ ((reply : Reply) × Steps S command now (T, reply))
 
 -- The step of the machine with its reply. The bytes of a target are read when they are asked for, and so are those of its layout and
--- links, so where the answers of the disk are not to be trusted, it is not known that they are those of the step.
+-- links, so where the answers of the disk are not to be trusted, it is not known that they are those of the step. Whatever the disk
+-- answers, bytes that are handed on have the SHA-256 that the state lists for the path, which is the one that is asked for, if one is.
 abbrev pub Replies : Type 0 → State → Command → ℕ → State → Reply → Type 0
-Replies trusted S (Target path asked) now T (FileBytes bytes) = (T ≡ S) × (trusted → Steps S (Target path asked) now (T, FileBytes bytes))
+Replies trusted S (Target path asked) now T (FileBytes bytes) =
+    (T ≡ S) × (trusted → Steps S (Target path asked) now (T, FileBytes bytes)) × ListsDigest S.trusted path asked now (sha256 bytes)
 Replies trusted S (Target path asked) now T (Refused d i) =
     (T ≡ S) × ((IsTrue (is_by_layout d) → HasLayout S.trusted path now → trusted) → Steps S (Target path asked) now (T, Refused d i))
 Replies trusted S command now T reply = Steps S command now (T, reply)

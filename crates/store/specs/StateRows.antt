@@ -14,6 +14,7 @@ use Rattle.table_rows.specs.Tables.{HoldsWhole, Stands}
 use Rattle.table_rows.specs.declared.faults.StoreFault.{StoreFault}
 use Rattle.table_rows.specs.declared.faults.StoreFault.TheVariants as faults
 use Rattle.sqlite.specs.State as database
+use Rattle.sqlite.specs.State.{HasCleanDisk}
 
 -- what a caller sees of a store: its connection, and what it keeps in memory, its state but for the bytes of the target files
 pub record Shown (S : Type 0) : Type 0 where
@@ -51,6 +52,11 @@ OpensTo trees (Err faults.OutOfMemory) = ⊤
 abbrev pub Reopens : Trees → (State → Type 0) → Type 0
 Reopens trees IsFound = (r : Result State StoreFault) → OpensTo trees r → (r ≢ Err faults.Damaged) × IfOk r (λ S. ∥ IsFound S ∥₁)
 
+-- All six tables hold the rows of the state, and each opening of the trees answers it.
+pub record Recovers (trees : Trees) (S : State) : Type 0 where
+  pub whole : HoldsWhole trees (rows_of S)
+  pub reopens : Reopens trees (λ V. V ≡ S)
+
 -- What an opening writes: the connection was open, and all six tables hold the rows of the state for which its tables stood.
 abbrev pub Begins : database.State → Trees → Type 0
 Begins s trees = IsTrue s.is_open × ((S : State) × IsState S × Stands s.now (rows_of S) × HoldsWhole trees (rows_of S))
@@ -60,3 +66,7 @@ pub record RestsAt (s : database.State) (S : State) : Type 0 where
   pub valid : IsState S
   pub committed : IsTrue s.is_open → TreesStand s.committed.trees (rows_of S)
   pub left : s.is_open ≡ false → (trees : Trees) → s.may_leave trees → TreesStand trees (rows_of S)
+
+-- Whatever a crash leaves, then or earlier, stands for the state.
+abbrev pub LeavesStanding : database.State → State → Type 0
+LeavesStanding s S = HasCleanDisk s → (trees : Trees) → s.may_leave trees → TreesStand trees (rows_of S)

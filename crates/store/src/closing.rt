@@ -1,5 +1,5 @@
 //! The end of a store over two files: what the next open finds in them.
-ghost use Rattle.std.specs.Prelude.{◌≡◌, ◌⊎◌, false, IfOk, IsSomeAnd, IsTrue};
+ghost use Rattle.std.specs.Prelude.{◌≡◌, ◌≢◌, ◌⊎◌, [], false, Err, IfOk, IsSomeAnd, IsTrue};
 ghost use Rattle.sqlite.specs.Files.{file_state};
 ghost use Rattle.sqlite.specs.Held.{state};
 ghost use Rattle.sqlite.specs.State.{HasCleanDisk};
@@ -12,7 +12,7 @@ ghost use Rattle.trust_rules.specs.Runs.{Steps};
 ghost use Rattle.table_rows.specs.Tables.{HoldsWhole};
 ghost use Rattle.store.specs.Applies.{HoldsReply, HoldsStep, IsEither};
 ghost use Rattle.store.specs.Standing.{StandsAt, seen};
-ghost use Rattle.store.specs.StateRows.{Begins, Reopens, RestsAt, rows_of};
+ghost use Rattle.store.specs.StateRows.{Begins, Recovers, Reopens, RestsAt, rows_of};
 ghost use Rattle.sql_tables.specs.Opening.{IsFound};
 ghost use Rattle.store.specs.Views.{command_view, reply_view};
 
@@ -24,7 +24,7 @@ use machine::stays_valid;
 use metadata::Moment;
 use repository_tables::StoreFault;
 use sql_tables::close;
-use sqlite::{Alter, Connection, FileStore, Files};
+use sqlite::{Alter, Connection, Error, FileStore, Files};
 use sqlite_disk::Disk;
 use std::alloc::Global;
 
@@ -82,6 +82,43 @@ pub fn open_and_close<D: Disk + Drop>(
         Some(conn) => (result, Some(close(conn))),
         None => (result, None),
     }
+}
+
+/// Closes a store: what its log has is copied into the database file, which then holds the rows of its state by itself. Whatever a crash
+/// leaves of the two files, the next open finds this state, and so it does where the log is lost, or left behind, and an empty one stands in
+/// its place. On a fault the rows need their log still: what a reply said of them is kept there (`durable` of `Store::apply`). Nothing is
+/// said where a wrong answer of the disks was taken as true.
+pub fn close_into_file<D: Disk + Drop>(store: Store<FileStore<D>>) -> Result<Files<D>, StoreFault>
+    ensures both { IfOk result (λ files. AreClean D.Disk files.log files.db → (U : State) → StandsAt (seen store.kept (file_state store.conn)) U
+        → (left : Image) → outcomes D.Disk files.log files.db left → (found : Trees) → IsFound left found → ∥ Recovers found U ∥₁) }
+    ensures alone { IfOk result (λ files. AreClean D.Disk files.log files.db → (U : State) → StandsAt (seen store.kept (file_state store.conn)) U
+        → (left : Image) → outcomes D.Disk files.log files.db left → (found : Trees) → IsFound (record left { log = [] }) found → ∥ Recovers found U ∥₁) }
+    ensures sound { result ≢ Err StoreFault.Damaged }
+{
+    let conn = at_rest(store);
+    match conn.close_files() {
+        Ok(files) => Ok(files),
+        Err(unclosed) => Err(fault_of(unclosed)),
+    }
+}
+
+// Why something was not closed, which is let go.
+fn fault_of<T: Drop>(unclosed: (Error, T)) -> StoreFault
+    ensures { result ≢ StoreFault.Damaged }
+{
+    let (error, _rest) = unclosed;
+    StoreFault::from(error)
+}
+
+// The connection of a store, whose last commit has the rows of its state.
+fn at_rest<S: Alter>(store: Store<S>) -> Connection<S>
+    ensures { HasCleanDisk (state S.Store result) → IsTrue (state S.Store result).is_open → (U : State) → StandsAt (seen store.kept (state S.Store store.conn)) U
+        → Recovers (state S.Store result).committed.trees U }
+{
+    trees_tell_state();
+    let conn = store.into_connection();
+    leaves_committed(&conn);
+    conn
 }
 
 // Makes a command, and hands back the connection.

@@ -7,7 +7,7 @@ ghost use Rattle.sqlite.specs.State.{HasCleanDisk, IsLive};
 ghost use Rattle.sqlite_trees.specs.Tree.{Trees};
 ghost use Rattle.delegations.specs.Rows.{value_at};
 ghost use Rattle.denials.specs.Orders.{Judged};
-ghost use Rattle.trust_rules.specs.Before.{grants_before};
+ghost use Rattle.trust_rules.specs.Before.{grants_before, metadata_before};
 ghost use Rattle.trust_rules.specs.Grants.{grants};
 ghost use Rattle.trust_rules.specs.State as trust;
 ghost use Rattle.trust_rules.specs.State.{IsState, metadata_of};
@@ -50,14 +50,15 @@ pub fn trees_tell_state()
     one_shape();
 }
 
-/// A law, which does nothing: the state for which tables of schema 1 stand has roots of the first profile alone. So behind its migration, which
-/// leaves that state, each request for a target has the end that it had before roots had profiles, and each root is found under the name under
-/// which its row was found in `root`.
+/// A law, which does nothing: the state for which tables of schema 1 stand has roots of the first profile alone. So after its migration, which
+/// leaves that state, each request for a target has the end that it had before roots had profiles, and each name finds the metadata that it
+/// found then, or none: a row's bytes are found under its version and role, and a root under the name under which its row was found in `root`.
 pub fn migration_keeps_answers()
     ensures targets { (trees : Trees) (S : trust.State) → IsState S → HoldsFirst trees (rows_of S)
         → (path : Bytes) (asked : Option Bytes) (now : ℕ) (r : Judged Bytes) → grants S path asked now r ↔ grants_before S path asked now r }
     ensures roots { (trees : Trees) (S : trust.State) → IsState S → HoldsFirst trees (rows_of S) → (n : ℕ) → n ≤ last_number
         → metadata_of S.trusted (dotted n (codes "root")) ≡ option_map (λ r. r.1) (value_at nat_eq (rows_of S).roots n) }
+    ensures metadata { (trees : Trees) (S : trust.State) → IsState S → HoldsFirst trees (rows_of S) → (name : Bytes) → metadata_of S.trusted name ≡ metadata_before (rows_of S) name }
 {
     first_profile_as_before();
     names_find();

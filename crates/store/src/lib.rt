@@ -9,7 +9,7 @@ mod opening;
 mod store;
 mod stored_rows;
 
-pub use closing::{apply_and_close, open_and_close};
+pub use closing::{apply_and_close, close_into_file, open_and_close};
 pub use command::{Command, Reply};
 pub use laws::{migration_keeps_answers, stands, trees_tell_state};
 pub use machine::{

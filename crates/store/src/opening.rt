@@ -8,11 +8,11 @@ ghost use Rattle.table_rows.specs.Schema.{IsBeginning};
 ghost use Rattle.repository_tables.specs.Migration.{IsEarlier};
 ghost use Rattle.table_rows.specs.Tables.{HoldsWhole, IsStore, Stands};
 ghost use Rattle.store.specs.Standing.{IsStateOf, Opens, StandsAt, seen};
-ghost use Rattle.store.specs.StateRows.{Begins, OpensTo, rows_of};
+ghost use Rattle.store.specs.StateRows.{Begins, LeavesStanding, OpensTo, RestsAt, rows_of};
 ghost use Rattle.trust_rules.specs.State as trust;
 ghost use Rattle.trust_rules.specs.State.{IsState};
 
-use crate::laws::leaves_committed;
+use crate::laws::{leaves_committed, trees_tell_state};
 use crate::store::Store;
 use crate::stored_rows::StoredRows;
 use machine::{Held, nothing_is_valid};
@@ -40,31 +40,26 @@ impl<S: Alter + Drop> Store<S> {
     ///   come once, which by its own laws they are. Behind all six may stand further tables, indexes and views, if no foreign
     ///   key is onto one of the six.
     /// - `OutOfMemory`: memory was refused.
-    pub fn open(alloc: Global, conn: Connection<S>) -> Result<Store<S>, StoreFault>
-        ensures opened { IfOk result (λ s. Opens (state S.Store conn) (seen s.kept (state S.Store s.conn))) }
-        ensures fault { ((c : _) → HasCleanDisk (state S.Store c)) → IfErr result (λ fault. OpensTo (state S.Store conn).committed.trees (Err fault)) }
-        ensures crash { conn.in_transaction ≡ false → IfOk result (λ s. Survives (state S.Store conn) (state S.Store s.conn) (λ trees. Begins (state S.Store conn) trees)) }
-        ensures durable { IfOk result (λ s. HasCleanDisk (state S.Store s.conn) → (U : trust.State) → StandsAt (seen s.kept (state S.Store s.conn)) U
-            → (trees : Trees) → (state S.Store s.conn).may_leave trees → HoldsWhole trees (rows_of U)) }
-    {
-        match Store::open_over(alloc, conn) {
-            Ok(store) => Ok(store),
-            Err(unopened) => Err(unopened.fault),
-        }
-    }
-
-    /// The same as `open`, and where no transaction was under way the connection is given back on each fault. Where the rows are
-    /// those of no state it is given back too, so that it can be said of every kind of disk; `open` says it of those that cannot
-    /// give a wrong answer, such as one in memory. Whether it opens or not, a crash leaves what it left before, or all six tables with
-    /// the rows of the state for which the tables stood.
+    ///
+    /// The connection is given back on each fault, so that it can be said of every kind of disk what stands in the rows then. Whether it
+    /// opens or not, a crash leaves what it left before, or all six tables with the rows of the state for which the tables stood, and only a
+    /// fault of a disk's call shuts the connection: what stood for a state stands for it. There is no call that opens a store and lets go of
+    /// the connection of one that does not open, since nothing could be said of the rows then.
+    ///
+    /// Where a transaction was under way, `stays` says the same of each connection that is given back. Then none may be: the store of one
+    /// that cannot be made anew is closed, and no clause can speak of it. Nor does `crash` speak of this case, since the kit does not say
+    /// what a connection that is made anew may leave while it is made.
     pub fn open_over(alloc: Global, conn: Connection<S>) -> Result<Store<S>, Unopened<S>>
         ensures opened { IfOk result (λ s. Opens (state S.Store conn) (seen s.kept (state S.Store s.conn))) }
         ensures fault { IfErr result (λ u. MatchOption u.conn (u.fault ≢ StoreFault.Damaged) (λ c. HasCleanDisk (state S.Store c) → OpensTo (state S.Store conn).committed.trees (Err u.fault))) }
         ensures crash { conn.in_transaction ≡ false → MatchResult result (λ s. Survives (state S.Store conn) (state S.Store s.conn) (λ trees. Begins (state S.Store conn) trees))
             (λ u. IsSomeAnd u.conn (λ c. Survives (state S.Store conn) (state S.Store c) (λ trees. Begins (state S.Store conn) trees))) }
+        ensures stays { (U : trust.State) → RestsAt (state S.Store conn) U → MatchResult result (λ s. LeavesStanding (state S.Store s.conn) U)
+            (λ u. MatchOption u.conn (conn.in_transaction ≡ true) (λ c. LeavesStanding (state S.Store c) U)) }
         ensures durable { IfOk result (λ s. HasCleanDisk (state S.Store s.conn) → (U : trust.State) → StandsAt (seen s.kept (state S.Store s.conn)) U
             → (trees : Trees) → (state S.Store s.conn).may_leave trees → HoldsWhole trees (rows_of U)) }
     {
+        trees_tell_state();
         let mut conn = match renew(alloc, conn) {
             Ok(conn) => conn,
             Err(fault) => {

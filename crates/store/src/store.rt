@@ -15,7 +15,7 @@ ghost use Rattle.machine.specs.Knowing.{IsKnown};
 ghost use Rattle.machine.specs.PartViews.{effects_view};
 ghost use Rattle.machine.specs.StateViews.{documents_view, offer_view};
 ghost use Rattle.trust_rules.specs.Runs as steps;
-ghost use Rattle.machine.specs.Serving.{Refuses, Serves};
+ghost use Rattle.machine.specs.Serving.{ListsDigest, Refuses, Serves};
 ghost use Rattle.delegations.specs.Verdicts.{Table};
 ghost use Rattle.store.specs.Ticks.{Ticks, TicksFew};
 ghost use Rattle.store.specs.Applies.{Applies};
@@ -144,6 +144,7 @@ impl<S: Alter> Store<S> {
         ensures answer { HasCleanDisk (state S.Store self.new.conn) → IsTrue (state S.Store self.new.conn).is_open → (U : trust.State) → StandsAt (seen self.old.kept (state S.Store self.old.conn)) U
             → Serves U (granted.grants U path.now None now) result }
         ensures digest { IfOk result (λ s. sha256 s.bytes.items ≡ s.digest.0) }
+        ensures lists { IfOk result (λ s. ListsDigest self.old.kept.trusted path.now None now s.digest.0) }
         ensures ticks { TicksFew self.old.kept.trusted path.now now checks.old checks.new }
     {
         self.held.is_known();
@@ -308,6 +309,7 @@ impl<S: Alter> Store<S> {
         ensures there { HasCleanDisk (state S.Store self.new.conn) → OnOk result (IsTrue (state S.Store self.new.conn).is_open) }
         ensures answer { HasCleanDisk (state S.Store self.new.conn) → IsTrue (state S.Store self.new.conn).is_open → (U : trust.State) → StandsAt (seen self.old.kept (state S.Store self.old.conn)) U
             → Serves U (granted.grants U path.now (option_map (λ d. d.0) asked) now) result }
+        ensures lists { IfOk result (λ s. ListsDigest self.old.kept.trusted path.now (option_map (λ d. d.0) asked) now (sha256 s.bytes.items)) }
         ensures ticks { TicksFew self.old.kept.trusted path.now now checks.old checks.new }
     {
         self.held.is_known();

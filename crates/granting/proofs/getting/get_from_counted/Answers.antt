@@ -1,6 +1,6 @@
 use Rattle.granting.proofs.GrantedFrom.{finds_serves, load_refuses, refuses_so}
 use Rattle.granting.proofs.LoadedFiles.{became_by, found_by, stands_so, still_stands}
-use Rattle.granting.proofs.ServedFrom.{served_so}
+use Rattle.granting.proofs.ServedFrom.{load_lists, served_so}
 use Rattle.granting.proofs.ShortFiles.{shape_denial}
 use Rattle.granting.proofs.getting.get_from_counted.Goals as goal
 
@@ -29,3 +29,6 @@ returns-in-Ok-clause-long g c S valid is long = absurd (c.in-Ok.ensures.long S v
 
 pub returns-in-Err-clause-long : goal.returns-in-Err-clause-long
 returns-in-Err-clause-long g c S valid is long = let refused = c.in-Err.ensures.long S valid is long in (refused.0, shape_denial (Unit {0}) (Unit {0}) c.in-Err.fault refused.1)
+
+pub returns-in-Ok-clause-lists : goal.returns-in-Ok-clause-lists
+returns-in-Ok-clause-lists g c = load_lists _ (g.B.Blobs.Holds c.permitted.new.blobs) c.in-Ok.digest.0 c.load.result c.in-Ok.ensures.lists c.load.ensures.loads

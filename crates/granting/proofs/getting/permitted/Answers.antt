@@ -140,3 +140,11 @@ pub returns-in_err-digest-clause-counted : goal.returns-in_err-digest-clause-cou
 returns-in_err-digest-clause-counted g c =
     let finds = c.find_listing.ensures in
     counted_behind _ _ _ _ _ _ _ finds.grows finds.most finds.few finds.free (omega arith) (λ none. refl) (λ wants. refl)
+
+pub returns-clause-lists : goal.returns-clause-lists
+returns-clause-lists g c = record {
+  at = listed_view c.in_ok-at.at;
+  lists = given_by c.in_ok-at.ensures.answer;
+  digest_is = c.in_ok-digest.ensures.listed;
+  asked_is = yes c.if-not-is_asked.ensures;
+}

@@ -1,13 +1,13 @@
 use Rattle.std.proofs.Common.{◌≡◌, Err, refl, subst}
 use Rattle.std.proofs.lemmas.Result.{err_from_is_err_and}
-use Rattle.std.specs.Prelude.{option_map}
+use Rattle.std.specs.Prelude.{IfOk, option_map}
 use Rattle.denials.specs.Orders.{decide, fails}
 use Rattle.metadata.specs.File.{Bytes}
 use Rattle.trust_rules.specs.Grants.{grants}
-use Rattle.granting.specs.Serving.{Refuses, Serves, denies, forgoes, unread}
+use Rattle.granting.specs.Serving.{ListsDigest, Refuses, Serves, denies, forgoes, unread}
 use Rattle.granting.proofs.GrantedFrom.{finds_serves, load_refuses, refuses_so}
 use Rattle.granting.proofs.LoadedFiles.{became_by, found_by, stands_so, still_stands}
-use Rattle.granting.proofs.ServedFrom.{served_so}
+use Rattle.granting.proofs.ServedFrom.{load_lists, served_so}
 use Rattle.granting.proofs.ShortFiles.{shape_denial}
 use Rattle.granting.proofs.Counting.{counts_nothing}
 use Rattle.granting.proofs.TargetFiles.{no_path}
@@ -89,3 +89,9 @@ pub returns-clause-counted : goal.returns-clause-counted
 returns-clause-counted g c =
     let same = rw (c.in-Some.is) at c.in_ok-path.ensures.some in
     rw (same.0) at c.permitted.ensures.counted
+
+pub returns-in-Ok-clause-lists : goal.returns-in-Ok-clause-lists
+returns-in-Ok-clause-lists g c =
+    let is = rw (c.in-Some.is) at c.in_ok-path.ensures.some in
+    subst (λ (path : Bytes). IfOk c.load.result (λ s. ListsDigest c.args.held.now.held.trusted path (option_map (λ d. d.0) c.args.asked) c.args.now s.digest.0)) is.0
+    (load_lists _ (g.B.Blobs.Holds c.permitted.new.blobs) c.in-Ok.digest.0 c.load.result c.in-Ok.ensures.lists c.load.ensures.loads)

@@ -1,9 +1,9 @@
 use Rattle.std.proofs.Common.{arith, refl, sym, subst}
-use Rattle.std.specs.Prelude.{IsTrue, None}
+use Rattle.std.specs.Prelude.{IfOk, IsTrue, None}
 use Rattle.sqlite.specs.Held.{state}
 use Rattle.sqlite.specs.State.{HasCleanDisk}
 use Rattle.trust_rules.specs.Grants.{grants}
-use Rattle.machine.specs.Serving.{Refuses}
+use Rattle.machine.specs.Serving.{ListsDigest, Refuses}
 use Rattle.trust_rules.specs.State.{State}
 use Rattle.store.specs.Standing.{StandsAt, seen}
 use Rattle.store.specs.StateRows.{rows_of}
@@ -57,3 +57,7 @@ pub returns-clause-ticks : goal.returns-clause-ticks
 returns-clause-ticks g c =
     subst (λ s. TicksFew s.kept.trusted c.args.path.now c.args.now c.args.checks.now c.get_from_counted.new.checks) c.self.view_is
     (_, c.is_known.ensures, c.get_from_counted.ensures.counted)
+
+pub returns-clause-lists : goal.returns-clause-lists
+returns-clause-lists g c =
+    subst (λ s. IfOk c.get_from_counted.result (λ t. ListsDigest s.kept.trusted c.args.path.now None c.args.now t.digest.0)) c.self.view_is c.get_from_counted.ensures.lists

@@ -1,9 +1,10 @@
 use Rattle.std.proofs.Common.{arith, sym, subst}
-use Rattle.std.specs.Prelude.{IsTrue, option_map}
+use Rattle.std.specs.Prelude.{IfOk, IsTrue, option_map}
+use Rattle.sha2.specs.Sha256.{sha256}
 use Rattle.sqlite.specs.Held.{state}
 use Rattle.sqlite.specs.State.{HasCleanDisk}
 use Rattle.trust_rules.specs.Grants.{grants}
-use Rattle.machine.specs.Serving.{Refuses}
+use Rattle.machine.specs.Serving.{ListsDigest, Refuses}
 use Rattle.trust_rules.specs.State.{State}
 use Rattle.store.specs.Standing.{StandsAt, seen}
 use Rattle.store.specs.StateRows.{rows_of}
@@ -11,7 +12,7 @@ use Rattle.store.specs.Ticks.{TicksFew}
 use Rattle.store.proofs.Fitting.{blobs_keyed}
 use Rattle.store.proofs.Loads.{holds_blobs}
 use Rattle.store.proofs.Standings.{reads_if, store_at}
-use Rattle.store.proofs.Targets.{refuses_map}
+use Rattle.store.proofs.Targets.{hashed, refuses_map}
 use Rattle.store.proofs.store.Store.load_target.Goals as goal
 
 pub invariant_of-self : goal.invariant_of-self
@@ -45,3 +46,8 @@ pub returns-clause-ticks : goal.returns-clause-ticks
 returns-clause-ticks g c =
     subst (λ s. TicksFew s.kept.trusted c.args.path.now c.args.now c.args.checks.now c.target_from_counted.new.checks) c.self.view_is
     (_, c.is_known.ensures, c.target_from_counted.ensures.counted)
+
+pub returns-clause-lists : goal.returns-clause-lists
+returns-clause-lists g c =
+    subst (λ s. IfOk c.target_from_counted.result (λ t. ListsDigest s.kept.trusted c.args.path.now (option_map (λ d. d.0) c.args.asked) c.args.now (sha256 t.bytes.items))) c.self.view_is
+    (hashed _ _ _ _ c.target_from_counted.result c.target_from_counted.ensures.digest c.target_from_counted.ensures.lists)

@@ -1,4 +1,5 @@
-use Rattle.std.proofs.Common.{◌≡◌, ◌∙◌, Ok, Err, Result, refl, sym, subst, subst₂, ap, arith}
+use Rattle.std.proofs.lemmas.Bool.{true_from_ne_false}
+use Rattle.std.proofs.Common.{◌≡◌, ◌∙◌, false, Ok, Err, Result, refl, sym, subst, subst₂, ap, arith}
 use Rattle.std.specs.Prelude.{IsTrue}
 use Rattle.trust_rules.specs.State.{State}
 use Rattle.sqlite.specs.Effect.{IsDatabase}
@@ -9,7 +10,8 @@ use Rattle.table_rows.specs.declared.faults.StoreFault.{StoreFault}
 use Rattle.table_rows.specs.declared.faults.StoreFault.TheVariants.{Damaged, Database, OutOfMemory}
 use Rattle.table_rows.specs.Tables.{IsStore, Stands}
 use Rattle.store.specs.Standing.{IsStateOf, Opens, seen}
-use Rattle.store.specs.StateRows.{Begins, HoldsNoState, OpensTo, TreesStand, rows_of}
+use Rattle.store.specs.StateRows.{Begins, HoldsNoState, LeavesStanding, OpensTo, RestsAt, TreesStand, rows_of}
+use Rattle.store.proofs.Reopening.{shut_standing, stays_standing}
 use Rattle.store.proofs.Standings.{stands_at}
 use Rattle.store.proofs.store.Store.open_over.Goals as goal
 
@@ -73,3 +75,25 @@ pub returns-in-Err-read_state-clause-crash : goal.returns-in-Err-read_state-clau
 returns-in-Err-read_state-clause-crash g c free =
     let same = ok_same (c.in-Ok.ensures.untouched free) in
     subst (λ k. Survives (state g.S.Store k) (state g.S.Store c.read_state.new.conn) (Begins (state g.S.Store k))) same c.read_state.ensures.crash
+
+-- the connection over which the rows are read, and the one that is left
+pub returns-in-Ok-read_state-clause-stays : goal.returns-in-Ok-read_state-clause-stays
+returns-in-Ok-read_state-clause-stays g c U rests =
+    let mid = state g.S.Store c.in-Ok.conn in
+    let free : c.args.conn.in_transaction ≡ false → RestsAt mid U = λ free. subst (λ k. RestsAt (state g.S.Store k) U) (sym (ok_same (c.in-Ok.ensures.untouched free))) rests in
+    subst (λ k. LeavesStanding (state g.S.Store k) U) (sym (c.over-store.ensures.conn ∙ c.new.ensures))
+    (stays_standing c.trees_tell_state.ensures.once c.trees_tell_state.ensures.sound (state g.S.Store c.args.conn) mid (state g.S.Store c.read_state.new.conn) U rests
+    (λ there trees may. g.met.S.Store.settled c.in-Ok.conn.store trees there may) c.read_state.ensures.live c.in-Ok.ensures.settled c.in-Ok.ensures.same c.in-Ok.ensures.was_open
+    (shut_standing mid U c.args.conn.in_transaction c.in-Ok.ensures.anew free) c.read_state.ensures.crash)
+
+pub returns-in-Err-read_state-clause-stays : goal.returns-in-Err-read_state-clause-stays
+returns-in-Err-read_state-clause-stays g c U rests =
+    let mid = state g.S.Store c.in-Ok.conn in
+    let free : c.args.conn.in_transaction ≡ false → RestsAt mid U = λ free. subst (λ k. RestsAt (state g.S.Store k) U) (sym (ok_same (c.in-Ok.ensures.untouched free))) rests in
+    stays_standing c.trees_tell_state.ensures.once c.trees_tell_state.ensures.sound (state g.S.Store c.args.conn) mid (state g.S.Store c.read_state.new.conn) U rests
+    (λ there trees may. g.met.S.Store.settled c.in-Ok.conn.store trees there may) c.read_state.ensures.live c.in-Ok.ensures.settled c.in-Ok.ensures.same c.in-Ok.ensures.was_open
+    (shut_standing mid U c.args.conn.in_transaction c.in-Ok.ensures.anew free) c.read_state.ensures.crash
+
+-- none is left only where a transaction was under way
+pub returns-in-Err-clause-stays : goal.returns-in-Err-clause-stays
+returns-in-Err-clause-stays g c U rests = true_from_ne_false _ (λ free. let e = c.in-Err.ensures.untouched free in cc)

@@ -22,13 +22,13 @@ pub returns-in-Ok-Same : goal.returns-in-Ok-Same
 returns-in-Ok-Same g c =
     let kept = c.args.self.now.kept in
     let told : OfEachState c.held.result.now.held (λ S. Answers S (commands.prune S) (Ok outcomes.Same)) = rw (c.in-Ok-Same.field-0-is) at c.in-Ok-Same.ensures.answers in
-    still_at kept (state g.S.Store c.args.self.now.conn) Prune c.args.now _ c.rests.ensures.left
+    still_at kept (state g.S.Store c.args.self.now.conn) Prune c.args.now tt _ c.rests.ensures.left
     (λ S of. prunes_same S c.args.now (each c.held.result.now.held kept (λ S. Answers S (commands.prune S) (Ok outcomes.Same)) c.held.ensures told S of)) (λ same. cc)
 
 pub returns-in-Err : goal.returns-in-Err
 returns-in-Err g c =
     let kept = c.args.self.now.kept in
-    still_at kept (state g.S.Store c.args.self.now.conn) Prune c.args.now c.refused.result c.rests.ensures.left
+    still_at kept (state g.S.Store c.args.self.now.conn) Prune c.args.now tt c.refused.result c.rests.ensures.left
     (λ S of. prune_refused S c.args.now c.in-Err.refusal c.refused.result
     (each c.held.result.now.held kept (λ S. Answers S (commands.prune S) (Err c.in-Err.refusal)) c.held.ensures c.in-Err.ensures.answers S of) c.refused.ensures)
     (refusal_sound c.in-Err.refusal c.refused.result c.refused.ensures)
@@ -48,7 +48,7 @@ returns-in-Ok g c =
     let kept = c.args.self.now.kept in
     let told : OfEachState c.held.result.now.held (λ S. Answers S (commands.prune S) (Ok (Changed c.in-Ok-Changed.effects))) = rw (c.in-Ok-Changed.field-0-is) at c.in-Ok-Changed.ensures.answers in
     let counted : OfEachState c.held.result.now.held (λ S. CountsGone S (Ok (Changed c.in-Ok-Changed.effects))) = rw (c.in-Ok-Changed.field-0-is) at c.in-Ok-Changed.ensures.counts in
-    made_at kept c.keep.new.self.kept (state g.S.Store c.args.self.now.conn) (state g.S.Store c.keep.new.self.conn) Prune c.args.now
+    made_at kept c.keep.new.self.kept (state g.S.Store c.args.self.now.conn) (state g.S.Store c.keep.new.self.conn) Prune c.args.now tt
     c.in-Ok-Changed.effects (answers.Pruned c.len-blobs.result c.len-rows.result) c.in-Ok.ensures.done
     (λ S of. subst (λ (n : ℕ × ℕ). Steps S Prune c.args.now (applied S (effects_view c.in-Ok-Changed.effects), Pruned n.0 n.1)) (both (sym (c.len-blobs.ensures ∙ c.in-Ok-Changed.effects.gone.blobs.ok.0)) (sym (c.len-rows.ensures ∙ c.in-Ok-Changed.effects.gone.rows.ok.0)))
     (prunes S c.args.now c.in-Ok-Changed.effects (each c.held.result.now.held kept (λ S. Answers S (commands.prune S) (Ok (Changed c.in-Ok-Changed.effects))) c.held.ensures told S of)

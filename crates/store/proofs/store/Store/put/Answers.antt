@@ -17,13 +17,13 @@ pub returns-in-Ok-Same : goal.returns-in-Ok-Same
 returns-in-Ok-Same g c =
     let kept = c.args.self.now.kept in
     let told : OfEachState c.held.result.now.held (λ S. Answers S (commands.put_blob S c.args.digest.0 c.args.bytes.now) (Ok outcomes.Same)) = rw (c.in-Ok-Same.field-0-is) at c.in-Ok-Same.ensures.answers in
-    still_at kept (state g.S.Store c.args.self.now.conn) (PutBlob c.args.digest.0 c.args.bytes.now) c.args.now _ c.rests.ensures.left
+    still_at kept (state g.S.Store c.args.self.now.conn) (PutBlob c.args.digest.0 c.args.bytes.now) c.args.now tt _ c.rests.ensures.left
     (λ S of. puts_same S c.args.digest.0 c.args.bytes.now c.args.now (each c.held.result.now.held kept (λ S. Answers S (commands.put_blob S c.args.digest.0 c.args.bytes.now) (Ok outcomes.Same)) c.held.ensures told S of)) (λ same. cc)
 
 pub returns-in-Err : goal.returns-in-Err
 returns-in-Err g c =
     let kept = c.args.self.now.kept in
-    still_at kept (state g.S.Store c.args.self.now.conn) (PutBlob c.args.digest.0 c.args.bytes.now) c.args.now c.refused.result c.rests.ensures.left
+    still_at kept (state g.S.Store c.args.self.now.conn) (PutBlob c.args.digest.0 c.args.bytes.now) c.args.now tt c.refused.result c.rests.ensures.left
     (λ S of. put_refused S c.args.digest.0 c.args.bytes.now c.args.now c.in-Err.refusal c.refused.result
     (each c.held.result.now.held kept (λ S. Answers S (commands.put_blob S c.args.digest.0 c.args.bytes.now) (Err c.in-Err.refusal)) c.held.ensures c.in-Err.ensures.answers S of) c.refused.ensures)
     (refusal_sound c.in-Err.refusal c.refused.result c.refused.ensures)
@@ -42,7 +42,7 @@ pub returns-in-Ok : goal.returns-in-Ok
 returns-in-Ok g c =
     let kept = c.args.self.now.kept in
     let told : OfEachState c.held.result.now.held (λ S. Answers S (commands.put_blob S c.args.digest.0 c.args.bytes.now) (Ok (Changed c.in-Ok-Changed.effects))) = rw (c.in-Ok-Changed.field-0-is) at c.in-Ok-Changed.ensures.answers in
-    made_at kept c.keep.new.self.kept (state g.S.Store c.args.self.now.conn) (state g.S.Store c.keep.new.self.conn) (PutBlob c.args.digest.0 c.args.bytes.now) c.args.now
+    made_at kept c.keep.new.self.kept (state g.S.Store c.args.self.now.conn) (state g.S.Store c.keep.new.self.conn) (PutBlob c.args.digest.0 c.args.bytes.now) c.args.now tt
     c.in-Ok-Changed.effects (answers.Stored true) c.in-Ok.ensures.done
     (λ S of. puts S c.args.digest.0 c.args.bytes.now c.args.now c.in-Ok-Changed.effects (each c.held.result.now.held kept (λ S. Answers S (commands.put_blob S c.args.digest.0 c.args.bytes.now) (Ok (Changed c.in-Ok-Changed.effects))) c.held.ensures told S of))
     c.in-Ok.ensures.clean c.in-Ok.ensures.live c.in-Ok.ensures.crash c.keep.ensures.outlives

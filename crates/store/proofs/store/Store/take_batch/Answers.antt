@@ -14,7 +14,7 @@ pub returns-in-Err : goal.returns-in-Err
 returns-in-Err g c =
     let kept = c.args.self.now.kept in
     let os = documents_view c.args.documents.now in
-    still_at kept (state g.S.Store c.args.self.now.conn) (Batch os) c.args.now c.refused_batch.result c.rests.ensures.left
+    still_at kept (state g.S.Store c.args.self.now.conn) (Batch os) c.args.now tt c.refused_batch.result c.rests.ensures.left
     (λ S of. batch_refused S os c.args.now c.in-Err.refusal c.refused_batch.result
     (each c.held.result.now.held kept (λ S. AnswersBatch S (commands.batch S.trusted os c.args.now) (Err c.in-Err.refusal)) c.held.ensures c.in-Err.ensures.answers S of) c.refused_batch.ensures)
     (batch_refusal_sound c.in-Err.refusal c.refused_batch.result c.refused_batch.ensures)
@@ -31,7 +31,7 @@ pub returns-in-Ok-keep : goal.returns-in-Ok-keep
 returns-in-Ok-keep g c =
     let kept = c.args.self.now.kept in
     let os = documents_view c.args.documents.now in
-    made_at kept c.keep.new.self.kept (state g.S.Store c.args.self.now.conn) (state g.S.Store c.keep.new.self.conn) (Batch os) c.args.now
+    made_at kept c.keep.new.self.kept (state g.S.Store c.args.self.now.conn) (state g.S.Store c.keep.new.self.conn) (Batch os) c.args.now tt
     c.in-Ok.batched.effects (answers.Batch c.in-Ok.batched.accepted c.in-Ok.batched.same) c.in-Ok-keep.ensures.done
     (λ S of. batches_all S os c.args.now c.in-Ok.batched
     (each c.held.result.now.held kept (λ S. AnswersBatch S (commands.batch S.trusted os c.args.now) (Ok c.in-Ok.batched)) c.held.ensures c.in-Ok.ensures.answers S of))
