@@ -22,7 +22,7 @@ import tempfile
 import threading
 import time
 
-from served import AT, EXAMPLE, RELEASE, TOP, Wrong, read, repository, run, want
+from served import AT, EXAMPLE, RELEASE, TOP, Wrong, read, repository, run, want, without_reasons
 
 HELLO = "50fe039463ca3069a2eec35c62c75eeb4221dba0b00ec35e32bffdc5fb42abc0.hello.txt"
 QUERIES = {
@@ -111,7 +111,7 @@ class Clients:
         """The program ends so, and says this on standard output and standard error."""
         found = subprocess.run([self.release, *words], capture_output=True, text=True, timeout=400)
         wanted = (status, said, error)
-        want((found.returncode, found.stdout, found.stderr) == wanted,
+        want((found.returncode, found.stdout, without_reasons(found.stderr)) == wanted,
              f"{what}: {(found.returncode, found.stdout, found.stderr)} in place of {wanted}")
 
 

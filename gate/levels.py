@@ -12,7 +12,7 @@ import subprocess
 import sys
 import tempfile
 
-from served import AT, TOP, Server, Wrong, want
+from served import AT, TOP, Server, Wrong, want, without_reasons
 
 sys.path.insert(0, f"{TOP}/model")
 import signed_documents as make  # noqa: E402
@@ -54,7 +54,7 @@ class Repository:
 
     def run(self, *words):
         ended = subprocess.run([self.release, *words], capture_output=True, text=True)
-        return ended.returncode, ended.stdout, ended.stderr
+        return ended.returncode, ended.stdout, without_reasons(ended.stderr)
 
     def file(self, name, text):
         with open(f"{self.folder}/{name}", "wb") as file:

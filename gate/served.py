@@ -26,6 +26,12 @@ def want(holds, said):
         raise Wrong(said)
 
 
+def without_reasons(told):
+    """What a program told on standard error, without the lines that say what a fault is about."""
+    mark = "release: " if isinstance(told, str) else b"release: "
+    return told[:0].join(line for line in told.splitlines(keepends=True) if not line.startswith(mark))
+
+
 def read(path):
     with open(path, "rb") as file:
         return file.read()

@@ -49,7 +49,7 @@ def next_layout(begun, steps, called, given, now):
     """What is not named stays, but for the term, which is the last one's where none is given."""
     signed = copy.deepcopy(begun) if begun else {"_type": "layout"}
     keys = [key for step in steps for key in step.keys]
-    seconds = signed.get("term", FIRST_DAYS * DAY)
+    seconds = drafting.last_term(signed, FIRST_DAYS)
     if isinstance(given, int):
         seconds = max(given - now, 0)
     elif given:
@@ -164,7 +164,7 @@ class Drafts:
         if document.entries and not anew:
             raise Refused("signed")
         document.entries = []
-        document.signed.setdefault("term", drafting.FIRST_DAYS["targets"] * DAY)
+        document.signed["term"] = drafting.last_term(document.signed, drafting.FIRST_DAYS["targets"])
 
     def list(self, target, listed):
         """The reference names the links that are there; where there are none it stays as it was."""

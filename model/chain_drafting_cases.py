@@ -177,7 +177,7 @@ def listed_targets(random):
         if paths:
             signed = make.targets(1, BEGIN + 10**6, {path: (len(path), digest(path.encode())) for path in paths})
             signed["targets"][paths[0]]["custom"] = {"kept": [1, None]}
-            yield role, {**signed, "kept": "z", **({"term": 10**6} if random.random() < 0.5 else {})}
+            yield role, {**signed, "kept": "z", **({"term": random.choice((10**6, 10**6, 2**40))} if random.random() < 0.5 else {})}
 
 
 def compare_layouts(session, random, count):

@@ -12,6 +12,7 @@ from document_parts import key_object
 from signed_documents import date
 
 DAY = 86400
+LONGEST_TERM = 999_999 * DAY
 FIRST_DAYS = {"root": 365, "targets": 90, "snapshot": 30, "timestamp": 7}
 TOP_ROLES = ("root", "targets", "snapshot", "timestamp")
 FIRST = {
@@ -27,6 +28,12 @@ class Refused(Exception):
     """Why there is no draft: the word that is told."""
 
 
+def last_term(signed, days):
+    """The term that a document says, if an option could, and else so many days."""
+    said = signed.get("term")
+    return said if type(said) is int and 0 < said <= LONGEST_TERM else days * DAY
+
+
 def terms(kind, given, base, now):
     """The moment at which the draft expires, and its term. `given` is days (90d), hours (12h), a moment in seconds, or None."""
     if isinstance(given, int):
@@ -34,7 +41,7 @@ def terms(kind, given, base, now):
     if given:
         seconds = int(given[:-1]) * (DAY if given.endswith("d") else 3600)
     else:
-        seconds = base.get("term", FIRST_DAYS[kind] * DAY) if base else FIRST_DAYS[kind] * DAY
+        seconds = last_term(base or {}, FIRST_DAYS[kind])
     return now + seconds, seconds
 
 

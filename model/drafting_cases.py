@@ -167,7 +167,7 @@ def compare_seals(session, random, count):
         if random.random() < 0.8:
             meta = {"snapshot.json": {"version": 1, "length": 5}}
             said = {"_type": "timestamp", "spec_version": "1.0.31", "version": random.randint(1, 99), "expires": date(now)}
-            folder.hold("timestamp", {**said, "meta": meta, "term": random.choice((5, 86400))})
+            folder.hold("timestamp", {**said, "meta": meta, "term": random.choice((5, 86400, 0, 2**40))})
         given = random.choice(TERMS)
         kinds = ["snapshot", "timestamp"]
         wanted = answered(lambda: dict(zip(kinds, drafting.sealed(*map(folder.held.get, kinds), [], given, now))))

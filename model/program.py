@@ -130,7 +130,7 @@ class Session:
             ended = subprocess.run([self.program, *words], stdout=output, stderr=subprocess.PIPE, timeout=120)
         except subprocess.TimeoutExpired:
             return "killed", b"", b""
-        return ended.returncode, ended.stdout, ended.stderr
+        return ended.returncode, ended.stdout, without_reasons(ended.stderr)
 
     def start_server(self, database, now, count, read_only=False):
         """The process and its port, or None and what it printed in place of its first line."""
@@ -142,7 +142,7 @@ class Session:
             line = server.stdout.readline()
             if line == b"listening on %s:%d\n" % (LOOPBACK.encode(), port):
                 return server, port
-            text = line + server.stderr.read()
+            text = line + without_reasons(server.stderr.read())
             end_server(server)
             if text != b"fault network\n":
                 break
@@ -237,6 +237,12 @@ def digests(rows):
     return [tuple(digest(value)[:16] if isinstance(value, bytes) else value for value in row) for row in rows]
 
 
+
+def without_reasons(told):
+    """What the program told on standard error, without the lines that say what a fault is about."""
+    return b"".join(line for line in told.splitlines(keepends=True) if not line.startswith(b"release: "))
+
+
 def end_server(server):
     """Its exit status and the rest of what it printed. One that does not end is ended."""
     try:
@@ -245,7 +251,7 @@ def end_server(server):
         server.kill()
         server.wait()
         status = "killed"
-    rest = server.stdout.read(), server.stderr.read()
+    rest = server.stdout.read(), without_reasons(server.stderr.read())
     server.stdout.close()
     server.stderr.close()
     return status, *rest

@@ -32,19 +32,34 @@ def is_digest(text):
     return type(text) is str and len(text) == 64 and set(text) <= set("0123456789abcdef")
 
 
-def spelled(value):
-    if is_digest(value):
+def digests_in(value):
+    """All digests and ids that are texts or names of members."""
+    if type(value) is dict:
+        return {it for name in value if is_digest(name) for it in (name,)}.union(*(digests_in(part) for part in value.values()))
+    if type(value) is list:
+        return set().union(*(digests_in(part) for part in value))
+    return {value} if is_digest(value) else set()
+
+
+def digits_of(held, draft):
+    """How many digits of a digest or an id stand: the first ones, or all where two that are compared begin alike."""
+    found = digests_in(held) | digests_in(draft)
+    return SHORT if len({it[:SHORT] for it in found}) == len(found) else 64
+
+
+def spelled(value, short):
+    if is_digest(value) and short == SHORT:
         return f'"{value[:SHORT]}.."'
     return plain(canonical_json.write(value).decode())
 
 
-def label(head, place):
+def label(head, place, short):
     text = head
     between = " " if head else ""
     for step in place:
         if type(step) is int:
             text += f"[{step}]"
-        elif is_digest(step):
+        elif is_digest(step) and short == SHORT:
             text += f"{between}{step[:SHORT]}.."
         else:
             is_word = step.isascii() and step.replace("-", "a").replace("_", "a").isalnum()
@@ -68,7 +83,7 @@ class Lines:
     """The lines, with the names that the held document and the draft have for keys."""
 
     def __init__(self, held, draft):
-        self.held, self.draft, self.lines = held, draft, []
+        self.held, self.draft, self.lines, self.short = held, draft, [], digits_of(held, draft)
 
     def key(self, keyid):
         if not is_digest(keyid):
@@ -77,8 +92,8 @@ class Lines:
             name = (document or {}).get("names", {})
             name = name.get(keyid) if type(name) is dict else None
             if type(name) is str and "\\" not in name and '"' not in name:
-                return f"{plain(name)} {keyid[:SHORT]}{mark}"
-        return keyid[:SHORT]
+                return f"{plain(name)} {keyid[:self.short]}{mark}"
+        return keyid[:self.short]
 
     def put(self, line):
         self.lines.append(line)
@@ -89,7 +104,7 @@ class Lines:
         for step, part in sorted(inner, key=lambda it: it[0].encode() if type(it[0]) is str else it[0]):
             self.parts(mark, head, (*place, step), part)
         if value in ({}, []) or type(value) not in (dict, list):
-            self.put(f"{mark} {label(head, place)}: {spelled(value)}")
+            self.put(f"{mark} {label(head, place, self.short)}: {spelled(value, self.short)}")
 
     def others(self, mark, head, value, said):
         for name in sorted(set(value) - set(said), key=str.encode):
@@ -97,7 +112,7 @@ class Lines:
 
     def change(self, head, place, before, after):
         if NONE not in (before, after):
-            self.put(f"~ {label(head, place)}: {spelled(before)}, now {spelled(after)}")
+            self.put(f"~ {label(head, place, self.short)}: {spelled(before, self.short)}, now {spelled(after, self.short)}")
         elif head:
             self.parts("+" if before is NONE else "-", head, place, after if before is NONE else before)
         else:
@@ -108,11 +123,11 @@ class Lines:
         group = group_of(place)
         if group == "listing":
             head = plain(place[1])
-            self.put(f"{mark} {head}: {listing(value)}")
+            self.put(f"{mark} {head}: {listing(value, self.short)}")
             self.others(mark, head, value, ("hashes", "length"))
         elif group == "named":
             head = plain(place[1].removesuffix(".json"))
-            self.put(f"{mark} {head} {spelled(value['version'])}")
+            self.put(f"{mark} {head} {spelled(value['version'], self.short)}")
             self.others(mark, head, value, ("version",))
         elif group == "rule":
             self.rule_side(mark, place[1], value, ("keyids", "threshold"))
@@ -155,7 +170,7 @@ class Lines:
         elif group == "listing":
             found = differences(before, after)
             if any(step[0] in ("hashes", "length") for step, *_ in found):
-                self.put(f"~ {place[1]}: {listing(before)}, now {listing(after)}")
+                self.put(f"~ {place[1]}: {listing(before, self.short)}, now {listing(after, self.short)}")
             for step, one, other in found:
                 if step[0] not in ("hashes", "length"):
                     self.change(place[1], step, one, other)
@@ -191,9 +206,9 @@ def group_of(place):
     return "key" if len(place) == 3 and place[:2] == ("delegations", "keys") and type(place[2]) is str else None
 
 
-def listing(value):
+def listing(value, short):
     if set(value.get("hashes", {})) == {"sha256"} and type(value.get("length")) is int:
-        return f"{value['length']} bytes, {value['hashes']['sha256'][:SHORT]}"
+        return f"{value['length']} bytes, {value['hashes']['sha256'][:short]}"
     return plain(canonical_json.write(value).decode())
 
 

@@ -74,13 +74,15 @@ def change_a_rule(random, rule, signed):
 
 def change_a_listing(random, targets):
     path = random.choice(sorted(targets) or ["e"])
-    done = random.randrange(4)
+    done = random.randrange(5)
     if done == 0:
         targets.pop(path, None)
     elif done == 1:
         targets["new/e"] = {"hashes": {"sha256": "0" * 64}, "length": 5}
     elif done == 2 and path in targets:
         targets[path]["length"] += 1
+    elif done == 3 and path in targets:
+        targets[path]["hashes"]["sha256"] = targets[path]["hashes"]["sha256"][:8] + "%056x" % random.getrandbits(224)
     elif path in targets:
         targets[path]["custom"] = {"note": copy.deepcopy(random.choice(VALUES))}
 

@@ -205,7 +205,7 @@ a_layout_is_drafted() {
     draft targets --add tool.tgz
     printf 'build products ALLOW \377\n' >ill.rules
     ends_with 3 'fault file' draft --verbose --at $now --db repository.db --in d layout --target tool.tgz --owners owner.key --rules ill.rules build=builder.key:tool.sh
-    grep -qx 'ill.rules: not UTF-8' "$folder/err" || fail "not told of the rules: $(cat "$folder/err")"
+    grep -qx 'release: ill.rules: not UTF-8' "$folder/err" || fail "not told of the rules: $(cat "$folder/err")"
     [ ! -e d/layouts ] || fail "a layout is drafted by rules that are not UTF-8"
     draft layout --target tool.tgz --owners owner.key build=builder.key:tool.sh pack=packer.key:tool.tgz
     is_told 'layout of tool.tgz'

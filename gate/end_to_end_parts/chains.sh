@@ -15,6 +15,7 @@ chains_stay_apart() {
     signs owner
     links_find_their_targets
     what_is_signed_stays
+    a_late_link_stays
     a_refused_layout_leaves_the_last_one
     references_follow
     cd "$here"
@@ -58,6 +59,23 @@ what_is_signed_stays() {
     slips signed draft --at $now --in first link --step build --products a.build
     diff -r before d || fail "a refused draft of a layout changes the folder"
     checks=$((checks + 1))
+}
+
+# A link that comes in where the targets metadata have signatures stays, and is listed once these are taken off. In a copy of all files.
+a_late_link_stays() {
+    cp -r . "$folder/late"
+    pushd "$folder/late" >/dev/null
+    draft_alone --anew layout --target a --owners owner.key build=first.key,second.key:a
+    signs owner
+    draft_alone targets
+    signs online targets.json
+    "$release" draft --at $now --in again link --step build --products a >/dev/null
+    "$release" sign --at $now --key second --in again --yes >/dev/null
+    slips signed draft --at $now --in d take --target a again/links/build.json
+    draft_alone targets --anew
+    is_told '  step build: 2 of 1 links'
+    grep -qF "+ a.build.$(digits_of second).json: " "$folder/out" || fail "a late link is not listed: $(cat "$folder/out")"
+    popd >/dev/null
 }
 
 # A layout whose reference is refused: what was there stays, and where none was, there is none.

@@ -37,21 +37,21 @@ faults_of_a_client() {
     words=(get --at=$at --port "$port")
     wants 1 '' 'denied 36 BadPath\n' "${words[@]}" --db "$folder/ill.db" --out "$folder/none/out" a/../hello.txt
     wants 1 '' 'denied 36 BadPath\n' "${words[@]}" --db "$folder/unmade.db" --out "$folder/none/out" /hello.txt
-    wants 1 '' '/hello.txt: denied\ndenied 36 BadPath\n' "${words[@]}" -v --db "$folder/unmade.db" --out "$out" /hello.txt
+    wants 1 '' "release: /hello.txt: denied; 'release help 36' says what to do\ndenied 36 BadPath\n" "${words[@]}" -v --db "$folder/unmade.db" --out "$out" /hello.txt
     [ ! -e "$folder/unmade.db" ] || fail "a path that is none made a database"
     ends 3 '' 'fault clock\n' faketime '1960-01-01 00:00:00' "$release" get --db "$db" --port "$port" --out "$out" /hello.txt
     wants 3 '' 'fault database\n' "${words[@]}" --db "$folder/ill.db" --out "$folder/none/out" hello.txt
     wants 3 '' 'fault database\n' update --at=$at --port "$port" --db "$folder/ill.db"
     wants 3 '' 'fault network\n' "${words[@]}" --db "$db" --out "$folder/none/out" empty.txt
-    wants 3 '' "port $port: Connection refused (os error 111)\nempty.txt: the source failed\nfault network\n" \
-        "${words[@]}" -v --db "$db" --out "$out" empty.txt
-    wants 3 '' "port 65535: Connection refused (os error 111)\nempty.txt: the source failed\nfault network\n" \
+    wants 3 '' "release: port $port: Connection refused (os error 111)\nrelease: empty.txt: the source failed\nfault network\n" \
+        "${words[@]}" --db "$db" --out "$out" empty.txt
+    wants 3 '' "release: port 65535: Connection refused (os error 111)\nrelease: empty.txt: the source failed\nfault network\n" \
         get --at=$at -v --out "$out" --db="$db" --port 65535 empty.txt
     wants 3 '' 'fault file\n' "${words[@]}" --db "$db" --out "$folder/none/out" hello.txt
     mkdir -p "$folder/taken"
     ln -sf "$out" "$folder/link"
     wants 3 '' 'fault file\n' "${words[@]}" --db "$db" --out "$folder/taken" hello.txt
-    wants 3 '' "$folder/link: what stands there is no file\nfault file\n" "${words[@]}" -v --db "$db" --out "$folder/link" hello.txt
+    wants 3 '' "release: $folder/link: what stands there is no file\nfault file\n" "${words[@]}" --db "$db" --out "$folder/link" hello.txt
     [ -L "$folder/link" ] || fail "a link was replaced"
     ends 3 '' 'fault file\n' with_no_output "${words[@]}" --db "$db" --out "$folder/taken/out" hello.txt
     same "what get writes where it cannot say so" "$example/hello.txt" "$folder/taken/out"
@@ -66,7 +66,7 @@ outputs_onto_the_database() {
     dump "$db" "$folder/before"
     for name in "$db" "$folder/./client.db" "$folder/way/back/client.db" "$db-wal" "$folder/way/../client.db-wal"; do
         wants 3 '' 'fault file\n' get --at=$at --db "$db" --port 1 --out "$name" hello.txt
-        wants 3 '' "$name: a file of the client's own database\nfault file\n" get -v --at=$at --db "$db" --port 1 --out "$name" hello.txt
+        wants 3 '' "release: $name: a file of the client's own database\nfault file\n" get --at=$at --db "$db" --port 1 --out "$name" hello.txt
     done
     dump "$db" "$folder/after"
     same "the tables behind outputs onto them" "$folder/before" "$folder/after"

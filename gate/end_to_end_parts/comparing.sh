@@ -14,7 +14,8 @@ same() {
     checks=$((checks + 1))
 }
 
-# ends STATUS OUT ERR COMMAND..: the command ends so, and writes these texts, byte for byte, but for how long an opening took.
+# ends STATUS OUT ERR COMMAND..: the command ends so, and writes these texts, byte for byte, but for how long an opening took. The lines
+# 'release: NAME: REASON' are compared where the case names one. A fault of a file, a database or the network has one, or a warning.
 ends() {
     local status=$1 out=$2 err=$3 ended=0
     shift 3
@@ -23,6 +24,12 @@ ends() {
     "$@" >"$folder/out" 2>"$folder/err" || ended=$?
     sed -i -E '/: signatures checked: [0-9]+, opened in [0-9]+ ms$/d' "$folder/err"
     [ "$ended" = "$status" ] || fail "status $ended in place of $status: $*"
+    if ! grep -q '^release: ' "$folder/err.wanted"; then
+        if tail -n 1 "$folder/err" | grep -qxE 'fault (database|damaged|file|network)'; then
+            grep -qE '^(release|warning): ' "$folder/err" || fail "no line says what the fault is about: $*"
+        fi
+        sed -i '/^release: /d' "$folder/err"
+    fi
     same "standard output: $*" "$folder/out.wanted" "$folder/out"
     same "standard error: $*" "$folder/err.wanted" "$folder/err"
 }

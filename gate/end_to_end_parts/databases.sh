@@ -228,6 +228,6 @@ schema_1_becomes_schema_2() {
     for statement in 'CREATE TABLE root2 (a)' 'CREATE VIEW root2 AS SELECT 1' 'CREATE TABLE other (a REFERENCES root2 (version))'; do
         first_schema "$statement"
         stays database "schema 1, $statement" "$db"
-        wants 3 '' "$db: database\n$db: other tables, indexes or views stand behind those of schema 1\nfault database\n" put -v --at=$at --db "$db" "$example/hello.txt"
+        wants 3 '' "release: $db: database\nrelease: $db: other tables, indexes or views stand after those of schema 1\nfault database\n" put --at=$at --db "$db" "$example/hello.txt"
     done
 }

@@ -35,7 +35,7 @@ logs_without_their_database() {
         rm "$folder/alone.db"
         if [ "$way" = empty ]; then : >"$folder/alone.db"; fi
         wants 3 '' 'fault damaged\n' put --at=$at --db "$folder/alone.db" "$example/hello.txt"
-        wants 3 '' "$folder/alone.db: empty or absent, beside a log with changes\nfault damaged\n" put -v --at=$at --db "$folder/alone.db" "$example/hello.txt"
+        wants 3 '' "release: $folder/alone.db: empty or absent, next to a log with changes\nfault damaged\n" put -v --at=$at --db "$folder/alone.db" "$example/hello.txt"
         wants 3 '' 'fault damaged\n' sign --book "$folder/alone.db" --seed "$folder/signing.seed" --ots 8 --height 5 "$folder/unsigned"
         same "a log without its database, which is $way" "$folder/frames" "$log"
         : >>"$folder/alone.db"
@@ -66,6 +66,7 @@ what_stands_behind_is_let_be() {
 # What was done stays done where it cannot be said.
 outputs_that_fail() {
     ends 3 '' 'fault file\n' with_no_output --help
+    ends 3 '' 'fault file\n' with_no_output help 29
     ends 3 '' 'fault file\n' with_no_output canon "$folder/loose.json"
     ends 3 '' 'fault file\n' with_no_output init --at=$at --db "$folder/output.db" "$example/root.json"
     wants 1 '' 'denied 7 RootExists\n' init --at=$at --db "$folder/output.db" "$example/root.json"
@@ -88,36 +89,36 @@ faults_of_the_machine() {
 more_is_told() {
     local db=$folder/db none=$folder/none.json gone='No such file or directory (os error 2)'
     wants 0 '{"a":0,"b":1}' '' canon --verbose "$folder/loose.json"
-    wants 1 '' "$folder/ill.json: no canonical form\ndenied 2 NotCanonical\n" canon -v "$folder/ill.json"
-    wants 1 '' "$folder/ill.json: no canonical form\ndenied 2 NotCanonical\n" canon -vv "$folder/ill.json"
-    wants 3 '' "$none: $gone\nfault file\n" canon -v "$none"
-    wants 3 '' "$none: $gone\nfault file\n" init -v --at=$at --db "$db" "$none"
-    wants 1 '' "$example/root.json: denied\ndenied 7 RootExists\n" init -v --at=$at --db "$db" "$example/root.json"
-    wants 1 '' "$folder/large: denied\ndenied 38 BlobLength\n" put -v --at=$at --db "$db" "$folder/large"
-    wants 1 '' "Targets:a: denied\ndenied 3 WrongShape at 1\n" publish -v --at=$at --db "$db" targets:a Targets:a
-    wants 3 '' "$none: $gone\nfault file\n" publish -v --at=$at --db "$db" "targets:$none"
-    wants 1 '' "the documents together: the timestamp names snapshot 1\nthe documents together: denied\ndenied 51 Incoherent at 1\n" publish -v --at=$at --db "$folder/begun.db" \
+    wants 1 '' "release: $folder/ill.json: no canonical form\ndenied 2 NotCanonical\n" canon -v "$folder/ill.json"
+    wants 1 '' "release: $folder/ill.json: no canonical form\ndenied 2 NotCanonical\n" canon "$folder/ill.json"
+    wants 3 '' "release: $none: $gone\nfault file\n" canon "$none"
+    wants 3 '' "release: $none: $gone\nfault file\n" init -v --at=$at --db "$db" "$none"
+    wants 1 '' "release: $example/root.json: denied; 'release help 7' says what to do\ndenied 7 RootExists\n" init -v --at=$at --db "$db" "$example/root.json"
+    wants 1 '' "release: $folder/large: denied; 'release help 38' says what to do\ndenied 38 BlobLength\n" put -vv --at=$at --db "$db" "$folder/large"
+    wants 1 '' "release: Targets:a: denied; 'release help 3' says what to do\ndenied 3 WrongShape at 1\n" publish -v --at=$at --db "$db" targets:a Targets:a
+    wants 3 '' "release: $none: $gone\nfault file\n" publish -v --at=$at --db "$db" "targets:$none"
+    wants 1 '' "the documents together: the timestamp names snapshot 1\nrelease: the documents together: denied; 'release help 51' says what to do\ndenied 51 Incoherent at 1\n" publish -v --at=$at --db "$folder/begun.db" \
         "timestamp:$example/timestamp.json"
     places_are_named
-    wants 3 '' "$folder/none/db: $gone\nfault database\n" put -v --db "$folder/none/db" "$example/hello.txt"
-    wants 3 '' "$folder/damaged.db: database\nfault database\n" put -v --db "$folder/damaged.db" "$example/hello.txt"
-    ends 3 '' 'standard output: No space left on device (os error 28)\nfault file\n' with_no_output canon -v "$folder/loose.json"
+    wants 3 '' "release: $folder/none/db: $gone\nfault database\n" put --db "$folder/none/db" "$example/hello.txt"
+    wants 3 '' "release: $folder/damaged.db: database\nfault database\n" put --db "$folder/damaged.db" "$example/hello.txt"
+    ends 3 '' 'release: standard output: No space left on device (os error 28)\nfault file\n' with_no_output canon "$folder/loose.json"
 }
 
 # Of a document or a first root that is denied the member, the keys that have signed, or what is missing.
 places_are_named() {
     local begun=$folder/begun.db
     sed 's/"expires":"[^"]*"/"expires":"soon"/' "$example/timestamp.json" >"$folder/soon.json"
-    wants 1 '' "timestamp:$folder/soon.json: at signed.expires\ntimestamp:$folder/soon.json: denied\ndenied 3 WrongShape at 0\n" \
+    wants 1 '' "timestamp:$folder/soon.json: at signed.expires\nrelease: timestamp:$folder/soon.json: denied; 'release help 3' says what to do\ndenied 3 WrongShape at 0\n" \
         publish -v --at=$at --db "$begun" "timestamp:$folder/soon.json"
     sed 's/"version":1/"version":9/' "$example/timestamp.json" >"$folder/nine.json"
-    wants 1 '' "timestamp:$folder/nine.json: 0 of 1 keys have signed\ntimestamp:$folder/nine.json: denied\ndenied 12 TimestampThreshold at 0\n" \
+    wants 1 '' "timestamp:$folder/nine.json: 0 of 1 keys have signed\nrelease: timestamp:$folder/nine.json: denied; 'release help 12' says what to do\ndenied 12 TimestampThreshold at 0\n" \
         publish -v --at=$at --db "$begun" "timestamp:$folder/nine.json"
     sed 's/"expires":"[^"]*"/"expires":"soon"/' "$example/root.json" >"$folder/soon.root"
-    wants 1 '' "$folder/soon.root: denied\n$folder/soon.root: at signed.expires\ndenied 3 WrongShape\n" init -v --at=$at --db "$folder/none.db" "$folder/soon.root"
+    wants 1 '' "release: $folder/soon.root: denied; 'release help 3' says what to do\n$folder/soon.root: at signed.expires\ndenied 3 WrongShape\n" init -v --at=$at --db "$folder/none.db" "$folder/soon.root"
     sed 's/"version":1/"version":9/' "$example/root.json" >"$folder/nine.root"
-    wants 1 '' "$folder/nine.root: denied\n$folder/nine.root: 0 of 1 keys have signed\ndenied 10 NewThreshold\n" init -v --at=$at --db "$folder/none.db" "$folder/nine.root"
+    wants 1 '' "release: $folder/nine.root: denied; 'release help 10' says what to do\n$folder/nine.root: 0 of 1 keys have signed\ndenied 10 NewThreshold\n" init -v --at=$at --db "$folder/none.db" "$folder/nine.root"
     rm -f "$folder/none.db"*
-    wants 1 '' "the documents together: missing: targets 1\nthe documents together: denied\ndenied 51 Incoherent at 2\n" \
+    wants 1 '' "the documents together: missing: targets 1\nrelease: the documents together: denied; 'release help 51' says what to do\ndenied 51 Incoherent at 2\n" \
         publish -v --at=$at --db "$begun" "timestamp:$example/timestamp.json" "snapshot:$example/snapshot.json"
 }

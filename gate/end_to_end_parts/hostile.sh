@@ -111,8 +111,8 @@ kinds() {
     for kind in pipe link; do
         rm -rf e && cp -r d e && rm -rf "e/$1"
         if [ $kind = pipe ]; then mkfifo "e/$1"; else ln -s /etc/hostname "e/$1"; fi
-        ends 3 '' "warning: e/$1: no regular file, and no link is followed\nfault file\n" timeout 20 "$release" show --at $now --in e
-        ends 3 '' "warning: e/$1: no regular file, and no link is followed\nfault file\n" timeout 20 "$release" sign --at $now --key online --in e --yes targets
+        ends 3 '' "release: e/$1: no regular file, and no link is followed\nfault file\n" timeout 20 "$release" show --at $now --in e
+        ends 3 '' "release: e/$1: no regular file, and no link is followed\nfault file\n" timeout 20 "$release" sign --at $now --key online --in e --yes targets
     done
 }
 
@@ -122,7 +122,7 @@ what_is_no_file_is_refused() {
     kinds targets.json
     kinds held/targets.json
     rm -rf e && cp -r d e && mv e/held elsewhere && ln -s ../elsewhere e/held
-    ends 3 '' 'warning: e/held: no folder, and no link is followed\nfault file\n' timeout 20 "$release" show --at $now --in e
+    ends 3 '' 'release: e/held: no folder, and no link is followed\nfault file\n' timeout 20 "$release" show --at $now --in e
     rm -rf elsewhere
     # A name that is no UTF-8 is passed over, and told.
     name=$(printf '\377.json')
@@ -137,7 +137,7 @@ what_is_no_file_is_refused() {
     ! grep -q 't/[lp]' "$folder/out" || fail "a link or a pipe is added"
     grep -qx 'warning: tree/l: a link or no file, which is passed by: name it to add it' "$folder/err" || fail "not told: $(cat "$folder/err")"
     mkfifo take.json
-    ends 3 '' 'warning: take.json: no regular file, and no link is followed\nfault file\n' timeout 20 "$release" draft --at $now --in d take take.json
+    ends 3 '' 'release: take.json: no regular file, and no link is followed\nfault file\n' timeout 20 "$release" draft --at $now --in d take take.json
     rm -rf d && mv kept d
     checks=$((checks + 3))
 }

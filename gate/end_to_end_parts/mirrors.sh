@@ -130,9 +130,9 @@ hosts_and_redirections() {
         server { listen 127.0.0.1:$moved; return 301 https://mirror.example.org\$request_uri; }" "$known"
     known=http://localhost:$known moved=http://localhost:$moved
     fresh
-    updates 3 '' "${known/localhost/127.0.0.1}/files: metadata/2.root.json: status 421\n$far: the source failed\nfault network\n" \
-        -v --mirror "${known/localhost/127.0.0.1}/files"
-    updates 3 '' "$moved/files: $away\n$far: the source failed\nfault network\n" -v --mirror "$moved/files"
+    updates 3 '' "release: ${known/localhost/127.0.0.1}/files: metadata/2.root.json: status 421\nrelease: $far: the source failed\nfault network\n" \
+        --mirror "${known/localhost/127.0.0.1}/files"
+    updates 3 '' "release: $moved/files: $away\nrelease: $far: the source failed\nfault network\n" --mirror "$moved/files"
     updates 0 'updated\n' '' --mirror "$moved/files" --mirror "$known/files"
     gets 0 'written\n' '' --mirror "$known/files/"
     fresh

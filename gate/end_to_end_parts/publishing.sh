@@ -28,14 +28,14 @@ publishing_beside_a_server() {
     both 0 "$digest\n" '' put "$example/hello.txt"
     both 1 '' 'denied 16 NoTimestamp at 0\n' publish "snapshot:$example/snapshot.json"
     both 1 '' 'denied 51 Incoherent at 2\n' publish "timestamp:$example/timestamp.json" "snapshot:$example/snapshot.json"
-    both 1 '' 'the documents together: the timestamp names snapshot 1\nthe documents together: denied\ndenied 51 Incoherent at 1\n' publish -v "timestamp:$example/timestamp.json"
-    both 1 '' "timestamp:$folder/soon.json: at signed.expires\ntimestamp:$folder/soon.json: denied\ndenied 3 WrongShape at 0\n" publish -v "timestamp:$folder/soon.json"
-    both 1 '' "timestamp:$folder/nine.json: 0 of 1 keys have signed\ntimestamp:$folder/nine.json: denied\ndenied 12 TimestampThreshold at 0\n" publish -v "timestamp:$folder/nine.json"
+    both 1 '' "the documents together: the timestamp names snapshot 1\nrelease: the documents together: denied; 'release help 51' says what to do\ndenied 51 Incoherent at 1\n" publish -v "timestamp:$example/timestamp.json"
+    both 1 '' "timestamp:$folder/soon.json: at signed.expires\nrelease: timestamp:$folder/soon.json: denied; 'release help 3' says what to do\ndenied 3 WrongShape at 0\n" publish -v "timestamp:$folder/soon.json"
+    both 1 '' "timestamp:$folder/nine.json: 0 of 1 keys have signed\nrelease: timestamp:$folder/nine.json: denied; 'release help 12' says what to do\ndenied 12 TimestampThreshold at 0\n" publish -v "timestamp:$folder/nine.json"
     both 1 '' 'denied 4 WrongType at 1\n' publish "timestamp:$example/timestamp.json" "some_role:$example/snapshot.json"
     both 0 '{"accepted":3,"same":0}\n' '' publish "${all[@]}"
     both 0 '{"accepted":0,"same":3}\n' '' publish "${all[@]}"
     both 0 '{"accepted":0,"same":4}\n' '' publish "root:$example/root.json" "${all[@]}"
-    both 1 '' "targets:$folder/long: length 262145\ntargets:$folder/long: denied\ndenied 1 TooLong at 1\n" \
+    both 1 '' "targets:$folder/long: length 262145\nrelease: targets:$folder/long: denied; 'release help 1' says what to do\ndenied 1 TooLong at 1\n" \
         publish -v "timestamp:$example/timestamp.json" "targets:$folder/long"
     both 1 '' 'denied 20 SnapshotVersion at 2\n' publish "root:$example/refused/root.json" \
         "timestamp:$example/refused/timestamp.json" "snapshot:$example/refused/snapshot.json"
@@ -76,6 +76,7 @@ warnings_through_a_port() {
     own "$folder/own.3.root" '{"_type":"root","consistent_snapshot":true,'$common','"$key"',"roles":{"root":'$role',"snapshot":'$role',"targets":'$role',"timestamp":'$other'},"version":3}'
     own "$folder/own.4.root" '{"_type":"root","consistent_snapshot":true,'$common','"$key"',"roles":{"root":'$role',"snapshot":'$other',"targets":'$role',"timestamp":'$other'},"version":4}'
     own "$folder/own.5.root" '{"_type":"root","consistent_snapshot":true,'$common','"$key"',"roles":{"root":'$role',"snapshot":'$role',"targets":'$role',"timestamp":'$other'},"version":5}'
+    own "$folder/stranger.root" '{"_type":"root","consistent_snapshot":true,'$common','"$key"',"roles":{"root":'$role',"snapshot":'$role',"targets":'$role',"timestamp":'$other'},"version":5}' "$folder/new.seed"
     own "$folder/new.snapshot" '{"_type":"snapshot","meta":{"targets.json":{"version":1}},'$common',"version":1}' "$folder/new.seed"
     own "$folder/other.timestamp" '{"_type":"timestamp","meta":{"snapshot.json":{"version":1}},'$common',"version":1}'
     own "$folder/new.timestamp" '{"_type":"timestamp","meta":{"snapshot.json":{"version":1}},'$common',"version":1}' "$folder/new.seed"
@@ -111,7 +112,8 @@ each_of() {
     wants "$status" "$out" "${err//NAME/$folder/apart.db}" publish --at=$at --db "$folder/apart.db" "$@"
 }
 
-# A root of other keys alone, also behind others of its batch; not where its timestamp stands behind it, and not where it is held.
+# A root of other keys alone, also behind others of its batch; not where its timestamp stands behind it, not where it is held, and not where
+# it is denied.
 roots_that_forget() {
     local forgets='warning: NAME: the root has other keys for the timestamp or the snapshot, and no timestamp stands behind it: every target will be denied\n'
     local forgotten='warning: NAME: no timestamp any more: every target is denied until timestamp, snapshot and targets metadata are published\n'
@@ -123,15 +125,18 @@ roots_that_forget() {
     each_of 0 '{"accepted":3,"same":0}\n' '' "$timestamp" "snapshot:$folder/own.snapshot" "$targets"
     each_of 0 '{"accepted":4,"same":0}\n' '' "$root.4.root" "$timestamp" "snapshot:$folder/new.snapshot" "$targets"
     each_of 0 '{"accepted":0,"same":1}\n' '' "$root.4.root"
+    each_of 1 '' 'denied 9 OldThreshold at 0\n' "root:$folder/stranger.root"
+    each_of 1 '' 'denied 9 OldThreshold at 1\n' "$root.4.root" "root:$folder/stranger.root"
     each_of 0 '{"accepted":1,"same":0}\n' "$forgets$forgotten" "$root.5.root"
     each_of 0 '{"accepted":0,"same":1}\n' '' "$root.5.root"
 }
 
-# A server that takes each batch and closes each connection with a question: nothing is warned of, and all else is as ever.
-servers_that_answer_no_question() {
-    local closing
-    python3 - >"$folder/closing" <<'END' &
+# A server that answers each batch so, and closes each connection with a question. Its port is printed into 'closing'.
+answers_each_batch() {
+    : >"$folder/closing"
+    python3 - "$@" >"$folder/closing" <<'END' &
 import http.server
+import sys
 
 
 class Handler(http.server.BaseHTTPRequestHandler):
@@ -140,8 +145,8 @@ class Handler(http.server.BaseHTTPRequestHandler):
 
     def do_POST(self):
         self.rfile.read(int(self.headers["Content-Length"]))
-        body = b'{"accepted":1,"same":1}'
-        self.send_response(200)
+        body = sys.argv[2].encode()
+        self.send_response(int(sys.argv[1]))
         self.send_header("Content-Length", str(len(body)))
         self.end_headers()
         self.wfile.write(body)
@@ -160,6 +165,19 @@ END
         sleep 0.1
     done
     closing=$(cat "$folder/closing")
+}
+
+# Nothing is warned of where no question is answered, and all else is as ever. What cannot be so is taken for no answer.
+servers_that_answer_no_question() {
+    local closing body unknown
+    answers_each_batch 200 '{"accepted":1,"same":1}'
     wants 0 '{"accepted":1,"same":1}\n' '' publish -v --port "$closing" "root:$folder/own.2.root" "timestamp:$folder/other.timestamp"
+    unknown='it is not known whether this was taken; sending it again is safe\nfault network\n'
+    wants 3 '' "warning: port $closing: $unknown" publish --port "$closing" "root:$folder/own.2.root"
     end_hosts
+    for body in '{"denial":255,"index":0,"rule":"Zzz"}' '{"denial":9,"index":18446744073709551615,"rule":"NewThreshold"}'; do
+        answers_each_batch 403 "$body"
+        wants 3 '' "warning: port $closing: $unknown" publish --port "$closing" "root:$folder/own.2.root"
+        end_hosts
+    done
 }

@@ -62,9 +62,9 @@ targets_are_served() {
 a_port_that_is_taken() {
     serve --count 1
     wants 3 '' 'fault network\n' serve --db "$folder/other.db" --port "$port"
-    wants 3 '' "port $port: Address already in use (os error 98)\nfault network\n" serve -v --db "$folder/other.db" --port "$port"
+    wants 3 '' "release: port $port: Address already in use (os error 98)\nfault network\n" serve --db "$folder/other.db" --port "$port"
     wants 3 '' 'fault database\n' put --db "$folder/db" "$example/hello.txt"
-    wants 3 '' "$folder/db: in use by another process\nfault database\n" put -v --db "$folder/db" "$example/hello.txt"
+    wants 3 '' "release: $folder/db: in use by another process; where a server runs over it, use --port\nfault database\n" put --db "$folder/db" "$example/hello.txt"
     curl -s -S -o "$folder/body" "http://127.0.0.1:$port/targets/hello.txt"
     served_one
     same "body: behind two faults" "$example/hello.txt" "$folder/body"

@@ -38,7 +38,7 @@ keys_are_printed() {
         wants 3 '' 'fault file\n' key --seed "$folder/seed" --ots 4 --height 5
     done
     wants 3 '' 'fault file\n' key --seed "$folder/none" --ots 4 --height 5
-    wants 3 '' "$folder/seed: no 96 hex digits of lower case and a line feed\nfault file\n" key -v --seed "$folder/seed" --ots 4 --height 5
+    wants 3 '' "release: $folder/seed: no seed: 96 hex digits of lower case and a line feed\nfault file\n" key --seed "$folder/seed" --ots 4 --height 5
 }
 
 # A document of so many entries of other keys, whose signed part is this.

@@ -62,6 +62,50 @@ the_help_is_printed() {
     same "the table of denials" "$folder/denials.wanted" "$folder/denials"
 }
 
+# paragraph NUMBER NAME RULE: what help says of the denial, by its number and by its name. It begins with the line of a denied command and
+# the rule of docs/REFERENCE.md, is folded, and has two sentences or more.
+paragraph() {
+    local said
+    wants 0 "$("$release" help "$1")\n" '' help "$1"
+    cp "$folder/out" "$folder/paragraph"
+    wants 0 "$(cat "$folder/paragraph")\n" '' help "$2"
+    [ "$(head -n 1 "$folder/paragraph")" = "denied $1 $2" ] || fail "the first line of help $1"
+    said=$(tail -n +2 "$folder/paragraph" | tr '\n' ' ')
+    [ "${said#"$3"}" != "$said" ] || fail "help $1 does not begin with its rule"
+    grep -q -E '\. .*\. $' <<<"$said" || fail "help $1 has no two sentences"
+    [ "$(wc -L <"$folder/paragraph")" -le 100 ] || fail "a line of help $1 is longer than 100 columns"
+    checks=$((checks + 1))
+}
+
+# Help has a paragraph of each denial, and of no other number and no other name.
+denials_have_paragraphs() {
+    local number name rule other
+    while read -r number name rule; do
+        paragraph "$number" "$name" "$rule"
+    done <"$folder/denials.wanted"
+    wants 0 "$paragraph_of_29" '' help 29
+    wants 0 "$paragraph_of_29" '' help RoleVersion
+    for other in 0 54 256 999 -1 1.0 roleversion RoleVersion. denied; do
+        says "unrecognized subcommand '$other'|unexpected argument '$other'" help "$other"
+    done
+    says "unrecognized subcommand '29'" help 29 x
+    says "unrecognized subcommand 'RoleVersion'" help RoleVersion 29
+    says "unrecognized subcommand '29'" 29
+    says "unrecognized subcommand '29'" 29 help
+    helps 'Usage: release publish' help publish
+    helps 'release publish --db' help publish
+    helps '29  RoleVersion' help denials
+}
+
+paragraph_of_29="denied 29 RoleVersion
+The version is not the one that the snapshot lists: no snapshot was drafted after this document, or
+the document is an older one. Seal first: 'release draft --in d seal' drafts a snapshot that lists
+it, and a timestamp that names this snapshot. Have both signed by
+'release sign --key snapshot --key timestamp --in d', and publish all of it in one batch by
+'release publish --db repository.db --in d'. 'release show --db repository.db' prints the versions
+that are held.
+"
+
 # documents N WORD: so many times this word.
 documents() {
     local _

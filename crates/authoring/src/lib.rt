@@ -18,7 +18,8 @@ use showing::show_folder;
 use std::io::Write;
 
 /// Drafts the next document of a kind into a folder, over what a database holds where one is given, and prints what the folder then has. No
-/// leaf is spent. Layouts and links are listed as they stand signed behind it; where that is refused as the folder stands, nothing is drafted.
+/// leaf is spent. Layouts and links are listed as they stand signed after it; where that is refused as the folder stands, nothing is drafted.
+/// No other command writes in the folder meanwhile.
 pub fn draft<O: Write, E: Write>(
     rt: &HostRuntime,
     asked: &Drafting,
@@ -29,6 +30,7 @@ pub fn draft<O: Write, E: Write>(
     let now = moment(rt, at)?;
     let folder = Folder::new(rt, asked.folder.as_str());
     folder.make(notes)?;
+    let _lock = folder.lock(notes)?;
     if let Some(db) = &asked.db {
         follow(rt, db, folder, now, notes)?;
     }

@@ -52,6 +52,19 @@ impl Batch {
         Ok(())
     }
 
+    /// Whether it has targets metadata and no timestamp: it was not sealed.
+    pub fn is_unsealed(&self) -> bool {
+        let mut has_targets = false;
+        for role in &self.roles {
+            match role.as_str() {
+                "timestamp" => return false,
+                "root" | "snapshot" => {}
+                _ => has_targets = true,
+            }
+        }
+        has_targets
+    }
+
     /// What is offered, in order.
     pub fn offers(&self, alloc: Global) -> Result<Vec<(Offer, &[u8])>, AllocError> {
         let mut offers = Vec::new(alloc);

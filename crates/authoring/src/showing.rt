@@ -25,11 +25,15 @@ pub fn show<O: Write, E: Write>(
     let now = moment(rt, at)?;
     match (&asked.folder, &asked.db) {
         (Some(folder), None) => {
-            let shown = drafts_in(rt.alloc(), Folder::new(rt, folder), None, now, notes)?;
+            let folder = Folder::new(rt, folder);
+            folder.see(notes)?;
+            let shown = drafts_in(rt.alloc(), folder, None, now, notes)?;
             show_drafts(rt, asked, &shown, out, notes)
         }
         (Some(folder), Some(db)) => {
-            show_judged(rt, asked, Folder::new(rt, folder), db, now, out, notes)
+            let folder = Folder::new(rt, folder);
+            folder.see(notes)?;
+            show_judged(rt, asked, folder, db, now, out, notes)
         }
         (None, Some(db)) => show_standing(rt, db, asked, leaves, now, out, notes),
         (None, None) => Ok(()),

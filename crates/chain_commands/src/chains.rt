@@ -95,7 +95,7 @@ fn steps_of<'a, E: Write>(
     match str::from_utf8(&bytes) {
         Ok(lines) => steps_by(rt, known, told, lines, notes),
         Err(_) => {
-            notes.tell(file, &"not UTF-8");
+            notes.fault(file, &"not UTF-8");
             Err(Fault::File)
         }
     }

@@ -1,5 +1,5 @@
 //! Keys by their names and their first digits.
-use crate::spelling::digits_of;
+use crate::spelling::{digits_of, reads_as_another};
 use drafting::name_of_key;
 use keys_roles::KeyId;
 use path_patterns::Digest;
@@ -13,7 +13,7 @@ pub struct Names<'a> {
     pub draft: &'a [u8],
 }
 
-/// A key: its name, if it has one, and the first digits of its id, or all of them. A name that the draft alone gives is marked: whoever
+/// A key: its name, if it has one, and the first digits of its id, or all of them where that is wanted or another id begins so. A name that the draft alone gives is marked: whoever
 /// wrote the draft says it.
 pub fn key_text(
     alloc: Global,
@@ -32,6 +32,7 @@ pub fn key_words(
     digits: &str,
     whole: bool,
 ) -> Result<String, AllocError> {
+    let whole = whole || is_another(names, digits);
     let short = plain(alloc, digits_of(digits, whole))?;
     let Some(digest) = Digest::read(digits) else {
         return plain(alloc, digits);
@@ -47,5 +48,16 @@ pub fn key_words(
             format!(in alloc; "{name} {short} (named by the draft)")
         }
         None => Ok(short),
+    }
+}
+
+// Whether another id or digest in the parts begins like this one.
+fn is_another(names: Names<'_>, digits: &str) -> bool {
+    if reads_as_another(names.draft, digits) {
+        return true;
+    }
+    match names.held {
+        Some(held) => reads_as_another(held, digits),
+        None => false,
     }
 }

@@ -3,7 +3,7 @@ use crate::keys::Names;
 use crate::listings::{put_listing, put_named};
 use crate::places::{Group, at, group_at, label};
 use crate::rules::{put_delegations, put_rule};
-use crate::spelling::spelled;
+use crate::spelling::{read_alike, spelled};
 use canonical_json::{ReadFault, Value, WriteFault, read};
 use std::alloc::{AllocError, AllocFailed, Global};
 use value_changes::{Change, CompareFault, Step, changes};
@@ -16,7 +16,8 @@ pub enum LinesFault {
     OutOfMemory,
 }
 
-/// What is compared: the signed part that is held, if one is, and that of the draft; and whether all digits of digests and ids stand.
+/// What is compared: the signed part that is held, if one is, and that of the draft; and whether all digits of digests and ids stand, which
+/// they do too where two of them begin alike.
 #[derive(Clone, Copy)]
 pub struct Compared<'a> {
     pub held: Option<&'a [u8]>,
@@ -36,7 +37,7 @@ pub fn lines_of(alloc: Global, compared: Compared<'_>) -> Result<Vec<String>, Li
             held: compared.held,
             draft: compared.draft,
         },
-        whole: compared.whole,
+        whole: compared.whole || read_alike(alloc, compared.held, compared.draft)?,
         lines: Vec::new(alloc),
     };
     lines.put_all(&before, &after, &found)?;

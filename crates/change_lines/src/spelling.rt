@@ -49,3 +49,53 @@ pub(crate) fn member_words(alloc: Global, name: &str, whole: bool) -> Result<Str
 fn is_word_byte(byte: u8) -> bool {
     byte.is_ascii_alphanumeric() || byte == b'-' || byte == b'_'
 }
+
+/// Whether two digests in what is compared begin with the same digits, so that the first ones say too little: whoever makes a key may look for
+/// one whose id begins like another's.
+pub(crate) fn read_alike(
+    alloc: Global,
+    held: Option<&[u8]>,
+    draft: &[u8],
+) -> Result<bool, AllocError> {
+    let mut found = Vec::new(alloc);
+    if let Some(held) = held {
+        add_digests(text_of(held), &mut found)?;
+    }
+    add_digests(text_of(draft), &mut found)?;
+    found.sort_unstable();
+    let mut last = "";
+    for digits in &found {
+        if *digits != last && begin_alike(digits, last) {
+            return Ok(true);
+        }
+        last = digits;
+    }
+    Ok(false)
+}
+
+/// Whether another digest in a signed part begins with the same digits as this one.
+pub(crate) fn reads_as_another(part: &[u8], digits: &str) -> bool {
+    for piece in text_of(part).split('"') {
+        if begin_alike(piece, digits) && piece != digits && Digest::read(piece).is_some() {
+            return true;
+        }
+    }
+    false
+}
+
+fn add_digests<'a>(text: &'a str, found: &mut Vec<&'a str>) -> Result<(), AllocError> {
+    for piece in text.split('"') {
+        if Digest::read(piece).is_some() {
+            found.push(piece)?;
+        }
+    }
+    Ok(())
+}
+
+fn begin_alike(one: &str, other: &str) -> bool {
+    digits_of(one, false) == digits_of(other, false)
+}
+
+fn text_of(part: &[u8]) -> &str {
+    str::from_utf8(part).unwrap_or("")
+}

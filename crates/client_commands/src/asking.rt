@@ -1,20 +1,18 @@
 //! What the server at a port of 127.0.0.1 is asked beside a batch, and what is warned of by its answers, as `publish` over a database
 //! warns. A question that gets no answer costs its warning, and nothing else.
 use crate::wire::{Wire, connected, host};
-use command_support::{FILE_LIMIT, Notes};
+use command_support::{FILE_LIMIT, Fault, Notes};
 use connections::Port;
 use http_fetch::fetch_over;
 use std::alloc::Global;
 use std::io::Write;
-use subcommands::{
-    FORGETS, FORGOTTEN, HeldFiles, NOT_TAKEN, Offer, forgets, root_version_of, tell_listed,
-};
+use subcommands::{FORGOTTEN, Forgetting, HeldFiles, NOT_TAKEN, Offer, forgets, root_version_of};
 
 // An answer has so many seconds.
 const ANSWER_SECONDS: u64 = 10;
 
-// More roots than these are not asked for.
-const MOST_ROOTS: u32 = 4096;
+// So often a version is doubled, and an interval of versions halved, to find the newest root.
+const ROOT_QUESTIONS: u32 = 13;
 
 const TIMESTAMP: &str = "metadata/timestamp.json";
 
@@ -25,33 +23,50 @@ pub struct Asking<'a> {
     pub port: u16,
 }
 
+/// What is known before a batch: whether the server has a timestamp, and whether it will forget it by the batch.
+#[derive(Clone, Copy)]
+pub struct Before {
+    had_timestamp: bool,
+    forgetting: Option<Forgetting>,
+}
+
 impl Asking<'_> {
-    /// Before a batch with a root: warns where the server will forget its timestamp by it, and answers whether it has one. Of another batch
-    /// nothing is asked.
-    pub fn before<E: Write>(&mut self, batch: &[(Offer, &[u8])], notes: &mut Notes<'_, E>) -> bool {
-        if !offers_root(batch) {
-            return false;
-        }
-        let Some(Some(_)) = self.ask(TIMESTAMP) else {
-            return false;
+    /// What is known before a batch with a root. Of another batch nothing is asked.
+    pub fn before<E: Write>(&mut self, batch: &[(Offer, &[u8])], notes: &Notes<'_, E>) -> Before {
+        let had_timestamp = offers_root(batch) && self.has_timestamp();
+        let forgetting = if had_timestamp && self.will_forget(batch) {
+            let alloc = self.rt.alloc();
+            Some(Forgetting::of(alloc, self, notes))
+        } else {
+            None
         };
-        if self.will_forget(batch) {
-            notes.warn(&Port(self.port), &FORGETS);
-            tell_listed(self.rt.alloc(), &Port(self.port), self, notes);
+        Before {
+            had_timestamp,
+            forgetting,
         }
-        true
     }
 
-    /// Behind a batch of which so many counted as the same: warns where the server has no timestamp any more, and where it has another one
-    /// than the last of the batch.
+    fn has_timestamp(&self) -> bool {
+        match self.ask(TIMESTAMP) {
+            Some(Some(_)) => true,
+            _ => false,
+        }
+    }
+
+    /// After a batch was taken of which so many counted as the same: warns where the server forgot its timestamp by it and has none any
+    /// more, and where it has another one than the last of the batch.
     pub fn behind<E: Write>(
         &self,
         arguments: &[String],
         batch: &[(Offer, &[u8])],
-        had_timestamp: bool,
+        before: Before,
         same: usize,
         notes: &mut Notes<'_, E>,
     ) {
+        if let Some(forgetting) = &before.forgetting {
+            forgetting.warn(self.rt.alloc(), &Port(self.port), notes);
+        }
+        let had_timestamp = before.had_timestamp;
         let last = last_timestamp(batch);
         if !had_timestamp && (same == 0 || last.is_none()) {
             return;
@@ -101,6 +116,19 @@ impl Asking<'_> {
         self.ask(name.as_str())
     }
 
+    // The version of a root that the server has, 0 where it has none, and twice that, of which it has none: 1, 2, 4 and so on are asked for.
+    fn root_between(&self) -> Option<(u32, u32)> {
+        let (mut least, mut next) = (0u32, 1u32);
+        for _ in 0..ROOT_QUESTIONS {
+            if self.ask_root(next)?.is_none() {
+                return Some((least, next));
+            }
+            least = next;
+            next = next.saturating_mul(2);
+        }
+        Some((least, next))
+    }
+
     // What the server has under this name, where it answers.
     fn ask(&self, name: &str) -> Option<Option<Vec<u8>>> {
         let alloc = self.rt.alloc();
@@ -120,7 +148,7 @@ impl Asking<'_> {
     }
 }
 
-// What the server holds, as far as it answers. Its roots are asked for from the first on, until one is not there.
+// What the server holds, as far as it answers.
 impl HeldFiles for Asking<'_> {
     fn file(&mut self, alloc: Global, name: &str) -> Option<Vec<u8>> {
         let name = format!(in alloc; "metadata/{name}").ok()?;
@@ -130,15 +158,35 @@ impl HeldFiles for Asking<'_> {
         }
     }
 
+    // The roots of a repository have the versions from 1 on, so the newest one lies between one that is there and one that is not.
     fn root_version(&self) -> Option<u32> {
-        let mut newest = None;
-        for version in 1..MOST_ROOTS {
-            match self.ask_root(version) {
-                Some(Some(_)) => newest = Some(version),
-                _ => return newest,
+        let (mut least, mut beyond) = self.root_between()?;
+        for _ in 0..ROOT_QUESTIONS {
+            if beyond.saturating_sub(least) > 1 {
+                let middle = least.saturating_add(beyond) / 2;
+                match self.ask_root(middle)? {
+                    Some(_) => least = middle,
+                    None => beyond = middle,
+                }
             }
         }
-        newest
+        if least == 0 { None } else { Some(least) }
+    }
+}
+
+/// The root of a version that the server at a port has, if it has one. One that does not answer is a fault of the network.
+pub fn root_at<E: Write>(
+    rt: &HostRuntime,
+    port: u16,
+    version: u32,
+    notes: &mut Notes<'_, E>,
+) -> Result<Option<Vec<u8>>, Fault> {
+    match (Asking { rt, port }).ask_root(version) {
+        Some(root) => Ok(root),
+        None => {
+            notes.fault(&Port(port), &"no answer");
+            Err(Fault::Network)
+        }
     }
 }
 

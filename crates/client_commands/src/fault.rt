@@ -3,7 +3,9 @@ ghost use Rattle.std.specs.Prelude.{◌≡◌};
 ghost use Rattle.client_commands.specs.Faults as faults;
 
 use client::{ClientFault, FetchFault};
-use command_support::Fault;
+use command_support::{Fault, Notes};
+use std::fmt::Display;
+use std::io::Write;
 
 /// What a fault of a client comes to.
 pub fn fault_of_client(fault: ClientFault) -> Fault
@@ -16,4 +18,13 @@ pub fn fault_of_client(fault: ClientFault) -> Fault
         ClientFault::Database => Fault::Database,
         ClientFault::OutOfMemory => Fault::Memory,
     }
+}
+
+/// What a fault of a client comes to, which is told of what has this name.
+pub fn told<N: Display, E: Write>(name: &N, fault: ClientFault, notes: &mut Notes<'_, E>) -> Fault {
+    match &fault {
+        ClientFault::Denied(denial) => notes.denied(name, denial.number()),
+        other => notes.fault(name, other),
+    }
+    fault_of_client(fault)
 }

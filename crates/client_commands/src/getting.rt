@@ -1,5 +1,5 @@
 //! `get`: fetches a target as a client.
-use crate::fault::fault_of_client;
+use crate::fault::told;
 use crate::remote::{Call, Remote};
 use crate::server::Server;
 use client::fetch_target;
@@ -53,7 +53,7 @@ pub fn get<O: Write, E: Write>(
 ) -> Result<(), Fault> {
     let bytes = fetched(rt, asked, at, notes)?;
     if is_of_database(rt, asked.db, asked.out)? {
-        notes.tell(&asked.out, &"a file of the client's own database");
+        notes.fault(&asked.out, &"a file of the client's own database");
         return Err(Fault::File);
     }
     put(rt, asked.out, &bytes, notes)?;
@@ -95,7 +95,7 @@ fn put<E: Write>(
     match put_in_place(rt, out, bytes, OWNER_ALONE) {
         Ok(()) => Ok(()),
         Err(error) => {
-            notes.tell(&out, &error);
+            notes.fault(&out, &error);
             Err(file_fault(&error))
         }
     }
@@ -109,7 +109,7 @@ fn target_path<E: Write>(
     match TargetPath::read(rt.alloc(), path)? {
         Some(path) => Ok(path),
         None => {
-            notes.tell(&path, &"denied");
+            notes.denied(&path, Denial::BadPath.number());
             Err(Fault::Denied(Denial::BadPath, None))
         }
     }
@@ -139,10 +139,7 @@ impl Work for Fetching<'_> {
         };
         match done {
             Ok(bytes) => Ok(bytes),
-            Err(fault) => {
-                notes.tell(&self.path.as_str(), &fault);
-                Err(fault_of_client(fault))
-            }
+            Err(fault) => { Err(told(&self.path.as_str(), fault, notes)) }
         }
     }
 }

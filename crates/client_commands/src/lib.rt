@@ -12,6 +12,7 @@ mod server;
 mod updating;
 mod wire;
 
+pub use asking::root_at;
 pub use client::ClientFault;
 pub use command_support::{Fault, Notes};
 pub use fault::fault_of_client;

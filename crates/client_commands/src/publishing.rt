@@ -1,7 +1,7 @@
 //! `publish`, `put` and `prune` over a repository that is served at a port of 127.0.0.1. The moment is the server's.
 use crate::asking::Asking;
 use crate::sending::Sending;
-use command_support::{Denial, Fault, Notes, print, read_at_most};
+use command_support::{Denial, Fault, MOST_DENIALS, Notes, print, read_at_most};
 use http_fetch::{Method, read_accepted, read_pruned};
 use http_messages::{BATCH_LIMIT, BLOB_LIMIT, stored_body};
 use metadata::digest_of;
@@ -41,7 +41,7 @@ fn publish_body<O: Write, E: Write>(
     notes: &mut Notes<'_, E>,
 ) -> Result<(), Fault> {
     let mut asking = Asking { rt, port };
-    let had_timestamp = asking.before(offered.batch, notes);
+    let before = asking.before(offered.batch, notes);
     let sending = Sending {
         rt,
         port,
@@ -49,15 +49,47 @@ fn publish_body<O: Write, E: Write>(
         name: "batch",
         body,
     };
-    let sent = sending.send(notes);
+    let sent = believed(sending, offered.batch.len(), sending.send(notes), notes);
     tell_why(&mut asking, &sent, offered, notes);
     let reply = tell_argument(sent, offered.arguments, notes)?;
-    let Some((_, same)) = read_accepted(&reply) else {
+    let Some(same) = same_of(&reply, offered.batch.len()) else {
         return Err(sending.unknown(Fault::Network, notes));
     };
-    asking.behind(offered.arguments, offered.batch, had_timestamp, same, notes);
+    asking.behind(offered.arguments, offered.batch, before, same, notes);
     print(out, &reply, notes)?;
     print(out, b"\n", notes)
+}
+
+// What was answered to a batch of so many documents, where it can be so: a denial has a number that there is, and is about one of the
+// documents or about all.
+fn believed<E: Write>(
+    sending: Sending<'_>,
+    documents: usize,
+    sent: Result<Vec<u8>, Fault>,
+    notes: &mut Notes<'_, E>,
+) -> Result<Vec<u8>, Fault> {
+    match sent {
+        Err(Fault::Refused(number, name, index)) => {
+            if number == 0
+                || number > MOST_DENIALS
+                || index.is_some_and(|index| index > documents)
+            {
+                return Err(sending.unknown(Fault::Network, notes));
+            }
+            Err(Fault::Refused(number, name, index))
+        }
+        sent => sent,
+    }
+}
+
+// How many of so many documents a reply counts as the same: those and the accepted ones are all.
+fn same_of(reply: &[u8], documents: usize) -> Option<usize> {
+    let (accepted, same) = read_accepted(reply)?;
+    if accepted.checked_add(same)? == documents {
+        Some(same)
+    } else {
+        None
+    }
 }
 
 // Tells why a batch was denied, if it was.
@@ -90,7 +122,7 @@ fn batch_body<E: Write>(
             body.extend_from_slice(&file.bytes)?;
         }
         if (body.len() as u64) > BATCH_LIMIT {
-            notes.tell(&"the documents together", &"longer than a server takes");
+            notes.fault(&"the documents together", &"longer than a server takes");
             return Err(Fault::File);
         }
     }
@@ -108,7 +140,7 @@ pub fn put_at<O: Write, E: Write>(
 ) -> Result<(), Fault> {
     let bytes = read_at_most(rt, file, BLOB_LIMIT, notes)?;
     if bytes.len() > BLOB_LIMIT {
-        notes.tell(&file, &"denied");
+        notes.denied(&file, Denial::BlobLength.number());
         return Err(Fault::Denied(Denial::BlobLength, None));
     }
     put_bytes_at(rt, port, file, &bytes, out, notes)
@@ -177,7 +209,7 @@ pub fn prune_at<O: Write, E: Write>(
 
 // Tells what a denial is about.
 fn tell_denied<E: Write>(fault: &Fault, name: &str, notes: &mut Notes<'_, E>) {
-    if let Fault::Refused(_, _, _) = fault {
-        notes.tell(&name, &"denied");
+    if let Fault::Refused(number, _, _) = fault {
+        notes.denied(&name, *number);
     }
 }

@@ -121,7 +121,7 @@ impl<'a, 'n, 'e, E: Write> Remote<'a, 'n, 'e, E> {
         match read_mirror(url) {
             Some(mirror) => self.ask_one(alloc, &mirror, asked),
             None => {
-                self.notes.tell(&asked.peer, &"not the URL of a mirror");
+                self.notes.fault(&asked.peer, &"not the URL of a mirror");
                 Err(FetchFault::Broken)
             }
         }
@@ -136,8 +136,7 @@ impl<'a, 'n, 'e, E: Write> Remote<'a, 'n, 'e, E> {
     ) -> Result<Option<Vec<u8>>, FetchFault> {
         let call = self.call;
         let Some(seconds) = call.left() else {
-            self.notes
-                .tell(&asked, &"not asked for, the time of the call is over");
+            self.tell_fault(&asked, &"not asked for, the time of the call is over");
             return Err(FetchFault::Broken);
         };
         match connected(call.rt, mirror.host, mirror.port, seconds) {
@@ -146,7 +145,7 @@ impl<'a, 'n, 'e, E: Write> Remote<'a, 'n, 'e, E> {
                 self.fetch_by(alloc, wire, mirror, asked)
             }
             Err(error) => {
-                self.notes.tell(&asked.peer, &error);
+                self.tell_fault(&asked.peer, &error);
                 Err(FetchFault::Broken)
             }
         }
@@ -185,8 +184,21 @@ impl<'a, 'n, 'e, E: Write> Remote<'a, 'n, 'e, E> {
         match (answer, refusal) {
             (Ok(Some(file)), _) => self.notes.tell(&asked, &Count(file.len() as u64)),
             (Ok(None), _) => self.notes.tell(&asked, &"none"),
-            (Err(FetchFault::Broken), Some(refusal)) => self.notes.tell(&asked, &Status(refusal)),
-            (Err(fault), _) => self.notes.tell(&asked, fault),
+            (Err(FetchFault::Broken), Some(refusal)) => self.tell_fault(&asked, &Status(refusal)),
+            (Err(fault), _) => self.tell_fault(&asked, fault),
+        }
+    }
+
+    // Tells why there was no answer: always, where nobody else is asked.
+    fn tell_fault<N: fmt::Display, F: fmt::Display>(&mut self, name: &N, fault: &F) {
+        let is_alone = match self.server {
+            Server::Port(_) => true,
+            Server::Mirrors(urls) => urls.len() == 1,
+        };
+        if is_alone {
+            self.notes.fault(name, fault);
+        } else {
+            self.notes.tell(name, fault);
         }
     }
 }

@@ -31,7 +31,7 @@ impl Sending<'_> {
         match connected(self.rt, "127.0.0.1", self.port, FILE_SECONDS) {
             Ok((stream, timer)) => self.send_by(&stream, timer, notes),
             Err(error) => {
-                notes.tell(&Port(self.port), &error);
+                notes.fault(&Port(self.port), &error);
                 Err(Fault::Network)
             }
         }
@@ -74,7 +74,7 @@ impl Sending<'_> {
                 Err(_) => return Fault::Memory,
             }
         }
-        notes.tell(&self.name, &Status(status));
+        notes.fault(&self.name, &Status(status));
         if status == 503 && reply.body.as_slice() == messages::Fault::Memory.body() {
             return Fault::Memory;
         }
@@ -95,7 +95,7 @@ impl Sending<'_> {
 
     // What a fault of the connection comes to.
     fn fault_of<E: Write>(&self, fault: FetchFault, notes: &mut Notes<'_, E>) -> Fault {
-        notes.tell(&self.name, &fault);
+        notes.fault(&self.name, &fault);
         match fault {
             FetchFault::OutOfMemory => Fault::Memory,
             FetchFault::TooLong | FetchFault::Broken => Fault::Network,
@@ -121,6 +121,12 @@ struct Status(u16);
 impl fmt::Display for Status {
     fn fmt<W: fmt::Write>(&self, f: &mut fmt::Formatter<W>) -> fmt::Result {
         let status = self.0;
-        write!(f, "status {status}")
+        match status {
+            403 | 404 => write!(
+                f,
+                "status {status}: a server that only reads has no writing route"
+            ),
+            _ => write!(f, "status {status}"),
+        }
     }
 }

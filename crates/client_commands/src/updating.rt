@@ -1,5 +1,5 @@
 //! `update`: brings a client's own state up to date.
-use crate::fault::fault_of_client;
+use crate::fault::told;
 use crate::remote::{Call, Remote};
 use crate::server::Server;
 use command_support::{Fault, Notes, moment, print};
@@ -67,10 +67,7 @@ impl Work for Updating<'_> {
                 }
                 Ok(())
             }
-            Err(fault) => {
-                notes.tell(&self.db, &fault);
-                Err(fault_of_client(fault))
-            }
+            Err(fault) => { Err(told(&self.db, fault, notes)) }
         }
     }
 }

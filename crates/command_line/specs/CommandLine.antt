@@ -8,6 +8,8 @@ use Rattle.lms.specs.Parameters.{height, signing_type, width}
 use Rattle.clap.specs.Words.{IsAmong, Row, Text, all_of, count_of, fault_of, first_of, subcommand_of}
 use Rattle.clap.specs.declared.error.kind.ErrorKind.TheVariants.{DisplayHelp, DisplayVersion}
 use Rattle.command_words.specs.Subcommands.{last_moment, last_port, most_connections, most_days, most_seconds, release_line}
+use Rattle.command_line.specs.declared.tasks.Anchor.{Anchor}
+use Rattle.command_line.specs.declared.tasks.Anchor.TheVariants as anchors
 use Rattle.command_line.specs.declared.tasks.Place.{Place}
 use Rattle.command_line.specs.declared.tasks.Place.TheVariants.{Database, Port}
 use Rattle.command_line.specs.declared.tasks.Draft.{Draft}
@@ -154,6 +156,21 @@ abbrev pub LacksPair : List Row → Type 0
 LacksPair rows = Lacks rows (codes "book") × Lacks rows (codes "seed") × Lacks rows (codes "ots") × Lacks rows (codes "height")
     × (false ≡ is_used rows (codes "known"))
 
+-- where the root is from by which what is held is judged: at most one of the three is given
+abbrev pub HasAnchor : List Row → Option Anchor → Type 0
+HasAnchor rows None = Lacks rows (codes "db") × Lacks rows (codes "port") × Lacks rows (codes "anchor")
+HasAnchor rows (Some (anchors.Database db)) = HasText rows (codes "db") db × Lacks rows (codes "port") × Lacks rows (codes "anchor")
+HasAnchor rows (Some (anchors.Port port)) = HasNumber rows (codes "port") 1 last_port port × Lacks rows (codes "db") × Lacks rows (codes "anchor")
+HasAnchor rows (Some (anchors.Root file)) = HasText rows (codes "anchor") file × Lacks rows (codes "db") × Lacks rows (codes "port")
+
+-- no folder, and nothing that is said of one
+pub record LacksFolder (rows : List Row) : Type 0 where
+  pub folder : Lacks rows (codes "in")
+  pub anchor : HasAnchor rows None
+  pub strict : false ≡ is_used rows (codes "strict")
+  pub agreed : false ≡ is_used rows (codes "yes")
+  pub again : false ≡ is_used rows (codes "again")
+
 -- the names of new keys: that of `--new` first, and then the operands in order
 abbrev pub HasNames : List Row → List (String Global) → Type 0
 HasNames rows names = (first : String Global) × (others : List (String Global)) × (names ≡ first ∷ others) × HasText rows (codes "new") first
@@ -192,7 +209,7 @@ name_of (Put place file) = codes "put"
 name_of (Serve db port count read_only) = codes "serve"
 name_of (Show showing) = codes "show"
 name_of (Sign book seed params known file) = codes "sign"
-name_of (SignIn keys folder documents agreed again) = codes "sign"
+name_of (SignIn keys folder anchor strict documents agreed again) = codes "sign"
 name_of (Update db server within) = codes "update"
 
 -- the subcommand has the options and operands that were found
@@ -214,9 +231,9 @@ HasArguments rows (Serve db port count read_only) = HasText rows (codes "db") db
     × MayHaveNumber rows (codes "count") 1 most_connections count × (read_only ≡ is_used rows (codes "read-only"))
 HasArguments rows (Show s) = HasShowing rows s
 HasArguments rows (Sign book seed params known file) = HasText rows (codes "book") book × HasText rows (codes "seed") seed × HasParams rows params
-    × (known ≡ is_used rows (codes "known")) × HasTexts rows (codes "file") 1 (file ∷ []) × Lacks rows (codes "key") × Lacks rows (codes "in")
-    × (false ≡ is_used rows (codes "yes")) × (false ≡ is_used rows (codes "again"))
-HasArguments rows (SignIn keys folder documents agreed again) = HasTexts rows (codes "key") most_documents keys.items × HasText rows (codes "in") folder
+    × (known ≡ is_used rows (codes "known")) × HasTexts rows (codes "file") 1 (file ∷ []) × Lacks rows (codes "key") × LacksFolder rows
+HasArguments rows (SignIn keys folder anchor strict documents agreed again) = HasTexts rows (codes "key") most_documents keys.items
+    × HasText rows (codes "in") folder × HasAnchor rows anchor × (strict ≡ is_used rows (codes "strict"))
     × MayHaveTexts rows (codes "file") most_documents documents.items × (agreed ≡ is_used rows (codes "yes")) × (again ≡ is_used rows (codes "again"))
     × LacksPair rows
 HasArguments rows (Update db server within) = HasText rows (codes "db") db × HasServer rows server

@@ -3,7 +3,7 @@
 
 ghost use Rattle.std.specs.Prelude.{◌≡◌, ◌⊎◌, ◌∷◌, [], Err, IfOk, codes, map, string_bytes};
 ghost use Rattle.clap.specs.Words.{found_of, kind_of, rows_of, subcommand_rows_of};
-ghost use Rattle.command_line.specs.CommandLine.{AsksForHelp, HasNames, HasShowing, HasTexts, IsAsked, IsTask, IsTaskOf, Lacks, LacksPair, Says};
+ghost use Rattle.command_line.specs.CommandLine.{AsksForHelp, HasAnchor, HasNames, HasShowing, HasTexts, IsAsked, IsTask, IsTaskOf, Lacks, LacksFolder, LacksPair, Says};
 
 mod drafts;
 mod given;
@@ -23,8 +23,8 @@ use limits::MOST_DOCUMENTS;
 use std::alloc::{AllocError, Global};
 use tasks::Unread;
 pub use tasks::{
-    Draft, Drafting, LayoutDraft, LinkDraft, Place, Server, Showing, Subcommand, TargetsDraft,
-    Task, Usage,
+    Anchor, Draft, Drafting, LayoutDraft, LinkDraft, Place, Server, Showing, Subcommand,
+    TargetsDraft, Task, Usage,
 };
 
 // Neither a seed nor a new name.
@@ -38,6 +38,12 @@ const NO_KEY: &str = concat!(
 const NOTHING_SHOWN: &str = concat!(
     "error: the following required arguments were not provided:\n",
     "  <--db <FILE>|--in <DIR>>\n\n",
+    "For more information, try '--help'.\n",
+);
+
+// Strict by no root.
+const NO_ANCHOR: &str = concat!(
+    "error: the argument '--strict' wants '--db <FILE>', '--port <P>' or '--anchor <ROOT>'\n\n",
     "For more information, try '--help'.\n",
 );
 
@@ -272,9 +278,7 @@ fn sign_by_book(alloc: Global, given: &ArgMatches<'_>) -> Result<Subcommand, Unr
     requires { Lacks (rows_of (found_of given.now)) (codes "key") }
     ensures { IfOk result (IsAsked (codes "sign") (rows_of (found_of given.now))) }
 {
-    refuse(alloc, given, "in", "--book <B>")?;
-    refuse_flag(alloc, given, "yes", "--book <B>")?;
-    refuse_flag(alloc, given, "again", "--book <B>")?;
+    refuse_folder(alloc, given)?;
     let book = text_of(alloc, given, "book")?;
     let seed = text_of(alloc, given, "seed")?;
     let params = params_of(alloc, given)?;
@@ -287,6 +291,19 @@ fn sign_by_book(alloc: Global, given: &ArgMatches<'_>) -> Result<Subcommand, Unr
         known,
         file,
     })
+}
+
+// Next to a book stands no folder, and nothing that is said of one.
+fn refuse_folder(alloc: Global, given: &ArgMatches<'_>) -> Result<(), Unread>
+    ensures { IfOk result (λ _. LacksFolder (rows_of (found_of given.now))) }
+{
+    refuse(alloc, given, "in", "--book <B>")?;
+    refuse(alloc, given, "db", "--book <B>")?;
+    refuse(alloc, given, "port", "--book <B>")?;
+    refuse(alloc, given, "anchor", "--book <B>")?;
+    refuse_flag(alloc, given, "strict", "--book <B>")?;
+    refuse_flag(alloc, given, "yes", "--book <B>")?;
+    refuse_flag(alloc, given, "again", "--book <B>")
 }
 
 // The one text of an argument.
@@ -306,14 +323,42 @@ fn sign_in(alloc: Global, given: &ArgMatches<'_>) -> Result<Subcommand, Unread>
     refuse_pair(alloc, given)?;
     let keys = texts_of(alloc, given, "key", MOST_DOCUMENTS)?;
     let folder = text_of(alloc, given, "in")?;
+    let anchor = anchor_of(alloc, given)?;
+    let strict = is_given(given, "strict");
+    if strict && anchor.is_none() {
+        return Err(fault(alloc, NO_ANCHOR));
+    }
     let documents = texts_or_none(alloc, given, "file", MOST_DOCUMENTS)?;
     Ok(Subcommand::SignIn {
         keys,
         folder,
+        anchor,
+        strict,
         documents,
         yes: is_given(given, "yes"),
         again: is_given(given, "again"),
     })
+}
+
+// Where the root is from by which what is held is judged, if one is given.
+fn anchor_of(alloc: Global, given: &ArgMatches<'_>) -> Result<Option<Anchor>, Unread>
+    ensures { IfOk result (HasAnchor (rows_of (found_of given.now))) }
+{
+    if !is_left_out(given, "anchor") {
+        refuse(alloc, given, "db", "--anchor <ROOT>")?;
+        refuse(alloc, given, "port", "--anchor <ROOT>")?;
+        let file = text_of(alloc, given, "anchor")?;
+        return Ok(Some(Anchor::Root(file)));
+    }
+    if !is_left_out(given, "port") {
+        refuse(alloc, given, "db", "--port <P>")?;
+        let port = port_of(alloc, given)?;
+        return Ok(Some(Anchor::Port(port)));
+    }
+    match text_or_none(alloc, given, "db")? {
+        Some(db) => Ok(Some(Anchor::Database(db))),
+        None => Ok(None),
+    }
 }
 
 // Beside keys by their names stands no book and no seed.

@@ -43,6 +43,17 @@ pub enum Place {
     Port(u16),
 }
 
+/// Where a root is from that is trusted.
+#[derive(Drop)]
+pub enum Anchor {
+    /// A repository in a database file.
+    Database(String),
+    /// A repository behind a server, at a port of 127.0.0.1.
+    Port(u16),
+    /// A file with the root.
+    Root(String),
+}
+
 /// Where a client fetches from.
 #[derive(Drop)]
 pub enum Server {
@@ -206,11 +217,15 @@ pub enum Subcommand {
         known: bool,
         file: String,
     },
-    /// `sign --key NAME .. --in DIR [DOC ..] [--yes] [--again]`: signs drafts by each key, those that are named or all that the key may sign,
-    /// without being asked where it is said so, and where it is said so also another document of a kind and version that the key has signed.
+    /// `sign --key NAME .. --in DIR [--db FILE | --port P | --anchor ROOT] [--strict] [DOC ..] [--yes] [--again]`: signs drafts by each key,
+    /// those that are named or all that the key may sign, without being asked where it is said so, and where it is said so also another
+    /// document of a kind and version that the key has signed. What is held is judged by the root that is given, and where it is said so
+    /// nothing is signed over what does not meet its rules.
     SignIn {
         keys: Vec<String>,
         folder: String,
+        anchor: Option<Anchor>,
+        strict: bool,
         documents: Vec<String>,
         yes: bool,
         again: bool,

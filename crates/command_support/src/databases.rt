@@ -32,14 +32,16 @@ const READ_AND_WRITE: u32 = 0o666;
 
 /// A connection to a database file, which is made where there is none, for its owner alone, as its log is. Of what a torn write leaves,
 /// nothing is supposed. Where the file is
-/// empty or absent and beside it stands a log with changes, it is `Damaged`, and both are let be.
+/// empty or absent and next to it stands a log with changes, it is `Damaged`, and both are let be. Where another process has the file, the
+/// last text says what is to be done.
 pub fn connected<E: Write>(
     rt: &HostRuntime,
     db: &str,
+    busy: &str,
     notes: &mut Notes<'_, E>,
 ) -> Result<Connection<FileStore<FileFrom<Wary>>>, Fault> {
     if is_log_alone(rt, db)? {
-        notes.tell(&db, &"empty or absent, beside a log with changes");
+        notes.fault(&db, &"empty or absent, next to a log with changes");
         return Err(Fault::Damaged);
     }
     make_both(rt, db)?;
@@ -55,7 +57,7 @@ pub fn connected<E: Write>(
             }
             Ok(conn)
         }
-        Err((error, _)) => Err(unopened(rt, db, &error, notes)),
+        Err((error, _)) => Err(unopened(rt, db, busy, &error, notes)),
     }
 }
 
@@ -187,26 +189,22 @@ fn length_of(rt: &HostRuntime, path: &str) -> u64 {
 fn unopened<E: Write>(
     rt: &HostRuntime,
     db: &str,
+    busy: &str,
     error: &Error,
     notes: &mut Notes<'_, E>,
 ) -> Fault {
     match error {
         Error::SqliteFailure(ErrorCode::OutOfMemory) => return Fault::Memory,
-        Error::SqliteFailure(ErrorCode::DatabaseBusy) => notes.tell(
-            &db,
-            &"in use by another process",
-        ),
+        Error::SqliteFailure(ErrorCode::DatabaseBusy) => notes.fault(&db, &busy),
         Error::SqliteFailure(ErrorCode::CannotOpen) => tell_why(rt, db, notes),
-        other => notes.tell(&db, other),
+        other => notes.fault(&db, other),
     }
     Fault::Database
 }
 
 fn tell_why<E: Write>(rt: &HostRuntime, db: &str, notes: &mut Notes<'_, E>) {
-    if notes.are_told() {
-        match File::options().read(true).write(true).open(rt, db) {
-            Ok(_) => notes.tell(&db, &"not opened"),
-            Err(error) => notes.tell(&db, &error),
-        }
+    match File::options().read(true).write(true).open(rt, db) {
+        Ok(_) => notes.fault(&db, &"not opened"),
+        Err(error) => notes.fault(&db, &error),
     }
 }

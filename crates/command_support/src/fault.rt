@@ -16,12 +16,16 @@ pub enum Slip {
     Bare,
     /// The key has no book, or one that does not know a signature of the key.
     Book,
+    /// Another command is writing in the folder.
+    Busy,
     /// A file that was sent back is over another signed part.
     Different,
     /// What is to be made stands there.
     Exists,
     /// A listed target file is neither in the folder nor held, or is another one.
     File,
+    /// What is held does not meet its rules from the root that was given.
+    Held,
     /// No key, or more than one, is called so.
     Key,
     /// Nothing to do: no document that the key may sign, or no draft.
@@ -48,9 +52,11 @@ impl Slip {
         match self {
             Slip::Bare => "bare",
             Slip::Book => "book",
+            Slip::Busy => "busy",
             Slip::Different => "different",
             Slip::Exists => "exists",
             Slip::File => "file",
+            Slip::Held => "held",
             Slip::Key => "key",
             Slip::Nothing => "nothing",
             Slip::Order => "order",

@@ -39,7 +39,7 @@ fn beginning(rt: &HostRuntime, path: &str, limit: usize) -> io::Result<Vec<u8>> 
 }
 
 /// The bytes of a file in a folder that may come from somebody else, and none where nothing stands there: of a file that is longer than it may
-/// be these and one more. No link is followed, and what is no regular file is a fault, which is warned of, and is not waited for.
+/// be these and one more. No link is followed, and what is no regular file is a fault, which is told, and is not waited for.
 pub fn read_regular<E: Write>(
     rt: &HostRuntime,
     path: &str,
@@ -49,7 +49,7 @@ pub fn read_regular<E: Write>(
     match regular(rt, path, limit) {
         Ok(bytes) => Ok(bytes),
         Err(error) => {
-            notes.warn(&path, &error);
+            notes.fault(&path, &error);
             Err(file_fault(&error))
         }
     }
@@ -90,7 +90,7 @@ fn no_regular_file() -> io::Error {
 }
 
 fn unread<E: Write>(path: &str, error: &io::Error, notes: &mut Notes<'_, E>) -> Fault {
-    notes.tell(&path, error);
+    notes.fault(&path, error);
     file_fault(error)
 }
 
@@ -105,7 +105,7 @@ pub fn names_of<E: Write>(
         match entry {
             Ok(entry) => names.push(String::from_str(rt.alloc(), entry.file_name())?)?,
             Err(error) if error.kind() == ErrorKind::InvalidFilename => {
-                notes.warn(&folder, &"a name in it is no UTF-8, and is passed over");
+                notes.warn_once(folder, &"a name in it is no UTF-8, and is passed over");
             }
             Err(error) => return Err(error),
         }
@@ -123,7 +123,7 @@ pub fn print<O: Write, E: Write>(
     match write_flushed(out, bytes) {
         Ok(()) => Ok(()),
         Err(error) => {
-            notes.tell(&"standard output", &error);
+            notes.fault(&"standard output", &error);
             Err(Fault::File)
         }
     }

@@ -1,6 +1,7 @@
 //! The files of a folder of drafts.
 use crate::fault::{Fault, file_fault};
 use crate::files::{names_of, read_regular, standing};
+use crate::locking::FolderLock;
 use crate::notes::Notes;
 use crate::placing::put_in_place;
 use limits::FILE_LIMIT;
@@ -33,6 +34,34 @@ impl<'a> Folder<'a> {
 
     fn alloc(&self) -> Global {
         self.rt.alloc()
+    }
+
+    /// The folder is there.
+    pub fn see<E: Write>(&self, notes: &mut Notes<'_, E>) -> Result<(), Fault> {
+        match fs::metadata(self.rt, self.path) {
+            Ok(found) if found.is_dir() => Ok(()),
+            Ok(_) => {
+                notes.fault(&self.path, &"no folder");
+                Err(Fault::File)
+            }
+            Err(error) => Err(unused(self.path, &error, notes)),
+        }
+    }
+
+    /// A fault of the file of this name in the folder. Where the file is denied, it is told which one it is.
+    pub fn fault_of<E: Write>(&self, name: &str, fault: Fault, notes: &mut Notes<'_, E>) -> Fault {
+        if let Fault::Denied(denial, _) = &fault {
+            if let Ok(place) = self.place(name) {
+                notes.denied(&place, denial.number());
+            }
+        }
+        fault
+    }
+
+    /// Keeps every other command from writing in the folder, as long as what is answered is there.
+    pub fn lock<E: Write>(&self, notes: &mut Notes<'_, E>) -> Result<FolderLock, Fault> {
+        self.see(notes)?;
+        FolderLock::of(self.rt, self.path, notes)
     }
 
     /// Makes the folder, and the two folders in it, where they are not there.
@@ -94,6 +123,21 @@ impl<'a> Folder<'a> {
         self.read_if_there(place.as_str(), notes)
     }
 
+    /// The draft of a role's document, or else the one that is held, with its name in the folder.
+    pub fn latest_named<E: Write>(
+        &self,
+        role: &str,
+        notes: &mut Notes<'_, E>,
+    ) -> Result<(Option<Vec<u8>>, String), Fault> {
+        match self.draft(role, notes)? {
+            Some(draft) => Ok((Some(draft), format!(in self.alloc(); "{role}.json")?)),
+            None => {
+                let held = self.held(role, notes)?;
+                Ok((held, format!(in self.alloc(); "held/{role}.json")?))
+            }
+        }
+    }
+
     /// The draft of a role's document, or else the one that is held.
     pub fn latest<E: Write>(
         &self,
@@ -127,7 +171,7 @@ impl<'a> Folder<'a> {
     fn see_inner<E: Write>(&self, inner: &str, notes: &mut Notes<'_, E>) -> Result<(), Fault> {
         match standing(self.rt, inner) {
             Ok(Some(found)) if !found.is_dir() => {
-                notes.warn(&inner, &"no folder, and no link is followed");
+                notes.fault(&inner, &"no folder, and no link is followed");
                 Err(Fault::File)
             }
             Ok(_) => Ok(()),
@@ -371,6 +415,6 @@ impl<'a> Folder<'a> {
 }
 
 fn unused<E: Write>(place: &str, error: &io::Error, notes: &mut Notes<'_, E>) -> Fault {
-    notes.tell(&place, error);
+    notes.fault(&place, error);
     file_fault(error)
 }

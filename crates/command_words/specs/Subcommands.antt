@@ -156,8 +156,12 @@ show_line = with_rule (with_rule (with_rule (with_rule shown_line (many_rule (co
 abbrev pub by_book_line : App
 by_book_line = with_rule (with_key_pair (with_rule (begun_line (codes "sign")) (option_rule (codes "book")))) (flag_rule (codes "known"))
 
+-- by which root what is held in a folder is judged
+abbrev pub with_anchor : App → App
+with_anchor a = with_rule (with_rule (with_rule (with_rule a (option_rule (codes "db"))) port_option_rule) (option_rule (codes "anchor"))) (flag_rule (codes "strict"))
+
 abbrev pub sign_line : App
-sign_line = with_rule (with_rule (with_rule (with_rule (with_rule by_book_line (many_rule (codes "key"))) (option_rule (codes "in")))
+sign_line = with_rule (with_rule (with_rule (with_anchor (with_rule (with_rule by_book_line (many_rule (codes "key"))) (option_rule (codes "in"))))
     (flag_rule (codes "yes"))) (flag_rule (codes "again"))) (operands_rule (codes "file"))
 
 abbrev pub update_line : App

@@ -351,6 +351,27 @@ const SIGN: &[Word<'static>] = &[
         "A key: NAME of NAME.seed, NAME.key and NAME.book, in place of --seed and --book. Of several each signs in turn",
     ),
     DRAFTS_IN,
+    Word::Option(
+        "db",
+        "FILE",
+        "The database file of the repository by whose root what the folder holds is judged",
+    ),
+    Word::Number(
+        "port",
+        "P",
+        "The port of 127.0.0.1 that the repository is served at, in place of --db",
+        1,
+        65535,
+    ),
+    Word::Option(
+        "anchor",
+        "ROOT",
+        "A file with a root that is trusted, in place of --db",
+    ),
+    Word::Flag(
+        "strict",
+        "Sign nothing where what the folder holds does not meet its rules from that root",
+    ),
     Word::Flag("yes", "Sign without being asked"),
     Word::Flag(
         "again",
@@ -364,7 +385,7 @@ const SIGN: &[Word<'static>] = &[
 ];
 
 /// `sign [--at SECONDS] [--verbose] --book B --seed S --ots W --height H [--known] DOC` or `sign [--at SECONDS] [--verbose] --key K .. --in
-/// DIR [DOC ..] [--yes] [--again]`
+/// DIR [--db FILE | --port P | --anchor ROOT] [--strict] [DOC ..] [--yes] [--again]`
 pub fn sign<'a>(alloc: Global) -> Result<Command<'a>, AllocError>
     ensures { Makes sign_line result }
 {

@@ -70,7 +70,7 @@ pub const UPDATE: &str = behind!("release update --db client.db --port 8080");
 /// The numbers and names of the denials, each with the first rule that fails.
 pub const DENIALS: &str = concat!(
     "A denial has the number and the name of the first rule that fails. Of an HTTP request the status is 404 for 33, 35\n",
-    "and 37, and 403 for all others.\n\n",
+    "and 37, and 403 for all others. 'release help N' says of denial N what failed and what to do next.\n\n",
     " 1  TooLong                The file has over 262,144 bytes\n",
     " 2  NotCanonical           The file is no canonical JSON\n",
     " 3  WrongShape             The members are not those of the kind\n",

@@ -26,7 +26,7 @@ pub fn listen<E: Write>(
     match TcpListener::bind(rt, SocketAddr::from((here, port))) {
         Ok(listener) => Ok(listener),
         Err(error) => {
-            notes.tell(&Port(port), &error);
+            notes.fault(&Port(port), &error);
             Err(Fault::Network)
         }
     }
@@ -45,7 +45,7 @@ pub fn next_stream<E: Write>(
             Err(error) if is_given_up(&error) => {}
             Err(error) if is_wanting(&error) => wait(rt, &error, notes),
             Err(error) => {
-                notes.tell(&"accept", &error);
+                notes.fault(&"accept", &error);
                 return Err(Fault::Network);
             }
         }

@@ -118,7 +118,10 @@ pub fn key_in_file<E: Write>(
     match key_in(rt.alloc(), &bytes)? {
         Some(key) => Ok(key),
         None => {
-            notes.tell(&path, &"no key object");
+            notes.fault(
+                &path,
+                &"no key object: 'release key --new NAME' makes NAME.key",
+            );
             Err(Fault::File)
         }
     }

@@ -284,7 +284,7 @@ impl Adding<'_, '_> {
         let names = match names_of(self.rt, folder, notes) {
             Ok(names) => names,
             Err(error) => {
-                notes.tell(&folder, &error);
+                notes.fault(&folder, &error);
                 return Err(file_fault(&error));
             }
         };

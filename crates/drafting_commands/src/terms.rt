@@ -10,6 +10,9 @@ const DAY: u64 = 86_400;
 
 const HOUR: u64 = 3_600;
 
+// The longest term that an option can say, 999,999 days.
+const MOST_TERM: u64 = 86_399_913_600;
+
 // What a term is, as `clap` says of a value that is none.
 const NO_TERM: &str = concat!(
     "error: invalid value for '--expires <TERM>': neither days as 90d, nor hours as 12h, nor a moment as 2030-01-01T00:00:00Z\n\n",
@@ -77,11 +80,14 @@ fn count(digits: &str) -> Option<u64> {
     digits.parse::<u64>().ok()
 }
 
-// The term of a document, if it says one.
+// The term of a document, if it says one that an option could.
 fn last_term(alloc: Global, last: Option<&[u8]>) -> Result<Option<u64>, Fault> {
     let Some(bytes) = last else {
         return Ok(None);
     };
     let file = read_signed(alloc, bytes)?;
-    Ok(number_in(file.signed, "term"))
+    match number_in(file.signed, "term") {
+        Some(seconds) if 0 < seconds && seconds <= MOST_TERM => Ok(Some(seconds)),
+        _ => Ok(None),
+    }
 }

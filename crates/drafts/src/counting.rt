@@ -77,7 +77,12 @@ pub fn has_signatures<E: Write>(
     meets_in(alloc, role, &rules, &bytes)
 }
 
-fn meets_in(alloc: Global, role: &str, rules: &[Vouching], bytes: &[u8]) -> Result<bool, Fault> {
+pub(crate) fn meets_in(
+    alloc: Global,
+    role: &str,
+    rules: &[Vouching],
+    bytes: &[u8],
+) -> Result<bool, Fault> {
     let mut meeting = Meeting { rules };
     match look_at(alloc, kind_of(role), bytes, &mut meeting) {
         Ok(is_met) => Ok(is_met),

@@ -1,6 +1,7 @@
 //! What the documents of a folder of drafts say, which rules they have to meet, and who has signed.
 #![tactic(auto)]
 
+mod anchoring;
 mod chains;
 mod changes;
 mod counting;
@@ -11,6 +12,7 @@ mod roles;
 mod said;
 mod vouching;
 
+pub use anchoring::is_held_from;
 pub use chains::{
     Referred, chain_name, layout_in, layout_name, layout_path, layout_said, link_name, link_path,
     links_in, listed_otherwise, owners_of, path_of, reference_of, see_link, signed_step,

@@ -94,8 +94,13 @@ pub fn held_said<E: Write>(
     let Some(bytes) = folder.held(role, notes)? else {
         return Ok(None);
     };
-    let said = read_said(alloc, role, &bytes)?;
-    Ok(Some(said))
+    match read_said(alloc, role, &bytes) {
+        Ok(said) => Ok(Some(said)),
+        Err(fault) => {
+            let name = format!(in alloc; "held/{role}.json")?;
+            Err(folder.fault_of(name.as_str(), fault, notes))
+        }
+    }
 }
 
 fn said_by(alloc: Global, body: &Body) -> Result<Said, AllocError> {

@@ -9,6 +9,9 @@ use metadata::{Body, Delegations, Document, Kind, Root};
 use std::alloc::{AllocError, Global};
 use std::io::Write;
 
+// The name of the root that is held.
+const HELD_ROOT: &str = "held/root.json";
+
 /// A rule, the keys of its table, and the signed part that has them, which may have names for them; the signed part of the same document that
 /// is held, if one is; and the role and the version of the document that has the rule.
 #[derive(Drop)]
@@ -46,14 +49,17 @@ pub fn rules_for<E: Write>(
             let held = folder.held("root", notes)?;
             let draft = folder.draft("root", notes)?;
             let mut gathering = Gathering::new(role, "root", &mut rules, held.as_deref());
-            gathering.add_of_file(alloc, Kind::Root, held.as_deref())?;
-            gathering.add_of_file(alloc, Kind::Root, draft.as_deref())?;
+            let added = gathering.add_of_file(alloc, Kind::Root, held.as_deref());
+            named(folder, HELD_ROOT, added, notes)?;
+            let added = gathering.add_of_file(alloc, Kind::Root, draft.as_deref());
+            named(folder, "root.json", added, notes)?;
         }
         "targets" | "snapshot" | "timestamp" => {
             let held = folder.held("root", notes)?;
-            let latest = folder.latest("root", notes)?;
+            let (latest, name) = folder.latest_named("root", notes)?;
             let mut gathering = Gathering::new(role, "root", &mut rules, held.as_deref());
-            gathering.add_of_file(alloc, Kind::Root, latest.as_deref())?;
+            let added = gathering.add_of_file(alloc, Kind::Root, latest.as_deref());
+            named(folder, name.as_str(), added, notes)?;
         }
         _ => add_of_delegations(alloc, folder, role, &mut rules, notes)?,
     }
@@ -193,9 +199,70 @@ fn add_of_role<E: Write>(
         return Ok(());
     }
     let held = folder.held(name, notes)?;
-    let latest = folder.latest(name, notes)?;
+    let (latest, place) = folder.latest_named(name, notes)?;
     let mut gathering = Gathering::new(role, name, rules, held.as_deref());
-    gathering.add_of_file(alloc, Kind::Targets, latest.as_deref())
+    let added = gathering.add_of_file(alloc, Kind::Targets, latest.as_deref());
+    named(folder, place.as_str(), added, notes)
+}
+
+// What was added of a file, where a denial is told with the file's name.
+fn named<E: Write>(
+    folder: Folder<'_>,
+    name: &str,
+    added: Result<(), Fault>,
+    notes: &mut Notes<'_, E>,
+) -> Result<(), Fault> {
+    match added {
+        Ok(()) => Ok(()),
+        Err(fault) => Err(folder.fault_of(name, fault, notes)),
+    }
+}
+
+/// The rules of a role by what is held alone: of the root those of the root that is given and its own, and of every other one as of drafts.
+pub(crate) fn held_rules<E: Write>(
+    alloc: Global,
+    folder: Folder<'_>,
+    role: &str,
+    root: &[u8],
+    notes: &mut Notes<'_, E>,
+) -> Result<Vec<Vouching>, Fault> {
+    let mut rules = Vec::new(alloc);
+    match role {
+        "root" | "targets" | "snapshot" | "timestamp" => {
+            let held = folder.held("root", notes)?;
+            let mut gathering = Gathering::new(role, "root", &mut rules, None);
+            if role == "root" {
+                gathering.add_of_file(alloc, Kind::Root, Some(root))?;
+            }
+            let added = gathering.add_of_file(alloc, Kind::Root, held.as_deref());
+            named(folder, HELD_ROOT, added, notes)?;
+        }
+        _ => {
+            for name in &folder.held_roles(notes)? {
+                add_of_held(alloc, folder, name.as_str(), role, &mut rules, notes)?;
+            }
+        }
+    }
+    Ok(rules)
+}
+
+// The rules of a role in the targets metadata of another that are held, if there are any.
+fn add_of_held<E: Write>(
+    alloc: Global,
+    folder: Folder<'_>,
+    name: &str,
+    role: &str,
+    rules: &mut Vec<Vouching>,
+    notes: &mut Notes<'_, E>,
+) -> Result<(), Fault> {
+    if kind_of(name) != Kind::Targets {
+        return Ok(());
+    }
+    let held = folder.held(name, notes)?;
+    let mut gathering = Gathering::new(role, name, rules, None);
+    let added = gathering.add_of_file(alloc, Kind::Targets, held.as_deref());
+    let place = format!(in alloc; "held/{name}.json")?;
+    named(folder, place.as_str(), added, notes)
 }
 
 /// A rule with its keys.

@@ -49,11 +49,11 @@ impl<'a, 'n, 'e, S: Alter, E: Write> Exporting<'a, 'n, 'e, S, E> {
     /// from the last to the first, and the timestamp, so that whoever reads meanwhile finds what a file names.
     pub fn export(&mut self) -> Result<u64, Fault> {
         let Some(root) = self.repository.root_version() else {
-            self.notes.tell(&self.db, &"denied");
+            self.notes.denied(&self.db, Denial::NoRoot.number());
             return Err(Fault::Denied(Denial::NoRoot, None));
         };
         if is_no_folder(self.rt, self.folder) {
-            self.notes.tell(&self.folder, &"no folder");
+            self.notes.fault(&self.folder, &"no folder");
             return Err(Fault::File);
         }
         let alloc = self.alloc();
@@ -139,7 +139,7 @@ impl<'a, 'n, 'e, S: Alter, E: Write> Exporting<'a, 'n, 'e, S, E> {
         match self.repository.apply(command, self.now) {
             Ok(reply) => Ok(reply),
             Err(fault) => {
-                self.notes.tell(&self.db, &fault);
+                self.notes.fault(&self.db, &fault);
                 Err(fault_of_store(fault))
             }
         }
@@ -196,7 +196,7 @@ fn why_left_out(kind: ErrorKind) -> Option<&'static str> {
 }
 
 fn unwritten<E: Write>(place: &str, error: &io::Error, notes: &mut Notes<'_, E>) -> Fault {
-    notes.tell(&place, error);
+    notes.fault(&place, error);
     file_fault(error)
 }
 

@@ -99,7 +99,7 @@ pub fn put<E: Write>(
     match put_in_place(rt, file, bytes, OWNER_ALONE) {
         Ok(()) => Ok(()),
         Err(error) => {
-            notes.tell(&file, &error);
+            notes.fault(&file, &error);
             Err(file_fault(&error))
         }
     }

@@ -19,8 +19,8 @@ pub fn init<O: Write, E: Write>(
     match applied(rt, db, Command::Init(&bytes), now, notes)? {
         Reply::Begun => print(out, b"begun\n", notes),
         other => {
-            notes.tell(&root, &"denied");
             if let Reply::Denied(denial, _) = &other {
+                notes.denied(&root, denial.number());
                 tell_first_root(rt.alloc(), root, &bytes, denial.number(), notes);
             }
             Err(refused(other))

@@ -1,12 +1,14 @@
 //! The program `release`: one subcommand for each task of a release repository.
 #![tactic(auto)]
 
+mod help;
 mod init;
 mod prune;
 mod publish;
 mod put;
 mod run;
 mod serve;
+mod trusting;
 
 use command_support::Fault;
 use run::{report, run};

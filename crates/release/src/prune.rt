@@ -36,7 +36,9 @@ fn prune_in<O: Write, E: Write>(
             print(out, b"\n", notes)
         }
         other => {
-            notes.tell(&db, &"denied");
+            if let Reply::Denied(denial, _) = &other {
+                notes.denied(&db, denial.number());
+            }
             Err(refused(other))
         }
     }

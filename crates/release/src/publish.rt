@@ -13,8 +13,8 @@ use std::alloc::Global;
 use std::io::Write;
 use store::{Command, Reply, Store};
 use subcommands::{
-    FORGETS, FORGOTTEN, Holding, NOT_TAKEN, Offer, Offered, batch_of, documents_of, forgets,
-    read_all, tell_argument, tell_listed,
+    FORGOTTEN, Forgetting, Holding, NOT_TAKEN, Offer, Offered, batch_of, documents_of, forgets,
+    read_all, tell_argument,
 };
 
 /// Offers the documents to the repository in the database file or behind the port, and prints how many were accepted and how many were
@@ -46,9 +46,9 @@ fn publish_given<O: Write, E: Write>(
     }
 }
 
-/// Puts the target files that wait in a folder of drafts, offers its documents together, and empties it behind that. Each document is read
-/// once, so what is held in the folder behind that is what was offered. A waiting file that is not the one of its digest is refused before
-/// anything is sent.
+/// Puts the target files that wait in a folder of drafts, offers its documents together, and empties it after that. Each document is read
+/// once, so what is held in the folder after that is what was offered. A waiting file that is not the one of its digest is refused before
+/// anything is sent. No other command writes in the folder meanwhile.
 pub fn publish_in_folder<O: Write, E: Write>(
     rt: &HostRuntime,
     place: &Place,
@@ -59,6 +59,7 @@ pub fn publish_in_folder<O: Write, E: Write>(
 ) -> Result<(), Fault> {
     let _now = moment(rt, at)?;
     let folder = Folder::new(rt, folder);
+    let _lock = folder.lock(notes)?;
     let batch = complete_batch_in(rt.alloc(), folder, notes)?;
     put_waiting(rt, place, folder, at, notes)?;
     publish_batch(rt, place, folder, &batch, at, out, notes)
@@ -92,8 +93,30 @@ fn publish_batch<O: Write, E: Write>(
     notes: &mut Notes<'_, E>,
 ) -> Result<(), Fault> {
     let arguments = batch.arguments(rt.alloc(), folder)?;
-    publish_given(rt, place, &arguments, &batch.files, at, out, notes)?;
+    if let Err(fault) = publish_given(rt, place, &arguments, &batch.files, at, out, notes) {
+        tell_unsealed(&fault, folder, batch, notes);
+        return Err(fault);
+    }
     empty(rt.alloc(), folder, batch, notes)
+}
+
+// Tells what is to be done where a batch was denied and the folder was not sealed.
+fn tell_unsealed<E: Write>(
+    fault: &Fault,
+    folder: Folder<'_>,
+    batch: &Batch,
+    notes: &mut Notes<'_, E>,
+) {
+    let is_denied = match fault {
+        Fault::Denied(_, _) | Fault::Refused(_, _, _) => true,
+        _ => false,
+    };
+    if is_denied && batch.is_unsealed() {
+        notes.fault(
+            &folder.path(),
+            &"it has no draft of a timestamp: seal first, by 'release draft --in DIR seal', and sign what that drafts",
+        );
+    }
 }
 
 fn publish_in<O: Write, E: Write>(
@@ -152,13 +175,13 @@ impl Work for Offering<'_> {
         notes: &mut Notes<'_, E>,
     ) -> Result<Reply, Fault> {
         let had_timestamp = timestamp_of(repository, self.now).is_some();
-        if had_timestamp && self.will_forget(repository) {
-            notes.warn(&self.db, &FORGETS);
-            tell_listed(self.alloc, &self.db, &mut self.held(repository), notes);
-        }
+        let forgetting = self.forgetting(repository, had_timestamp, notes);
         match repository.apply(Command::Batch(self.batch), self.now) {
             Ok(reply) => {
                 if let Reply::Batch { same, .. } = &reply {
+                    if let Some(forgetting) = &forgetting {
+                        forgetting.warn(self.alloc, &self.db, notes);
+                    }
                     if 0 < *same {
                         self.warn_of_timestamp(repository, notes);
                     }
@@ -179,7 +202,7 @@ impl Work for Offering<'_> {
                 Ok(reply)
             }
             Err(fault) => {
-                notes.tell(&self.db, &fault);
+                notes.fault(&self.db, &fault);
                 Err(fault_of_store(fault))
             }
         }
@@ -199,6 +222,20 @@ impl Offering<'_> {
             repository,
             now: self.now,
         }
+    }
+
+    // What is known of a batch that makes the repository forget its timestamp, before it is offered.
+    fn forgetting<S: Alter, E: Write>(
+        &self,
+        repository: &mut Store<S>,
+        had_timestamp: bool,
+        notes: &Notes<'_, E>,
+    ) -> Option<Forgetting> {
+        if !had_timestamp || !self.will_forget(repository) {
+            return None;
+        }
+        let mut held = self.held(repository);
+        Some(Forgetting::of(self.alloc, &mut held, notes))
     }
 
     // Whether the last root of the batch makes the repository forget its timestamp, and none is offered behind it.

@@ -79,7 +79,9 @@ fn put_now<O: Write, E: Write>(
     match applied(rt, db, Command::PutBlob(digest, bytes), now, notes)? {
         Reply::Stored(_) => print_digest(digest, out, notes),
         other => {
-            notes.tell(&name, &"denied");
+            if let Reply::Denied(denial, _) = &other {
+                notes.denied(&name, denial.number());
+            }
             Err(refused(other))
         }
     }

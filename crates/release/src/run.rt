@@ -1,9 +1,11 @@
 //! A command from its words to its exit status.
+use crate::help::denial_asked;
 use crate::init::init;
 use crate::prune::prune;
 use crate::publish::{publish, publish_in_folder};
 use crate::put::put;
 use crate::serve::Server;
+use crate::trusting::TrustedRoot;
 use authoring::{draft, show};
 use client_commands::{Getting, Server as Remote, get, update};
 use command_line::{Subcommand, Task, task};
@@ -27,7 +29,10 @@ pub fn report<O: Write, E: Write>(fault: &Fault, out: &mut O, err: &mut E) -> u8
     if let Fault::Help(text) = fault {
         return match out.write_all(text.as_bytes()) {
             Ok(()) => fault.status(),
-            Err(_) => report_to(&Fault::File, err),
+            Err(error) => {
+                let _ = writeln!(err, "release: standard output: {error}");
+                report_to(&Fault::File, err)
+            }
         };
     }
     report_to(fault, err)
@@ -44,6 +49,9 @@ fn perform<O: Write, E: Write>(
     out: &mut O,
     err: &mut E,
 ) -> Result<(), Fault> {
+    if let Some(text) = denial_asked(rt.alloc(), words)? {
+        return Err(Fault::Help(text));
+    }
     let task = task(rt.alloc(), words)?;
     perform_task(rt, &task, out, err)
 }
@@ -130,6 +138,8 @@ fn perform_signing<O: Write, E: Write>(
         Subcommand::SignIn {
             keys,
             folder,
+            anchor,
+            strict,
             documents,
             yes,
             again,
@@ -137,11 +147,16 @@ fn perform_signing<O: Write, E: Write>(
             let signing = SigningIn {
                 keys,
                 folder,
+                strict: *strict,
                 documents,
                 yes: *yes,
                 again: *again,
             };
-            sign_in(rt, signing, at, out, notes)
+            let mut trusted = TrustedRoot {
+                from: anchor.as_ref(),
+                at,
+            };
+            sign_in(rt, signing, &mut trusted, at, out, notes)
         }
         _ => Ok(()),
     }
@@ -168,7 +183,7 @@ fn print_canon<O: Write, E: Write>(
     match canon(rt.alloc(), &bytes) {
         Ok(text) => print(out, &text, notes),
         Err(fault) => {
-            notes.tell(&file, &fault);
+            notes.fault(&file, &fault);
             Err(Fault::from(fault))
         }
     }

@@ -10,6 +10,9 @@ use std::io::Write;
 use std::time::Instant;
 use store::{Command, Reply, Store, StoreFault, Unopened, close_into_file};
 
+// What is told of a database that another process has.
+const IN_USE: &str = "in use by another process; where a server runs over it, use --port";
+
 /// What is done over an open repository.
 pub trait Work {
     /// What comes of it.
@@ -31,7 +34,7 @@ pub fn worked<W: Work, E: Write>(
     notes: &mut Notes<'_, E>,
 ) -> Result<W::Done, Fault> {
     let began = Instant::now(rt).ok();
-    let conn = connected(rt, db, notes)?;
+    let conn = connected(rt, db, IN_USE, notes)?;
     worked_in(rt, began, conn, db, work, notes)
 }
 
@@ -77,11 +80,11 @@ fn opened<S: Alter + Drop, E: Write>(
             Ok(repository)
         }
         Err(unopened) => {
-            notes.tell(&db, &unopened.fault);
+            notes.fault(&db, &unopened.fault);
             if has_others {
-                notes.tell(
+                notes.fault(
                     &db,
-                    &"other tables, indexes or views stand behind those of schema 1",
+                    &"other tables, indexes or views stand after those of schema 1",
                 );
             }
             let Unopened { fault, conn } = unopened;
@@ -155,7 +158,7 @@ impl Work for Making<'_> {
         match repository.apply(self.command, self.now) {
             Ok(reply) => Ok(reply),
             Err(fault) => {
-                notes.tell(&self.db, &fault);
+                notes.fault(&self.db, &fault);
                 Err(fault_of_store(fault))
             }
         }

@@ -119,7 +119,10 @@ impl Guard<'_> {
         let Some(bytes) = self.folder.file(place, notes)? else {
             return Ok(());
         };
-        let file = read_signed(self.alloc, &bytes)?;
+        let file = match read_signed(self.alloc, &bytes) {
+            Ok(file) => file,
+            Err(fault) => return Err(self.folder.fault_of(place, Fault::from(fault), notes)),
+        };
         let Some(leaf) = self.leaf_in(&file) else {
             return Ok(());
         };

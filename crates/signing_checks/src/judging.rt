@@ -37,7 +37,8 @@ impl Judged<'_> {
             Ok(said) => self.judge_said(book, role, &said, notes),
             Err(fault) => {
                 self.tell_place(kind_of(role), role, bytes, notes);
-                Err(fault)
+                let name = format!(in self.alloc; "{role}.json")?;
+                Err(self.folder.fault_of(name.as_str(), fault, notes))
             }
         }
     }
@@ -189,7 +190,7 @@ impl Judged<'_> {
         };
         notes.warn(
             &target,
-            &"its layout is not signed, or links are wanting: it would be listed otherwise behind that",
+            &"its layout is not signed, or links are wanting: it would be listed otherwise after that",
         );
         Err(Fault::Slip(Slip::Order))
     }

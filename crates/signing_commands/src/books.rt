@@ -9,6 +9,9 @@ use std::alloc::Global;
 use std::fs;
 use std::io::{ErrorKind, Write};
 
+// What is told of a book that another process has.
+const IN_USE: &str = "in use by another process, which signs; try again";
+
 /// What is done over an open book.
 pub trait BookWork {
     /// What comes of it.
@@ -40,10 +43,10 @@ pub fn worked_over<W: BookWork, E: Write>(
     notes: &mut Notes<'_, E>,
 ) -> Result<W::Done, Fault> {
     if at.known && !has_bytes(rt, at.place) {
-        notes.tell(&at.name, &"no such book");
+        notes.fault(&at.name, &"no such book");
         return Err(Fault::UnknownKey);
     }
-    let conn = connected(rt, at.place, notes)?;
+    let conn = connected(rt, at.place, IN_USE, notes)?;
     worked_in(rt.alloc(), conn, at, work, notes)
 }
 
@@ -58,14 +61,14 @@ fn worked_in<D: Disk + Drop, W: BookWork, E: Write>(
 ) -> Result<W::Done, Fault> {
     let is_new = conn.schema().tables.is_empty();
     if is_new && at.known {
-        notes.tell(&at.name, &"no book");
+        notes.fault(&at.name, &"no book");
         let _ = conn.close();
         return Err(Fault::UnknownKey);
     }
     match Book::open_over(alloc, conn) {
         Ok(book) => worked_and_closed(book, is_new, at, work, notes),
         Err(unopened) => {
-            notes.tell(&at.name, &unopened.fault);
+            notes.fault(&at.name, &unopened.fault);
             let fault = book_fault(unopened.fault);
             if let Some(conn) = unopened.conn {
                 let _ = conn.close();
@@ -90,7 +93,7 @@ fn worked_and_closed<D: Disk + Drop, W: BookWork, E: Write>(
         (_, Err(fault)) => Err(fault),
         (Ok(_), Ok(done)) => Ok(done),
         (Err(fault), Ok(_)) => {
-            notes.tell(&at.name, &"its log is not copied into it");
+            notes.fault(&at.name, &"its log is not copied into it");
             Err(book_fault(fault))
         }
     }

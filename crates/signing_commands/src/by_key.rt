@@ -5,7 +5,8 @@ use crate::finding::names_of_keys;
 use crate::one::{Judging, Knowing, SigningOne, What};
 use command_support::{Fault, Notes, Slip, moment, print};
 use drafts::{
-    Folder, Vouching, changes_of, owners_of, rules_for, sign_order, target_of_layout, version_in,
+    Folder, Vouching, changes_of, is_held_from, owners_of, rules_for, sign_order, target_of_layout,
+    version_in,
 };
 use lms::KeyPair;
 use metadata::{Moment, SignedFile, read_signed};
@@ -15,12 +16,34 @@ use signing_checks::{Judged, Signer, have_key};
 use std::alloc::{AllocError, Global};
 use std::io::{IsTerminal, Write};
 
-/// What is signed: the keys, the folder, the documents that are named, whether it is done without being asked, and whether another document
-/// of a kind and version that a key has signed is.
+/// The root by which what a folder holds is judged.
+#[derive(Drop)]
+pub enum Anchor {
+    /// None was asked for.
+    Unasked,
+    /// This one is trusted.
+    Root(Vec<u8>),
+    /// The repository that was asked has no root of the version that the folder holds.
+    Unknown,
+}
+
+/// Where that root comes from. It is asked for once the words are judged.
+pub trait Anchoring {
+    fn anchor<E: Write>(
+        &mut self,
+        rt: &HostRuntime,
+        folder: Folder<'_>,
+        notes: &mut Notes<'_, E>,
+    ) -> Result<Anchor, Fault>;
+}
+
+/// What is signed: the keys, the folder, whether nothing is signed over what is not held by its rules, the documents that are named, whether
+/// it is done without being asked, and whether another document of a kind and version that a key has signed is.
 #[derive(Clone, Copy)]
 pub struct SigningIn<'a> {
     pub keys: &'a [String],
     pub folder: &'a str,
+    pub strict: bool,
     pub documents: &'a [String],
     pub yes: bool,
     pub again: bool,
@@ -28,10 +51,11 @@ pub struct SigningIn<'a> {
 
 /// Signs by each key in turn the drafts that are named, or all whose rules have the key and that lack its signature, in the order root,
 /// targets metadata, snapshot, timestamp, and prints a line for each. Before a leaf is spent each is judged, and before the first one the
-/// files of all keys are looked for. No book is made.
-pub fn sign_in<O: Write, E: Write>(
+/// files of all keys are looked for. Where a root is given, what is held is judged by it. No book is made.
+pub fn sign_in<A: Anchoring, O: Write, E: Write>(
     rt: &HostRuntime,
     asked: SigningIn<'_>,
+    anchoring: &mut A,
     at: Option<u64>,
     out: &mut O,
     notes: &mut Notes<'_, E>,
@@ -40,6 +64,7 @@ pub fn sign_in<O: Write, E: Write>(
     if !asked.yes && !rt.stdin().is_terminal() {
         return Err(unasked(rt));
     }
+    see_held(rt, asked, anchoring, notes)?;
     let keys = names_of_keys(rt, asked.keys, notes)?;
     for key in &keys {
         see_key(rt, key.as_str(), notes)?;
@@ -51,6 +76,30 @@ pub fn sign_in<O: Write, E: Write>(
         count.declined = count.declined.saturating_add(signed.declined);
     }
     count.end(asked.folder, notes)
+}
+
+// What is held is compared with what is signed: it has its signatures from the root that is given, or is warned of, or refused.
+fn see_held<A: Anchoring, E: Write>(
+    rt: &HostRuntime,
+    asked: SigningIn<'_>,
+    anchoring: &mut A,
+    notes: &mut Notes<'_, E>,
+) -> Result<(), Fault> {
+    let folder = Folder::new(rt, asked.folder);
+    folder.see(notes)?;
+    let is_held = match anchoring.anchor(rt, folder, notes)? {
+        Anchor::Unasked => true,
+        Anchor::Root(root) => is_held_from(rt.alloc(), folder, &root, notes)?,
+        Anchor::Unknown => {
+            let place = folder.place("held/root.json")?;
+            notes.warn(&place, &"the repository has no root of its version");
+            false
+        }
+    };
+    if asked.strict && !is_held {
+        return Err(Fault::Slip(Slip::Held));
+    }
+    Ok(())
 }
 
 // The key's three files are there.
@@ -114,6 +163,7 @@ fn signed_by<'a, O: Write, E: Write>(
         at,
         now,
         signed: Signed::default(),
+        is_judged: false,
     };
     signing.sign_all(out, notes)?;
     Ok(signing.signed)
@@ -141,6 +191,7 @@ struct Signing<'a> {
     at: BookAt<'a>,
     now: Moment,
     signed: Signed,
+    is_judged: bool,
 }
 
 impl Signing<'_> {
@@ -148,7 +199,8 @@ impl Signing<'_> {
         self.rt.alloc()
     }
 
-    // The book is asked before the tree is hashed, which may take seconds.
+    // The book is asked, and the first document is judged, before the tree is hashed, which may take seconds. Where there is no document,
+    // nothing is hashed.
     fn sign_all<O: Write, E: Write>(
         &mut self,
         out: &mut O,
@@ -158,18 +210,13 @@ impl Signing<'_> {
         if !self.over_book(&mut Knowing { id }, notes)? {
             return Err(self.unknown(notes));
         }
-        let pair = self.files.pair(self.rt, notes)?;
-        self.sign_by(&pair, out, notes)
-    }
-
-    fn sign_by<O: Write, E: Write>(
-        &mut self,
-        pair: &KeyPair,
-        out: &mut O,
-        notes: &mut Notes<'_, E>,
-    ) -> Result<(), Fault> {
         let roles = self.roles(notes)?;
-        self.sign_each(pair, &roles, out, notes)
+        self.sign_each(None, &roles, out, notes)?;
+        if !self.is_judged {
+            return Ok(());
+        }
+        let pair = self.files.pair(self.rt, notes)?;
+        self.sign_each(Some(&pair), &roles, out, notes)
     }
 
     // Does what is to be done over the key's book, which has to be there and to have the key.
@@ -189,10 +236,10 @@ impl Signing<'_> {
         Fault::Slip(Slip::Book)
     }
 
-    // Signs the documents of these roles, and layouts and links, in their order.
+    // Signs the documents of these roles, and layouts and links, in their order. Without a key pair the first of them is judged alone.
     fn sign_each<O: Write, E: Write>(
         &mut self,
-        pair: &KeyPair,
+        pair: Option<&KeyPair>,
         roles: &[String],
         out: &mut O,
         notes: &mut Notes<'_, E>,
@@ -214,7 +261,7 @@ impl Signing<'_> {
     // Signs the layouts that are named, or whose owners have the key and that lack its signature.
     fn sign_layouts<O: Write, E: Write>(
         &mut self,
-        pair: &KeyPair,
+        pair: Option<&KeyPair>,
         out: &mut O,
         notes: &mut Notes<'_, E>,
     ) -> Result<(), Fault> {
@@ -230,7 +277,7 @@ impl Signing<'_> {
     // Signs the layout of a target, if it is wanted.
     fn sign_layout<O: Write, E: Write>(
         &mut self,
-        pair: &KeyPair,
+        pair: Option<&KeyPair>,
         name: &str,
         target: &str,
         out: &mut O,
@@ -262,7 +309,7 @@ impl Signing<'_> {
     // Signs the links that are named, or all that have no signature: a link has one.
     fn sign_links<O: Write, E: Write>(
         &mut self,
-        pair: &KeyPair,
+        pair: Option<&KeyPair>,
         out: &mut O,
         notes: &mut Notes<'_, E>,
     ) -> Result<(), Fault> {
@@ -275,7 +322,7 @@ impl Signing<'_> {
     // Signs a link, if it is wanted.
     fn sign_link<O: Write, E: Write>(
         &mut self,
-        pair: &KeyPair,
+        pair: Option<&KeyPair>,
         name: &str,
         out: &mut O,
         notes: &mut Notes<'_, E>,
@@ -347,28 +394,58 @@ impl Signing<'_> {
     }
 
     // Signs one document, if the operator agrees. The book is opened for it and closed before the document is put in its place, so that the
-    // book's file alone has the leaf then. While a question stands it is not open; what is answered to is looked at again behind the answer.
+    // book's file alone has the leaf then. While a question stands it is not open; what is answered to is looked at again after the answer,
+    // and from then on no other command writes in the folder until it is signed.
     fn sign_one<O: Write, E: Write>(
         &mut self,
-        pair: &KeyPair,
+        pair: Option<&KeyPair>,
         what: What<'_>,
         out: &mut O,
         notes: &mut Notes<'_, E>,
     ) -> Result<(), Fault> {
+        let Some(pair) = pair else {
+            return self.judge_first(what, notes);
+        };
         let bytes = what.bytes(self.folder, notes)?;
-        if self.asked.yes {
-            return self.sign_bytes(pair, what, &bytes, out, notes);
-        }
-        if !self.is_agreed(what, &bytes, notes)? {
+        if !self.asked.yes && !self.is_agreed(what, &bytes, notes)? {
             self.signed.declined = self.signed.declined.saturating_add(1);
             return Ok(());
         }
+        let _lock = self.folder.lock(notes)?;
         let latest = what.bytes(self.folder, notes)?;
         if !have_one_part(self.alloc(), &bytes, &latest)? {
             notes.warn(&what.name(), &"it has changed since it was shown");
             return Err(Fault::Slip(Slip::Different));
         }
         self.sign_bytes(pair, what, &latest, out, notes)
+    }
+
+    // Judges a document, if it is the first one.
+    fn judge_first<E: Write>(
+        &mut self,
+        what: What<'_>,
+        notes: &mut Notes<'_, E>,
+    ) -> Result<(), Fault> {
+        if self.is_judged {
+            return Ok(());
+        }
+        self.is_judged = true;
+        let bytes = what.bytes(self.folder, notes)?;
+        self.judge(what, &bytes, notes)
+    }
+
+    fn judge<E: Write>(
+        &self,
+        what: What<'_>,
+        bytes: &[u8],
+        notes: &mut Notes<'_, E>,
+    ) -> Result<(), Fault> {
+        let mut judging = Judging {
+            judged: self.judged(),
+            what,
+            bytes,
+        };
+        self.over_book(&mut judging, notes)
     }
 
     // Signs one document, and tells by which leaf.
@@ -395,19 +472,14 @@ impl Signing<'_> {
         self.tell(what.name(), &signed, out, notes)
     }
 
-    // Whether the operator agrees, by the answer `y` to the question, which stands behind what the document changes. It is judged first.
+    // Whether the operator agrees, by the answer `y` to the question, which stands after what the document changes. It is judged first.
     fn is_agreed<E: Write>(
         &self,
         what: What<'_>,
         bytes: &[u8],
         notes: &mut Notes<'_, E>,
     ) -> Result<bool, Fault> {
-        let mut judging = Judging {
-            judged: self.judged(),
-            what,
-            bytes,
-        };
-        self.over_book(&mut judging, notes)?;
+        self.judge(what, bytes, notes)?;
         self.ask(what, bytes, notes)?;
         Ok(is_yes(self.rt))
     }

@@ -134,7 +134,7 @@ fn signed_with<S: Alter, E: Write>(
     let id = key_id(alloc, &Key::Lms(pair.public()))?;
     let was_known = is_registered(book, &id);
     if asked.known && !was_known {
-        notes.tell(&asked.book, &"the book does not have the key");
+        notes.fault(&asked.book, &"the book does not have the key");
         return Err(Fault::UnknownKey);
     }
     let signed = sign_file_with(alloc, book, &pair, bytes);
@@ -171,11 +171,11 @@ fn tell_fault<E: Write>(
 ) -> Fault {
     match fault {
         SignFileFault::Denied(denial) => {
-            notes.tell(&asked.file, &"denied");
+            notes.denied(&asked.file, denial.number());
             Fault::Denied(denial, None)
         }
         SignFileFault::Book(fault) => {
-            notes.tell(&asked.book, &fault);
+            notes.fault(&asked.book, &fault);
             book_fault(fault)
         }
         SignFileFault::OutOfMemory => Fault::Memory,

@@ -35,11 +35,11 @@ impl PublicHalf {
         let place = format!(in rt.alloc(); "{name}.key")?;
         let bytes = read_at_most(rt, place.as_str(), KEY_FILE_LIMIT, notes)?;
         let Some(Key::Lms(public)) = key_in(rt.alloc(), &bytes)? else {
-            notes.tell(&place, &"no key object of the scheme lms-sha256");
+            notes.fault(&place, &"no key object of the scheme lms-sha256");
             return Err(Fault::File);
         };
         let Some(params) = params_of(&public) else {
-            notes.tell(&place, &"no parameters that are signed by");
+            notes.fault(&place, &"no parameters that are signed by");
             return Err(Fault::File);
         };
         let id = key_id(rt.alloc(), &Key::Lms(public))?;
@@ -232,7 +232,7 @@ fn new_seed<E: Write>(
 ) -> Result<Seed, Fault> {
     let mut bytes = [0; 48];
     if let Err(error) = rt.fill_bytes(&mut bytes) {
-        notes.tell(&place, &error);
+        notes.fault(&place, &error);
         return Err(file_fault(&error));
     }
     let mut text = hex::encode(rt.alloc(), &bytes)?;
@@ -252,7 +252,7 @@ fn made<E: Write>(
     match written(rt, place, bytes, mode) {
         Ok(()) => Ok(()),
         Err(error) => {
-            notes.tell(&place, &error);
+            notes.fault(&place, &error);
             Err(file_fault(&error))
         }
     }

@@ -12,7 +12,7 @@ mod leaves;
 mod one;
 mod seeds;
 
-pub use by_key::{SigningIn, sign_in};
+pub use by_key::{Anchor, Anchoring, SigningIn, sign_in};
 pub use command_support::{Fault, Notes};
 pub use documents::{Signing, sign};
 pub use files::make_keys;

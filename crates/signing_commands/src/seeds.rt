@@ -24,12 +24,15 @@ pub fn seed_at<E: Write>(
     let (bytes, mode) = match open_seed(rt, path) {
         Ok(read) => read,
         Err(error) => {
-            notes.tell(&path, &error);
+            notes.fault(&path, &error);
             return Err(file_fault(&error));
         }
     };
     let Some(seed) = read_seed(&bytes) else {
-        notes.tell(&path, &"no 96 hex digits of lower case and a line feed");
+        notes.fault(
+            &path,
+            &"no seed: 96 hex digits of lower case and a line feed",
+        );
         return Err(Fault::File);
     };
     if mode & READ_BY_OTHERS != 0 {

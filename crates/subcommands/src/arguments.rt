@@ -61,6 +61,9 @@ pub fn batch_of<'a>(
     Ok(batch)
 }
 
+// What is told of an argument without a role.
+const NO_ROLE: &str = "no role stands before a colon: write ROLE:FILE, as root:root.json";
+
 /// The same, where a denial is told with the argument that it is about.
 pub fn tell_argument<T: Drop, E: Write>(
     done: Result<T, Fault>,
@@ -69,11 +72,24 @@ pub fn tell_argument<T: Drop, E: Write>(
 ) -> Result<T, Fault>
     ensures { result ≡ done }
 {
-    if let Err(Fault::Denied(_, Some(index)) | Fault::Refused(_, _, Some(index))) = &done {
-        match arguments.get(*index) {
-            Some(argument) => notes.tell(&argument.as_str(), &"denied"),
-            None => notes.tell(&"the documents together", &"denied"),
+    match &done {
+        Err(Fault::Denied(denial, Some(index))) => {
+            tell_denied(arguments, *index, denial.number(), notes);
         }
+        Err(Fault::Refused(number, _, Some(index))) => {
+            tell_denied(arguments, *index, *number, notes);
+        }
+        _ => {}
     }
     done
+}
+
+fn tell_denied<E: Write>(arguments: &[String], index: usize, number: u8, notes: &mut Notes<'_, E>) {
+    match arguments.get(index) {
+        Some(argument) if argument.as_str().split_once(':').is_none() => {
+            notes.fault(&argument.as_str(), &NO_ROLE);
+        }
+        Some(argument) => notes.denied(&argument.as_str(), number),
+        None => notes.denied(&"the documents together", number),
+    }
 }

@@ -1,10 +1,13 @@
 //! When a root makes a repository forget its timestamp, and what is warned of where documents are published.
-use command_support::Fault;
+use command_support::{Fault, Notes};
 use metadata::{Body, Document, KeyId, Kind, RoleRule, read_document};
+use reasons::{HeldFiles, listed_targets};
 use std::alloc::Global;
+use std::fmt::Display;
+use std::io::Write;
 
-/// What is said before a root is published that makes the repository forget its timestamp, where none is offered behind it.
-pub const FORGETS: &str =
+// What is said of a root that was published and made the repository forget its timestamp, where none is offered after it.
+const FORGETS: &str =
     "the root has other keys for the timestamp or the snapshot, and no timestamp stands behind it: every target will be denied";
 
 /// What is said of a root with other keys for the timestamp or the snapshot that was published without their successors.
@@ -13,6 +16,39 @@ pub const FORGOTTEN: &str =
 
 /// What is said of a timestamp that counted as the same, and has other bytes than the one that is held.
 pub const NOT_TAKEN: &str = "not taken, another timestamp of its version is held";
+
+/// What is known before a batch that makes a repository forget its timestamp: how many targets are listed, where facts are told.
+#[derive(Clone, Copy)]
+pub struct Forgetting {
+    listed: Option<u64>,
+}
+
+impl Forgetting {
+    /// What is known of a repository that holds these files.
+    pub fn of<H: HeldFiles, E: Write>(
+        alloc: Global,
+        held: &mut H,
+        notes: &Notes<'_, E>,
+    ) -> Forgetting {
+        if !notes.are_told() {
+            return Forgetting { listed: None };
+        }
+        match listed_targets(alloc, held) {
+            Ok(listed) => Forgetting { listed },
+            Err(_) => Forgetting { listed: None },
+        }
+    }
+
+    /// Warns of it, once the batch was taken, and tells how many targets were listed.
+    pub fn warn<N: Display, E: Write>(&self, alloc: Global, name: &N, notes: &mut Notes<'_, E>) {
+        notes.warn(name, &FORGETS);
+        if let Some(count) = self.listed {
+            if let Ok(told) = format!(in alloc; "targets that will be denied: {count}") {
+                notes.tell(name, &told);
+            }
+        }
+    }
+}
 
 /// Whether the one root has another rule than the other for the timestamp or the snapshot: a repository that takes it behind the other
 /// forgets its timestamp, its snapshot and its targets metadata. A fault is why one of them is no root: the newer one is read first.

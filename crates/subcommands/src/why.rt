@@ -1,11 +1,10 @@
-//! Why documents were denied, in words, and how many targets are listed.
+//! Why documents were denied, in words.
 use command_support::Notes;
 use metadata::Moment;
-use reasons::{HeldFiles, listed_targets, reason};
+use reasons::{HeldFiles, reason};
 use repository_work::{Command, Offer, Reply, Store};
 use sqlite::Alter;
 use std::alloc::{AllocError, Global};
-use std::fmt::Display;
 use std::io::Write;
 
 /// What a repository holds at a moment.
@@ -103,22 +102,5 @@ pub fn tell_first_root<E: Write>(
     }
     if let Ok(Some(found)) = reason(alloc, &mut Nothing, &[("root", bytes)], number, 0) {
         notes.tell(&file, &found);
-    }
-}
-
-/// Tells how many targets are listed, of a repository that is to forget them.
-pub fn tell_listed<N: Display, H: HeldFiles, E: Write>(
-    alloc: Global,
-    name: &N,
-    held: &mut H,
-    notes: &mut Notes<'_, E>,
-) {
-    if !notes.are_told() {
-        return;
-    }
-    if let Ok(Some(count)) = listed_targets(alloc, held) {
-        if let Ok(told) = format!(in alloc; "targets that will be denied: {count}") {
-            notes.tell(name, &told);
-        }
     }
 }

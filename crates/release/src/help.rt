@@ -1,0 +1,21 @@
+//! `help N` and `help NAME`: what a denial says, and what to do next.
+use denial_help::asked;
+use std::alloc::{AllocError, Global};
+
+/// What `help N` and `help NAME` print, where a denial has this number or this name: the line with which a command is denied so, and the
+/// denial's paragraph. Of other words it is nothing.
+pub fn denial_asked(alloc: Global, words: &[String]) -> Result<Option<String>, AllocError> {
+    let [_, help, denial] = words else {
+        return Ok(None);
+    };
+    if help.as_str() != "help" {
+        return Ok(None);
+    }
+    match asked(denial.as_str()) {
+        Some(found) => {
+            let (number, name, text) = (found.number, found.name, found.text);
+            Ok(Some(format!(in alloc; "denied {number} {name}\n{text}")?))
+        }
+        None => Ok(None),
+    }
+}
