@@ -17,7 +17,7 @@ import sys
 import tempfile
 import threading
 
-from served import EXAMPLE, RELEASE, ROLES, Wrong, batch, read, rest, want
+from served import EXAMPLE, RELEASE, ROLES, Wrong, batch, read, rest, want, without_reasons
 
 UNKNOWN = "warning: port {port}: it is not known whether this was taken; sending it again is safe\n"
 NETWORK = "fault network\n"
@@ -69,6 +69,11 @@ class Server:
             peer.sendall(self.answer)
 
 
+def told(text, wanted):
+    """What was told on standard error, without what a fault is about where that is not wanted."""
+    return text if "release: " in wanted else without_reasons(text)
+
+
 def ends(release, words, answer, status, said, error, *more):
     """The command with this server ends so, says this, and sent its request and nothing else."""
     method, name, body = REQUESTS[words]
@@ -77,7 +82,7 @@ def ends(release, words, answer, status, said, error, *more):
     found = subprocess.run([release, *called], capture_output=True, text=True, timeout=400)
     what = f"{' '.join(called)}, answered {answer!r}"
     wanted = (status, said, error.format(port=server.port))
-    want((found.returncode, found.stdout, found.stderr) == wanted,
+    want((found.returncode, found.stdout, told(found.stderr, error)) == wanted,
          f"{what}: {(found.returncode, found.stdout, found.stderr)} in place of {wanted}")
     server.thread.join(60)
     head = f"{method} /{name} HTTP/1.1\r\nHost: 127.0.0.1:{server.port}\r\nContent-Length: {len(body)}\r\nConnection: close\r\n\r\n"
@@ -86,7 +91,7 @@ def ends(release, words, answer, status, said, error, *more):
 
 DONE = [
     (PUBLISH, reply(200, ACCEPTED), 0, f"{ACCEPTED}\n", ""),
-    (PUBLISH, reply(200, '{"accepted":0,"same":160}'), 0, '{"accepted":0,"same":160}\n', ""),
+    (PUBLISH, reply(200, '{"accepted":0,"same":160}'), 3, "", f"{UNKNOWN}{NETWORK}"),
     (PUBLISH, reply(200, ACCEPTED, "X: y\r\n" * 28), 0, f"{ACCEPTED}\n", ""),
     (PUBLISH, reply(200, ACCEPTED).replace(b"\r\n", b"\n"), 0, f"{ACCEPTED}\n", ""),
     (PUT, reply(200, STORED), 0, f"{DIGEST}\n", ""),
@@ -97,16 +102,16 @@ DENIED = [
     (PUBLISH, reply(403, denial(20, "SnapshotVersion", 2)), 1, "", "denied 20 SnapshotVersion at 2\n"),
     (PUBLISH, reply(403, denial(51, "Incoherent", 3)), 1, "", "denied 51 Incoherent at 3\n"),
     (PUBLISH, reply(404, denial(33, "RoleMissing")), 1, "", "denied 33 RoleMissing\n"),
-    (PUBLISH, reply(403, denial(99, "Whatever", 0)), 1, "", "denied 99 Whatever at 0\n"),
-    (PUBLISH, reply(403, denial(20, "SnapshotVersion", 2)), 1, "", f"targets:{EXAMPLE}/targets.json: denied\ndenied 20 SnapshotVersion at 2\n", "-v"),
+    (PUBLISH, reply(403, denial(99, "Whatever", 0)), 3, "", f"{UNKNOWN}{NETWORK}"),
+    (PUBLISH, reply(403, denial(20, "SnapshotVersion", 2)), 1, "", f"release: targets:{EXAMPLE}/targets.json: denied; 'release help 20' says what to do\ndenied 20 SnapshotVersion at 2\n", "-v"),
     (PUT, reply(403, denial(6, "NoRoot")), 1, "", "denied 6 NoRoot\n"),
-    (PUT, reply(403, denial(40, "Full")), 1, "", f"{EXAMPLE}/hello.txt: denied\ndenied 40 Full\n", "-v"),
+    (PUT, reply(403, denial(40, "Full")), 1, "", f"release: {EXAMPLE}/hello.txt: denied; 'release help 40' says what to do\ndenied 40 Full\n", "-v"),
     (PRUNE, reply(403, denial(6, "NoRoot")), 1, "", "denied 6 NoRoot\n"),
 ]
 # What is said to be no such command was not taken.
 REFUSED = [
     (PUBLISH, reply(400, fault("batch")), 3, "", NETWORK),
-    (PUBLISH, reply(413, fault("size")), 3, "", f"batch: status 413\n{NETWORK}", "-v"),
+    (PUBLISH, reply(413, fault("size")), 3, "", f"release: batch: status 413\n{NETWORK}", "-v"),
     (PUBLISH, reply(403, "<html>"), 3, "", NETWORK),
     (PUBLISH, reply(403, denial(256, "Whatever")), 3, "", NETWORK),
     (PUBLISH, reply(403, denial(20, "Snapshot Version", 2)), 3, "", NETWORK),
@@ -120,7 +125,7 @@ REFUSED = [
 # Behind these the change may stand.
 OPEN = [
     (PUBLISH, b"", 3, "", f"{UNKNOWN}{NETWORK}"),
-    (PUBLISH, b"", 3, "", f"batch: no answer that can be read\n{UNKNOWN}{NETWORK}", "-v"),
+    (PUBLISH, b"", 3, "", f"release: batch: no answer that can be read\n{UNKNOWN}{NETWORK}", "-v"),
     (PUBLISH, reply(200, ACCEPTED)[:40], 3, "", f"{UNKNOWN}{NETWORK}"),
     (PUBLISH, reply(200, ACCEPTED)[:-1], 3, "", f"{UNKNOWN}{NETWORK}"),
     (PUBLISH, reply(200, ""), 3, "", f"{UNKNOWN}{NETWORK}"),
@@ -129,14 +134,14 @@ OPEN = [
     (PUBLISH, reply(200, '{"accepted":99999999999999999999,"same":0}'), 3, "", f"{UNKNOWN}{NETWORK}"),
     (PUBLISH, reply(200, STORED), 3, "", f"{UNKNOWN}{NETWORK}"),
     (PUBLISH, reply(200, " " * 4096), 3, "", f"{UNKNOWN}{NETWORK}"),
-    (PUBLISH, reply(200, " " * 4097), 3, "", f"batch: longer than its limit\n{UNKNOWN}{NETWORK}", "-v"),
+    (PUBLISH, reply(200, " " * 4097), 3, "", f"release: batch: longer than its limit\n{UNKNOWN}{NETWORK}", "-v"),
     (PUBLISH, reply(200, ACCEPTED, "X: y\r\n" * 30), 3, "", f"{UNKNOWN}{NETWORK}"),
     (PUBLISH, reply(200, ACCEPTED, f"X: {'y' * 8192}\r\n"), 3, "", f"{UNKNOWN}{NETWORK}"),
     (PUBLISH, b"nonsense\r\n\r\n", 3, "", f"{UNKNOWN}{NETWORK}"),
     (PUBLISH, reply(201, ACCEPTED), 3, "", f"{UNKNOWN}{NETWORK}"),
     (PUBLISH, reply(302, ""), 3, "", f"{UNKNOWN}{NETWORK}"),
     (PUBLISH, reply(503, fault("database")), 3, "", f"{UNKNOWN}fault database\n"),
-    (PUBLISH, reply(502, "<html>"), 3, "", f"batch: status 502\n{UNKNOWN}{NETWORK}", "-v"),
+    (PUBLISH, reply(502, "<html>"), 3, "", f"release: batch: status 502\n{UNKNOWN}{NETWORK}", "-v"),
     (PUBLISH, None, 3, "", f"{UNKNOWN}{NETWORK}"),
     (PUT, b"", 3, "", f"{UNKNOWN}{NETWORK}"),
     (PUT, reply(200, STORED)[:-2], 3, "", f"{UNKNOWN}{NETWORK}"),
@@ -152,7 +157,7 @@ def nobody_listens(release):
     for words in REQUESTS:
         called = [release, words[0], "-v", "--port", str(port), *words[1:]]
         found = subprocess.run(called, capture_output=True, text=True, timeout=60)
-        wanted = (3, "", f"port {port}: Connection refused (os error 111)\n{NETWORK}")
+        wanted = (3, "", f"release: port {port}: Connection refused (os error 111)\n{NETWORK}")
         want((found.returncode, found.stdout, found.stderr) == wanted, f"{words}: {found}")
 
 
@@ -169,14 +174,14 @@ def refused_before(release):
             (("put", "--port", "1", files["large"]), 1, "denied 38 BlobLength\n"),
             (("put", "--port", "1", f"{room}/none"), 3, "fault file\n"),
             (("publish", "--port", "1", *[long] * 16), 3, "fault file\n"),
-            (("publish", "-v", "--port", "1", *[long] * 16), 3, "the documents together: longer than a server takes\nfault file\n"),
+            (("publish", "-v", "--port", "1", *[long] * 16), 3, "release: the documents together: longer than a server takes\nfault file\n"),
             (("publish", "--port", "1", *[long] * 15), 3, NETWORK),
             (("publish", "--port", "1", f"targets:{room}/none", "Targets:a"), 1, "denied 3 WrongShape at 1\n"),
             (("publish", "--port", "1", f"targets:{room}/none"), 3, "fault file\n"),
         ]
         for words, status, error in cases:
             found = subprocess.run([release, *words], capture_output=True, text=True, timeout=60)
-            want((found.returncode, found.stdout, found.stderr) == (status, "", error), f"{words}: {found}")
+            want((found.returncode, found.stdout, told(found.stderr, error)) == (status, "", error), f"{words}: {found}")
 
 
 def cut_while_sending(release):
@@ -198,7 +203,7 @@ def cut_while_sending(release):
             peer.close()
             said, error = process.communicate(timeout=60)
         endings = [(3, "", NETWORK), (3, "", UNKNOWN.format(port=port) + NETWORK)]
-        want((process.returncode, said, error) in endings, f"a reset: {(process.returncode, said, error)}")
+        want((process.returncode, said, without_reasons(error)) in endings, f"a reset: {(process.returncode, said, error)}")
 
 
 def main():

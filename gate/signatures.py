@@ -14,7 +14,7 @@ import sys
 import tempfile
 
 import straight
-from served import RELEASE, Wrong, want
+from served import RELEASE, Wrong, want, without_reasons
 
 FIRST, LAST, BEYOND = (b'{"_type":"%s"}' % word for word in (b"first", b"last", b"beyond"))
 
@@ -32,7 +32,7 @@ def sign(room, words, message, release):
     with open(f"{room}/document", "wb") as file:
         file.write(b'{"signatures":[],"signed":%s}' % message)
     ended = subprocess.run([release, "sign", *words, f"{room}/document"], capture_output=True)
-    return ended.returncode, ended.stdout, ended.stderr
+    return ended.returncode, ended.stdout, without_reasons(ended.stderr)
 
 
 def take(book, leaves):
