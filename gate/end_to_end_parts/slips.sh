@@ -127,11 +127,14 @@ several_hands_at_one_folder() {
     mkdir several
     for name in alice bob carol; do makes_key $name; done
     "$release" draft --at $now --in several root root=2@alice.key,bob.key,carol.key targets=alice.key snapshot=alice.key timestamp=alice.key >/dev/null
+    local first second
     "$release" sign --at $now --key alice --in several --yes >/dev/null &
+    first=$!
     "$release" sign --at $now --key bob --in several --yes >/dev/null &
+    second=$!
     "$release" sign --at $now --key carol --in several --yes >/dev/null
-    wait -n
-    wait -n
+    wait $first
+    wait $second
     [ "$(grep -o '"keyid":"[0-9a-f]*","sig"' several/root.json | sort -u | wc -l)" = 3 ] || fail 'a signature is lost where three sign at once'
     checks=$((checks + 1))
     flock several sleep 15 &
