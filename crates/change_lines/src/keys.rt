@@ -13,8 +13,8 @@ pub struct Names<'a> {
     pub draft: &'a [u8],
 }
 
-/// A key: its name, if it has one, and the first digits of its id, or all of them where that is wanted or another id begins so. A name that the draft alone gives is marked: whoever
-/// wrote the draft says it.
+/// A key: its name, if it has one, and the first digits of its id, or all of them where that is wanted or another id begins so. A name that
+/// the draft alone gives is marked: whoever wrote the draft says it.
 pub fn key_text(
     alloc: Global,
     names: Names<'_>,
