@@ -9,8 +9,8 @@ use Rattle.keys_roles.specs.Plain.{Key, lms, Table, RoleRule, Signature, look_up
 use Rattle.keys_roles.specs.Keys.{id_of, top_key}
 use Rattle.keys_roles.specs.Rules.{AreDistinct}
 use Rattle.metadata.specs.BeforeLevels.{WasKey, WasRow, WasTable, WasRuleOver, HadRule, HadRole, WereRoles, WasRoot, WasLayoutReference, HadLayoutReference, WasListing, WasDelegation, HadDelegations, WasTargets, WasStep, WasLayout, WasEntry, WasEnvelope, WasBody, WasDocument}
-use Rattle.document_parts.specs.Bodies.{AreRoles, HasRequired, HasRootHead, Roles, roles_of, IsRoot, IsLayoutReference, HasLayoutReference, IsListing, IsDelegation, HasDelegations, IsTargets, IsStep, IsLayout, HasRole}
-use Rattle.document_parts.specs.Documents.{Profile, Root, LayoutReference, Listing, Delegation, Delegations, Targets, Step, Layout, Body, root, timestamp, snapshot, targets, layout, link, Document}
+use Rattle.document_parts.specs.Bodies.{AreRoles, Roles, roles_of, IsRoot, IsLayoutReference, HasLayoutReference, IsListing, IsDelegation, HasDelegations, IsTargets, IsStep, IsLayout, HasRole}
+use Rattle.document_parts.specs.Documents.{Root, LayoutReference, Listing, Delegation, Delegations, Targets, Step, Layout, Body, root, timestamp, snapshot, targets, layout, link, Document}
 use Rattle.document_parts.specs.Members.{MayHave, ItemsAre, MembersAre}
 use Rattle.document_parts.specs.Parts.{IsKey, IsRow, IsTable, NamesAreIds, IsRuleOver, HasRule, IsEntry, IsEnvelope, top_at, tops_of}
 use Rattle.metadata.specs.Shape.{delegation_tables, reference_tables, tables, IsBody, IsDocument}
@@ -141,11 +141,11 @@ root_still : (v : Json) (r : Root) → NamesAreIds r.keys → WasRoot v r → Is
 root_still v r ids h =
     let all = each_lms h.keys.2.0.0 r.keys h.keys.2.0.2 in
     record {
-      head = subst (λ (p : Profile). HasRootHead v p r.version r.expires) (sym h.profile) h.head;
+      head = h.head;
       consistent = h.consistent;
       keys = (h.keys.0, h.keys.1, table_still h.keys.0 r.keys h.keys.2);
       roles = (h.roles.0, h.roles.1, roles_still r.keys ids all h.roles.0 (roles_of r) h.roles.2);
-      required = subst (λ (p : Profile). HasRequired v p r.required) (sym h.profile) h.required;
+      required = h.required;
     }
 
 reference_still : (v : Json) (l : LayoutReference) → NamesAreIds l.keys → WasLayoutReference v l → IsLayoutReference v l

@@ -1,6 +1,6 @@
 -- Which document a file was before signatures of several levels: a key was one of `lms-sha256`, a rule might name one key by two
--- ids, and a signature had at most 18,648 hex digits. What stands here is `Parts`, `Bodies` and `Shape` with these three changed;
--- a law says that each such document is one still.
+-- ids, and a signature had at most 18,648 hex digits. Both profiles stood before. What stands here is `Parts`, `Bodies` and `Shape`
+-- with these three changed; a law says that each such document is one still.
 use Rattle.std.specs.Prelude.{◌≡◌, ℕ, ◌<◌, ◌≤◌, ◌%◌, List, ◌∷◌, length, codes, IsTrue, Contains, map, Option, Some, None, ◌⊎◌}
 use Rattle.limits.specs.Limits.{most_signatures}
 use Rattle.std.specs.List.{AllByRecursion, list_all}
@@ -11,10 +11,10 @@ use Rattle.canonical_json.specs.Spelling.{spelling}
 use Rattle.keys_roles.specs.Plain.{Key, lms, Table, RoleRule, Signature}
 use Rattle.keys_roles.specs.Keys.{key_object}
 use Rattle.keys_roles.specs.Rules.{AreDistinct}
-use Rattle.document_parts.specs.Documents.{Root, first_profile, LayoutReference, Listing, Delegation, Delegations, Targets, Step, Layout, Body, root, targets, layout, Document}
+use Rattle.document_parts.specs.Documents.{Root, LayoutReference, Listing, Delegation, Delegations, Targets, Step, Layout, Body, root, targets, layout, Document}
 use Rattle.document_parts.specs.Members.{Has, MayHave, HasJust, IsArray, IsObject, IsText, IsNumber}
 use Rattle.document_parts.specs.Parts.{AreBytes, IsLength, IsHashes, HasExpires, NamesAreIds, signature_object, ids_of}
-use Rattle.document_parts.specs.Bodies.{top_roles, HasHead, Roles, roles_of, IsConsistent, NoMember, IsTextOf, AreTextsOf, reference_members, HasScope, IsDelegable, max_delegations, IsRuleList, max_steps, HasNoInspections}
+use Rattle.document_parts.specs.Bodies.{top_roles, HasHead, HasRootHead, HasRequired, Roles, roles_of, IsConsistent, NoMember, IsTextOf, AreTextsOf, reference_members, HasScope, IsDelegable, max_delegations, IsRuleList, max_steps, HasNoInspections}
 use Rattle.metadata.specs.Shape.{kind_name, IsBody, IsFile, tables}
 use Rattle.document_parts.specs.declared.documents.Kind.{Kind}
 use Rattle.document_parts.specs.declared.documents.Kind.TheVariants as kinds
@@ -56,12 +56,11 @@ pub record WereRoles (v : Json) (keys : Table) (r : Roles) : Type 0 where
   pub timestamp : HadRole v (codes "timestamp") keys r.timestamp
 
 pub record WasRoot (signed : Json) (r : Root) : Type 0 where
-  pub head : HasHead signed r.version r.expires
+  pub head : HasRootHead signed r.profile r.version r.expires
   pub consistent : IsConsistent signed
   pub keys : Has signed (codes "keys") (λ x. WasTable x r.keys)
   pub roles : Has signed (codes "roles") (λ x. WereRoles x r.keys (roles_of r))
-  pub profile : r.profile ≡ first_profile
-  pub required : r.required ≡ None
+  pub required : HasRequired signed r.profile r.required
 
 -- ---- targets metadata
 
