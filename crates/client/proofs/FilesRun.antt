@@ -29,10 +29,10 @@ answer_is limit Has b (gives h k) = h
 
 module _ (law : Granted) {Src : Type 0} (from : Gives Src) (Is : Src → Type 0) (S : State) (now : ℕ) (honest : IsHonest from Is S now) where
   -- whatever comes under the name is a file of the state
-  abbrev IsFile : Wanted → Type 0
+  abbrev pub IsFile : Wanted → Type 0
   IsFile w = (s t : Src) (b : Bytes) → Is s → from s w.name w.limit (Ok (Some b)) t → IsFileOf S (w.command b)
 
-  document_file : (file : Bytes) (offer : Offer) → IsPlaceOf offer file → IsFile (document file offer)
+  pub document_file : (file : Bytes) (offer : Offer) → IsPlaceOf offer file → IsFile (document file offer)
   document_file file offer place s t b is g =
       let h = answer_is _ (IsHeldAs S now (codes "metadata/" ++ file)) b (honest.answers s t _ _ (Ok (Some b)) is g) in
       (file, place, sym (h.metadata file refl))
@@ -43,7 +43,7 @@ module _ (law : Granted) {Src : Type 0} (from : Gives Src) (Is : Src → Type 0)
       let granted = law S path b (Some digest) now (h.target text path (Some digest) refl asks) in
       subst (λ (d : Bytes). blob_at S.blobs d ≡ Some b) granted.4 granted.2
 
-  missing_file : (d : orders.Denial) (w : Wanted) → Misses d w → IsFile w
+  pub missing_file : (d : orders.Denial) (w : Wanted) → Misses d w → IsFile w
   missing_file _ _ (role {role = r} {version = v} is) = document_file (dotted v r) (TargetsOffer r) (v, refl)
   missing_file _ _ (blob {text = text} {path = path} {digest = digest} {len = len} asks) = blob_file text path digest len asks
 
@@ -52,7 +52,7 @@ module _ (law : Granted) {Src : Type 0} (from : Gives Src) (Is : Src → Type 0)
   made command C D _ is (session.denied index h) = goes (IsFileOf S) now C D command _ is h
   made command C _ _ is (session.unmade f) = stays (IsFileOf S) now C
 
-  takes_is : (w : Wanted) (s t : Src) (C D : State) (r : Result Bool Fault) → Is s → Takes from now w s C t D r → Is t
+  pub takes_is : (w : Wanted) (s t : Src) (C D : State) (r : Result Bool Fault) → Is s → Takes from now w s C t D r → Is t
   takes_is w s t C D _ is (session.taken {b = b} g short m) = honest.stays s t _ _ _ is g
   takes_is w s t C D _ is (session.rejected {b = b} g short m) = honest.stays s t _ _ _ is g
   takes_is w s t C _ _ is (session.absent g) = honest.stays s t _ _ _ is g
@@ -68,7 +68,7 @@ module _ (law : Granted) {Src : Type 0} (from : Gives Src) (Is : Src → Type 0)
   takes_run w s t C _ _ file is (session.failed g) = stays (IsFileOf S) now C
   takes_run w s _ C _ _ file is session.unasked = stays (IsFileOf S) now C
 
-  root_file : (v : ℕ) → IsFile (wanted_root v)
+  pub root_file : (v : ℕ) → IsFile (wanted_root v)
   root_file v = document_file (dotted v (codes "root")) RootOffer (v, refl)
 
   roots_run : (n : ℕ) (s t : Src) (C D : State) (r : Result (Unit {0}) Fault) → Is s → TakesRoots from now n s C t D r → RunsOn (IsFileOf S) now C D × Is t
@@ -86,7 +86,7 @@ module _ (law : Granted) {Src : Type 0} (from : Gives Src) (Is : Src → Type 0)
   snapshot_runs s t C D _ is (session.due v e h) = (takes_run _ s t C D _ (document_file (dotted v (codes "snapshot")) SnapshotOffer (v, refl)) is h, takes_is _ s t C D _ is h)
   snapshot_runs s t C D _ is (session.fails v e h) = (takes_run _ s t C D _ (document_file (dotted v (codes "snapshot")) SnapshotOffer (v, refl)) is h, takes_is _ s t C D _ is h)
 
-  stamp_file : IsFile wanted_timestamp
+  pub stamp_file : IsFile wanted_timestamp
   stamp_file = document_file (codes "timestamp.json") TimestampOffer refl
 
   timestamp_runs : (s t : Src) (C D : State) (r : Result (Unit {0}) Fault) → Is s → TakesTimestamp from now s C t D r → RunsOn (IsFileOf S) now C D × Is t
@@ -103,7 +103,7 @@ module _ (law : Granted) {Src : Type 0} (from : Gives Src) (Is : Src → Type 0)
       let rest = timestamp_runs t u D E r first.1 more in
       (runs_then (IsFileOf S) now C D E first.0 rest.0, rest.1)
 
-  brings_run : (s t : Src) (C D : State) (r : Result (Unit {0}) Fault) → Is s → Brings from now s C t D r → RunsOn (IsFileOf S) now C D × Is t
+  pub brings_run : (s t : Src) (C D : State) (r : Result (Unit {0}) Fault) → Is s → Brings from now s C t D r → RunsOn (IsFileOf S) now C D × Is t
   brings_run s t C D _ is (agreement.updated h) = update_runs s t C D _ is h
   brings_run s t C D _ is (agreement.denied h) = update_runs s t C D _ is h
   brings_run s t C D _ is (agreement.fails h other) = update_runs s t C D _ is h

@@ -9,6 +9,7 @@ pub mod Found
 pub mod HonestTakes
 pub mod Levels
 pub mod OneFile
+pub mod OwnDenials
 pub mod Refused
 pub mod Replied
 pub mod Roots

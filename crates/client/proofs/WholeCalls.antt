@@ -16,6 +16,7 @@ use Rattle.client.specs.Session.{Fetches}
 use Rattle.client.specs.Views.{Fault}
 use Rattle.client.proofs.ClientAgreeing.{client_agrees}
 use Rattle.client.proofs.FilesRun.{files_run}
+use Rattle.client.proofs.OwnDenials.{own_denial, unbroken}
 use Rattle.client.specs.steps.Laws.{GrantLaws, NewLaws, RootLaws, StepLaws}
 use Rattle.client.proofs.Runs.{fetch-granted}
 
@@ -35,7 +36,9 @@ module _ (roots_law : RootLaws) (news : NewLaws) (grant : GrantLaws) (step : Ste
           there,
           record {
             files = files_run grant.granted from Is S now honest (IsClean E) path s u C F r is (agreement.then b f);
+            unbroken = unbroken grant.granted from Is S now honest (IsClean E) path s u C F r is (agreement.then b f);
             granted = λ trust. of_bytes r F (λ b e. fetch-granted (IsClean E) from now trust path [] t u D F r b f e);
+            own = λ trust. own_denial grant.granted from Is S now honest (IsClean E) trust path s u C F r is (agreement.then b f);
             agrees = λ trust coherent behind. client_agrees roots_law news grant step shapes (IsClean E) Src from Is C S F path now s u r trust at.state.valid sure coherent is_path behind honest is (agreement.then b f);
           },
         );
@@ -50,7 +53,9 @@ module _ (roots_law : RootLaws) (news : NewLaws) (grant : GrantLaws) (step : Ste
           to,
           record {
             files = files_run grant.granted from Is S now honest (IsClean B) path s t C D (Err fault) is (agreement.fails b);
+            unbroken = unbroken grant.granted from Is S now honest (IsClean B) path s t C D (Err fault) is (agreement.fails b);
             granted = λ trust. tt;
+            own = λ trust. own_denial grant.granted from Is S now honest (IsClean B) trust path s t C D (Err fault) is (agreement.fails b);
             agrees = λ trust coherent behind. client_agrees roots_law news grant step shapes (IsClean B) Src from Is C S D path now s t (Err fault) trust at.state.valid sure coherent is_path behind honest is (agreement.fails b);
           },
         );

@@ -1,5 +1,5 @@
 -- Agreement: a client behind a server gets a target exactly where the server grants it.
-use Rattle.std.specs.Prelude.{◌≡◌, ◌≢◌, ◌≤◌, ℕ, List, [], ◌∷◌, length, codes, Some, None, Result, Ok, Err, IfOk}
+use Rattle.std.specs.Prelude.{◌≡◌, ◌≢◌, ◌⊎◌, ◌≤◌, ℕ, List, [], ◌∷◌, length, codes, Option, Some, None, Result, Ok, Err, IfOk}
 use Rattle.path_patterns.specs.Names.{dotted}
 use Rattle.document_parts.specs.Documents.{Profile}
 use Rattle.metadata.specs.File.{Bytes}
@@ -8,7 +8,7 @@ use Rattle.path_patterns.specs.Grammar.{IsTargetPath}
 use Rattle.trust_rules.specs.State.{State, IsState, IsCoherent, blob_at, metadata_of, nothing}
 use Rattle.trust_rules.specs.Offers.{Offer, RootOffer, TimestampOffer, SnapshotOffer, TargetsOffer, init}
 use Rattle.trust_rules.specs.Grants.{grants}
-use Rattle.trust_rules.specs.Runs.{Command, OfferOne, PutBlob}
+use Rattle.trust_rules.specs.Runs.{Command, OfferOne, PutBlob, Refused, Steps}
 use Rattle.fetch.specs.Source.{Gives}
 use Rattle.fetch.specs.declared.FetchFault.{FetchFault}
 use Rattle.fetch.specs.declared.FetchFault.TheVariants as fetches
@@ -40,11 +40,20 @@ pub record Agrees (S D : State) (path : Bytes) (now : ℕ) (r : Result Bytes Fau
       → ((b : Bytes) → grants S path None now (Ok b) → ⊥) × ((e : orders.Denial) × grants D path None now (Err (orders.Denied e)))
   pub fetched : (fault : FetchFault) → r ≡ Err (Fetch fault) → fault ≡ fetches.OutOfMemory
 
--- What a call leaves of a client's state, and what it answers: the state is that of a run of files of the server; and where the bytes of the
--- client's blobs are to be trusted, it grants what was answered, and agrees with the server that it is behind.
+-- the client's state denies the target so, or it denies so a file of the server that was offered to it
+abbrev pub IsOwnDenial : State → State → Bytes → ℕ → orders.Denial → Type 0
+IsOwnDenial S D path now d =
+    grants D path None now (Err (orders.Denied d))
+    ⊎ ((command : Command) × (index : Option ℕ) × IsFileOf S command × Steps D command now (D, Refused d index))
+
+-- What a call leaves of a client's state, and what it answers, whatever the client's state was: the state is that of a run of files of the
+-- server, and no answer of the source was one that cannot be read; and where the bytes of the client's blobs are to be trusted, the state
+-- grants what was answered, a denial is its own, and it agrees with the server that it is behind.
 pub record FetchesFrom (trusted : Type 0) (S C D : State) (path : Bytes) (now : ℕ) (r : Result Bytes Fault) : Type 0 where
   pub files : RunsOn (IsFileOf S) now C D
+  pub unbroken : (fault : FetchFault) → r ≡ Err (Fetch fault) → fault ≢ fetches.Broken
   pub granted : trusted → IfOk r (λ b. grants D path None now (Ok b))
+  pub own : trusted → (d : orders.Denial) → r ≡ Err (Denied d) → IsOwnDenial S D path now d
   pub agrees : trusted → IsCoherent S.trusted → Behind C S now → Agrees S D path now r
 
 -- an update, where it ended well or was denied; its other faults are faults
