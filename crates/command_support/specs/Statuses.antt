@@ -1,5 +1,5 @@
 -- Exit statuses: 0 done, 1 denied, 2 a fault of the command line, 3 all else.
-use Rattle.std.specs.Prelude.{ℕ, None}
+use Rattle.std.specs.Prelude.{◌≡◌, ◌⊎◌, ℕ, None}
 use Rattle.denials.specs.declared.denial.Denial.TheVariants as denials
 use Rattle.command_support.specs.declared.fault.Fault.{Fault}
 use Rattle.command_support.specs.declared.fault.Fault.TheVariants.{Usage, Help, Denied, Refused, Slip, Due, LeavesSpent, UnknownKey, Memory, Database, Damaged, Network, File, Clock}
@@ -26,6 +26,11 @@ status_of Damaged = 3
 status_of Network = 3
 status_of File = 3
 status_of Clock = 3
+
+-- the status that a command ends with which was not done for a fault: help that could not be printed is a fault of a file
+abbrev pub EndsWith : Fault → ℕ → Type 0
+EndsWith (Help text) status = (status ≡ 0) ⊎ (status ≡ 3)
+EndsWith fault status = status ≡ status_of fault
 
 -- what a fault of the command line comes to, and one of `canon`
 abbrev pub fault_of_usage : Usages → Fault

@@ -1,10 +1,11 @@
 //! Database files.
-ghost use Rattle.std.specs.Prelude.{◌+◌, ◌≤◌, length};
+ghost use Rattle.std.specs.Prelude.{◌≡◌, ◌+◌, ◌≤◌, IfErr, length};
+ghost use Rattle.command_support.specs.Statuses.{status_of};
 
 use crate::fault::Fault;
 use crate::files::read_at_most;
 use crate::notes::Notes;
-use crate::placing::OWNER_ALONE;
+use crate::on_disk::OWNER_ALONE;
 use sqlite::{Connection, Error, ErrorCode, FileFrom, FileStore, Wary};
 use std::alloc::AllocError;
 use std::fs::{self, File};
@@ -39,7 +40,9 @@ pub fn connected<E: Write>(
     db: &str,
     busy: &str,
     notes: &mut Notes<'_, E>,
-) -> Result<Connection<FileStore<FileFrom<Wary>>>, Fault> {
+) -> Result<Connection<FileStore<FileFrom<Wary>>>, Fault>
+    ensures { IfErr result (λ fault. status_of fault ≡ 3) }
+{
     if is_log_alone(rt, db)? {
         notes.fault(&db, &"empty or absent, next to a log with changes");
         return Err(Fault::Damaged);
@@ -192,7 +195,9 @@ fn unopened<E: Write>(
     busy: &str,
     error: &Error,
     notes: &mut Notes<'_, E>,
-) -> Fault {
+) -> Fault
+    ensures { status_of result ≡ 3 }
+{
     match error {
         Error::SqliteFailure(ErrorCode::OutOfMemory) => return Fault::Memory,
         Error::SqliteFailure(ErrorCode::DatabaseBusy) => notes.fault(&db, &busy),

@@ -230,7 +230,9 @@ impl From<ShapeFault> for Fault {
 }
 
 /// What a failed use of a file comes to.
-pub fn file_fault(error: &io::Error) -> Fault {
+pub fn file_fault(error: &io::Error) -> Fault
+    ensures { status_of result ≡ 3 }
+{
     if error.kind() == io::ErrorKind::OutOfMemory {
         Fault::Memory
     } else {

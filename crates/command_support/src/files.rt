@@ -1,4 +1,7 @@
 //! Input files and folders, and standard output.
+ghost use Rattle.std.specs.Prelude.{◌≡◌, IfErr};
+ghost use Rattle.command_support.specs.Statuses.{status_of};
+
 use crate::fault::{Fault, file_fault};
 use crate::notes::Notes;
 use std::fs::{self, File, Metadata};
@@ -10,7 +13,9 @@ pub fn read<E: Write>(
     rt: &HostRuntime,
     path: &str,
     notes: &mut Notes<'_, E>,
-) -> Result<Vec<u8>, Fault> {
+) -> Result<Vec<u8>, Fault>
+    ensures { IfErr result (λ fault. status_of fault ≡ 3) }
+{
     match fs::read(rt, path) {
         Ok(bytes) => Ok(bytes),
         Err(error) => Err(unread(path, &error, notes)),
@@ -23,7 +28,9 @@ pub fn read_at_most<E: Write>(
     path: &str,
     limit: usize,
     notes: &mut Notes<'_, E>,
-) -> Result<Vec<u8>, Fault> {
+) -> Result<Vec<u8>, Fault>
+    ensures { IfErr result (λ fault. status_of fault ≡ 3) }
+{
     match beginning(rt, path, limit) {
         Ok(bytes) => Ok(bytes),
         Err(error) => Err(unread(path, &error, notes)),
@@ -45,7 +52,9 @@ pub fn read_regular<E: Write>(
     path: &str,
     limit: usize,
     notes: &mut Notes<'_, E>,
-) -> Result<Option<Vec<u8>>, Fault> {
+) -> Result<Option<Vec<u8>>, Fault>
+    ensures { IfErr result (λ fault. status_of fault ≡ 3) }
+{
     match regular(rt, path, limit) {
         Ok(bytes) => Ok(bytes),
         Err(error) => {
@@ -89,7 +98,9 @@ fn no_regular_file() -> io::Error {
     )
 }
 
-fn unread<E: Write>(path: &str, error: &io::Error, notes: &mut Notes<'_, E>) -> Fault {
+fn unread<E: Write>(path: &str, error: &io::Error, notes: &mut Notes<'_, E>) -> Fault
+    ensures { status_of result ≡ 3 }
+{
     notes.fault(&path, error);
     file_fault(error)
 }
@@ -119,7 +130,9 @@ pub fn print<O: Write, E: Write>(
     out: &mut O,
     bytes: &[u8],
     notes: &mut Notes<'_, E>,
-) -> Result<(), Fault> {
+) -> Result<(), Fault>
+    ensures { IfErr result (λ fault. status_of fault ≡ 3) }
+{
     match write_flushed(out, bytes) {
         Ok(()) => Ok(()),
         Err(error) => {

@@ -3,7 +3,7 @@ use crate::fault::{Fault, file_fault};
 use crate::files::{names_of, read_regular, standing};
 use crate::locking::FolderLock;
 use crate::notes::Notes;
-use crate::placing::put_in_place;
+use crate::on_disk::put_in_place;
 use limits::FILE_LIMIT;
 use metadata::{Digest, RoleName, digest_of};
 use std::alloc::{AllocError, Global};

@@ -9,7 +9,7 @@ mod folder;
 mod locking;
 mod moments;
 mod notes;
-mod placing;
+mod on_disk;
 
 pub use command_line::Usage;
 pub use databases::connected;
@@ -22,4 +22,4 @@ pub use locking::FolderLock;
 pub use loose_json::CanonFault;
 pub use moments::{expiry_of, moment};
 pub use notes::{MOST_DENIALS, Notes};
-pub use placing::{OWNER_ALONE, are_one_file, put_in_place};
+pub use on_disk::{OWNER_ALONE, OnDisk, are_one_file, put_in_place};

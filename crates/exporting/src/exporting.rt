@@ -1,6 +1,7 @@
 //! `export`: the repository as files that any web server can send.
 use crate::files::Exporting;
 use command_support::{Fault, Notes, moment, print};
+use exported_files::export_files;
 use metadata::Moment;
 use repository_work::{Store, Work, worked};
 use sqlite::Alter;
@@ -28,7 +29,9 @@ pub fn export<O: Write, E: Write>(
     print(out, line.as_bytes(), notes)
 }
 
-// What is done over the repository: its files are written into the folder.
+// What is done over the repository: its files are written into the folder, each where it is not there already, and counted: target
+// files, targets metadata, the snapshot, the roots from the last to the first, and the timestamp, so that whoever reads meanwhile finds
+// what a file names.
 #[derive(Clone, Copy)]
 struct ToFolder<'a> {
     rt: &'a HostRuntime,
@@ -45,6 +48,18 @@ impl Work for ToFolder<'_> {
         repository: &mut Store<S>,
         notes: &mut Notes<'_, E>,
     ) -> Result<u64, Fault> {
-        Exporting::new(self.rt, repository, self.db, self.folder, self.now, notes).export()
+        let mut exporting = Exporting::new(
+            self.rt,
+            repository,
+            self.db,
+            self.folder,
+            self.now,
+            notes,
+        );
+        let root = exporting.root()?;
+        match export_files(self.rt.alloc(), self.folder, root, exporting) {
+            Ok(exported) => Ok(exported.written()),
+            Err(fault) => Err(fault),
+        }
     }
 }

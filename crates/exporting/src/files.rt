@@ -1,12 +1,10 @@
 //! The files of a repository in a folder, under the names that clients ask for.
 use command_support::{Denial, Fault, Notes, file_fault, put_in_place};
+use exported_files::Mirror;
 use limits::BLOB_LIMIT;
-use metadata::{Body, Kind, Listing, Moment, digest_of};
-use path_patterns::consistent_name;
+use metadata::{Listing, Moment, digest_of};
 use repository_work::{Command, Reply, Store, fault_of_store};
-use served_files::{FileVisitor, visit_files};
 use sqlite::Alter;
-use std::alloc::{AllocError, Global};
 use std::fs::{self, File, Metadata};
 use std::io::{self, ErrorKind, Read, Write};
 
@@ -45,9 +43,13 @@ impl<'a, 'n, 'e, S: Alter, E: Write> Exporting<'a, 'n, 'e, S, E> {
         }
     }
 
-    /// Writes what is not there already, and answers how many files that were: target files, targets metadata, the snapshot, the roots
-    /// from the last to the first, and the timestamp, so that whoever reads meanwhile finds what a file names.
-    pub fn export(&mut self) -> Result<u64, Fault> {
+    /// How many files were written.
+    pub fn written(&self) -> u64 {
+        self.written
+    }
+
+    /// The version of the last root, where there is one and a folder may stand where it is to be.
+    pub fn root(&mut self) -> Result<u32, Fault> {
         let Some(root) = self.repository.root_version() else {
             self.notes.denied(&self.db, Denial::NoRoot.number());
             return Err(Fault::Denied(Denial::NoRoot, None));
@@ -56,44 +58,7 @@ impl<'a, 'n, 'e, S: Alter, E: Write> Exporting<'a, 'n, 'e, S, E> {
             self.notes.fault(&self.folder, &"no folder");
             return Err(Fault::File);
         }
-        let alloc = self.alloc();
-        visit_files(alloc, 0, root, self)?;
-        Ok(self.written)
-    }
-
-    fn alloc(&self) -> Global {
-        self.rt.alloc()
-    }
-
-    // The file of a target, where the repository grants it. One of its digest that stands there already is not written again.
-    fn write_target_file(&mut self, listing: &Listing) -> Result<(), Fault> {
-        let place = self.target_place(listing)?;
-        if has_digest(self.rt, place.as_str(), listing) {
-            return Ok(());
-        }
-        let command = Command::Target(listing.path.as_str(), Some(listing.digest));
-        let reply = self.ask(command)?;
-        self.write_reply(place.as_str(), listing, &reply)
-    }
-
-    // Where the file of a target stands.
-    fn target_place(&self, listing: &Listing) -> Result<String, AllocError> {
-        let name = consistent_name(self.alloc(), &listing.path, &listing.digest)?;
-        let name = name.as_str();
-        let folder = self.folder;
-        format!(in self.alloc(); "{folder}/targets/{name}")
-    }
-
-    // What was answered for a target. A denial is told, and so is a place that no file can have.
-    fn write_reply(&mut self, place: &str, listing: &Listing, reply: &Reply) -> Result<(), Fault> {
-        match reply {
-            Reply::Bytes(bytes) => self.write_target(place, listing, bytes),
-            Reply::Denied(denial, _) => {
-                self.notes.tell(&listing.path.as_str(), &denial.name());
-                Ok(())
-            }
-            _ => Ok(()),
-        }
+        Ok(root)
     }
 
     // The file of a target in its place. A path may be one that no folder takes, since its name is too long or is that of a folder of another
@@ -112,16 +77,6 @@ impl<'a, 'n, 'e, S: Alter, E: Write> Exporting<'a, 'n, 'e, S, E> {
                 None => Err(unwritten(place, &error, self.notes)),
             },
         }
-    }
-
-    // A metadata file that is not there already with these bytes.
-    fn write_metadata(&mut self, name: &str, bytes: &[u8]) -> Result<(), Fault> {
-        let folder = self.folder;
-        let place = format!(in self.alloc(); "{folder}/metadata/{name}")?;
-        if has_bytes(self.rt, place.as_str(), bytes) {
-            return Ok(());
-        }
-        self.write(place.as_str(), bytes)
     }
 
     // A file in its place, whose folder is made where there is none.
@@ -146,32 +101,43 @@ impl<'a, 'n, 'e, S: Alter, E: Write> Exporting<'a, 'n, 'e, S, E> {
     }
 }
 
-impl<S: Alter, E: Write> FileVisitor for Exporting<'_, '_, '_, S, E> {
+impl<S: Alter, E: Write> Mirror for Exporting<'_, '_, '_, S, E> {
     type Fault = Fault;
 
-    fn read(&mut self, name: &str) -> Result<Option<Vec<u8>>, Fault> {
+    fn metadata(&mut self, name: &str) -> Result<Option<Vec<u8>>, Fault> {
         match self.ask(Command::Metadata(name))? {
             Reply::Bytes(bytes) => Ok(Some(bytes)),
             _ => Ok(None),
         }
     }
 
-    fn visit_root(&mut self, name: &str, bytes: &[u8]) -> Result<(), Fault> {
-        self.write_metadata(name, bytes)
+    // A denial is told.
+    fn target(&mut self, listing: &Listing) -> Result<Option<Vec<u8>>, Fault> {
+        let command = Command::Target(listing.path.as_str(), Some(listing.digest));
+        match self.ask(command)? {
+            Reply::Bytes(bytes) => Ok(Some(bytes)),
+            Reply::Denied(denial, _) => {
+                self.notes.tell(&listing.path.as_str(), &denial.name());
+                Ok(None)
+            }
+            _ => Ok(None),
+        }
     }
 
-    fn visit_metadata(
-        &mut self,
-        _kind: Kind,
-        name: &str,
-        bytes: &[u8],
-        _body: Option<&Body>,
-    ) -> Result<(), Fault> {
-        self.write_metadata(name, bytes)
+    fn has_bytes(&mut self, place: &str, bytes: &[u8]) -> bool {
+        has_bytes(self.rt, place, bytes)
     }
 
-    fn visit_target(&mut self, listing: &Listing) -> Result<(), Fault> {
-        self.write_target_file(listing)
+    fn has_target(&mut self, place: &str, listing: &Listing) -> bool {
+        has_digest(self.rt, place, listing)
+    }
+
+    fn put(&mut self, place: &str, bytes: &[u8]) -> Result<(), Fault> {
+        self.write(place, bytes)
+    }
+
+    fn put_target(&mut self, place: &str, listing: &Listing, bytes: &[u8]) -> Result<(), Fault> {
+        self.write_target(place, listing, bytes)
     }
 }
 

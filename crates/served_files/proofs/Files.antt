@@ -15,7 +15,7 @@ use Rattle.served_files.specs.steps.Visits.{IsListedBy, IsNamedBy, IsOfRolesBy}
 use Rattle.served_files.proofs.Telling.{just_both, just_none, just_one}
 
 -- the body that a document of the name has is the file's
-said : (files : Files) (kind : Kind) (name bytes : Bytes) (body other : Body) → files name ≡ Some bytes → IsBodyOf kind bytes body → Says files kind name other → other ≡ body
+pub said : (files : Files) (kind : Kind) (name bytes : Bytes) (body other : Body) → files name ≡ Some bytes → IsBodyOf kind bytes body → Says files kind name other → other ≡ body
 said files kind name bytes body other held is says =
     let same : says.bytes ≡ bytes = cc (says.is_held, held) in
     sym says.has_body ∙ is.has_body says.document (subst (λ b. IsDocument kind b says.document) same says.is_document)
@@ -29,12 +29,12 @@ says_it files kind name bytes body held is = record {
   has_body = is.has_body is.document is.is_document;
 }
 
-unsaid : (files : Files) (kind : Kind) (name bytes : Bytes) (other : Body) → files name ≡ Some bytes → ((d : Document) → IsDocument kind bytes d → ⊥) → Says files kind name other → ⊥
+pub unsaid : (files : Files) (kind : Kind) (name bytes : Bytes) (other : Body) → files name ≡ Some bytes → ((d : Document) → IsDocument kind bytes d → ⊥) → Says files kind name other → ⊥
 unsaid files kind name bytes other held none says =
     let same : says.bytes ≡ bytes = cc (says.is_held, held) in
     none says.document (subst (λ b. IsDocument kind b says.document) same says.is_document)
 
-one_file : (files : Files) (kind : Kind) (name bytes : Bytes) (f : ServedFile) → files name ≡ Some bytes → IsHeldFile files kind name f → f ≡ metadata kind name bytes
+pub one_file : (files : Files) (kind : Kind) (name bytes : Bytes) (f : ServedFile) → files name ≡ Some bytes → IsHeldFile files kind name f → f ≡ metadata kind name bytes
 one_file files kind name bytes f held (other, is, same) = let e : other ≡ bytes = cc (is, held) in same ∙ ap (metadata kind name) e
 
 no_file : (files : Files) (kind : Kind) (name : Bytes) (f : ServedFile) → files name ≡ None → IsHeldFile files kind name f → ⊥
@@ -77,12 +77,12 @@ named_so files (plain.targets t) f says is = absurd is
 named_so files (plain.layout l) f says is = absurd is
 named_so files (plain.link l) f says is = absurd is
 
-in_role : (files : Files) (name : Bytes) (Lower : ServedFile → Type 0) (f : ServedFile) → ((t : plain.Targets) → Says files kinds.Targets name (plain.targets t) → IsListedBy (plain.targets t) f → Lower f)
+pub in_role : (files : Files) (name : Bytes) (Lower : ServedFile → Type 0) (f : ServedFile) → ((t : plain.Targets) → Says files kinds.Targets name (plain.targets t) → IsListedBy (plain.targets t) f → Lower f)
     → IsOfRole files name f → IsHeldFile files kinds.Targets name f ⊎ Lower f
 in_role files name Lower f lower (role_itself it) = inl it
 in_role files name Lower f lower (lists_target t l says in_it is) = inr (lower t says (l, in_it, is))
 
-in_snapshot : (files : Files) (name : Bytes) (Lower : ServedFile → Type 0) (f : ServedFile) → ((s : plain.Snapshot) → Says files kinds.Snapshot name (plain.snapshot s) → IsOfRolesBy files (plain.snapshot s) f → Lower f)
+pub in_snapshot : (files : Files) (name : Bytes) (Lower : ServedFile → Type 0) (f : ServedFile) → ((s : plain.Snapshot) → Says files kinds.Snapshot name (plain.snapshot s) → IsOfRolesBy files (plain.snapshot s) f → Lower f)
     → IsOfSnapshot files name f → IsHeldFile files kinds.Snapshot name f ⊎ Lower f
 in_snapshot files name Lower f lower (snapshot_itself it) = inl it
 in_snapshot files name Lower f lower (lists_role s r m says in_it is) = inr (lower s says (r, m, in_it, is))

@@ -5,14 +5,16 @@ use Rattle.std.proofs.Math.Nat.{eq-or-lt_of_le, lt_of_not-le}
 use Rattle.std.proofs.lemmas.List.{append-nil}
 use Rattle.metadata.specs.File.{Bytes}
 use Rattle.document_parts.specs.declared.documents.Kind.TheVariants as kinds
+use Rattle.served_files.specs.Order.{LeadsTo, StandAfter}
 use Rattle.served_files.specs.Served.{AreJust, Files, IsHeldFile, IsOfRoots, ServedFile, metadata, root_name}
 use Rattle.served_files.specs.steps.Visits.{TellsRoot, TellsRoots}
 use Rattle.served_files.proofs.Telling.{just_as, just_both, just_none, just_one}
 
-pub roots_none : (files : Files) (last : ℕ) → TellsRoots files last last []
-roots_none files last = record {
+pub roots_none : (files : Files) (last : ℕ) → StandAfter (LeadsTo files last) [] → TellsRoots files last last []
+roots_none files last after = record {
   are_just = just_none (IsOfRoots files last last) (λ f is. let a : last < is.version = is.is_behind in let b : is.version ≤ last = is.is_within in absurd (omega arith));
   are_held = λ v behind within. absurd (omega arith);
+  stand_after = after;
 }
 
 is_there : (files : Files) (v : ℕ) (bytes : Bytes) → files (root_name v) ≡ Some bytes → IsSome (files (root_name v))
@@ -42,8 +44,8 @@ either_root files n before last bytes next held f is =
 
 -- one more root, that is held
 pub roots_more : (files : Files) (n before last : ℕ) (xs ys : List ServedFile) → before ≡ n + 1 → before ≤ last
-    → TellsRoots files before last xs → TellsRoot files before true ys → TellsRoots files n last (xs ++ ys)
-roots_more files n before last xs ys next within told (bytes, held, same) =
+    → TellsRoots files before last xs → TellsRoot files before true ys → StandAfter (LeadsTo files last) (xs ++ ys) → TellsRoots files n last (xs ++ ys)
+roots_more files n before last xs ys next within told (bytes, held, same) after =
     let all : (v : ℕ) → n < v → v ≤ last → IsSome (files (root_name v)) = held_more files n before last bytes next held told.are_held in
     let x : ServedFile = metadata kinds.Root (root_name before) bytes in
     record {
@@ -53,6 +55,7 @@ roots_more files n before last xs ys next within told (bytes, held, same) =
           (λ f is. record { version = before; is_behind = omega arith; is_within = within; are_held = (λ v low high. let a : n < v = omega arith in all v a high); is_file = (bytes, held, is) })
           (λ f is. either_root files n before last bytes next held f is));
       are_held = all;
+      stand_after = after;
     }
 
 not_there : (files : Files) (v : ℕ) → files (root_name v) ≡ None → IsSome (files (root_name v)) → ⊥

@@ -3,8 +3,9 @@ ghost use Rattle.std.specs.Prelude.{◌≡◌, ◌++◌, [], ◌∷◌, Some, Li
 ghost use Rattle.document_parts.specs.Views.{body_view, listing_view, meta_view};
 ghost use Rattle.document_parts.specs.declared.documents.Kind.TheVariants as kinds;
 ghost use Rattle.path_patterns.specs.Names.{dotted};
+ghost use Rattle.served_files.specs.Order.{IsInOrder, LeadsTo, StandAfter};
 ghost use Rattle.served_files.specs.Served.{AreJust, Files, IsBodyOf, IsOfRole, IsOfRoots, IsOfSnapshot, IsSaid, IsServed, ServedFile, metadata, snapshot_name, target, timestamp_name};
-ghost use Rattle.served_files.specs.steps.Visits.{Became, IsListedBy, IsListedIn, IsNamedBy, IsOfRolesBy, IsOfRolesIn, TellsRoot};
+ghost use Rattle.served_files.specs.steps.Visits.{AreInOrder, Became, IsListedBy, IsListedIn, IsNamedBy, IsOfRolesBy, IsOfRolesIn, TellsRoot};
 
 use metadata::{
     Body, Kind, Listing, Meta, RoleName, ShapeFault, one_document, one_shape, read_document,
@@ -50,8 +51,8 @@ pub trait FileVisitor {
 }
 
 /// Tells of each file that a client may ask for which trusts the root of the version `after`, or none at 0, where the last root has the
-/// version `last`, and of no other (TUF 1.0, sections 5.3 to 5.7). A file stands behind what it names: the targets that a role lists, and
-/// then its metadata; behind all roles the snapshot; the roots, from the last down to the first that is not held; and at the end the
+/// version `last`, and of no other (TUF 1.0, sections 5.3 to 5.7). A file stands after what it names: the targets that a role lists, and
+/// then its metadata; after all roles the snapshot; the roots, from the last down to the first that is not held; and at the end the
 /// timestamp. A target that several roles list is told several times.
 ///
 /// It ends at the first fault, and then nothing is claimed: that of the visitor, or its fault for want of memory.
@@ -61,7 +62,7 @@ pub fn visit_files<V: FileVisitor>(
     last: u32,
     visitor: &mut V,
 ) -> Result<(), V::Fault>
-    ensures { OnOk result (Became V.Stands visitor.old visitor.new (λ files more. AreJust (IsServed files after last) more)) }
+    ensures { OnOk result (Became V.Stands visitor.old visitor.new (λ files more. AreJust (IsServed files after last) more × IsInOrder files last more)) }
 {
     match visitor.read("timestamp.json")? {
         Some(bytes) => visit_from(alloc, after, last, &bytes, visitor),
@@ -78,7 +79,7 @@ fn visit_from<V: FileVisitor>(
     visitor: &mut V,
 ) -> Result<(), V::Fault>
     ensures { OnOk result (Became V.Stands visitor.old visitor.new (λ files more. files timestamp_name ≡ Some bytes.now
-        → AreJust (IsServed files after last) more)) }
+        → AreJust (IsServed files after last) more × IsInOrder files last more)) }
 {
     one_document();
     one_shape();
@@ -113,7 +114,7 @@ fn visit_timestamp<V: FileVisitor>(
 ) -> Result<(), V::Fault>
     requires { IsBodyOf kinds.Timestamp bytes.now (body_view body.now) }
     ensures { OnOk result (Became V.Stands visitor.old visitor.new (λ files more. files timestamp_name ≡ Some bytes.now
-        → AreJust (IsServed files after last) more)) }
+        → AreJust (IsServed files after last) more × IsInOrder files last more)) }
 {
     visit_named(alloc, body, visitor)?;
     visit_roots(alloc, after, last, visitor)?;
@@ -122,7 +123,7 @@ fn visit_timestamp<V: FileVisitor>(
 
 // What is of the snapshot that a timestamp names.
 fn visit_named<V: FileVisitor>(alloc: Global, body: &Body, visitor: &mut V) -> Result<(), V::Fault>
-    ensures { OnOk result (Became V.Stands visitor.old visitor.new (λ files more. AreJust (IsNamedBy files (body_view body.now)) more)) }
+    ensures { OnOk result (Became V.Stands visitor.old visitor.new (λ files more. AreInOrder files (IsNamedBy files (body_view body.now)) more)) }
 {
     match body {
         Body::Timestamp(timestamp) => visit_version(alloc, timestamp.snapshot.version, visitor),
@@ -136,7 +137,7 @@ fn visit_version<V: FileVisitor>(
     version: u32,
     visitor: &mut V,
 ) -> Result<(), V::Fault>
-    ensures { OnOk result (Became V.Stands visitor.old visitor.new (λ files more. AreJust (IsOfSnapshot files (snapshot_name version)) more)) }
+    ensures { OnOk result (Became V.Stands visitor.old visitor.new (λ files more. AreInOrder files (IsOfSnapshot files (snapshot_name version)) more)) }
 {
     let name = metadata_name(alloc, version, "snapshot")?;
     match visitor.read(name.as_str())? {
@@ -153,7 +154,7 @@ fn visit_snapshot<V: FileVisitor>(
     visitor: &mut V,
 ) -> Result<(), V::Fault>
     ensures { OnOk result (Became V.Stands visitor.old visitor.new (λ files more. files name.now ≡ Some bytes.now
-        → AreJust (IsOfSnapshot files name.now) more)) }
+        → AreInOrder files (IsOfSnapshot files name.now) more)) }
 {
     one_document();
     one_shape();
@@ -175,7 +176,7 @@ fn visit_snapshot_body<V: FileVisitor>(
 ) -> Result<(), V::Fault>
     requires { IsBodyOf kinds.Snapshot bytes.now (body_view body.now) }
     ensures { OnOk result (Became V.Stands visitor.old visitor.new (λ files more. files name.now ≡ Some bytes.now
-        → AreJust (IsOfSnapshot files name.now) more)) }
+        → AreInOrder files (IsOfSnapshot files name.now) more)) }
 {
     visit_roles_of(alloc, body, visitor)?;
     visitor.visit_metadata(Kind::Snapshot, name, bytes, Some(body))
@@ -187,7 +188,7 @@ fn visit_roles_of<V: FileVisitor>(
     body: &Body,
     visitor: &mut V,
 ) -> Result<(), V::Fault>
-    ensures { OnOk result (Became V.Stands visitor.old visitor.new (λ files more. AreJust (IsOfRolesBy files (body_view body.now)) more)) }
+    ensures { OnOk result (Became V.Stands visitor.old visitor.new (λ files more. AreInOrder files (IsOfRolesBy files (body_view body.now)) more)) }
 {
     match body {
         Body::Snapshot(snapshot) => visit_roles(alloc, &snapshot.meta, visitor),
@@ -200,7 +201,7 @@ fn visit_roles<V: FileVisitor>(
     rows: &[(RoleName, Meta)],
     visitor: &mut V,
 ) -> Result<(), V::Fault>
-    ensures { OnOk result (Became V.Stands visitor.old visitor.new (λ files more. AreJust (IsOfRolesIn files (map (λ e. (e.0, meta_view e.1)) rows.now)) more)) }
+    ensures { OnOk result (Became V.Stands visitor.old visitor.new (λ files more. AreInOrder files (IsOfRolesIn files (map (λ e. (e.0, meta_view e.1)) rows.now)) more)) }
 {
     for row in rows {
         visit_role(alloc, row, visitor)?;
@@ -214,7 +215,7 @@ fn visit_role<V: FileVisitor>(
     row: &(RoleName, Meta),
     visitor: &mut V,
 ) -> Result<(), V::Fault>
-    ensures { OnOk result (Became V.Stands visitor.old visitor.new (λ files more. AreJust (IsOfRole files (dotted row.now.1.version row.now.0)) more)) }
+    ensures { OnOk result (Became V.Stands visitor.old visitor.new (λ files more. AreInOrder files (IsOfRole files (dotted row.now.1.version row.now.0)) more)) }
 {
     let name = metadata_name(alloc, row.1.version, row.0.as_str())?;
     match visitor.read(name.as_str())? {
@@ -231,7 +232,7 @@ fn visit_targets<V: FileVisitor>(
     visitor: &mut V,
 ) -> Result<(), V::Fault>
     ensures { OnOk result (Became V.Stands visitor.old visitor.new (λ files more. files name.now ≡ Some bytes.now
-        → AreJust (IsOfRole files name.now) more)) }
+        → AreInOrder files (IsOfRole files name.now) more)) }
 {
     one_document();
     one_shape();
@@ -252,7 +253,7 @@ fn visit_targets_body<V: FileVisitor>(
 ) -> Result<(), V::Fault>
     requires { IsBodyOf kinds.Targets bytes.now (body_view body.now) }
     ensures { OnOk result (Became V.Stands visitor.old visitor.new (λ files more. files name.now ≡ Some bytes.now
-        → AreJust (IsOfRole files name.now) more)) }
+        → AreInOrder files (IsOfRole files name.now) more)) }
 {
     visit_listings_of(body, visitor)?;
     visitor.visit_metadata(Kind::Targets, name, bytes, Some(body))
@@ -260,7 +261,7 @@ fn visit_targets_body<V: FileVisitor>(
 
 // The targets that targets metadata list.
 fn visit_listings_of<V: FileVisitor>(body: &Body, visitor: &mut V) -> Result<(), V::Fault>
-    ensures { OnOk result (Became V.Stands visitor.old visitor.new (λ _ more. AreJust (IsListedBy (body_view body.now)) more)) }
+    ensures { OnOk result (Became V.Stands visitor.old visitor.new (λ files more. AreInOrder files (IsListedBy (body_view body.now)) more)) }
 {
     match body {
         Body::Targets(targets) => visit_listings(&targets.targets, visitor),
@@ -269,7 +270,7 @@ fn visit_listings_of<V: FileVisitor>(body: &Body, visitor: &mut V) -> Result<(),
 }
 
 fn visit_listings<V: FileVisitor>(listings: &[Listing], visitor: &mut V) -> Result<(), V::Fault>
-    ensures { OnOk result (Became V.Stands visitor.old visitor.new (λ _ more. AreJust (IsListedIn (map listing_view listings.now)) more)) }
+    ensures { OnOk result (Became V.Stands visitor.old visitor.new (λ files more. AreInOrder files (IsListedIn (map listing_view listings.now)) more)) }
 {
     for listing in listings {
         visitor.visit_target(listing)?;
@@ -284,7 +285,7 @@ fn visit_roots<V: FileVisitor>(
     last: u32,
     visitor: &mut V,
 ) -> Result<(), V::Fault>
-    ensures { OnOk result (Became V.Stands visitor.old visitor.new (λ files more. AreJust (IsOfRoots files after last) more)) }
+    ensures { OnOk result (Became V.Stands visitor.old visitor.new (λ files more. AreJust (IsOfRoots files after last) more × StandAfter (LeadsTo files last) more)) }
 {
     for before in (after..last).rev() {
         if !visit_root(alloc, before + 1, visitor)? {

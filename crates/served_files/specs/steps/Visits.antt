@@ -5,12 +5,18 @@ use Rattle.document_parts.specs.Documents.{Body, Listing, MetaFile}
 use Rattle.document_parts.specs.Documents as plain
 use Rattle.document_parts.specs.declared.documents.Kind.TheVariants as kinds
 use Rattle.path_patterns.specs.Names.{dotted}
+use Rattle.served_files.specs.Order.{LeadsTo, StandAfter}
 use Rattle.served_files.specs.Served.{AreJust, Files, IsOfRole, IsOfRoots, IsOfSnapshot, ServedFile, metadata, root_name, snapshot_name, target}
 
 -- whatever files it read from and had been told of: it reads from the same, and was told of more, of which this is so
 pub record Became {V : Type 0} (Stands : Files → List ServedFile → V → Type 0) (old new : V) (Tells : Files → List ServedFile → Type 0) : Type 0 where
   pub so : (files : Files) (told : List ServedFile) → Stands files told old
       → (more : List ServedFile) × Stands files (told ++ more) new × Tells files more
+
+-- just these files, and none before what it leads to
+pub record AreInOrder (files : Files) (Is : ServedFile → Type 0) (list : List ServedFile) : Type 0 where
+  pub are_just : AreJust Is list
+  pub stand_after : (last : ℕ) → StandAfter (LeadsTo files last) list
 
 -- one of these targets
 abbrev pub IsListedIn : List Listing → ServedFile → Type 0
@@ -56,3 +62,4 @@ TellsRoot files version false more = (files (root_name version) ≡ None) × (mo
 pub record TellsRoots (files : Files) (after last : ℕ) (more : List ServedFile) : Type 0 where
   pub are_just : AreJust (IsOfRoots files after last) more
   pub are_held : (v : ℕ) → after < v → v ≤ last → IsSome (files (root_name v))
+  pub stand_after : StandAfter (LeadsTo files last) more

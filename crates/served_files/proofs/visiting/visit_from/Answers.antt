@@ -1,8 +1,9 @@
 use Rattle.document_parts.specs.Views.{document_view}
 use Rattle.document_parts.specs.declared.documents.Kind.TheVariants as kinds
 use Rattle.served_files.specs.Served.{metadata, timestamp_name}
-use Rattle.served_files.proofs.Files.{no_document, only_body, timestamp_alone}
-use Rattle.served_files.proofs.Telling.{became_as, became_both, became_one, on_ok}
+use Rattle.served_files.proofs.Files.{no_document, only_body}
+use Rattle.served_files.proofs.InOrder.{timestamp_unsaid}
+use Rattle.served_files.proofs.Telling.{became_both, became_one, on_ok}
 use Rattle.served_files.proofs.visiting.visit_from.Goals as goal
 
 pub visit_timestamp-requires : goal.visit_timestamp-requires
@@ -14,4 +15,4 @@ visit_metadata-requires g c = no_document c.one_shape.ensures.none kinds.Timesta
 pub returns-in_ok-visit_roots-in-Err : goal.returns-in_ok-visit_roots-in-Err
 returns-in_ok-visit_roots-in-Err g c = on_ok c.visit_metadata.result c.visit_metadata.ensures (λ step.
     became_both _ _ _ _ _ _ _ c.in_ok-visit_roots-in-Err.ensures (became_one _ _ _ (metadata kinds.Timestamp timestamp_name c.args.bytes.now) step)
-    (λ files xs ys roots told held. timestamp_alone files c.args.after c.args.last c.args.bytes.now xs ys roots told held (no_document c.one_shape.ensures.none kinds.Timestamp c.args.bytes.now c.in-Err.fault c.in-Err.ensures.fault c.in_ok-unless_memory-in-Err.ensures)))
+    (λ files xs ys roots told held. timestamp_unsaid files c.args.after c.args.last c.args.bytes.now xs ys roots told held (no_document c.one_shape.ensures.none kinds.Timestamp c.args.bytes.now c.in-Err.fault c.in-Err.ensures.fault c.in_ok-unless_memory-in-Err.ensures)))
