@@ -1,4 +1,7 @@
 //! `get`: fetches a target as a client.
+ghost use Rattle.std.specs.Prelude.{IfOk};
+ghost use Rattle.client_commands.specs.Clients.{IsGranted};
+
 use crate::fault::told;
 use crate::remote::{Call, Remote};
 use crate::server::Server;
@@ -69,14 +72,29 @@ fn fetched<E: Write>(
     let now = moment(rt, at)?;
     let path = target_path(rt, asked.path, notes)?;
     let call = Call::begun(rt, asked.within)?;
+    granted(call, asked.db, asked.from, &path, now, notes)
+}
+
+// The bytes that the state in the database grants, behind a fetch.
+fn granted<E: Write>(
+    call: Call<'_>,
+    db: &str,
+    from: Server<'_>,
+    path: &TargetPath,
+    now: Moment,
+    notes: &mut Notes<'_, E>,
+) -> Result<Vec<u8>, Fault>
+    ensures { IfOk result (λ bytes. IsGranted path.now now bytes.items) }
+{
+    let rt = call.rt();
     let mut fetching = Fetching {
         rt,
         call,
-        from: asked.from,
-        path: &path,
+        from,
+        path,
         now,
     };
-    worked(rt, asked.db, &mut fetching, notes)
+    worked(rt, db, &mut fetching, notes)
 }
 
 // Whether a path leads to the file of a database, or to its log. Both are there once the database was opened.
@@ -126,7 +144,11 @@ struct Fetching<'a> {
 }
 
 impl Work for Fetching<'_> {
+    ghost use Rattle.client_commands.specs.Clients.{Fetched};
+
     type Done = Vec<u8>;
+
+    ghost does = { λ fetching A r B _. Fetched fetching.path.now fetching.now A r B };
 
     fn work<S: Alter, E: Write>(
         &mut self,

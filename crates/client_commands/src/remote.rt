@@ -32,6 +32,11 @@ impl<'a> Call<'a> {
         }
     }
 
+    /// The system that it runs on.
+    pub fn rt(&self) -> &'a HostRuntime {
+        self.rt
+    }
+
     // So many seconds has the next file, if any are left.
     fn left(&self) -> Option<u64> {
         match self.timer.left(self.seconds) {

@@ -45,7 +45,11 @@ struct Updating<'a> {
 }
 
 impl Work for Updating<'_> {
+    ghost use Rattle.client_commands.specs.Clients.{Updated};
+
     type Done = ();
+
+    ghost does = { λ updating A _ B _. Updated updating.now A B };
 
     fn work<S: Alter, E: Write>(
         &mut self,
@@ -53,7 +57,7 @@ impl Work for Updating<'_> {
         notes: &mut Notes<'_, E>,
     ) -> Result<(), Fault> {
         let alloc = self.rt.alloc();
-        let before = Versions::of(alloc, state, self.now);
+        let before = Versions::of(alloc, state.held());
         let (done, lacks_timestamp) = {
             let mut remote = Remote::new(self.call, self.from, notes);
             let done = client::update(alloc, state, &mut remote, self.now);
@@ -77,19 +81,19 @@ impl Updating<'_> {
     fn tell_found<S: Alter, E: Write>(
         &self,
         before: Versions,
-        state: &mut Store<S>,
+        state: &Store<S>,
         notes: &mut Notes<'_, E>,
     ) {
         let alloc = self.rt.alloc();
-        let found = Versions::of(alloc, state, self.now);
+        let found = Versions::of(alloc, state.held());
         let has_expired = found.has_expired(self.now);
         let change = Change { before, found };
         notes.tell(&self.db, &change);
         if notes.are_told() {
-            tell_standing(alloc, self.db, state, self.now, notes);
+            tell_standing(alloc, self.db, state.held(), notes);
         } else if self.rt.stderr().is_terminal() {
             notes.progress(&change);
-            if let Some(first) = FirstExpiry::of(alloc, state, self.now) {
+            if let Some(first) = FirstExpiry::of(alloc, state.held()) {
                 notes.progress(&first);
             }
         }

@@ -2,7 +2,6 @@
 #![tactic(auto)]
 
 mod accepting;
-mod answering;
 mod deadlines;
 mod ending;
 mod incoming;
@@ -10,7 +9,6 @@ mod lines;
 mod outgoing;
 
 pub use accepting::{Port, listen, next_stream};
-pub use answering::answer_unavailable;
 pub use command_support::{Fault, Notes};
 pub use deadlines::{FILE_SECONDS, QUIET_SECONDS, Timer};
 pub use ending::end;

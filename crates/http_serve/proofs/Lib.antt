@@ -5,3 +5,4 @@ pub mod OneResponse
 pub mod Responding
 pub mod Telling
 pub mod Reading
+pub mod Unavailable

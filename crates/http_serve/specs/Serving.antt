@@ -61,6 +61,23 @@ abbrev pub Wrote : Option (List ℕ) → Option (List ℕ) → List ℕ → Resu
 Wrote old new text (Ok u) = Appends old new text
 Wrote old new text (Err e) = TookSome old new text
 
+-- What an input is answered while no database can be opened: its own fault, that of the database where it asks for a command, or that
+-- there was no memory to find out which command it is.
+pub data UnavailableBy (reads_only : Bool) (input : List ℕ) : List ℕ → Type 0 where
+  own_fault : (why : Fault) → AsksOf reads_only input (fault why) → UnavailableBy reads_only input (fault_response why)
+  database_fault : (request : Request) (command : Command) → AsksOf reads_only input request → IsCommand request command
+      → UnavailableBy reads_only input (fault_response Database)
+  memory_fault : HasWantedOf reads_only input → UnavailableBy reads_only input (fault_response Memory)
+
+-- what became of a connection that is so answered, as of one that is served
+abbrev pub EndedUnavailable : Bool → Line → Option (List ℕ) → Result (Unit {0}) ServeFault → Type 0
+EndedUnavailable reads_only line held (Ok u) =
+    (input : List ℕ) × IsInput line.given input × (text : List ℕ) × UnavailableBy reads_only input text × Appends line.held held text
+EndedUnavailable reads_only line held (Err Read) = (line.reads ≡ true → ⊥) × KeepsBytes line.held held
+EndedUnavailable reads_only line held (Err Write) =
+    (line.writes ≡ true → ⊥)
+    × ((input : List ℕ) × IsInput line.given input × (text : List ℕ) × UnavailableBy reads_only input text × TookSome line.held held text)
+
 -- one for each connection that ended well
 abbrev pub one_if_ok : Result (Unit {0}) ServeFault → ℕ
 one_if_ok (Ok u) = 1

@@ -1,11 +1,12 @@
 // What follows from the definitions alone.
-ghost use Rattle.std.specs.Prelude.{◌≡◌, ◌⊎◌, ◌++◌, true, ℕ, List, Option};
+ghost use Rattle.std.specs.Prelude.{◌≡◌, ◌⊎◌, ◌++◌, Bool, true, ℕ, List, Option, Result};
 ghost use Rattle.trust_rules.specs.State.{State};
 ghost use Rattle.trust_rules.specs.Runs.{Command, Reply, Runs};
 ghost use Rattle.http_messages.specs.Faults.{fault_response};
 ghost use Rattle.http_messages.specs.declared.faults.Fault.TheVariants.{Memory, Database};
 ghost use Rattle.http_serve.specs.Response.{Responds};
-ghost use Rattle.http_serve.specs.Serving.{Answered, AnsweredBy, Line, Serves};
+ghost use Rattle.http_serve.specs.Serving.{Answered, AnsweredBy, EndedBy, EndedUnavailable, Line, Serves};
+ghost use Rattle.http_serve.specs.declared.serve.ServeFault.{ServeFault};
 ghost use Rattle.store.specs.Standing.{IsClean, Moves, Standing};
 
 use http_messages::one_request;
@@ -35,6 +36,13 @@ pub fn runs_on()
     ensures { (lines : List Line) (helds : List (Option (List ℕ))) (A B : Standing) (count : ℕ) → Serves lines helds A B count
         → Moves A B (λ S T. IsClean B → (first : State) (before : List (Command × ℕ)) (replies : List Reply) → Runs first before S replies
         → (made : List (Command × ℕ)) × (later : List Reply) × Runs first (before ++ made) T (replies ++ later)) }
+{}
+
+/// A law, which does nothing: a connection that is answered that no database can be opened ends as one that is served from a store,
+/// wherever that stands, and the store stays as it is.
+pub fn unavailable_is_served()
+    ensures { (reads_only : Bool) (line : Line) (held : Option (List ℕ)) (A : Standing) (r : Result (Unit {0}) ServeFault) → EndedUnavailable reads_only line held r
+        → EndedBy reads_only line held A r A }
 {}
 
 /// A law, which does nothing: whatever a server that only reads is sent, the state stays as it was.

@@ -8,6 +8,10 @@ mod respond;
 mod serve;
 
 pub use http_messages::{Cut, Fault, Receive, Routes, Transmit};
-pub use laws::{one_response, only_responses, reading_changes_nothing, runs_on};
-pub use serve::{ServeFault, serve_list, serve_list_reading, serve_one, serve_one_reading};
+pub use laws::{
+    one_response, only_responses, reading_changes_nothing, runs_on, unavailable_is_served,
+};
+pub use serve::{
+    ServeFault, serve_list, serve_list_reading, serve_one, serve_one_reading, serve_unavailable,
+};
 pub use store::{Moment, Store};

@@ -1,16 +1,19 @@
 // Connections, served one after another.
 
-ghost use Rattle.std.specs.Prelude.{◌≡◌, map, true};
+ghost use Rattle.std.specs.Prelude.{◌≡◌, ℕ, map, true};
 ghost use Rattle.sqlite.specs.Held.{state};
-ghost use Rattle.http_serve.specs.Serving.{Ended, EndedBy, Serves, ServesBy};
+ghost use Rattle.http_messages.specs.Received.{request_of};
+ghost use Rattle.http_messages.specs.Request.{target};
+ghost use Rattle.http_serve.specs.Serving.{Ended, EndedBy, EndedUnavailable, Serves, ServesBy};
 ghost use Rattle.store.specs.Standing.{seen};
-ghost use Rattle.http_serve.specs.steps.Views.{HasEnded};
+ghost use Rattle.http_serve.specs.steps.Views.{HasEnded, IsUnavailable};
 
 use crate::respond::respond;
 use http_messages::{
-    Cut, Fault, Receive, ReceiveFault, Routes, Transmit, read_request_of, write_fault,
+    Asked, Cut, Fault, Receive, ReceiveFault, Routes, Transmit, read_request_of, write_fault,
 };
 use metadata::Moment;
+use path_patterns::read_asked;
 use sqlite::Alter;
 use std::alloc::Global;
 use store::Store;
@@ -89,6 +92,54 @@ fn serve_one_by<R: Receive, W: Transmit, S: Alter>(
         Err(_) => return ended(write_fault(writer, Fault::Memory)),
     };
     ended(respond(alloc, writer, store, asked, now))
+}
+
+/// Serves one connection while no database can be opened, with all routes, or with those that only read: reads one request, and writes its
+/// own fault, or 503 `database` where it asks for a command, or 503 `memory` where memory was refused before it was known for which.
+pub fn serve_unavailable<R: Receive, W: Transmit>(
+    alloc: Global,
+    routes: &Routes,
+    reads_only: bool,
+    reader: &mut R,
+    writer: &mut W,
+) -> Result<(), ServeFault>
+    ensures { (now : ℕ) → EndedUnavailable reads_only (record { given = R.remaining reader.old; held = W.contents writer.old; now = now; reads = R.sound reader.old; writes = W.sound writer.old })
+        (W.contents writer.new) result }
+{
+    let received = match read_request_of(alloc, routes, reads_only, reader) {
+        Ok(received) => received,
+        Err(ReceiveFault::Read) => return Err(ServeFault::Read),
+        Err(ReceiveFault::OutOfMemory) => return ended(write_fault(writer, Fault::Memory)),
+    };
+    let asked = match received.asked(alloc) {
+        Ok(asked) => asked,
+        Err(_) => return ended(write_fault(writer, Fault::Memory)),
+    };
+    ended(write_fault(writer, unavailable(alloc, asked)))
+}
+
+// What a request is answered while no database can be opened.
+fn unavailable(alloc: Global, asked: Asked<'_>) -> Fault
+    ensures { IsUnavailable (request_of asked.entry) result }
+{
+    match asked {
+        Asked::Fault(fault) => fault,
+        Asked::Batch(_) => Fault::Database,
+        Asked::PutBlob(_, _) => Fault::Database,
+        Asked::Prune => Fault::Database,
+        Asked::Metadata(_) => Fault::Database,
+        Asked::Target(text) => unavailable_target(alloc, text),
+    }
+}
+
+// The same of a request for a target. Its path and digest take memory, as where it is served.
+fn unavailable_target(alloc: Global, text: &str) -> Fault
+    ensures { IsUnavailable (target text.now) result }
+{
+    match read_asked(alloc, text) {
+        Ok(_) => Fault::Database,
+        Err(_) => Fault::Memory,
+    }
 }
 
 // How a connection ends by how its answer was written.

@@ -10,8 +10,10 @@ use repository_work::{Command, Reply, Store};
 use sqlite::Alter;
 use std::alloc::{AllocError, Global};
 
-// So many roles a search visits at most (TUF 1.0, section 5.6.7).
-const MOST_VISITS: usize = 4096;
+// So many roles a search visits at most (TUF 1.0, section 5.6.7), and so many delegations it follows to them at most.
+const MOST_VISITS: usize = 32;
+
+const MOST_FOLLOWED: usize = 4096;
 
 /// What becomes of a target of this path at the moment. A path that is none is denied.
 pub fn look_for<S: Alter>(
@@ -103,14 +105,17 @@ impl Visiting<'_> {
         };
         let first = String::from_str(self.alloc, "targets")?;
         self.waiting.push((first, false))?;
-        for _ in 0..MOST_VISITS {
+        for _ in 0..MOST_FOLLOWED {
             let Some((role, terminating)) = self.waiting.pop() else {
                 return Ok(());
             };
             if terminating {
                 self.waiting.clear();
             }
-            if !self.visits.contains(&role) && self.visit(repository, &versions, role)? {
+            if self.visits.contains(&role) {
+                continue;
+            }
+            if self.visits.len() == MOST_VISITS || self.visit(repository, &versions, role)? {
                 return Ok(());
             }
         }

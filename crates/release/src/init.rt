@@ -1,5 +1,10 @@
 //! `init`: begins the trust with a first root.
+ghost use Rattle.std.specs.Prelude.{◌≡◌};
+ghost use Rattle.trust_rules.specs.Runs.{Begun, Init};
+ghost use Rattle.repository_work.specs.Works.{Ends};
+
 use command_support::{FILE_LIMIT, Fault, Notes, moment, print, read_at_most};
+use metadata::Moment;
 use repository_work::{applied, refused};
 use std::io::Write;
 use store::{Command, Reply};
@@ -16,12 +21,31 @@ pub fn init<O: Write, E: Write>(
 ) -> Result<(), Fault> {
     let now = moment(rt, at)?;
     let bytes = read_at_most(rt, root, FILE_LIMIT, notes)?;
-    match applied(rt, db, Command::Init(&bytes), now, notes)? {
+    begin(rt, db, root, &bytes, now, out, notes)
+}
+
+// The same with the bytes of the root, whose file has this name.
+fn begin<O: Write, E: Write>(
+    rt: &HostRuntime,
+    db: &str,
+    root: &str,
+    bytes: &[u8],
+    now: Moment,
+    out: &mut O,
+    notes: &mut Notes<'_, E>,
+) -> Result<(), Fault>
+    ensures { Ends (Init bytes.now) now (λ reply. reply ≡ Begun) result }
+{
+    let reply = match applied(rt, db, Command::Init(bytes), now, notes) {
+        Ok(reply) => reply,
+        Err(fault) => return Err(fault),
+    };
+    match reply {
         Reply::Begun => print(out, b"begun\n", notes),
         other => {
             if let Reply::Denied(denial, _) = &other {
                 notes.denied(&root, denial.number());
-                tell_first_root(rt.alloc(), root, &bytes, denial.number(), notes);
+                tell_first_root(rt.alloc(), root, bytes, denial.number(), notes);
             }
             Err(refused(other))
         }

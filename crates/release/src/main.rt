@@ -3,6 +3,7 @@
 
 mod help;
 mod init;
+mod printing;
 mod prune;
 mod publish;
 mod put;

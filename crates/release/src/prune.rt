@@ -1,8 +1,14 @@
 //! `prune`: takes away what the listed documents do not ask for.
+ghost use Rattle.std.specs.Prelude.{◌≡◌, ℕ};
+ghost use Rattle.trust_rules.specs.Runs.{Prune, Pruned};
+ghost use Rattle.repository_work.specs.Works.{Ends};
+
+use crate::printing::print_line;
 use client_commands::prune_at;
 use command_line::Place;
-use command_support::{Fault, Notes, moment, print};
+use command_support::{Fault, Notes, moment};
 use http_messages::pruned_body;
+use metadata::Moment;
 use repository_work::{applied, refused};
 use std::io::Write;
 use store::{Command, Reply};
@@ -30,11 +36,24 @@ fn prune_in<O: Write, E: Write>(
     notes: &mut Notes<'_, E>,
 ) -> Result<(), Fault> {
     let now = moment(rt, at)?;
-    match applied(rt, db, Command::Prune, now, notes)? {
-        Reply::Pruned { blobs, rows } => {
-            print(out, &pruned_body(blobs, rows), notes)?;
-            print(out, b"\n", notes)
-        }
+    prune_now(rt, db, now, out, notes)
+}
+
+fn prune_now<O: Write, E: Write>(
+    rt: &HostRuntime,
+    db: &str,
+    now: Moment,
+    out: &mut O,
+    notes: &mut Notes<'_, E>,
+) -> Result<(), Fault>
+    ensures { Ends Prune now (λ reply. (blobs : ℕ) × (rows : ℕ) × (reply ≡ Pruned blobs rows)) result }
+{
+    let reply = match applied(rt, db, Command::Prune, now, notes) {
+        Ok(reply) => reply,
+        Err(fault) => return Err(fault),
+    };
+    match reply {
+        Reply::Pruned { blobs, rows } => print_line(out, &pruned_body(blobs, rows), notes),
         other => {
             if let Reply::Denied(denial, _) = &other {
                 notes.denied(&db, denial.number());

@@ -1,12 +1,18 @@
 //! `put`: stores a target file.
-use client_commands::{put_at, put_bytes_at};
+ghost use Rattle.std.specs.Prelude.{◌≡◌, Bool};
+ghost use Rattle.sha2.specs.Sha256.{sha256};
+ghost use Rattle.trust_rules.specs.Runs.{PutBlob, Stored};
+ghost use Rattle.repository_work.specs.Works.{Ends};
+
+use crate::printing::print_line;
+use client_commands::put_at;
 use command_line::Place;
-use command_support::{Fault, Notes, moment, print, read_at_most};
+use command_support::{Fault, Notes, moment, read_at_most};
 use http_messages::BLOB_LIMIT;
 use metadata::{Moment, digest_of};
 use repository_work::{applied, refused};
 use std::io::Write;
-use store::{Command, Digest, Reply};
+use store::{Command, Reply};
 
 /// Stores the file under its SHA-256 in the repository in the database file or behind the port, and prints its 64 hex digits, also
 /// where it was stored already.
@@ -24,22 +30,6 @@ pub fn put<O: Write, E: Write>(
     }
 }
 
-/// The same of bytes that were read already, at most as many as a file may have. What is told of them has this name.
-pub fn put_bytes<O: Write, E: Write>(
-    rt: &HostRuntime,
-    place: &Place,
-    name: &str,
-    bytes: &[u8],
-    at: Option<u64>,
-    out: &mut O,
-    notes: &mut Notes<'_, E>,
-) -> Result<(), Fault> {
-    match place {
-        Place::Database(db) => put_bytes_in(rt, db, name, bytes, at, out, notes),
-        Place::Port(port) => put_bytes_at(rt, *port, name, bytes, out, notes),
-    }
-}
-
 fn put_in<O: Write, E: Write>(
     rt: &HostRuntime,
     db: &str,
@@ -53,19 +43,6 @@ fn put_in<O: Write, E: Write>(
     put_now(rt, db, file, &bytes, now, out, notes)
 }
 
-fn put_bytes_in<O: Write, E: Write>(
-    rt: &HostRuntime,
-    db: &str,
-    name: &str,
-    bytes: &[u8],
-    at: Option<u64>,
-    out: &mut O,
-    notes: &mut Notes<'_, E>,
-) -> Result<(), Fault> {
-    let now = moment(rt, at)?;
-    put_now(rt, db, name, bytes, now, out, notes)
-}
-
 fn put_now<O: Write, E: Write>(
     rt: &HostRuntime,
     db: &str,
@@ -74,10 +51,16 @@ fn put_now<O: Write, E: Write>(
     now: Moment,
     out: &mut O,
     notes: &mut Notes<'_, E>,
-) -> Result<(), Fault> {
+) -> Result<(), Fault>
+    ensures { Ends (PutBlob (sha256 bytes.now) bytes.now) now (λ reply. (new : Bool) × (reply ≡ Stored new)) result }
+{
     let digest = digest_of(bytes);
-    match applied(rt, db, Command::PutBlob(digest, bytes), now, notes)? {
-        Reply::Stored(_) => print_digest(digest, out, notes),
+    let reply = match applied(rt, db, Command::PutBlob(digest, bytes), now, notes) {
+        Ok(reply) => reply,
+        Err(fault) => return Err(fault),
+    };
+    match reply {
+        Reply::Stored(_) => print_line(out, &digest.digits(), notes),
         other => {
             if let Reply::Denied(denial, _) = &other {
                 notes.denied(&name, denial.number());
@@ -85,13 +68,4 @@ fn put_now<O: Write, E: Write>(
             Err(refused(other))
         }
     }
-}
-
-fn print_digest<O: Write, E: Write>(
-    digest: Digest,
-    out: &mut O,
-    notes: &mut Notes<'_, E>,
-) -> Result<(), Fault> {
-    print(out, &digest.digits(), notes)?;
-    print(out, b"\n", notes)
 }

@@ -1,4 +1,7 @@
 //! A command from its words to its exit status.
+ghost use Rattle.std.specs.Prelude.{◌≡◌, ◌≤◌, MatchResult};
+ghost use Rattle.command_support.specs.Statuses.{EndsWith, status_of};
+
 use crate::help::denial_asked;
 use crate::init::init;
 use crate::prune::prune;
@@ -17,15 +20,29 @@ use std::io::Write;
 
 /// Does what the words ask for. What it prints goes to `out`, why it was not done to `err`, and the exit status is
 /// answered: 0 done, 1 denied, 2 a fault of the command line, 3 all else.
-pub fn run<O: Write, E: Write>(rt: &HostRuntime, words: &[String], out: &mut O, err: &mut E) -> u8 {
-    match perform(rt, words, out, err) {
+pub fn run<O: Write, E: Write>(rt: &HostRuntime, words: &[String], out: &mut O, err: &mut E) -> u8
+    ensures { result ≤ 3 }
+{
+    let done = perform(rt, words, out, err);
+    ended(&done, out, err)
+}
+
+// The exit status of a command that was done, or of its fault, which is written.
+fn ended<O: Write, E: Write>(done: &Result<(), Fault>, out: &mut O, err: &mut E) -> u8
+    ensures status { MatchResult done.now (λ _. result ≡ 0) (λ fault. EndsWith fault result) }
+    ensures few { result ≤ 3 }
+{
+    match done {
         Ok(()) => 0,
-        Err(fault) => report(&fault, out, err),
+        Err(fault) => report(fault, out, err),
     }
 }
 
 /// Writes why a command was not done, and answers its exit status.
-pub fn report<O: Write, E: Write>(fault: &Fault, out: &mut O, err: &mut E) -> u8 {
+pub fn report<O: Write, E: Write>(fault: &Fault, out: &mut O, err: &mut E) -> u8
+    ensures status { EndsWith fault.now result }
+    ensures few { result ≤ 3 }
+{
     if let Fault::Help(text) = fault {
         return match out.write_all(text.as_bytes()) {
             Ok(()) => fault.status(),
@@ -38,7 +55,9 @@ pub fn report<O: Write, E: Write>(fault: &Fault, out: &mut O, err: &mut E) -> u8
     report_to(fault, err)
 }
 
-fn report_to<E: Write>(fault: &Fault, err: &mut E) -> u8 {
+fn report_to<E: Write>(fault: &Fault, err: &mut E) -> u8
+    ensures { result ≡ status_of fault.now }
+{
     let _ = write!(err, "{fault}");
     fault.status()
 }

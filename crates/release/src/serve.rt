@@ -1,10 +1,13 @@
 //! `serve`: answers HTTP requests from the repository.
+ghost use Rattle.sqlite.specs.Held.{state};
+ghost use Rattle.store.specs.Standing.{seen};
+ghost use Rattle.release.specs.Serving.{ServedOver};
+
 use command_support::{Fault, Notes, moment, print};
 use connections::{
-    Beginning, Incoming, Outgoing, Timer, answer_unavailable, end, listen, next_stream,
-    tell_connection,
+    Beginning, Incoming, Outgoing, Timer, end, listen, next_stream, tell_connection,
 };
-use http_serve::{Routes, serve_list, serve_list_reading};
+use http_serve::{Routes, serve_list, serve_list_reading, serve_unavailable};
 use metadata::Moment;
 use repository_work::{Work, is_shut, worked};
 use sqlite::Alter;
@@ -74,6 +77,15 @@ struct Accepted {
     now: Moment,
 }
 
+// What became of the next connection: it was served, and whether no fault can have shut the database meanwhile; or there is none; or it
+// waits, since a fault has shut the database.
+#[derive(Clone, Copy)]
+enum Next {
+    Served(bool),
+    All,
+    Shut,
+}
+
 // What a connection is read from and written to.
 type Sides<'a, 'k> = (Incoming<'a, 'k>, Outgoing<'a>, Moment);
 
@@ -99,7 +111,8 @@ impl<O: Write> Work for Serving<'_, '_, O> {
         repository: &mut Store<S>,
         notes: &mut Notes<'_, E>,
     ) -> Result<Result<bool, Fault>, Fault> {
-        Ok(self.serve_from(repository, notes))
+        let reads_only = self.server.reads_only;
+        Ok(self.serve_from(reads_only, repository, notes))
     }
 }
 
@@ -126,36 +139,32 @@ impl<O: Write> Serving<'_, '_, O> {
 
     fn serve_from<S: Alter, E: Write>(
         &mut self,
+        reads_only: bool,
         repository: &mut Store<S>,
         notes: &mut Notes<'_, E>,
-    ) -> Result<bool, Fault> {
+    ) -> Result<bool, Fault>
+        ensures { ServedOver reads_only (seen repository.old.kept (state S.Store repository.old.conn)) (seen repository.new.kept (state S.Store repository.new.conn)) }
+    {
         if self.listener.is_some() {
             notes.tell(&self.server.db, &"opened again");
-        } else {
-            self.begin(repository, notes)?;
+        } else if let Err(fault) = self.begin(repository, notes) {
+            return Err(fault);
         }
-        self.serve_all(repository, notes)
+        self.serve_all(reads_only, repository, notes)
     }
 
     // Listens, and says so.
     fn begin<S: Alter, E: Write>(
         &mut self,
-        repository: &mut Store<S>,
+        repository: &Store<S>,
         notes: &mut Notes<'_, E>,
     ) -> Result<(), Fault> {
-        let Server {
-            rt,
-            db,
-            port,
-            at,
-            ..
-        } = self.server;
+        let Server { rt, db, port, .. } = self.server;
         self.listener = Some(listen(rt, port, notes)?);
         let line = format!(in rt.alloc(); "listening on 127.0.0.1:{port}\n")?;
         print(self.out, line.as_bytes(), notes)?;
         if notes.are_told() {
-            let now = moment(rt, at)?;
-            tell_standing(rt.alloc(), db, repository, now, notes);
+            tell_standing(rt.alloc(), db, repository.held(), notes);
         }
         Ok(())
     }
@@ -163,24 +172,64 @@ impl<O: Write> Serving<'_, '_, O> {
     // Serves the connection that waits and all further ones, until a fault has shut the database.
     fn serve_all<S: Alter, E: Write>(
         &mut self,
+        reads_only: bool,
         repository: &mut Store<S>,
         notes: &mut Notes<'_, E>,
-    ) -> Result<bool, Fault> {
-        let mut is_available = true;
-        if let Some(accepted) = self.waiting.take() {
-            is_available = self.serve_one(&accepted, repository, notes);
-        }
+    ) -> Result<bool, Fault>
+        ensures { ServedOver reads_only (seen repository.old.kept (state S.Store repository.old.conn)) (seen repository.new.kept (state S.Store repository.new.conn)) }
+    {
+        let mut is_available = self.serve_waiting(reads_only, repository, notes);
         for _ in 0..u64::MAX {
-            let Some(accepted) = self.next(notes)? else {
-                return Ok(true);
-            };
-            if !is_available && is_shut(repository, accepted.now) {
-                self.waiting = Some(accepted);
-                return Ok(false);
+            match self.serve_next(reads_only, is_available, repository, notes) {
+                Ok(Next::Served(available)) => is_available = available,
+                Ok(Next::All) => return Ok(true),
+                Ok(Next::Shut) => return Ok(false),
+                Err(fault) => return Err(fault),
             }
-            is_available = self.serve_one(&accepted, repository, notes);
         }
         Ok(true)
+    }
+
+    // Serves the connection that waits, if one does, and answers whether no fault can have shut the database meanwhile.
+    fn serve_waiting<S: Alter, E: Write>(
+        &mut self,
+        reads_only: bool,
+        repository: &mut Store<S>,
+        notes: &mut Notes<'_, E>,
+    ) -> bool
+        ensures { ServedOver reads_only (seen repository.old.kept (state S.Store repository.old.conn)) (seen repository.new.kept (state S.Store repository.new.conn)) }
+    {
+        match self.waiting.take() {
+            Some(accepted) => self.serve_one(reads_only, &accepted, repository, notes),
+            None => true,
+        }
+    }
+
+    // Serves the next connection, if one more is to be served, unless a fault has shut the database: then it waits.
+    fn serve_next<S: Alter, E: Write>(
+        &mut self,
+        reads_only: bool,
+        is_available: bool,
+        repository: &mut Store<S>,
+        notes: &mut Notes<'_, E>,
+    ) -> Result<Next, Fault>
+        ensures { ServedOver reads_only (seen repository.old.kept (state S.Store repository.old.conn)) (seen repository.new.kept (state S.Store repository.new.conn)) }
+    {
+        let accepted = match self.next(notes) {
+            Ok(Some(accepted)) => accepted,
+            Ok(None) => return Ok(Next::All),
+            Err(fault) => return Err(fault),
+        };
+        if is_available {
+            let available = self.serve_one(reads_only, &accepted, repository, notes);
+            return Ok(Next::Served(available));
+        }
+        if is_shut(repository, accepted.now) {
+            self.waiting = Some(accepted);
+            return Ok(Next::Shut);
+        }
+        let available = self.serve_one(reads_only, &accepted, repository, notes);
+        Ok(Next::Served(available))
     }
 
     // The next connection, if one more is to be served.
@@ -201,17 +250,20 @@ impl<O: Write> Serving<'_, '_, O> {
     // shows. One whose clock cannot be read is not served.
     fn serve_one<S: Alter, E: Write>(
         &mut self,
+        reads_only: bool,
         accepted: &Accepted,
         repository: &mut Store<S>,
         notes: &mut Notes<'_, E>,
-    ) -> bool {
+    ) -> bool
+        ensures { ServedOver reads_only (seen repository.old.kept (state S.Store repository.old.conn)) (seen repository.new.kept (state S.Store repository.new.conn)) }
+    {
         let rt = self.server.rt;
         let Ok(timer) = Timer::start(rt) else {
             return true;
         };
         let mut sides = sides_of(accepted, timer, self.kept);
         let connections = slice::from_mut(&mut sides);
-        if self.server.reads_only {
+        if reads_only {
             serve_list_reading(rt.alloc(), self.routes, connections, repository);
         } else {
             serve_list(rt.alloc(), self.routes, connections, repository);
@@ -237,7 +289,7 @@ impl<O: Write> Serving<'_, '_, O> {
         let mut sides = sides_of(accepted, timer, self.kept);
         let (incoming, outgoing, _) = &mut sides;
         let reads_only = self.server.reads_only;
-        answer_unavailable(rt.alloc(), self.routes, reads_only, incoming, outgoing);
+        let _ = serve_unavailable(rt.alloc(), self.routes, reads_only, incoming, outgoing);
         end_one(rt, accepted, &sides, &timer, notes);
     }
 }

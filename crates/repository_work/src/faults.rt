@@ -1,6 +1,5 @@
 //! Why a command was not done, by the fault of what it asked, or by its reply.
-ghost use Rattle.std.specs.Prelude.{◌≡◌, ℕ, Option};
-ghost use Rattle.denials.specs.declared.denial.Denial.{Denial as Denials};
+ghost use Rattle.std.specs.Prelude.{◌≡◌};
 ghost use Rattle.repository_work.specs.Faults as faults;
 
 use command_support::Fault;
@@ -19,7 +18,7 @@ pub fn fault_of_store(fault: StoreFault) -> Fault
 
 /// Why a command was not done, by its reply. A command has no other reply than a denial or its own.
 pub fn refused(reply: Reply) -> Fault
-    ensures { (d : Denials) (i : Option ℕ) → reply ≡ Reply.Denied d i → result ≡ Fault.Denied d i }
+    ensures { result ≡ faults.refused_of reply }
 {
     match reply {
         Reply::Denied(denial, index) => Fault::Denied(denial, index),

@@ -1,5 +1,13 @@
 //! The repository in a database file. One function owns its connection; what is done over it borrows the repository, and knows nothing of
 //! files.
+ghost use Rattle.std.specs.Prelude.{◌≡◌, IfErr, Result, ⊤};
+ghost use Rattle.sqlite.specs.Held.{state};
+ghost use Rattle.store.specs.Standing.{Keeps, Standing, seen};
+ghost use Rattle.store.specs.Views.{command_view};
+ghost use Rattle.command_support.specs.Statuses.{status_of};
+ghost use Rattle.command_support.specs.declared.fault.Fault.{Fault as Why};
+ghost use Rattle.repository_work.specs.Works.{IsAnswered, Worked};
+
 use crate::faults::fault_of_store;
 use command_support::{Fault, Notes, connected};
 use metadata::Moment;
@@ -8,7 +16,7 @@ use sqlite::{Alter, Connection, FileStore};
 use sqlite_disk::Disk;
 use std::io::Write;
 use std::time::Instant;
-use store::{Command, Reply, Store, StoreFault, Unopened, close_into_file};
+use store::{Command, Reply, Store, StoreFault, Unopened, close_into_file, stands};
 
 // What is told of a database that another process has.
 const IN_USE: &str = "in use by another process; where a server runs over it, use --port";
@@ -18,23 +26,34 @@ pub trait Work {
     /// What comes of it.
     type Done;
 
+    /// The work as it was, where the store stood, what came of it, where the store stands, and the work that is left: whether it does so.
+    /// Without a value of its own this claims nothing.
+    ghost does: { Self → Standing → Result Self.Done Why → Standing → Self → Type 0 } = { λ _ _ _ _ _. ⊤ };
+
     fn work<S: Alter, E: Write>(
         &mut self,
         repository: &mut Store<S>,
         notes: &mut Notes<'_, E>,
-    ) -> Result<Self::Done, Fault>;
+    ) -> Result<Self::Done, Fault>
+        ensures { does self.old (seen repository.old.kept (state S.Store repository.old.conn)) result (seen repository.new.kept (state S.Store repository.new.conn)) self.new };
 }
 
-/// Opens the repository in the file, which is made where there is none, does the work over it, and closes it. The log is then copied into the database file, so that the file alone is the whole repository. Where that fails,
-/// the log stays beside it, and the next open reads both.
+/// Opens the repository in the file, which is made where there is none, does the work over it once, and closes it. The log is then copied
+/// into the database file, so that the file alone is the whole repository. Where that fails, the log stays beside it, and the next open
+/// reads both. Where no repository is opened, nothing is done.
 pub fn worked<W: Work, E: Write>(
     rt: &HostRuntime,
     db: &str,
     work: &mut W,
     notes: &mut Notes<'_, E>,
-) -> Result<W::Done, Fault> {
+) -> Result<W::Done, Fault>
+    ensures { Worked W.does work.old result work.new }
+{
     let began = Instant::now(rt).ok();
-    let conn = connected(rt, db, IN_USE, notes)?;
+    let conn = match connected(rt, db, IN_USE, notes) {
+        Ok(conn) => conn,
+        Err(fault) => return Err(fault),
+    };
     worked_in(rt, began, conn, db, work, notes)
 }
 
@@ -47,7 +66,9 @@ fn worked_in<D: Disk + Drop, W: Work, E: Write>(
     db: &str,
     work: &mut W,
     notes: &mut Notes<'_, E>,
-) -> Result<W::Done, Fault> {
+) -> Result<W::Done, Fault>
+    ensures { Worked W.does work.old result work.new }
+{
     match opened(rt, began, conn, db, notes) {
         Ok(repository) => worked_and_closed(repository, db, work, notes),
         Err((fault, conn)) => {
@@ -66,7 +87,9 @@ fn opened<S: Alter + Drop, E: Write>(
     conn: Connection<S>,
     db: &str,
     notes: &mut Notes<'_, E>,
-) -> Result<Store<S>, (Fault, Option<Connection<S>>)> {
+) -> Result<Store<S>, (Fault, Option<Connection<S>>)>
+    ensures { IfErr result (λ unopened. status_of unopened.0 ≡ 3) }
+{
     let is_first = has_first_schema(conn.schema());
     let has_others = has_others_behind(conn.schema());
     match Store::open_over(rt.alloc(), conn) {
@@ -100,7 +123,10 @@ fn worked_and_closed<D: Disk + Drop, W: Work, E: Write>(
     db: &str,
     work: &mut W,
     notes: &mut Notes<'_, E>,
-) -> Result<W::Done, Fault> {
+) -> Result<W::Done, Fault>
+    ensures { Worked W.does work.old result work.new }
+{
+    stands(&repository);
     let mut repository = repository;
     let done = work.work(&mut repository, notes);
     if close_into_file(repository).is_err() {
@@ -131,8 +157,10 @@ fn tell_opening<E: Write>(
     }
 }
 
-/// Whether an earlier fault has shut the database, so that every command would be answered a fault.
-pub fn is_shut<S: Alter>(repository: &mut Store<S>, now: Moment) -> bool {
+/// Whether an earlier fault has shut the database, so that every command would be answered a fault. What stands stays.
+pub fn is_shut<S: Alter>(repository: &mut Store<S>, now: Moment) -> bool
+    ensures { Keeps (seen repository.old.kept (state S.Store repository.old.conn)) (seen repository.new.kept (state S.Store repository.new.conn)) }
+{
     match repository.apply(Command::Metadata(""), now) {
         Err(StoreFault::Database) => true,
         _ => false,
@@ -148,7 +176,12 @@ struct Making<'a> {
 }
 
 impl Work for Making<'_> {
+    ghost use Rattle.store.specs.Views.{command_view};
+    ghost use Rattle.repository_work.specs.Works.{MakesOne};
+
     type Done = Reply;
+
+    ghost does = { λ making A r B _. MakesOne (command_view making.command) making.now A r B };
 
     fn work<S: Alter, E: Write>(
         &mut self,
@@ -165,14 +198,17 @@ impl Work for Making<'_> {
     }
 }
 
-/// Makes one command over the repository in the file.
+/// Makes one command over the repository in the file. A reply is that of the machine's step, from a state at which the store that was opened
+/// stood to the one at which it was closed; on a fault what stood stands.
 pub fn applied<E: Write>(
     rt: &HostRuntime,
     db: &str,
     command: Command<'_>,
     now: Moment,
     notes: &mut Notes<'_, E>,
-) -> Result<Reply, Fault> {
+) -> Result<Reply, Fault>
+    ensures { IsAnswered (command_view command.entry) now result }
+{
     let mut making = Making { db, command, now };
     worked(rt, db, &mut making, notes)
 }

@@ -1,28 +1,21 @@
 //! What is told of a repository before it is served, and of a client's own state: what is trusted, and when the first of its documents expires.
 use command_support::{Notes, expiry_of};
 use metadata::{Body, Kind, Listing, Moment, ShapeFault, read_document};
-use repository_work::{Command, Reply, Store};
+use repository_work::Held;
 use served_files::{FileVisitor, visit_files};
-use sqlite::Alter;
 use std::alloc::{AllocError, Global};
 use std::fmt;
 use std::io::Write;
 
 /// Tells the version of the trusted root, and the moment and the name of the document that expires first, of those that are in
 /// use: root, timestamp, snapshot, and the targets metadata that the snapshot lists.
-pub fn tell_standing<S: Alter, E: Write>(
-    alloc: Global,
-    db: &str,
-    repository: &mut Store<S>,
-    now: Moment,
-    notes: &mut Notes<'_, E>,
-) {
-    let Some(version) = repository.root_version() else {
+pub fn tell_standing<E: Write>(alloc: Global, db: &str, held: &Held, notes: &mut Notes<'_, E>) {
+    let Some(version) = held.root_version() else {
         notes.tell(&db, &"no root is trusted");
         return;
     };
     notes.tell(&db, &Trusted(version));
-    if let Some(first) = FirstExpiry::of(alloc, repository, now) {
+    if let Some(first) = FirstExpiry::of(alloc, held) {
         notes.tell(&db, &first);
     }
 }
@@ -38,22 +31,19 @@ pub struct Versions {
 
 impl Versions {
     /// Those of a repository or of a client's own state. The snapshot is the one that the timestamp names, if it is held.
-    pub fn of<S: Alter>(alloc: Global, repository: &mut Store<S>, now: Moment) -> Versions {
+    pub fn of(alloc: Global, held: &Held) -> Versions {
         let mut found = Versions {
-            root: repository.root_version(),
+            root: held.root_version(),
             timestamp: None,
             snapshot: None,
             expires: None,
         };
-        if let Ok(Reply::Bytes(bytes)) = repository.apply(
-            Command::Metadata("timestamp.json"),
-            now,
-        ) {
-            if let Ok(document) = read_document(alloc, Kind::Timestamp, &bytes) {
+        if let Some(bytes) = held.metadata_file("timestamp.json") {
+            if let Ok(document) = read_document(alloc, Kind::Timestamp, bytes) {
                 if let Body::Timestamp(timestamp) = &document.body {
                     found.timestamp = Some(timestamp.version);
                     found.expires = Some(timestamp.expires);
-                    if repository.snapshot_due().is_none() {
+                    if held.snapshot_due().is_none() {
                         found.snapshot = Some(timestamp.snapshot.version);
                     }
                 }
@@ -110,16 +100,11 @@ pub struct FirstExpiry(Moment);
 
 impl FirstExpiry {
     /// That of a repository or of a client's own state, if a root is trusted and the names and documents find memory.
-    pub fn of<S: Alter>(
-        alloc: Global,
-        repository: &mut Store<S>,
-        now: Moment,
-    ) -> Option<FirstExpiry> {
-        let version = repository.root_version()?;
+    pub fn of(alloc: Global, held: &Held) -> Option<FirstExpiry> {
+        let version = held.root_version()?;
         let mut looked = Looked {
             alloc,
-            repository,
-            now,
+            held,
             first: None,
         };
         match visit_files(alloc, version.saturating_sub(1), version, &mut looked) {
@@ -138,20 +123,19 @@ impl fmt::Display for FirstExpiry {
 
 // The documents that were looked at, and the first moment at which one of them expires.
 #[derive(Drop)]
-struct Looked<'a, S: Alter> {
+struct Looked<'a> {
     alloc: Global,
-    repository: &'a mut Store<S>,
-    now: Moment,
+    held: &'a Held,
     first: Option<FirstExpiry>,
 }
 
-impl<S: Alter> FileVisitor for Looked<'_, S> {
+impl FileVisitor for Looked<'_> {
     type Fault = AllocError;
 
     fn read(&mut self, name: &str) -> Result<Option<Vec<u8>>, AllocError> {
-        match self.repository.apply(Command::Metadata(name), self.now) {
-            Ok(Reply::Bytes(bytes)) => Ok(Some(bytes)),
-            _ => Ok(None),
+        match self.held.metadata_file(name) {
+            Some(bytes) => Ok(Some(Vec::from_slice(self.alloc, bytes)?)),
+            None => Ok(None),
         }
     }
 
@@ -182,7 +166,7 @@ impl<S: Alter> FileVisitor for Looked<'_, S> {
     }
 }
 
-impl<S: Alter> Looked<'_, S> {
+impl Looked<'_> {
     fn note(&mut self, expires: Option<Moment>) {
         if let Some(expires) = expires {
             if self.first.is_none_or(|first| expires < first.0) {

@@ -1,29 +1,24 @@
 //! Why documents were denied, in words.
 use command_support::Notes;
-use metadata::Moment;
 use reasons::{HeldFiles, reason};
-use repository_work::{Command, Offer, Reply, Store};
-use sqlite::Alter;
+use repository_work::{Held, Offer};
 use std::alloc::{AllocError, Global};
 use std::io::Write;
 
-/// What a repository holds at a moment.
-#[derive(Drop)]
-pub struct Holding<'a, S: Alter> {
-    pub repository: &'a mut Store<S>,
-    pub now: Moment,
+/// What a repository holds. It is looked at, and nothing is asked of its database.
+#[derive(Clone, Copy)]
+pub struct Holding<'a> {
+    pub held: &'a Held,
 }
 
-impl<S: Alter> HeldFiles for Holding<'_, S> {
-    fn file(&mut self, _alloc: Global, name: &str) -> Option<Vec<u8>> {
-        match self.repository.apply(Command::Metadata(name), self.now) {
-            Ok(Reply::Bytes(bytes)) => Some(bytes),
-            _ => None,
-        }
+impl HeldFiles for Holding<'_> {
+    fn file(&mut self, alloc: Global, name: &str) -> Option<Vec<u8>> {
+        let bytes = self.held.metadata_file(name)?;
+        Vec::from_slice(alloc, bytes).ok()
     }
 
     fn root_version(&self) -> Option<u32> {
-        self.repository.root_version()
+        self.held.root_version()
     }
 }
 

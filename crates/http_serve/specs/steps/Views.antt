@@ -12,7 +12,7 @@ use Rattle.http_messages.specs.declared.faults.Fault.TheVariants.{Memory, Databa
 use Rattle.http_messages.specs.declared.reply.Kind.{Kind}
 use Rattle.http_messages.specs.declared.line.Cut.{Cut}
 use Rattle.http_serve.specs.Response.{Says}
-use Rattle.http_serve.specs.Serving.{AnsweredBy, Made, Wrote}
+use Rattle.http_serve.specs.Serving.{AnsweredBy, Made, UnavailableBy, Wrote}
 use Rattle.store.specs.Standing.{Standing}
 use Rattle.http_serve.specs.declared.serve.ServeFault.{ServeFault}
 use Rattle.http_serve.specs.declared.serve.ServeFault.TheVariants.{Write}
@@ -70,6 +70,10 @@ Performed A command now B old new r = (text : List ℕ) × Made A command now te
 -- a request was answered: each input that asks it is, of a server of all routes as of one that only reads
 abbrev pub Responded : Standing → Request → ℕ → Standing → Option (List ℕ) → Option (List ℕ) → Result (Unit {0}) Cut → Type 0
 Responded A request now B old new r = (text : List ℕ) × ((reads_only : Bool) (input : List ℕ) → AsksOf reads_only input request → AnsweredBy reads_only A input now text B) × Wrote old new text r
+
+-- a fault says of a request that no database can be opened: each input that asks it is so answered
+abbrev pub IsUnavailable : Request → Fault → Type 0
+IsUnavailable request why = (reads_only : Bool) (input : List ℕ) → AsksOf reads_only input request → UnavailableBy reads_only input (fault_response why)
 
 -- how a connection ends by how its answer was written
 abbrev pub HasEnded : Result (Unit {0}) Cut → Result (Unit {0}) ServeFault → Type 0
