@@ -259,6 +259,7 @@ it_is_shown() {
     is_told '  its layout: product of step pack'
     is_told '  granted, 8 bytes'
     a_chain_is_shown
+    visits_are_those_of_a_search
     "$release" show --at $now --db repository.db --html page.html tools/none >"$folder/out"
     is_told '  denied 35 NotFound'
     checks=$((checks + 3))

@@ -42,6 +42,23 @@ documents_are_published() {
     done
 }
 
+# A folder with documents and files and nothing that is held: one opening takes all of it, and what was published is held after that.
+a_folder_is_published_at_once() {
+    local db=$folder/given.db given=$folder/given name
+    mkdir -p "$given/files"
+    cp "$example"/{timestamp,snapshot,targets}.json "$given"
+    for name in hello.txt empty.txt; do cp "$example/$name" "$given/files/$(sha256sum "$example/$name" | cut -c1-64)"; done
+    wants 0 'begun\n' '' init --at=$at --db "$db" "$example/root.json"
+    "$release" publish -v --at=$at --db "$db" --in "$given" >"$folder/out" 2>"$folder/err" || fail "a folder without held/: $(cat "$folder/err")"
+    [ "$(cat "$folder/out")" = '{"accepted":3,"same":0}' ] || fail "a folder without held/ says $(cat "$folder/out")"
+    [ "$(grep -c 'opened in' "$folder/err")" = 1 ] || fail "opened more than once: $(cat "$folder/err")"
+    for name in timestamp snapshot targets; do same "what is held of $name" "$given/held/$name.json" "$example/$name.json"; done
+    [ -z "$(ls "$given/files")" ] || fail "files stay in the folder"
+    dump "$db" "$folder/given.dump"
+    [ "$(grep -c 'INSERT INTO blob' "$folder/given.dump")" = 2 ] || fail "the files were not put"
+    checks=$((checks + 5))
+}
+
 files_are_put() {
     local db=$folder/db name digest
     for name in hello.txt empty.txt; do

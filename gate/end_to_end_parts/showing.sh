@@ -66,3 +66,10 @@ a_chain_is_shown() {
     grep -q '<span class="step"><b>build</b> 1 of 1 links builder '"$(digits_of builder)"'</span>' page.html || fail "no chain in the page of the target"
     checks=$((checks + 2))
 }
+
+# A target that a search does not come to, since it makes all of its visits before.
+visits_are_those_of_a_search() {
+    local said
+    said=$(python3 "$repository/gate/shown_visits.py" "$release") || fail "show over all visits: $said"
+    checks=$((checks + said))
+}
