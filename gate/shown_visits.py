@@ -1,10 +1,11 @@
 #!/usr/bin/env python3
-"""Holds 'show PATH' to a search that makes all the visits that it may make. 'gate/end_to_end' calls it.
+"""Holds 'show PATH' to the visits of a search. 'gate/end_to_end' calls it.
 
     gate/shown_visits.py PROGRAM
 
 'targets' delegates every path to 34 roles, and the last of them alone lists a file. A search makes 32 visits at most, so it does not come to
-that role: the 32 roles are shown that it visits, no listing, and the denial that a request for the file gets.
+that role: the 32 roles are shown that it visits, no listing, and the denial that a request for the file gets. The third of these roles
+expires first: from then on it ends each search, and is told of. Where the root has expired no search is made, and no role is shown.
 """
 import os
 import subprocess
@@ -16,7 +17,7 @@ sys.path.insert(0, f"{TOP}/model")
 from signed_documents import BEGIN, delegation, delegations, digest, root, signed_file, snapshot, targets, timestamp
 from test_keys import Key
 
-NOW, EXPIRES = BEGIN + 100, BEGIN + 10_000
+NOW, EXPIRES, SOONER = BEGIN + 100, BEGIN + 10_000, BEGIN + 5_000
 ROLES = [f"r{number:02}" for number in range(1, 35)]
 FILE = b"hello\n"
 
@@ -26,7 +27,8 @@ def documents():
     key = Key(b"visits", 4, 5)
     top = {role: ([key], 1) for role in ("root", "snapshot", "targets", "timestamp")}
     every = delegations([key], [delegation(role, [key], 1, paths=["*"]) for role in ROLES])
-    listed = {role: targets(1, EXPIRES, {"x.txt": (len(FILE), digest(FILE))} if role == ROLES[-1] else {}) for role in ROLES}
+    last = {"x.txt": (len(FILE), digest(FILE))}
+    listed = {role: targets(1, SOONER if role == ROLES[2] else EXPIRES, last if role == ROLES[-1] else {}) for role in ROLES}
     signed = {
         "root": root(1, EXPIRES, top),
         "timestamp": timestamp(1, EXPIRES, 1),
@@ -42,6 +44,16 @@ def said(program, *words):
     return ran.returncode, ran.stdout.splitlines(), ran.stderr.splitlines()
 
 
+def visits_of(roles):
+    return [f"  visit {role}" for role in roles]
+
+
+def lines_of(program, db, moment):
+    """What is shown of the target at the moment, without its first line."""
+    lines = said(program, "show", "--at", str(moment), "--db", db, "x.txt")[1]
+    return lines[lines.index("target x.txt") + 1:] if "target x.txt" in lines else lines
+
+
 def main(program):
     with tempfile.TemporaryDirectory() as folder:
         db, at = f"{folder}/r.db", ["--at", str(NOW)]
@@ -52,18 +64,20 @@ def main(program):
         begun = said(program, "init", *at, "--db", db, f"{folder}/root.json")
         offered = [f"{role}:{folder}/{role}.json" for role in files if role != "root"]
         published = said(program, "publish", *at, "--db", db, *offered)
-        shown = said(program, "show", *at, "--db", db, "x.txt")
-    visits = ["targets", *ROLES[:31]]
-    wanted = ["target x.txt", *[f"  visit {role}" for role in visits], "  denied 34 TooManyRoles"]
-    lines = shown[1][shown[1].index("target x.txt"):] if "target x.txt" in shown[1] else shown[1]
+        shown = {moment: lines_of(program, db, moment) for moment in (NOW, SOONER, EXPIRES)}
+    wanted = {
+        NOW: [*visits_of(["targets", *ROLES[:31]]), "  denied 34 TooManyRoles"],
+        SOONER: [*visits_of(["targets", *ROLES[:3]]), f"  ended by {ROLES[2]}: it has expired", "  denied 31 RoleExpired"],
+        EXPIRES: ["  denied 11 RootExpired"],
+    }
     for what, found, right in (
         ("init", begun, (0, ["begun"], [])),
         ("publish", published, (0, [f'{{"accepted":{len(offered)},"same":0}}'], [])),
-        ("show", lines, wanted),
+        *[(f"show at {moment}", shown[moment], wanted[moment]) for moment in wanted],
     ):
         if found != right:
             sys.exit(f"{what}: {found}\nand not {right}")
-    print(len(visits) + 3)
+    print(2 + sum(map(len, wanted.values())))
 
 
 main(*sys.argv[1:])

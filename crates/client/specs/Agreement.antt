@@ -40,7 +40,7 @@ pub record Agrees (S D : State) (path : Bytes) (now : ℕ) (r : Result Bytes Fau
       → ((b : Bytes) → grants S path None now (Ok b) → ⊥) × ((e : orders.Denial) × grants D path None now (Err (orders.Denied e)))
   pub fetched : (fault : FetchFault) → r ≡ Err (Fetch fault) → fault ≡ fetches.OutOfMemory
 
--- the client's state denies the target so, or it denies so a file of the server that was offered to it
+-- the client's state denies the target so, or it denies so a file of the server
 abbrev pub IsOwnDenial : State → State → Bytes → ℕ → orders.Denial → Type 0
 IsOwnDenial S D path now d =
     grants D path None now (Err (orders.Denied d))

@@ -4,8 +4,8 @@ ghost use Rattle.client_commands.specs.Clients.{IsGranted};
 
 use crate::fault::told;
 use crate::remote::{Call, Remote};
-use crate::server::Server;
 use client::fetch_target;
+use command_line::{Getting, Server};
 use command_support::{
     Denial, Fault, Notes, OWNER_ALONE, are_one_file, file_fault, moment, print, put_in_place,
 };
@@ -16,70 +16,42 @@ use std::alloc::AllocError;
 use std::io::Write;
 use subcommands::{Store, Work, worked};
 
-/// What is fetched, and where from and to: the file of the client's own state, the port or the mirrors, how many seconds all of it
-/// has, 600 where none are given, the file that is written, and the target's path.
-#[derive(Clone, Copy)]
-pub struct Getting<'a> {
-    pub db: &'a str,
-    pub from: Server<'a>,
-    pub within: Option<u64>,
-    pub out: &'a str,
-    pub path: &'a str,
-}
-
-impl<'a> Getting<'a> {
-    pub fn new(
-        db: &'a str,
-        from: Server<'a>,
-        within: Option<u64>,
-        out: &'a str,
-        path: &'a str,
-    ) -> Getting<'a> {
-        Getting {
-            db,
-            from,
-            within,
-            out,
-            path,
-        }
-    }
-}
-
 /// Fetches what the client's own state misses for the target, and writes the target's file where that state grants it. Prints
 /// `written`. The file that is written may not be the client's own database or its log, by whatever name.
 pub fn get<O: Write, E: Write>(
     rt: &HostRuntime,
-    asked: Getting<'_>,
+    asked: &Getting,
     at: Option<u64>,
     out: &mut O,
     notes: &mut Notes<'_, E>,
 ) -> Result<(), Fault> {
     let bytes = fetched(rt, asked, at, notes)?;
-    if is_of_database(rt, asked.db, asked.out)? {
-        notes.fault(&asked.out, &"a file of the client's own database");
+    let to = asked.out.as_str();
+    if is_of_database(rt, asked.db.as_str(), to)? {
+        notes.fault(&to, &"a file of the client's own database");
         return Err(Fault::File);
     }
-    put(rt, asked.out, &bytes, notes)?;
+    put(rt, to, &bytes, notes)?;
     print(out, b"written\n", notes)
 }
 
 fn fetched<E: Write>(
     rt: &HostRuntime,
-    asked: Getting<'_>,
+    asked: &Getting,
     at: Option<u64>,
     notes: &mut Notes<'_, E>,
 ) -> Result<Vec<u8>, Fault> {
     let now = moment(rt, at)?;
-    let path = target_path(rt, asked.path, notes)?;
+    let path = target_path(rt, asked.path.as_str(), notes)?;
     let call = Call::begun(rt, asked.within)?;
-    granted(call, asked.db, asked.from, &path, now, notes)
+    granted(call, asked.db.as_str(), &asked.server, &path, now, notes)
 }
 
 // The bytes that the state in the database grants, behind a fetch.
 fn granted<E: Write>(
     call: Call<'_>,
     db: &str,
-    from: Server<'_>,
+    from: &Server,
     path: &TargetPath,
     now: Moment,
     notes: &mut Notes<'_, E>,
@@ -138,7 +110,7 @@ fn target_path<E: Write>(
 struct Fetching<'a> {
     rt: &'a HostRuntime,
     call: Call<'a>,
-    from: Server<'a>,
+    from: &'a Server,
     path: &'a TargetPath,
     now: Moment,
 }

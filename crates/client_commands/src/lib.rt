@@ -16,7 +16,6 @@ pub use asking::root_at;
 pub use client::ClientFault;
 pub use command_support::{Fault, Notes};
 pub use fault::fault_of_client;
-pub use getting::{Getting, get};
+pub use getting::get;
 pub use publishing::{prune_at, publish_at, put_at, put_bytes_at};
-pub use server::Server;
 pub use updating::update;

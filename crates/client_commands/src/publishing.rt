@@ -6,7 +6,7 @@ use http_fetch::{Method, read_accepted, read_pruned};
 use http_messages::{BATCH_LIMIT, BLOB_LIMIT, stored_body};
 use metadata::digest_of;
 use std::io::Write;
-use subcommands::{InputFile, Offered, batch_of, documents_of, read_all, tell_argument};
+use subcommands::{InputFile, Offered, batch_of, documents_of, read_all, role_in, tell_argument};
 
 /// Offers the documents to the server, together, and prints how many were accepted and how many were held already, as `publish` over a
 /// database does. The first of the documents are given, and the others are read. Documents that are together longer than a server takes are a
@@ -115,7 +115,7 @@ fn batch_body<E: Write>(
     let alloc = rt.alloc();
     let mut body = Vec::new(alloc);
     for (argument, file) in arguments.iter().zip(files.iter()) {
-        if let Some((role, _)) = argument.as_str().split_once(':') {
+        if let Some(role) = role_in(argument.as_str()) {
             let len = file.bytes.len();
             let line = format!(in alloc; "{role} {len}\n")?;
             body.extend_from_slice(line.as_bytes())?;

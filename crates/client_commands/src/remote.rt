@@ -1,6 +1,7 @@
 //! What `update` and `get` fetch files from: a repository that is served at a port of 127.0.0.1, or mirrors of one.
-use crate::server::{Asked, Peer, Server};
+use crate::server::{Asked, Peer};
 use crate::wire::{Hearing, Wire, connected, host};
+use command_line::Server;
 use command_support::{Fault, Notes};
 use connections::{FILE_SECONDS, Timer};
 use fetch::{FetchFault, Source};
@@ -51,7 +52,7 @@ impl<'a> Call<'a> {
 #[derive(Drop)]
 pub struct Remote<'a, 'n, 'e, E: Write> {
     call: Call<'a>,
-    server: Server<'a>,
+    server: &'a Server,
     notes: &'n mut Notes<'e, E>,
     is_watched: bool,
     bytes: u64,
@@ -61,7 +62,7 @@ pub struct Remote<'a, 'n, 'e, E: Write> {
 impl<'a, 'n, 'e, E: Write> Remote<'a, 'n, 'e, E> {
     pub fn new(
         call: Call<'a>,
-        server: Server<'a>,
+        server: &'a Server,
         notes: &'n mut Notes<'e, E>,
     ) -> Remote<'a, 'n, 'e, E> {
         Remote {
@@ -221,8 +222,9 @@ impl<E: Write> Source for Remote<'_, '_, '_, E> {
                 bytes: self.bytes,
             });
         }
-        let answer = match self.server {
-            Server::Port(port) => self.ask_port(alloc, port, name, limit),
+        let server = self.server;
+        let answer = match server {
+            Server::Port(port) => self.ask_port(alloc, *port, name, limit),
             Server::Mirrors(urls) => self.ask_each(alloc, urls, name, limit),
         };
         match &answer {

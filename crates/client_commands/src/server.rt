@@ -1,18 +1,15 @@
 //! Where `update` and `get` fetch files from, and how that is told.
+use command_line::Server;
 use connections::Port;
 use std::fmt;
 
-/// A port of 127.0.0.1, or mirrors by their URLs, as `mirrors::read_mirror` reads them: each file is asked of one behind the other
-/// until one has it.
+/// A port of 127.0.0.1, or mirrors, as notes name them.
 #[derive(Clone, Copy)]
-pub enum Server<'a> {
-    Port(u16),
-    Mirrors(&'a [String]),
-}
+pub struct Named<'a>(pub &'a Server);
 
-impl fmt::Display for Server<'_> {
+impl fmt::Display for Named<'_> {
     fn fmt<W: fmt::Write>(&self, f: &mut fmt::Formatter<W>) -> fmt::Result {
-        match self {
+        match self.0 {
             Server::Port(port) => write!(f, "{}", Port(*port)),
             Server::Mirrors(urls) => write_each(f, urls),
         }

@@ -1,7 +1,8 @@
 //! `update`: brings a client's own state up to date.
 use crate::fault::told;
 use crate::remote::{Call, Remote};
-use crate::server::Server;
+use crate::server::Named;
+use command_line::Server;
 use command_support::{Fault, Notes, moment, print};
 use metadata::Moment;
 use sqlite::Alter;
@@ -15,7 +16,7 @@ use subcommands::{FirstExpiry, Store, Versions, Work, tell_standing, worked};
 pub fn update<O: Write, E: Write>(
     rt: &HostRuntime,
     db: &str,
-    from: Server<'_>,
+    from: &Server,
     within: Option<u64>,
     at: Option<u64>,
     out: &mut O,
@@ -40,7 +41,7 @@ struct Updating<'a> {
     rt: &'a HostRuntime,
     call: Call<'a>,
     db: &'a str,
-    from: Server<'a>,
+    from: &'a Server,
     now: Moment,
 }
 
@@ -67,7 +68,7 @@ impl Work for Updating<'_> {
             Ok(()) => {
                 self.tell_found(before, state, notes);
                 if lacks_timestamp {
-                    notes.warn(&self.from, &"no timestamp");
+                    notes.warn(&Named(self.from), &"no timestamp");
                 }
                 Ok(())
             }

@@ -1,5 +1,5 @@
 -- The command line, in the definitions of `clap`: what words say with the arguments that each subcommand has.
-use Rattle.std.specs.Prelude.{◌≡◌, ◌⊎◌, ℕ, ◌≤◌, Bool, false, List, [], ◌∷◌, Option, Some, None, IsSome, nat_lt, codes, length, map, string_bytes, String}
+use Rattle.std.specs.Prelude.{◌≡◌, ◌⊎◌, ℕ, ◌≤◌, Bool, false, List, [], ◌∷◌, Option, Some, None, IsSome, IsTrue, nat_lt, codes, length, map, string_bytes, String}
 use Rattle.std.specs.declared.alloc.Global.{Global}
 use Rattle.std.specs.Str.Parse.{digits_value, without_leading_plus}
 use Rattle.limits.specs.Limits.{most_documents}
@@ -198,7 +198,7 @@ abbrev pub name_of : Subcommand → Text
 name_of (Canon file) = codes "canon"
 name_of (DraftOf d) = codes "draft"
 name_of (Export db to) = codes "export"
-name_of (Get db server within out path) = codes "get"
+name_of (Get g) = codes "get"
 name_of (Init db root) = codes "init"
 name_of (Key seed params) = codes "key"
 name_of (NewKey names params) = codes "key"
@@ -206,10 +206,10 @@ name_of (Prune place) = codes "prune"
 name_of (Publish place documents) = codes "publish"
 name_of (PublishIn place folder) = codes "publish"
 name_of (Put place file) = codes "put"
-name_of (Serve db port count read_only) = codes "serve"
+name_of (Serve s) = codes "serve"
 name_of (Show showing) = codes "show"
-name_of (Sign book seed params known file) = codes "sign"
-name_of (SignIn keys folder anchor strict documents agreed again) = codes "sign"
+name_of (Sign s) = codes "sign"
+name_of (SignIn s) = codes "sign"
 name_of (Update db server within) = codes "update"
 
 -- the subcommand has the options and operands that were found
@@ -217,9 +217,9 @@ abbrev pub HasArguments : List Row → Subcommand → Type 0
 HasArguments rows (Canon file) = HasText rows (codes "file") file
 HasArguments rows (DraftOf d) = HasDraft rows d
 HasArguments rows (Export db to) = HasText rows (codes "db") db × HasText rows (codes "to") to
-HasArguments rows (Get db server within out path) = HasText rows (codes "db") db × HasServer rows server
-    × MayHaveNumber rows (codes "within") 1 most_seconds within
-    × HasText rows (codes "out") out × HasText rows (codes "path") path
+HasArguments rows (Get g) = HasText rows (codes "db") g.db × HasServer rows g.server
+    × MayHaveNumber rows (codes "within") 1 most_seconds g.within
+    × HasText rows (codes "out") g.out × HasText rows (codes "path") g.path
 HasArguments rows (Init db root) = HasText rows (codes "db") db × HasText rows (codes "root") root
 HasArguments rows (Key seed params) = HasText rows (codes "seed") seed × HasParams rows params × Lacks rows (codes "new") × Lacks rows (codes "name")
 HasArguments rows (NewKey names params) = HasNames rows names.items × HasParamsOr rows params × Lacks rows (codes "seed")
@@ -227,14 +227,14 @@ HasArguments rows (Prune place) = HasPlace rows place
 HasArguments rows (Publish place documents) = HasPlace rows place × HasTexts rows (codes "document") most_documents documents.items × Lacks rows (codes "in")
 HasArguments rows (PublishIn place folder) = HasPlace rows place × HasText rows (codes "in") folder × Lacks rows (codes "document")
 HasArguments rows (Put place file) = HasPlace rows place × HasText rows (codes "file") file
-HasArguments rows (Serve db port count read_only) = HasText rows (codes "db") db × HasNumber rows (codes "port") 1 last_port port
-    × MayHaveNumber rows (codes "count") 1 most_connections count × (read_only ≡ is_used rows (codes "read-only"))
+HasArguments rows (Serve s) = HasText rows (codes "db") s.db × HasNumber rows (codes "port") 1 last_port s.port
+    × MayHaveNumber rows (codes "count") 1 most_connections s.count × (s.read_only ≡ is_used rows (codes "read-only"))
 HasArguments rows (Show s) = HasShowing rows s
-HasArguments rows (Sign book seed params known file) = HasText rows (codes "book") book × HasText rows (codes "seed") seed × HasParams rows params
-    × (known ≡ is_used rows (codes "known")) × HasTexts rows (codes "file") 1 (file ∷ []) × Lacks rows (codes "key") × LacksFolder rows
-HasArguments rows (SignIn keys folder anchor strict documents agreed again) = HasTexts rows (codes "key") most_documents keys.items
-    × HasText rows (codes "in") folder × HasAnchor rows anchor × (strict ≡ is_used rows (codes "strict"))
-    × MayHaveTexts rows (codes "file") most_documents documents.items × (agreed ≡ is_used rows (codes "yes")) × (again ≡ is_used rows (codes "again"))
+HasArguments rows (Sign s) = HasText rows (codes "book") s.book × HasText rows (codes "seed") s.seed × HasParams rows s.params
+    × (s.known ≡ is_used rows (codes "known")) × HasTexts rows (codes "file") 1 (s.file ∷ []) × Lacks rows (codes "key") × LacksFolder rows
+HasArguments rows (SignIn s) = HasTexts rows (codes "key") most_documents s.keys.items
+    × HasText rows (codes "in") s.folder × HasAnchor rows s.anchor × (s.strict ≡ is_used rows (codes "strict")) × (IsTrue s.strict → IsSome s.anchor)
+    × MayHaveTexts rows (codes "file") most_documents s.documents.items × (s.yes ≡ is_used rows (codes "yes")) × (s.again ≡ is_used rows (codes "again"))
     × LacksPair rows
 HasArguments rows (Update db server within) = HasText rows (codes "db") db × HasServer rows server
     × MayHaveNumber rows (codes "within") 1 most_seconds within

@@ -23,8 +23,8 @@ use limits::MOST_DOCUMENTS;
 use std::alloc::{AllocError, Global};
 use tasks::Unread;
 pub use tasks::{
-    Anchor, Draft, Drafting, LayoutDraft, LinkDraft, Place, Server, Showing, Subcommand,
-    TargetsDraft, Task, Usage,
+    Anchor, Draft, Drafting, FolderSigning, Getting, LayoutDraft, LinkDraft, Place, Server,
+    Serving, Showing, Signing, Subcommand, TargetsDraft, Task, Usage,
 };
 
 // Neither a seed nor a new name.
@@ -138,13 +138,13 @@ fn get_asked(alloc: Global, given: &ArgMatches<'_>) -> Result<Subcommand, Unread
     let within = within_of(alloc, given)?;
     let out = text_of(alloc, given, "out")?;
     let path = text_of(alloc, given, "path")?;
-    Ok(Subcommand::Get {
+    Ok(Subcommand::Get(Getting {
         db,
         server,
         within,
         out,
         path,
-    })
+    }))
 }
 
 fn init_asked(alloc: Global, given: &ArgMatches<'_>) -> Result<Subcommand, Unread>
@@ -226,12 +226,12 @@ fn serve_asked(alloc: Global, given: &ArgMatches<'_>) -> Result<Subcommand, Unre
     let port = port_of(alloc, given)?;
     let count = count_of(alloc, given)?;
     let read_only = is_given(given, "read-only");
-    Ok(Subcommand::Serve {
+    Ok(Subcommand::Serve(Serving {
         db,
         port,
         count,
         read_only,
-    })
+    }))
 }
 
 fn show_asked(alloc: Global, given: &ArgMatches<'_>) -> Result<Subcommand, Unread>
@@ -284,13 +284,13 @@ fn sign_by_book(alloc: Global, given: &ArgMatches<'_>) -> Result<Subcommand, Unr
     let params = params_of(alloc, given)?;
     let known = is_given(given, "known");
     let file = one_text_of(alloc, given, "file")?;
-    Ok(Subcommand::Sign {
+    Ok(Subcommand::Sign(Signing {
         book,
         seed,
         params,
         known,
         file,
-    })
+    }))
 }
 
 // Next to a book stands no folder, and nothing that is said of one.
@@ -329,7 +329,7 @@ fn sign_in(alloc: Global, given: &ArgMatches<'_>) -> Result<Subcommand, Unread>
         return Err(fault(alloc, NO_ANCHOR));
     }
     let documents = texts_or_none(alloc, given, "file", MOST_DOCUMENTS)?;
-    Ok(Subcommand::SignIn {
+    Ok(Subcommand::SignIn(FolderSigning {
         keys,
         folder,
         anchor,
@@ -337,7 +337,7 @@ fn sign_in(alloc: Global, given: &ArgMatches<'_>) -> Result<Subcommand, Unread>
         documents,
         yes: is_given(given, "yes"),
         again: is_given(given, "again"),
-    })
+    }))
 }
 
 // Where the root is from by which what is held is judged, if one is given.

@@ -114,6 +114,48 @@ pub struct LinkDraft {
     pub products: Vec<String>,
 }
 
+/// What a client gets: its own database, where it fetches from and for how many seconds at most, the file that is written, and the path.
+#[derive(Drop)]
+pub struct Getting {
+    pub db: String,
+    pub server: Server,
+    pub within: Option<u64>,
+    pub out: String,
+    pub path: String,
+}
+
+/// What is served: a database, at a port of 127.0.0.1, over so many connections or without end, and whether only what changes nothing.
+#[derive(Drop)]
+pub struct Serving {
+    pub db: String,
+    pub port: u16,
+    pub count: Option<u64>,
+    pub read_only: bool,
+}
+
+/// What is signed with a book and a seed: a file, by a key of these parameters, and whether both have to be known.
+#[derive(Drop)]
+pub struct Signing {
+    pub book: String,
+    pub seed: String,
+    pub params: Params,
+    pub known: bool,
+    pub file: String,
+}
+
+/// What is signed in a folder of drafts: by which keys, judged by which root, whether nothing is signed over what does not meet its rules,
+/// which documents, without a question, and also another document of a kind and version.
+#[derive(Drop)]
+pub struct FolderSigning {
+    pub keys: Vec<String>,
+    pub folder: String,
+    pub anchor: Option<Anchor>,
+    pub strict: bool,
+    pub documents: Vec<String>,
+    pub yes: bool,
+    pub again: bool,
+}
+
 /// What is shown: what a database holds, a folder of drafts, or both; and how: so many days ahead, with these keys' leaves, as JSON, as a
 /// page in a file, and of one path, if one is given.
 #[derive(Drop)]
@@ -156,13 +198,7 @@ pub enum Subcommand {
     },
     /// `get --db FILE (--port P | --mirror URL ..) [--within SECONDS] --out OUT PATH`: fetches a target, and writes the file where the client's
     /// own state grants it.
-    Get {
-        db: String,
-        server: Server,
-        within: Option<u64>,
-        out: String,
-        path: String,
-    },
+    Get(Getting),
     /// `init --db FILE ROOT`: begins the trust with a first root.
     Init {
         db: String,
@@ -199,37 +235,18 @@ pub enum Subcommand {
     },
     /// `serve --db FILE --port P [--count N] [--read-only]`: answers HTTP requests on 127.0.0.1, over so many connections or without end,
     /// and where it is said so, only those that change nothing.
-    Serve {
-        db: String,
-        port: u16,
-        count: Option<u64>,
-        read_only: bool,
-    },
+    Serve(Serving),
     /// `show [--db FILE] [--in DIR] [--due DAYS] [--key NAME ..] [--json] [--html FILE] [PATH]`: shows what a database holds, or a folder of
     /// drafts, over a database where both are given.
     Show(Showing),
     /// `sign --book B --seed S --ots W --height H [--known] DOC`: signs a file with a leaf that the book keeps for it, and where it is said
     /// so, only by a book and a key that are known.
-    Sign {
-        book: String,
-        seed: String,
-        params: Params,
-        known: bool,
-        file: String,
-    },
+    Sign(Signing),
     /// `sign --key NAME .. --in DIR [--db FILE | --port P | --anchor ROOT] [--strict] [DOC ..] [--yes] [--again]`: signs drafts by each key,
     /// those that are named or all that the key may sign, without being asked where it is said so, and where it is said so also another
     /// document of a kind and version that the key has signed. What is held is judged by the root that is given, and where it is said so
     /// nothing is signed over what does not meet its rules.
-    SignIn {
-        keys: Vec<String>,
-        folder: String,
-        anchor: Option<Anchor>,
-        strict: bool,
-        documents: Vec<String>,
-        yes: bool,
-        again: bool,
-    },
+    SignIn(FolderSigning),
     /// `update --db FILE (--port P | --mirror URL ..) [--within SECONDS]`: brings a client's own state up to date.
     Update {
         db: String,

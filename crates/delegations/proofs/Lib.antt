@@ -17,6 +17,7 @@ pub mod Visits
 pub mod Firsts
 pub mod Cuts
 pub mod Look
+pub mod Seen
 pub mod Paths
 pub mod SearchByWalk
 pub mod Onward

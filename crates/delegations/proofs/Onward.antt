@@ -13,12 +13,14 @@ use Rattle.delegations.specs.Delegation.{Edge, Hops, Graph, hops, hops_in}
 use Rattle.delegations.specs.Rows.{Place, Rows, value_at, same_place, named_row}
 use Rattle.delegations.specs.Search.{Shelf, Found, doc, graph_of, hops_of, visit, listing_of, search, visited}
 use Rattle.delegations.specs.Verdicts.{Table, lacking, all_lacking, PassesBy, AreVisited, Costs}
+use Rattle.delegations.specs.Visits.{Visits}
 use Rattle.delegations.specs.steps.Course.{Course, Goes, done, uncovered, known, known_last, new, new_last, here, Decides, Exhausts, Passes}
 use Rattle.delegations.specs.steps.Remains.{Remains, around, nothing, finished, passed_by, skipped, entered, IsAt, IsBefore, wide, load}
 use Rattle.delegations.proofs.Walk.{by_test}
 use Rattle.delegations.proofs.Look.{denied_here, found_here, passes_here, no_room, no_visit, then_decides, then_exhausts, then_passes}
 use Rattle.delegations.proofs.GoodVisits.{found_row, visits_good}
 use Rattle.delegations.proofs.Paths.{from_root}
+use Rattle.delegations.proofs.Seen.{denied_ends, found_ends, one_more, seen_all, seen_first, seen_one}
 use Rattle.delegations.proofs.SearchByWalk.{walked_edges, edges_are, decided, too_many, none_found}
 
 or_first : (a b : Bool) → (a || b) ≡ false → a ≡ false
@@ -132,23 +134,23 @@ module _ (V : Shelf) (path : Bytes) (now : ℕ) (T : Table) where
 
   -- the search at its start
   pub starts : IsBefore V path now T 0 V.top [] []
-  starts = record { taken = []; left = begins.0; passed = no_visit V path now 32; on = tt; remains = begins.1; split = begins.2; paid = omega arith }
+  starts = record { taken = []; left = begins.0; named = refl; passed = no_visit V path now 32; on = tt; remains = begins.1; split = begins.2; paid = omega arith }
 
   -- its steps along the delegations
   module _ (count : ℕ) (hss : List Hops) (met : Names) where
     pub step_finished : IsAt V path now T count ([] ∷ hss) met → IsAt V path now T count hss met
-    step_finished a = record { taken = a.taken; left = a.left; passed = a.passed; on = a.on; split = a.split; paid = a.paid; remains = at_finished (here V path) hss met a.left a.remains }
+    step_finished a = record { taken = a.taken; left = a.left; named = a.named; passed = a.passed; on = a.on; split = a.split; paid = a.paid; remains = at_finished (here V path) hss met a.left a.remains }
 
     pub step_passed_by : (hs : Hops) → IsAt V path now T count ((None ∷ hs) ∷ hss) met → IsAt V path now T count (hs ∷ hss) met
-    step_passed_by hs a = record { taken = a.taken; left = a.left; passed = a.passed; on = a.on; split = a.split; paid = a.paid; remains = at_passed_by (here V path) hs hss met a.left a.remains }
+    step_passed_by hs a = record { taken = a.taken; left = a.left; named = a.named; passed = a.passed; on = a.on; split = a.split; paid = a.paid; remains = at_passed_by (here V path) hs hss met a.left a.remains }
 
     pub step_skipped : (e : Edge) (hs : Hops) → has_name met e.role ≡ true → IsAt V path now T count ((Some e ∷ hs) ∷ hss) met → IsAt V path now T count (around e hs hss) met
-    step_skipped e hs there a = record { taken = a.taken; left = a.left; passed = a.passed; on = a.on; split = a.split; paid = a.paid; remains = at_skipped (here V path) e hs hss met a.left there a.remains }
+    step_skipped e hs there a = record { taken = a.taken; left = a.left; named = a.named; passed = a.passed; on = a.on; split = a.split; paid = a.paid; remains = at_skipped (here V path) e hs hss met a.left there a.remains }
 
     pub step_entered : (e : Edge) (hs : Hops) → has_name met e.role ≡ false → IsAt V path now T count ((Some e ∷ hs) ∷ hss) met → IsBefore V path now T count e (around e hs hss) met
     step_entered e hs off a =
         let r = at_entered (here V path) e hs hss met a.left off a.remains in
-        record { taken = a.taken; left = r.0; passed = a.passed; on = a.on; paid = a.paid; remains = r.1; split = a.split ∙ ap (λ t. a.taken ++ t) r.2 }
+        record { taken = a.taken; left = r.0; named = a.named; passed = a.passed; on = a.on; paid = a.paid; remains = r.1; split = a.split ∙ ap (λ t. a.taken ++ t) r.2 }
 
   -- the visits that were made, where the last may decide, or where the room is used up
   module _ (taken : List Edge) (left : ℕ) (passed : Passes V path now 32 taken left) (on : AllByRecursion (PassesBy V path now) taken) where
@@ -168,11 +170,12 @@ module _ (V : Shelf) (path : Bytes) (now : ℕ) (T : Table) where
     }
 
   -- nothing is left
-  pub ends_unfound : (count : ℕ) (met : Names) → IsAt V path now T count [] met → search V path now (Err (Denied (Plain no.not_found))) × Costs V T path now count
+  pub ends_unfound : (count : ℕ) (met : Names) → IsAt V path now T count [] met → search V path now (Err (Denied (Plain no.not_found))) × Costs V T path now count × Visits V path now met
   ends_unfound count met a =
       let all : visited V path ≡ a.taken = a.split ∙ ap (λ t. a.taken ++ t) (at_nothing (here V path) met a.left a.remains) ∙ append-nil a.taken in (
         none_found V path now (32 - length met) (subst (λ es. Passes V path now 32 es (32 - length met)) (sym all ∙ visited_are) a.passed),
         record { edges = a.taken; visited = made_all a.taken (32 - length met) a.passed a.on a.left a.split; most = a.paid },
+        seen_all V path now (32 - length met) a.taken met a.passed.used a.on all a.named,
       )
 
   -- the visit that comes next
@@ -187,28 +190,34 @@ module _ (V : Shelf) (path : Bytes) (now : ℕ) (T : Table) where
     spent_with : (later left : ℕ) → 32 - length met ≡ suc left → later ≤ count + lacking V T e → Costs V T path now later
     spent_with later left is most = record { edges = b.taken ++ e ∷ []; visited = made_one b.taken (32 - length met) b.passed b.on e b.left (omega (arith, is)) b.split; most = more_paid later most }
 
-    pub ends_full : 32 - length met ≡ 0 → search V path now (Err (Denied (Plain no.too_many_roles))) × Costs V T path now count
+    pub ends_full : 32 - length met ≡ 0 → search V path now (Err (Denied (Plain no.too_many_roles))) × Costs V T path now count × Visits V path now met
     ends_full full = (
       too_many V path now (subst (λ es. Exhausts V path now 32 es) (sym b.split ∙ visited_are)
           (then_exhausts V path now 32 (32 - length met) b.taken (e ∷ b.left) b.passed (rw full (no_room V path now e b.left)))),
       spent_before,
+      seen_first V path now b.taken e b.left met (omega (arith, full, b.passed.used)) b.on b.split b.named,
     )
+
+    -- the visits with this one, which ends the search
+    seen_with : (left : ℕ) → 32 - length met ≡ suc left → (PassesBy V path now e → ⊥) → Visits V path now (e.role ∷ met)
+    seen_with left is last = seen_one V path now left b.taken e b.left (e.role ∷ met) (omega (arith, is, b.passed.used)) b.on last b.split (one_more met b.taken e b.named)
 
     ends_by : (j : Judged Found) → Decides V path now (32 - length met) (e ∷ b.left) j → search V path now j
     ends_by j d = decides_it j (subst (λ es. Decides V path now 32 es j) (sym b.split) (then_decides V path now 32 (32 - length met) b.taken (e ∷ b.left) j b.passed d))
 
-    pub ends_denied : (later left : ℕ) (d : Denial) → later ≤ count + lacking V T e → 32 - length met ≡ suc left → visit V e now (Err (Denied d)) → search V path now (Err (Denied d)) × Costs V T path now later
-    ends_denied later left d most is h = (ends_by (Err (Denied d)) (rw is (denied_here V path now left e b.left (Denied d) h)), spent_with later left is most)
+    pub ends_denied : (later left : ℕ) (d : Denial) → later ≤ count + lacking V T e → 32 - length met ≡ suc left → visit V e now (Err (Denied d)) → search V path now (Err (Denied d)) × Costs V T path now later × Visits V path now (e.role ∷ met)
+    ends_denied later left d most is h = (ends_by (Err (Denied d)) (rw is (denied_here V path now left e b.left (Denied d) h)), spent_with later left is most, seen_with left is (denied_ends V path now e (Denied d) h))
 
     pub ends_found : (later left : ℕ) (file : File Targets) (l : Listing) → later ≤ count + lacking V T e → 32 - length met ≡ suc left → visit V e now (Ok file) → listing_of file.body path ≡ Some l
-        → search V path now (Ok (record { role = e.role; listing = l })) × Costs V T path now later
-    ends_found later left file l most is seen lists = (ends_by (Ok (record { role = e.role; listing = l })) (rw is (found_here V path now left e b.left file l seen lists)), spent_with later left is most)
+        → search V path now (Ok (record { role = e.role; listing = l })) × Costs V T path now later × Visits V path now (e.role ∷ met)
+    ends_found later left file l most is seen lists = (ends_by (Ok (record { role = e.role; listing = l })) (rw is (found_here V path now left e b.left file l seen lists)), spent_with later left is most, seen_with left is (found_ends V path now e file l seen lists))
 
     pub goes_in : (later left : ℕ) (file : File Targets) (hs : Hops) → later ≤ count + lacking V T e → 32 - length met ≡ suc left → left ≡ 32 - length (e.role ∷ met) → visit V e now (Ok file) → listing_of file.body path ≡ None
         → hops (here V path) e.role ≡ hs → IsAt V path now T later (hs ∷ hss) (e.role ∷ met)
     goes_in later left file hs most is left_is seen none are = record {
       taken = b.taken ++ (e ∷ []);
       left = b.left;
+      named = one_more met b.taken e b.named;
       passed = then_passes V path now 32 (32 - length met) (32 - length (e.role ∷ met)) b.taken (e ∷ []) b.passed
           (subst (λ r. Passes V path now r (e ∷ []) (32 - length (e.role ∷ met))) (sym is)
           (subst (λ r. Passes V path now (suc left) (e ∷ []) r) left_is (passes_here V path now left e file seen none)));

@@ -5,5 +5,6 @@ pub mod Rows
 pub mod Search
 pub mod Verdicts
 pub mod Views
+pub mod Visits
 pub mod Worked
 pub mod steps

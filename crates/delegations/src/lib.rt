@@ -23,8 +23,9 @@ pub use metadata::{
     Targets,
 };
 pub use rows::{Row, Rows, are_in_order};
-pub use searching::{search, search_counted, search_with, search_with_counted};
+pub use searching::{search, search_counted, search_seen, search_with, search_with_counted};
 pub use shelf::{Found, SearchDenial, Shelf};
 pub use verdicts::{Verdicts, all_verdicts};
+pub use visited::Visited;
 pub use visiting::{has_hash, has_length};
 pub use vouching::vouched;

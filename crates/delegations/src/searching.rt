@@ -3,6 +3,7 @@ ghost use Rattle.std.specs.Prelude.{◌≡◌, ◌+◌, ◌-◌, ◌<◌, ◌≤
 ghost use Rattle.delegations.specs.Search.{search};
 ghost use Rattle.delegations.specs.Verdicts.{AreFew, AreTrue, Costs, IsComplete};
 ghost use Rattle.delegations.specs.Views.{shelf_view, found_view, answer_view};
+ghost use Rattle.delegations.specs.Visits.{Visits};
 
 use crate::shelf::{Found, SearchDenial, Shelf};
 use crate::verdicts::Verdicts;
@@ -81,6 +82,27 @@ pub fn search_with<'a>(
     let mut checks = Steps::new();
     let answer = search_over(shelf, &query, &mut Visited::new(), &mut checks);
     (answer, checks.count() as u32)
+}
+
+/// The same, and the roles that the search visited: up to the one that lists the path, or whose document ends the search, at most 32.
+pub fn search_seen<'a>(
+    shelf: &Shelf<'a>,
+    verdicts: &Verdicts,
+    path: &TargetPath,
+    now: Moment,
+) -> (Result<Found<'a>, SearchDenial<'a>>, Visited<'a>)
+    requires { AreTrue (shelf_view shelf.now).rows verdicts.now }
+    ensures answer { search (shelf_view shelf.now) path.now now (answer_view found_view result.0) }
+    ensures visits { Visits (shelf_view shelf.now) path.now now result.1 }
+{
+    let query = Query {
+        path,
+        moment: now,
+        known: verdicts.rows(),
+    };
+    let mut visited = Visited::new();
+    let answer = search_over(shelf, &query, &mut visited, &mut Steps::new());
+    (answer, visited)
 }
 
 /// The same, with one tick for each signature that is checked. They are made when the search is done.

@@ -1,5 +1,5 @@
-// The roles that a search has visited.
-ghost use Rattle.std.specs.Prelude.{◌≡◌, ◌+◌, ◌<◌, [], ◌∷◌, length, bytes_eq};
+//! The roles that a search has visited.
+ghost use Rattle.std.specs.Prelude.{◌≡◌, ◌+◌, ◌<◌, [], ◌∷◌, length, map, bytes_eq};
 ghost use Rattle.std.specs.List.{list_any};
 ghost use Rattle.metadata.specs.File.{has_name};
 
@@ -10,7 +10,7 @@ const MOST_VISITS: usize = 32;
 
 /// At most 32 roles, the last one first. They fill the places from the end.
 #[derive(Drop)]
-pub(crate) struct Visited<'a> {
+pub struct Visited<'a> {
     names: [&'a str; 32],
     first: usize,
 }
@@ -35,6 +35,13 @@ impl<'a> Visited<'a> {
             names: [""; 32],
             first: MOST_VISITS,
         }
+    }
+
+    /// These roles, the last one first.
+    pub fn roles(&self) -> &[&'a str]
+        ensures { map (λ n. n.now) result.now ≡ self.now }
+    {
+        &self.names[self.first..]
     }
 
     /// How many more roles there is room for.

@@ -4,6 +4,7 @@ ghost use Rattle.std.specs.Prelude.{◌≡◌, ◌+◌, ◌*◌, ◌≤◌, ◌<
 ghost use Rattle.delegations.specs.Search.{search};
 ghost use Rattle.delegations.specs.Verdicts.{AreTrue, Costs};
 ghost use Rattle.delegations.specs.Views.{answer_view, edge_view, found_view, shelf_view, table_view};
+ghost use Rattle.delegations.specs.Visits.{Visits};
 ghost use Rattle.delegations.specs.steps.Remains.{IsAt, IsBefore, Leads, all_left, left_of, work};
 
 use crate::frames::{Frame, Frames};
@@ -36,6 +37,7 @@ pub(crate) fn search_over<'a>(
     ensures answer { search (shelf_view shelf.now) query.now.path.now query.now.moment (answer_view found_view result) }
     ensures checks { checks.new ≤ 512 }
     ensures visits { length visited.new ≤ 32 }
+    ensures made { Visits (shelf_view shelf.now) query.now.path.now query.now.moment visited.new }
     ensures costs { Costs (shelf_view shelf.now) (table_view query.now.known.now) query.now.path.now query.now.moment checks.new }
 {
     let top = shelf.top();

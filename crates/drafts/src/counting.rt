@@ -3,7 +3,7 @@ use crate::roles::kind_of;
 use crate::vouching::{Vouching, rules_for};
 use command_support::{Fault, Folder, Notes};
 use drafting::{Look, look_at};
-use keys_roles::{KeyId, RoleRule, meets};
+use keys_roles::{KeyId, RoleRule, meets, signed_count};
 use metadata::{Document, SignedFile};
 use std::alloc::{AllocError, Global};
 use std::fmt;
@@ -36,12 +36,13 @@ pub fn count_of(
     vouching: &Vouching,
     file: &SignedFile<'_>,
 ) -> Result<Count, AllocError> {
-    let mut signed = 0usize;
-    for id in &vouching.rule.keyids {
-        if has_signed(alloc, vouching, id, file)? {
-            signed = signed.saturating_add(1);
-        }
-    }
+    let signed = signed_count(
+        alloc,
+        &vouching.rule,
+        &vouching.keys,
+        file.signed,
+        &file.signatures,
+    )?;
     Ok(Count {
         signed,
         threshold: vouching.rule.threshold,

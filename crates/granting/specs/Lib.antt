@@ -1,3 +1,4 @@
+pub mod Seeing
 pub mod Serving
 pub mod steps
 pub use Rattle.trusted_state.specs.Answers

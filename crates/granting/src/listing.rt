@@ -148,8 +148,8 @@ fn find<'a>(
     }
 }
 
-// The rows on the shelf.
-fn held_rows(trusted: &Trusted) -> Rows<'_>
+/// The rows on the shelf.
+pub(crate) fn held_rows(trusted: &Trusted) -> Rows<'_>
     requires { Rises place_before (trusted_view trusted.now).shelf }
     ensures { searches.rows_view result ≡ (trusted_view trusted.now).shelf }
 {

@@ -1,4 +1,5 @@
 pub mod AnswersMakeStates
 pub mod BatchOneByOne
 pub mod ChangesMake
+pub mod LastLines
 pub mod OneMoreBlob

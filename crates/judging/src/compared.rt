@@ -1,4 +1,4 @@
-// What follows what: profiles and rules of roots, entries of snapshots, and what belongs together.
+//! What follows what: profiles and rules of roots, entries of snapshots, and what belongs together.
 ghost use Rattle.std.specs.Prelude.{◌≡◌, ◌↔◌, IsTrue, is_some};
 ghost use Rattle.std.specs.Option.{option_map};
 ghost use Rattle.metadata.specs.FileViews.{timestamp_file, snapshot_file};
@@ -13,8 +13,9 @@ use keys_roles::same_rule;
 use metadata::{File, Meta, Root, Snapshot, Timestamp};
 use trusted_state::pieces::checks::names_snapshot;
 
-/// Whether the rules of the timestamp and the snapshot role ask for the same keys.
-pub(crate) fn keeps_roles(old: &Root, new: &Root) -> bool
+/// Whether the rules of the timestamp and the snapshot role ask for the same keys: a root that does not keep them makes what is trusted
+/// forget timestamp, snapshot and shelf (TUF 1.0, section 5.3.11). It takes no memory.
+pub fn keeps_roles(old: &Root, new: &Root) -> bool
     ensures { IsTrue result ↔ (KeepsRoles (root_view old.now) (root_view new.now)) }
 {
     same_rule(&old.timestamp, &old.keys, &new.timestamp, &new.keys)

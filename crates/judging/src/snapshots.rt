@@ -19,7 +19,10 @@ use trusted_state::pieces::checks::{has_bytes, is_signed};
 use trusted_state::refusal::Refusal;
 
 // Whether a new snapshot may follow the held one.
-fn after_snapshot(held: Option<&File<Snapshot>>, new: &File<Snapshot>) -> Result<(), Refusal>
+pub(crate) fn after_snapshot(
+    held: Option<&File<Snapshot>>,
+    new: &File<Snapshot>,
+) -> Result<(), Refusal>
     ensures { Gives (commands.after_snapshot (option_map (λ f. snapshot_file f.now) held.entry) (snapshot_file new.now)) (λ u. u) result }
 {
     let Some(old) = held else {

@@ -15,7 +15,10 @@ use trusted_state::pieces::checks::is_signed;
 use trusted_state::refusal::Refusal;
 
 // Whether a new timestamp may follow the held one, or has its version.
-fn after_timestamp(held: Option<&File<Timestamp>>, new: &File<Timestamp>) -> Result<bool, Refusal>
+pub(crate) fn after_timestamp(
+    held: Option<&File<Timestamp>>,
+    new: &File<Timestamp>,
+) -> Result<bool, Refusal>
     ensures { Judges (commands.after_timestamp (option_map (λ f. timestamp_file f.now) held.entry) (timestamp_file new.now)) tt result }
 {
     let Some(old) = held else {

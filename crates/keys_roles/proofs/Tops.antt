@@ -1,9 +1,11 @@
 -- The public keys that count, found entry by entry.
 use Rattle.std.proofs.Common.{◌≡◌, ℕ, ◌<◌, ◌≤◌, List, [], ◌∷◌, ◌++◌, length, refl, sym, ap, subst, ◌∙◌, arith, ◌⊎◌, inl, inr}
+use Rattle.std.specs.Prelude.{◌↔◌, IsTrue, nat_le}
+use Rattle.std.proofs.lemmas.Bool.{cases_lt, leb-true, le-leb}
 use Rattle.std.specs.List.{AllByRecursion}
 use Rattle.keys_roles.specs.Plain.{Table, RoleRule, Signature, look_up}
-use Rattle.keys_roles.specs.Rules.{AreDistinct, Counts, Meets}
-use Rattle.keys_roles.specs.steps.Counting.{IsIn, CountsBy, IsTaken}
+use Rattle.keys_roles.specs.Rules.{AreDistinct, Counts, HaveSigned, Meets}
+use Rattle.keys_roles.specs.steps.Counting.{AreCounted, IsIn, CountsBy, IsTaken}
 use Rattle.keys_roles.proofs.Elements.{contains_in, in_contains, of_each, each_more, in_more, in_last, distinct_more, fewer, first_in, later_in, first_or_later, none_in}
 
 module _ (rule : RoleRule) (table : Table) (signed : List ℕ) where
@@ -54,20 +56,67 @@ module _ (rule : RoleRule) (table : Table) (signed : List ℕ) where
   pub none_found : (entries : List Signature) → AreFound entries entries []
   none_found entries = record { distinct = tt; each = tt; seen = λ top c. inr (maker_of entries top c); inside = λ e h. h }
 
-  pub is_met : (entries rest : List Signature) (tops : List (List ℕ)) → AreFound entries rest tops → rule.threshold ≤ length tops → Meets rule table signed entries
-  is_met entries rest tops found enough = record { keys = tops; distinct = found.distinct; enough = enough; each = found.each }
-
   or_none : (entries : List Signature) (tops : List (List ℕ)) (top : List ℕ) → entries ≡ [] → IsIn tops top ⊎ Maker entries top → IsIn tops top
   or_none entries tops top none (inl h) = h
   or_none entries tops top none (inr m) = absurd (none_in entries m.entry none m.listed)
 
-  pub not_met : (entries rest : List Signature) (tops : List (List ℕ)) → AreFound entries rest tops → rest ≡ [] → length tops < rule.threshold
+  -- as many as are asked for, before the last entry
+  pub are_some : (entries rest : List Signature) (tops : List (List ℕ)) (most count : ℕ) → AreFound entries rest tops → count ≡ length tops → most ≤ count
+      → count < length entries → AreCounted rule table signed entries most count
+  are_some entries rest tops most count found many enough before = record {
+    keys = tops;
+    distinct = found.distinct;
+    many = many;
+    each = found.each;
+    all = λ more top c. elim more [ inl less ↦ absurd (omega arith) | inr as_many ↦ absurd (omega arith) ];
+  }
+
+  -- all, after the last entry
+  pub are_all : (entries rest : List Signature) (tops : List (List ℕ)) (most count : ℕ) → AreFound entries rest tops → count ≡ length tops → rest ≡ []
+      → AreCounted rule table signed entries most count
+  are_all entries rest tops most count found many none = record {
+    keys = tops;
+    distinct = found.distinct;
+    many = many;
+    each = found.each;
+    all = λ more top c. contains_in tops top (or_none rest tops top none (found.seen top c));
+  }
+
+  -- as many as the threshold meet the rule
+  pub is_met : (entries : List Signature) (most count : ℕ) → rule.threshold ≡ most → AreCounted rule table signed entries most count → most ≤ count
+      → Meets rule table signed entries
+  is_met entries most count asked counted enough =
+      let many = counted.many in
+      record { keys = counted.keys; distinct = counted.distinct; enough = omega (arith, asked, many, enough); each = counted.each }
+
+  -- and fewer do not
+  pub not_met : (entries : List Signature) (most count : ℕ) → rule.threshold ≡ most → AreCounted rule table signed entries most count → count < most
       → Meets rule table signed entries → ⊥
-  not_met entries rest tops found none few met =
-      let most = fewer met.keys tops met.distinct
-      (λ top h. or_none rest tops top none (found.seen top (of_each (Counts rule table signed entries) met.keys top met.each h))) in
+  not_met entries most count asked counted few met =
+      let at_most = fewer met.keys counted.keys met.distinct
+      (λ top h. in_contains counted.keys top (counted.all (inl few) top (of_each (Counts rule table signed entries) met.keys top met.each h))) in
       let enough = met.enough in
-      absurd (omega (arith, most, enough))
+      let many = counted.many in
+      absurd (omega (arith, at_most, enough, many, asked))
+
+  -- so comparing the two numbers tells it
+  pub tells : (entries : List Signature) (most count : ℕ) → rule.threshold ≡ most → AreCounted rule table signed entries most count
+      → IsTrue (nat_le most count) ↔ Meets rule table signed entries
+  tells entries most count asked counted = (
+    λ h. is_met entries most count asked counted (leb-true most count h),
+    λ m. le-leb most count (elim (cases_lt count most) [ inl less ↦ absurd (not_met entries most count asked counted less m) | inr enough ↦ enough ]),
+  )
+
+  -- with a place for each entry they are all that have signed
+  pub have_signed : (entries : List Signature) (most count : ℕ) → most ≡ length entries → AreCounted rule table signed entries most count
+      → HaveSigned rule table signed entries count
+  have_signed entries most count places counted = record {
+    keys = counted.keys;
+    distinct = counted.distinct;
+    many = counted.many;
+    each = counted.each;
+    all = λ top c. counted.all (elim (cases_lt count most) [ inl less ↦ inl less | inr enough ↦ inr (omega (arith, places, enough)) ]) top c;
+  }
 
   -- a step over the first entry: the keys that it makes count are among the new ones
   maker_later : (rest later : List Signature) (entry : Signature) (old new : List (List ℕ)) (top : List ℕ) → rest ≡ entry ∷ later

@@ -59,6 +59,6 @@ pub use digits::read_digits;
 pub use ids::{key_id, key_object, same_id, top_key};
 pub use laws::lms_rules_as_before;
 pub use lms::Steps;
-pub use meeting::{meets, meets_counted, meets_with, meets_with_counted};
+pub use meeting::{meets, meets_counted, meets_with, meets_with_counted, signed_count};
 pub use rotation::same_rule;
 pub use verdicts::with_verdicts;

@@ -1,14 +1,15 @@
 // When a rule of keys and a threshold is met (TUF 1.0, sections 4.2 and 5).
-ghost use Rattle.std.specs.Prelude.{◌≡◌, ◌↔◌, ◌⊎◌, ◌∷◌, [], ◌++◌, ◌+◌, ◌<◌, ◌≤◌, ◌^◌, List, ℕ, Some, length, take, IsTrue, IfSome};
-ghost use Rattle.keys_roles.specs.Rules.{Meets};
+ghost use Rattle.std.specs.Prelude.{◌≡◌, ◌↔◌, ◌⊎◌, ◌∷◌, [], ◌++◌, ◌+◌, ◌<◌, ◌≤◌, ◌^◌, List, ℕ, Some, length, take, IsTrue, IfOk, IfSome};
+ghost use Rattle.keys_roles.specs.Rules.{HaveSigned, Meets};
 ghost use Rattle.keys_roles.specs.Verdicts.{AreVerdicts, named_key, pairs, unknown, with_pair};
-ghost use Rattle.keys_roles.specs.steps.Counting.{IsIn, CountsBy, IsTaken, TellOf};
+ghost use Rattle.keys_roles.specs.steps.Counting.{AreCounted, IsIn, CountsBy, IsTaken, TellOf};
 ghost use Rattle.keys_roles.specs.Views.{rule_view, table_view, entry_view, entries_view, verdict_views};
 
 use crate::ids::top_key;
 use crate::verdicts::{named, verdict};
-use crate::{KeyTable, RoleRule, Signature, Verdict};
+use crate::{KeyTable, NoMemory, RoleRule, Signature, Verdict};
 use lms::Steps;
+use std::alloc::Global;
 
 // The most keys that a document's threshold asks for, and the most that any does.
 const USUAL: usize = 16;
@@ -38,6 +39,32 @@ pub fn meets_counted(
     ensures most { steps.new ≤ steps.old + length signatures.now }
 {
     meets_with_counted(rule, table, signed, signatures, &[], steps)
+}
+
+/// How many keys of the rule have signed: the public keys that `meets` compares with the threshold, each once.
+///
+/// Errors: `NoMemory`, where it is refused for a public key a signature.
+pub fn signed_count(
+    alloc: Global,
+    rule: &RoleRule,
+    table: &KeyTable,
+    signed: &[u8],
+    signatures: &[Signature],
+) -> Result<usize, NoMemory>
+    ensures { IfOk result (λ count. HaveSigned (rule_view rule.now) (table_view table.now) signed.now (entries_view signatures.now) count) }
+{
+    let most = signatures.len();
+    let mut tops = vec![in alloc; [0; 56]; most]?;
+    Ok(count_in(
+        rule,
+        table,
+        signed,
+        signatures,
+        &[],
+        &mut tops,
+        most,
+        &mut Steps::new(),
+    ))
 }
 
 /// The same as `meets`, where something is known of some of the signatures: what a verdict says of one is not checked again. It
@@ -72,54 +99,58 @@ pub fn meets_with_counted(
     ensures most { steps.new ≤ steps.old + length signatures.now }
     ensures unknown { steps.new ≤ steps.old + unknown (verdict_views known.now) (pairs (rule_view rule.now) (table_view table.now) (entries_view signatures.now)) }
 {
-    if usize::from(rule.threshold) <= USUAL {
-        meets_over(
+    let threshold = usize::from(rule.threshold);
+    let count = if threshold <= USUAL {
+        count_in(
             rule,
             table,
             signed,
             signatures,
             known,
             &mut [[0; 56]; USUAL],
+            threshold,
             steps,
         )
     } else {
-        meets_over(
+        count_in(
             rule,
             table,
             signed,
             signatures,
             known,
             &mut [[0; 56]; MOST],
+            threshold,
             steps,
         )
-    }
+    };
+    count >= threshold
 }
 
-// The same, with room for as many public keys as the threshold asks for.
-fn meets_over(
+// How many of the public keys count, up to as many as these.
+fn count_in(
     rule: &RoleRule,
     table: &KeyTable,
     signed: &[u8],
     signatures: &[Signature],
     known: &[Verdict],
     tops: &mut [[u8; 56]],
+    most: usize,
     steps: &mut Steps,
-) -> bool
+) -> usize
     requires sound { AreVerdicts signed.now (entries_view signatures.now) (verdict_views known.now) }
     requires room { steps.old < 2 ^ 63 }
-    requires places { (rule_view rule.now).threshold ≤ length tops.old }
-    ensures met { IsTrue result ↔ (Meets (rule_view rule.now) (table_view table.now) signed.now (entries_view signatures.now)) }
+    requires places { most ≤ length tops.old }
+    ensures counted { AreCounted (rule_view rule.now) (table_view table.now) signed.now (entries_view signatures.now) most result }
     ensures grows { steps.old ≤ steps.new }
     ensures most { steps.new ≤ steps.old + length signatures.now }
     ensures unknown { steps.new ≤ steps.old + unknown (verdict_views known.now) (pairs (rule_view rule.now) (table_view table.now) (entries_view signatures.now)) }
 {
-    let threshold = usize::from(rule.threshold);
     let mut count = 0usize;
     let mut place = 0usize;
     let mut rest = signatures;
     'entries: while let Some((entry, later)) = rest.split_first() {
-        if count >= threshold {
-            return true;
+        if count >= most {
+            return count;
         }
         let next = place + 1;
         if let Some(top) = counted(rule, table, signed, (place, entry), known, steps) {
@@ -128,7 +159,7 @@ fn meets_over(
         rest = later;
         place = next;
     }
-    count >= threshold
+    count
 }
 
 // The public key that the entry at this place makes count.

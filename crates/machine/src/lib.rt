@@ -5,7 +5,7 @@ mod laws;
 mod pruning;
 
 pub use delegations::{
-    File, Moment, RoleName, Root, Row, Snapshot, Steps, TargetPath, Targets, Verdicts,
+    File, Moment, RoleName, Root, Row, SearchDenial, Snapshot, Steps, TargetPath, Targets, Verdicts,
 };
 pub use denials::Denial;
 pub use granting::trusted::held::Held;
@@ -18,8 +18,8 @@ pub use granting::trusted::state::State;
 pub use granting::trusted::stored::profile_number;
 pub use granting::trusted::updating::{root_version, snapshot_due};
 pub use granting::{
-    Blobs, GetFault, LoadFault, Served, get, get_counted, get_from, get_from_counted, target,
-    target_from, target_from_counted,
+    Blobs, GetFault, LoadFault, Search, Served, get, get_counted, get_from, get_from_counted,
+    search_of, target, target_from, target_from_counted,
 };
 pub use judging::{
     batch, batch_on, init, init_on, offer, offer_on, put_blob, put_blob_on, would_take,

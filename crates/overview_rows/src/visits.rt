@@ -1,21 +1,16 @@
-//! What becomes of a target: the roles that a search visits, who lists it, and how it ends.
+//! What becomes of a target: the roles that a search visits, who lists it, and how it ended.
 use crate::drafted::step_row;
-use crate::following::file_of;
 use canonical_json::member;
 use command_support::{Denial, Fault};
-use drafts::{ListedFile, Referred, SaidRule, covered_by, read_said, read_said_of, reference_of};
-use metadata::{Kind, Moment, SignedFile, TargetPath, read_signed};
+use drafts::{SaidRule, read_said_of};
+use metadata::{Kind, LayoutReference, Listing, Moment, SignedFile, TargetPath, read_signed};
 use overviews::{Growing, PathRow, StepRow};
-use repository_work::{Command, Reply, Store};
+use repository_work::{Command, Reply, Search, SearchDenial, Store, search_of};
 use sqlite::Alter;
 use std::alloc::{AllocError, Global};
 
-// So many roles a search visits at most (TUF 1.0, section 5.6.7), and so many delegations it follows to them at most.
-const MOST_VISITS: usize = 32;
-
-const MOST_FOLLOWED: usize = 4096;
-
-/// What becomes of a target of this path at the moment. A path that is none is denied.
+/// What becomes of a target of this path at the moment. A path that is none is denied. Where a check before the search fails, no role is
+/// visited.
 pub fn look_for<S: Alter>(
     alloc: Global,
     repository: &mut Store<S>,
@@ -25,32 +20,36 @@ pub fn look_for<S: Alter>(
     let Some(target) = TargetPath::read(alloc, path)? else {
         return Err(Fault::Denied(Denial::BadPath, None));
     };
-    let mut visiting = Visiting {
+    let mut seeing = Seeing {
         alloc,
-        target: &target,
         now,
-        waiting: Vec::new(alloc),
         visits: Vec::new(alloc),
         found: Growing::new(alloc),
         steps: Growing::new(alloc),
     };
-    visiting.visit_all(repository)?;
+    let mut layout = None;
+    if let Ok(search) = search_of(repository.held(), &target, now) {
+        layout = seeing.tell(&search)?;
+    }
+    if let Some(layout) = &layout {
+        seeing.look_at_steps(repository, layout)?;
+    }
     let end = end_of(alloc, repository, path, now);
-    Ok(row_of(alloc, path, visiting, end)?)
+    Ok(row_of(alloc, path, seeing, end)?)
 }
 
 fn row_of(
     alloc: Global,
     path: &str,
-    visiting: Visiting<'_>,
+    seeing: Seeing,
     end: Result<(String, bool), AllocError>,
 ) -> Result<PathRow, AllocError> {
-    let Visiting {
+    let Seeing {
         visits,
         found,
         steps,
         ..
-    } = visiting;
+    } = seeing;
     let (end, is_granted) = end?;
     let path = String::from_str(alloc, path)?;
     let found = found.done()?;
@@ -85,124 +84,79 @@ fn end_of<S: Alter>(
     }
 }
 
-// The roles that are still to be visited, the next one last, each with whether a terminating delegation leads to it; those that were
-// visited, what was found, and the steps of the layout.
+// The paths of a target's layout and of its links.
 #[derive(Drop)]
-struct Visiting<'a> {
+struct Layout {
+    path: String,
+    links: Vec<String>,
+}
+
+// The roles that a search visited, what it found, and the steps of the layout.
+#[derive(Drop)]
+struct Seeing {
     alloc: Global,
-    target: &'a TargetPath,
     now: Moment,
-    waiting: Vec<(String, bool)>,
     visits: Vec<String>,
     found: Growing<String>,
     steps: Growing<StepRow>,
 }
 
-impl Visiting<'_> {
-    fn visit_all<S: Alter>(&mut self, repository: &mut Store<S>) -> Result<(), Fault> {
-        let Some(versions) = self.versions(repository)? else {
-            return Ok(());
-        };
-        let first = String::from_str(self.alloc, "targets")?;
-        self.waiting.push((first, false))?;
-        for _ in 0..MOST_FOLLOWED {
-            let Some((role, terminating)) = self.waiting.pop() else {
-                return Ok(());
-            };
-            if terminating {
-                self.waiting.clear();
-            }
-            if self.visits.contains(&role) {
-                continue;
-            }
-            if self.visits.len() == MOST_VISITS || self.visit(repository, &versions, role)? {
-                return Ok(());
+impl Seeing {
+    // Tells the visits of a search in their order, and how it ended: by a listing, whose layout is answered, or by the last role.
+    fn tell(&mut self, search: &Search<'_>) -> Result<Option<Layout>, AllocError> {
+        let roles = search.visited.roles();
+        for role in roles.iter().rev() {
+            self.visits.push(String::from_str(self.alloc, role)?)?;
+        }
+        match &search.answer {
+            Ok(found) => self.tell_listed(found.listing),
+            Err(denial) => {
+                if let Some(last) = roles.first() {
+                    self.tell_ended(last, *denial);
+                }
+                Ok(None)
             }
         }
-        Ok(())
     }
 
-    // The roles that the snapshot in use lists, with their versions.
-    fn versions<S: Alter>(
-        &self,
-        repository: &mut Store<S>,
-    ) -> Result<Option<Vec<(String, u32)>>, Fault> {
-        let Some(bytes) = file_of(repository, "timestamp.json", self.now) else {
-            return Ok(None);
-        };
-        let stamp = read_said(self.alloc, "timestamp", &bytes)?;
-        let version = stamp.named("snapshot").unwrap_or(0);
-        let name = format!(in self.alloc; "{version}.snapshot.json")?;
-        match file_of(repository, name.as_str(), self.now) {
-            Some(bytes) => Ok(Some(read_said(self.alloc, "snapshot", &bytes)?.names)),
+    // Tells why the role that was visited last ended the search, if it did.
+    fn tell_ended(&mut self, role: &str, denial: SearchDenial<'_>) {
+        if let Some(why) = why_ended(denial) {
+            self.found
+                .put(format!(in self.alloc; "ended by {role}: {why}"));
+        }
+    }
+
+    // Tells the listing, and what its layout needs.
+    fn tell_listed(&mut self, listing: &Listing) -> Result<Option<Layout>, AllocError> {
+        let length = listing.length;
+        let digits = listing.digest.text(self.alloc)?;
+        self.found
+            .put(format!(in self.alloc; "listed: {length} bytes, {digits}"));
+        match &listing.layout {
+            Some(layout) => Ok(Some(self.tell_layout(layout)?)),
             None => Ok(None),
         }
     }
 
-    // Visits a role, and answers whether it lists the target, or is not held, so that the search ends there.
-    fn visit<S: Alter>(
-        &mut self,
-        repository: &mut Store<S>,
-        versions: &[(String, u32)],
-        role: String,
-    ) -> Result<bool, Fault> {
-        let version = version_in(versions, role.as_str());
-        let name = self.name_of(role.as_str(), version)?;
-        self.visits.push(role)?;
-        match file_of(repository, name.as_str(), self.now) {
-            Some(bytes) => self.look_in(repository, &bytes),
-            None => Ok(true),
+    fn tell_layout(&mut self, layout: &LayoutReference) -> Result<Layout, AllocError> {
+        let step = layout.step.as_str();
+        self.found.put(format!(in self.alloc; "its layout: product of step {step}"));
+        let mut links = Vec::new(self.alloc);
+        for link in &layout.links {
+            let link = link.as_str();
+            self.found.put(format!(in self.alloc; "link {link}"));
+            links.push(String::from_str(self.alloc, link)?)?;
         }
-    }
-
-    fn name_of(&self, role: &str, version: u32) -> Result<String, AllocError> {
-        format!(in self.alloc; "{version}.{role}.json")
-    }
-
-    fn look_in<S: Alter>(
-        &mut self,
-        repository: &mut Store<S>,
-        bytes: &[u8],
-    ) -> Result<bool, Fault> {
-        let said = read_said(self.alloc, "targets", bytes)?;
-        if let Some(file) = said.listed(self.target.as_str()) {
-            self.tell_listed(repository, bytes, file)?;
-            return Ok(true);
-        }
-        for next in covered_by(self.alloc, bytes, self.target)?
-            .into_iter()
-            .rev()
-        {
-            self.waiting.push((next.role, next.terminating))?;
-        }
-        Ok(false)
-    }
-
-    // Tells the listing, and what its layout needs.
-    fn tell_listed<S: Alter>(
-        &mut self,
-        repository: &mut Store<S>,
-        bytes: &[u8],
-        file: &ListedFile,
-    ) -> Result<(), Fault> {
-        let length = file.length;
-        let digits = file.digest.text(self.alloc)?;
-        self.found
-            .put(format!(in self.alloc; "listed: {length} bytes, {digits}"));
-        match reference_of(self.alloc, bytes, self.target.as_str())? {
-            Some(layout) => {
-                self.tell_layout(&layout.links, layout.step.as_str());
-                self.look_at_steps(repository, &layout)
-            }
-            None => Ok(()),
-        }
+        let path = String::from_str(self.alloc, layout.path.as_str())?;
+        Ok(Layout { path, links })
     }
 
     // The steps of the layout, if it is granted, with how many links each has of its keys.
     fn look_at_steps<S: Alter>(
         &mut self,
         repository: &mut Store<S>,
-        layout: &Referred,
+        layout: &Layout,
     ) -> Result<(), Fault> {
         let Some(bytes) = self.target_of(repository, layout.path.as_str()) else {
             return Ok(());
@@ -256,21 +210,17 @@ impl Visiting<'_> {
             _ => None,
         }
     }
-
-    fn tell_layout(&mut self, links: &[String], step: &str) {
-        self.found.put(format!(in self.alloc; "its layout: product of step {step}"));
-        for link in links {
-            let link = link.as_str();
-            self.found.put(format!(in self.alloc; "link {link}"));
-        }
-    }
 }
 
-fn version_in(versions: &[(String, u32)], role: &str) -> u32 {
-    for (name, version) in versions {
-        if name.as_str() == role {
-            return *version;
-        }
+// Why the last visit ended a search; none where more visits were needed, or none was left.
+fn why_ended(denial: SearchDenial<'_>) -> Option<&'static str> {
+    match denial {
+        SearchDenial::RoleUnlisted => Some("the snapshot does not list it"),
+        SearchDenial::RoleMissing { .. } => Some("its document is not held"),
+        SearchDenial::RoleLength => Some("its document has another length than the snapshot says"),
+        SearchDenial::RoleHash => Some("its document has another digest than the snapshot says"),
+        SearchDenial::RoleThreshold => Some("too few keys of its rule have signed"),
+        SearchDenial::RoleExpired => Some("it has expired"),
+        SearchDenial::TooManyRoles | SearchDenial::NotFound => None,
     }
-    0
 }

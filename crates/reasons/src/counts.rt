@@ -1,5 +1,5 @@
 //! How many keys of a rule have signed.
-use keys_roles::{KeyId, KeyTable, RoleRule, meets};
+use keys_roles::{KeyTable, RoleRule, signed_count};
 use metadata::{Body, Delegations, Kind, Root, ShapeFault, SignedFile, read_document, read_signed};
 use std::alloc::{AllocError, Global};
 
@@ -83,33 +83,13 @@ fn counted_over(
     }
 }
 
-// A rule of a document names no two ids whose keys have one top key, so its ids are counted.
 fn signers(
     alloc: Global,
     rule: &RoleRule,
     keys: &KeyTable,
     file: &SignedFile,
 ) -> Result<Option<Tally>, AllocError> {
-    let mut count = 0usize;
-    for id in &rule.keyids {
-        if has_signed(alloc, *id, keys, file)? {
-            count = count.saturating_add(1);
-        }
-    }
+    let count = signed_count(alloc, rule, keys, file.signed, &file.signatures)?;
     let threshold = usize::from(rule.threshold);
     Ok(Some(Tally { count, threshold }))
-}
-
-fn has_signed(
-    alloc: Global,
-    id: KeyId,
-    keys: &KeyTable,
-    file: &SignedFile,
-) -> Result<bool, AllocError> {
-    let keyids = vec![in alloc; id]?;
-    let alone = RoleRule {
-        keyids,
-        threshold: 1,
-    };
-    Ok(meets(&alone, keys, file.signed, &file.signatures))
 }

@@ -2,8 +2,9 @@
 use crate::held::HeldFiles;
 use crate::members::{find, object_in};
 use canonical_json::{ReadFault, Value, member, read};
+use judging::keeps_roles;
+use metadata::{Body, Kind, ShapeFault, read_document};
 use std::alloc::{AllocError, Global};
-use std::str;
 
 // The names that lead to the version of a document.
 const VERSION: [&str; 2] = ["signed", "version"];
@@ -23,7 +24,7 @@ pub(crate) fn standing_behind<'a, H: HeldFiles>(
     documents: &'a [(&'a str, &'a [u8])],
 ) -> Result<Standing<'a>, AllocError> {
     let last = match held_root(alloc, held)? {
-        Some(root) => last_rotation(&root, documents),
+        Some(root) => last_rotation(alloc, &root, documents)?,
         None => None,
     };
     match last {
@@ -39,51 +40,46 @@ pub(crate) fn standing_behind<'a, H: HeldFiles>(
 }
 
 // The place of the last root that takes away what stands before it.
-fn last_rotation(root: &[u8], documents: &[(&str, &[u8])]) -> Option<usize> {
+fn last_rotation(
+    alloc: Global,
+    root: &[u8],
+    documents: &[(&str, &[u8])],
+) -> Result<Option<usize>, AllocError> {
     let mut trusted = root;
     let mut last = None;
     for (i, (role, bytes)) in documents.iter().enumerate() {
         if *role == "root" {
-            if !has_same_rule(trusted, bytes, "timestamp")
-                || !has_same_rule(trusted, bytes, "snapshot")
-            {
+            if !keeps(alloc, trusted, bytes)? {
                 last = Some(i);
             }
             trusted = *bytes;
         }
     }
-    last
+    Ok(last)
 }
 
-// Whether the roots have the same rule for the role.
-fn has_same_rule(old: &[u8], new: &[u8], role: &str) -> bool {
-    match (rule_of(old, role), rule_of(new, role)) {
-        (Some((old_ids, old_threshold)), Some((new_ids, new_threshold))) => {
-            old_threshold == new_threshold && are_same_ids(old_ids, new_ids)
-        }
+// Whether the second root keeps the rules of the first for the timestamp and the snapshot. One that is no root keeps none.
+fn keeps(alloc: Global, old: &[u8], new: &[u8]) -> Result<bool, AllocError> {
+    match read_document(alloc, Kind::Root, old) {
+        Ok(old) => keeps_of(alloc, &old.body, new),
+        Err(ShapeFault::OutOfMemory) => Err(AllocError),
+        Err(_) => Ok(false),
+    }
+}
+
+fn keeps_of(alloc: Global, old: &Body, new: &[u8]) -> Result<bool, AllocError> {
+    match read_document(alloc, Kind::Root, new) {
+        Ok(new) => Ok(are_kept(old, &new.body)),
+        Err(ShapeFault::OutOfMemory) => Err(AllocError),
+        Err(_) => Ok(false),
+    }
+}
+
+fn are_kept(old: &Body, new: &Body) -> bool {
+    match (old, new) {
+        (Body::Root(old), Body::Root(new)) => keeps_roles(old, new),
         _ => false,
     }
-}
-
-// The ids, with a comma between each two, and the threshold of a role, as a root spells them.
-fn rule_of<'a>(root: &'a [u8], role: &str) -> Option<(&'a str, &'a str)> {
-    let ids = str::from_utf8(part(root, &["signed", "roles", role, "keyids"])?).ok()?;
-    let threshold = str::from_utf8(part(root, &["signed", "roles", role, "threshold"])?).ok()?;
-    Some((ids.strip_prefix("[")?.strip_suffix("]")?, threshold))
-}
-
-// No id stands twice in either, so as many that all stand in the other are the same. Each is spelled between marks, so one stands there
-// where its text does.
-fn are_same_ids(ids: &str, others: &str) -> bool {
-    if ids.len() != others.len() {
-        return false;
-    }
-    for id in ids.split(',') {
-        if !others.contains(id) {
-            return false;
-        }
-    }
-    true
 }
 
 /// The last document of the role among these, if a version is given of this version.

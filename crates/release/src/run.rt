@@ -7,15 +7,15 @@ use crate::init::init;
 use crate::prune::prune;
 use crate::publish::{publish, publish_in_folder};
 use crate::put::put;
-use crate::serve::Server;
+use crate::serve::serve;
 use crate::trusting::TrustedRoot;
 use authoring::{draft, show};
-use client_commands::{Getting, Server as Remote, get, update};
-use command_line::{Subcommand, Task, task};
+use client_commands::{get, update};
+use command_line::{FolderSigning, Showing, Subcommand, Task, task};
 use command_support::{Fault, Notes, moment, print, read};
 use exporting::export;
 use loose_json::canon;
-use signing_commands::{Signing, SigningIn, leaves_of, make_keys, print_key, sign, sign_in};
+use signing_commands::{leaves_of, make_keys, print_key, sign, sign_in};
 use std::io::Write;
 
 /// Does what the words ask for. What it prints goes to `out`, why it was not done to `err`, and the exit status is
@@ -87,106 +87,50 @@ fn perform_task<O: Write, E: Write>(
         Subcommand::Canon { file } => print_canon(rt, file, at, out, notes),
         Subcommand::Draft(drafting) => draft(rt, drafting, at, out, notes),
         Subcommand::Export { db, to } => export(rt, db, to, at, out, notes),
-        Subcommand::Get {
-            db,
-            server,
-            within,
-            out: to,
-            path,
-        } => {
-            let getting = Getting::new(db, remote(server), *within, to, path);
-            get(rt, getting, at, out, notes)
-        }
+        Subcommand::Get(getting) => get(rt, getting, at, out, notes),
         Subcommand::Init { db, root } => init(rt, db, root, at, out, notes),
-        Subcommand::Update { db, server, within } => {
-            update(rt, db, remote(server), *within, at, out, notes)
-        }
-        Subcommand::Serve {
-            db,
-            port,
-            count,
-            read_only,
-        } => Server::new(rt, db, *port, *count, *read_only, at).run(out, notes),
-        Subcommand::Show(showing) => {
-            let leaves = leaves_of(rt, &showing.keys, notes)?;
-            show(rt, showing, &leaves, at, out, notes)
-        }
-        other => perform_writing(rt, other, at, out, notes),
-    }
-}
-
-// What makes keys and signatures, and what changes a repository.
-fn perform_writing<O: Write, E: Write>(
-    rt: &HostRuntime,
-    subcommand: &Subcommand,
-    at: Option<u64>,
-    out: &mut O,
-    notes: &mut Notes<'_, E>,
-) -> Result<(), Fault> {
-    match subcommand {
+        Subcommand::Key { seed, params } => print_key(rt, seed, *params, at, out, notes),
+        Subcommand::NewKey { names, params } => make_keys(rt, names, *params, at, out, notes),
         Subcommand::Prune { place } => prune(rt, place, at, out, notes),
         Subcommand::Publish { place, documents } => publish(rt, place, documents, at, out, notes),
         Subcommand::PublishIn { place, folder } => {
             publish_in_folder(rt, place, folder, at, out, notes)
         }
         Subcommand::Put { place, file } => put(rt, place, file, at, out, notes),
-        other => perform_signing(rt, other, at, out, notes),
+        Subcommand::Serve(serving) => serve(rt, serving, at, out, notes),
+        Subcommand::Show(showing) => show_with_leaves(rt, showing, at, out, notes),
+        Subcommand::Sign(signing) => sign(rt, signing, at, out, notes),
+        Subcommand::SignIn(signing) => sign_in_folder(rt, signing, at, out, notes),
+        Subcommand::Update { db, server, within } => {
+            update(rt, db, server, *within, at, out, notes)
+        }
     }
 }
 
-fn perform_signing<O: Write, E: Write>(
+// The leaves of the keys are counted, and then all is shown.
+fn show_with_leaves<O: Write, E: Write>(
     rt: &HostRuntime,
-    subcommand: &Subcommand,
+    showing: &Showing,
     at: Option<u64>,
     out: &mut O,
     notes: &mut Notes<'_, E>,
 ) -> Result<(), Fault> {
-    match subcommand {
-        Subcommand::Key { seed, params } => print_key(rt, seed, *params, at, out, notes),
-        Subcommand::NewKey { names, params } => make_keys(rt, names, *params, at, out, notes),
-        Subcommand::Sign {
-            book,
-            seed,
-            params,
-            known,
-            file,
-        } => {
-            let signing = Signing::new(book, seed, *params, *known, file);
-            sign(rt, signing, at, out, notes)
-        }
-        Subcommand::SignIn {
-            keys,
-            folder,
-            anchor,
-            strict,
-            documents,
-            yes,
-            again,
-        } => {
-            let signing = SigningIn {
-                keys,
-                folder,
-                strict: *strict,
-                documents,
-                yes: *yes,
-                again: *again,
-            };
-            let mut trusted = TrustedRoot {
-                from: anchor.as_ref(),
-                at,
-            };
-            sign_in(rt, signing, &mut trusted, at, out, notes)
-        }
-        _ => Ok(()),
-    }
+    let leaves = leaves_of(rt, &showing.keys, notes)?;
+    show(rt, showing, &leaves, at, out, notes)
 }
 
-// Where a client fetches from.
-fn remote(server: &command_line::Server) -> Remote<'_> {
-    match server {
-        command_line::Server::Port(port) => Remote::Port(*port),
-        command_line::Server::Mirrors(urls) => Remote::Mirrors(urls),
-    }
+fn sign_in_folder<O: Write, E: Write>(
+    rt: &HostRuntime,
+    signing: &FolderSigning,
+    at: Option<u64>,
+    out: &mut O,
+    notes: &mut Notes<'_, E>,
+) -> Result<(), Fault> {
+    let mut trusted = TrustedRoot {
+        from: signing.anchor.as_ref(),
+        at,
+    };
+    sign_in(rt, signing, &mut trusted, at, out, notes)
 }
 
 // The moment of no use is judged, too.

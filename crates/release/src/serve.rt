@@ -3,6 +3,7 @@ ghost use Rattle.sqlite.specs.Held.{state};
 ghost use Rattle.store.specs.Standing.{seen};
 ghost use Rattle.release.specs.Serving.{ServedOver};
 
+use command_line::Serving;
 use command_support::{Fault, Notes, moment, print};
 use connections::{
     Beginning, Incoming, Outgoing, Timer, end, listen, next_stream, tell_connection,
@@ -17,57 +18,29 @@ use std::slice;
 use store::Store;
 use subcommands::tell_standing;
 
-/// A server: the database file of its repository, its port on 127.0.0.1, after how many connections it ends, whether it only reads, and
-/// the moment that was handed in.
-#[derive(Clone, Copy)]
-pub struct Server<'a> {
-    rt: &'a HostRuntime,
-    db: &'a str,
-    port: u16,
-    count: Option<u64>,
-    reads_only: bool,
+/// Listens, says so, and serves one connection at a time. Each connection has its own moment. A database that a fault has
+/// shut is opened again before the next connection is served.
+pub fn serve<O: Write, E: Write>(
+    rt: &HostRuntime,
+    asked: &Serving,
     at: Option<u64>,
-}
-
-impl<'a> Server<'a> {
-    pub fn new(
-        rt: &'a HostRuntime,
-        db: &'a str,
-        port: u16,
-        count: Option<u64>,
-        reads_only: bool,
-        at: Option<u64>,
-    ) -> Server<'a> {
-        Server {
-            rt,
-            db,
-            port,
-            count,
-            reads_only,
-            at,
-        }
-    }
-
-    /// Listens, says so, and serves one connection at a time. Each connection has its own moment. A database that a fault has
-    /// shut is opened again before the next connection is served.
-    pub fn run<O: Write, E: Write>(
-        &self,
-        out: &mut O,
-        notes: &mut Notes<'_, E>,
-    ) -> Result<(), Fault> {
-        let routes = Routes::new(self.rt.alloc())?;
-        let mut kept = Beginning::new();
-        let mut serving = Serving {
-            server: *self,
-            routes: &routes,
-            kept: &mut kept,
-            out,
-            listener: None,
-            left: self.count.unwrap_or(u64::MAX),
-            waiting: None,
-        };
-        serving.serve(notes)
-    }
+    out: &mut O,
+    notes: &mut Notes<'_, E>,
+) -> Result<(), Fault> {
+    let routes = Routes::new(rt.alloc())?;
+    let mut kept = Beginning::new();
+    let mut server = Server {
+        rt,
+        asked,
+        at,
+        routes: &routes,
+        kept: &mut kept,
+        out,
+        listener: None,
+        left: asked.count.unwrap_or(u64::MAX),
+        waiting: None,
+    };
+    server.serve(notes)
 }
 
 // A connection that was accepted, and its moment.
@@ -89,11 +62,13 @@ enum Next {
 // What a connection is read from and written to.
 type Sides<'a, 'k> = (Incoming<'a, 'k>, Outgoing<'a>, Moment);
 
-// What a server does over its repository, as often as that is opened: so many connections are left, and one may have been accepted
-// that waits for a database.
+// A server: what it is asked for, and the moment that was handed in. What it does over its repository it does as often as that is opened:
+// so many connections are left, and one may have been accepted that waits for a database.
 #[derive(Drop)]
-struct Serving<'a, 'k, O: Write> {
-    server: Server<'a>,
+struct Server<'a, 'k, O: Write> {
+    rt: &'a HostRuntime,
+    asked: &'a Serving,
+    at: Option<u64>,
     routes: &'a Routes,
     kept: &'k mut Beginning,
     out: &'k mut O,
@@ -102,7 +77,7 @@ struct Serving<'a, 'k, O: Write> {
     waiting: Option<Accepted>,
 }
 
-impl<O: Write> Work for Serving<'_, '_, O> {
+impl<O: Write> Work for Server<'_, '_, O> {
     // Whether all connections were served: else a fault has shut the database, and one waits.
     type Done = Result<bool, Fault>;
 
@@ -111,16 +86,16 @@ impl<O: Write> Work for Serving<'_, '_, O> {
         repository: &mut Store<S>,
         notes: &mut Notes<'_, E>,
     ) -> Result<Result<bool, Fault>, Fault> {
-        let reads_only = self.server.reads_only;
+        let reads_only = self.asked.read_only;
         Ok(self.serve_from(reads_only, repository, notes))
     }
 }
 
-impl<O: Write> Serving<'_, '_, O> {
+impl<O: Write> Server<'_, '_, O> {
     // Where the database cannot be opened at first, nothing is served. Where it cannot be opened again, that is tried at each
     // further connection.
     fn serve<E: Write>(&mut self, notes: &mut Notes<'_, E>) -> Result<(), Fault> {
-        let Server { rt, db, .. } = self.server;
+        let (rt, db) = (self.rt, self.asked.db.as_str());
         let done = worked(rt, db, self, notes)?;
         if done? {
             return Ok(());
@@ -146,7 +121,7 @@ impl<O: Write> Serving<'_, '_, O> {
         ensures { ServedOver reads_only (seen repository.old.kept (state S.Store repository.old.conn)) (seen repository.new.kept (state S.Store repository.new.conn)) }
     {
         if self.listener.is_some() {
-            notes.tell(&self.server.db, &"opened again");
+            notes.tell(&self.asked.db, &"opened again");
         } else if let Err(fault) = self.begin(repository, notes) {
             return Err(fault);
         }
@@ -159,7 +134,9 @@ impl<O: Write> Serving<'_, '_, O> {
         repository: &Store<S>,
         notes: &mut Notes<'_, E>,
     ) -> Result<(), Fault> {
-        let Server { rt, db, port, .. } = self.server;
+        let rt = self.rt;
+        let Serving { db, port, .. } = self.asked;
+        let port = *port;
         self.listener = Some(listen(rt, port, notes)?);
         let line = format!(in rt.alloc(); "listening on 127.0.0.1:{port}\n")?;
         print(self.out, line.as_bytes(), notes)?;
@@ -241,8 +218,8 @@ impl<O: Write> Serving<'_, '_, O> {
             return Ok(None);
         }
         self.left -= 1;
-        let stream = next_stream(self.server.rt, listener, notes)?;
-        let now = moment(self.server.rt, self.server.at)?;
+        let stream = next_stream(self.rt, listener, notes)?;
+        let now = moment(self.rt, self.at)?;
         Ok(Some(Accepted { stream, now }))
     }
 
@@ -257,7 +234,7 @@ impl<O: Write> Serving<'_, '_, O> {
     ) -> bool
         ensures { ServedOver reads_only (seen repository.old.kept (state S.Store repository.old.conn)) (seen repository.new.kept (state S.Store repository.new.conn)) }
     {
-        let rt = self.server.rt;
+        let rt = self.rt;
         let Ok(timer) = Timer::start(rt) else {
             return true;
         };
@@ -282,13 +259,13 @@ impl<O: Write> Serving<'_, '_, O> {
     }
 
     fn refuse_one<E: Write>(&mut self, accepted: &Accepted, notes: &mut Notes<'_, E>) {
-        let rt = self.server.rt;
+        let rt = self.rt;
         let Ok(timer) = Timer::start(rt) else {
             return;
         };
         let mut sides = sides_of(accepted, timer, self.kept);
         let (incoming, outgoing, _) = &mut sides;
-        let reads_only = self.server.reads_only;
+        let reads_only = self.asked.read_only;
         let _ = serve_unavailable(rt.alloc(), self.routes, reads_only, incoming, outgoing);
         end_one(rt, accepted, &sides, &timer, notes);
     }

@@ -19,19 +19,19 @@ use Rattle.repository_work.specs.Works.{Ends, EndsBy}
 module _ (reply : runs.Reply) (IsDone : runs.Reply → Type 0) where
   pub other_by : (fault : Fault) → status_of fault ≡ 3 → EndsBy reply IsDone (Err fault)
   other_by (faults.Denied denial index) e = absurd cc
-  other_by (faults.Usage text) e = tt
-  other_by (faults.Help text) e = tt
-  other_by (faults.Refused number name index) e = tt
-  other_by (faults.Slip slip) e = tt
-  other_by faults.Due e = tt
-  other_by faults.LeavesSpent e = tt
-  other_by faults.UnknownKey e = tt
-  other_by faults.Memory e = tt
-  other_by faults.Database e = tt
-  other_by faults.Damaged e = tt
-  other_by faults.Network e = tt
-  other_by faults.File e = tt
-  other_by faults.Clock e = tt
+  other_by (faults.Usage text) e = e
+  other_by (faults.Help text) e = e
+  other_by (faults.Refused number name index) e = e
+  other_by (faults.Slip slip) e = e
+  other_by faults.Due e = e
+  other_by faults.LeavesSpent e = e
+  other_by faults.UnknownKey e = e
+  other_by faults.Memory e = e
+  other_by faults.Database e = e
+  other_by faults.Damaged e = e
+  other_by faults.Network e = e
+  other_by faults.File e = e
+  other_by faults.Clock e = e
 
   -- what is done was printed, or could not be
   pub printed : (r : Result (Unit {0}) Fault) → IfErr r (λ fault. status_of fault ≡ 3) → IsDone reply → EndsBy reply IsDone r
@@ -41,31 +41,31 @@ module _ (reply : runs.Reply) (IsDone : runs.Reply → Type 0) where
 -- a reply by which nothing is done
 pub refused_by : (reply : Reply) (IsDone : runs.Reply → Type 0) → EndsBy (reply_view reply) IsDone (Err (refused_of reply))
 refused_by (replies.Denied denial index) IsDone = refl
-refused_by replies.Begun IsDone = tt
-refused_by (replies.Batch accepted same) IsDone = tt
-refused_by (replies.Offered same) IsDone = tt
-refused_by (replies.Stored new) IsDone = tt
-refused_by (replies.Pruned blobs rows) IsDone = tt
-refused_by (replies.Bytes bytes) IsDone = tt
-refused_by replies.Absent IsDone = tt
+refused_by replies.Begun IsDone = refl
+refused_by (replies.Batch accepted same) IsDone = refl
+refused_by (replies.Offered same) IsDone = refl
+refused_by (replies.Stored new) IsDone = refl
+refused_by (replies.Pruned blobs rows) IsDone = refl
+refused_by (replies.Bytes bytes) IsDone = refl
+refused_by replies.Absent IsDone = refl
 
 module _ (command : runs.Command) (now : ℕ) (IsDone : runs.Reply → Type 0) where
   -- no command was made
   pub unmade : (fault : Fault) → status_of fault ≡ 3 → Ends command now IsDone (Err fault)
   unmade (faults.Denied denial index) e = absurd cc
-  unmade (faults.Usage text) e = tt
-  unmade (faults.Help text) e = tt
-  unmade (faults.Refused number name index) e = tt
-  unmade (faults.Slip slip) e = tt
-  unmade faults.Due e = tt
-  unmade faults.LeavesSpent e = tt
-  unmade faults.UnknownKey e = tt
-  unmade faults.Memory e = tt
-  unmade faults.Database e = tt
-  unmade faults.Damaged e = tt
-  unmade faults.Network e = tt
-  unmade faults.File e = tt
-  unmade faults.Clock e = tt
+  unmade (faults.Usage text) e = e
+  unmade (faults.Help text) e = e
+  unmade (faults.Refused number name index) e = e
+  unmade (faults.Slip slip) e = e
+  unmade faults.Due e = e
+  unmade faults.LeavesSpent e = e
+  unmade faults.UnknownKey e = e
+  unmade faults.Memory e = e
+  unmade faults.Database e = e
+  unmade faults.Damaged e = e
+  unmade faults.Network e = e
+  unmade faults.File e = e
+  unmade faults.Clock e = e
 
   denied : (S T : State) (reply : runs.Reply) (d : orders.Denial) (index : Option ℕ) → runs.Steps S command now (T, reply) → reply ≡ runs.Refused d index
       → (U : State) × runs.Steps U command now (U, runs.Refused d index)
@@ -77,16 +77,16 @@ module _ (command : runs.Command) (now : ℕ) (IsDone : runs.Reply → Type 0) w
   pub ends : (S T : State) (reply : runs.Reply) (r : Result (Unit {0}) Fault) → runs.Steps S command now (T, reply) → EndsBy reply IsDone r → Ends command now IsDone r
   ends S T reply (Ok u) h e = (S, T, reply, h, e)
   ends S T reply (Err (faults.Denied denial index)) h e = denied S T reply (denial_view denial) index h e
-  ends S T reply (Err (faults.Usage text)) h e = tt
-  ends S T reply (Err (faults.Help text)) h e = tt
-  ends S T reply (Err (faults.Refused number name index)) h e = tt
-  ends S T reply (Err (faults.Slip slip)) h e = tt
-  ends S T reply (Err faults.Due) h e = tt
-  ends S T reply (Err faults.LeavesSpent) h e = tt
-  ends S T reply (Err faults.UnknownKey) h e = tt
-  ends S T reply (Err faults.Memory) h e = tt
-  ends S T reply (Err faults.Database) h e = tt
-  ends S T reply (Err faults.Damaged) h e = tt
-  ends S T reply (Err faults.Network) h e = tt
-  ends S T reply (Err faults.File) h e = tt
-  ends S T reply (Err faults.Clock) h e = tt
+  ends S T reply (Err (faults.Usage text)) h e = e
+  ends S T reply (Err (faults.Help text)) h e = e
+  ends S T reply (Err (faults.Refused number name index)) h e = e
+  ends S T reply (Err (faults.Slip slip)) h e = e
+  ends S T reply (Err faults.Due) h e = e
+  ends S T reply (Err faults.LeavesSpent) h e = e
+  ends S T reply (Err faults.UnknownKey) h e = e
+  ends S T reply (Err faults.Memory) h e = e
+  ends S T reply (Err faults.Database) h e = e
+  ends S T reply (Err faults.Damaged) h e = e
+  ends S T reply (Err faults.Network) h e = e
+  ends S T reply (Err faults.File) h e = e
+  ends S T reply (Err faults.Clock) h e = e

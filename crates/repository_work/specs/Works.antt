@@ -1,5 +1,5 @@
 -- What is done over a repository that was opened, and what a command over one is answered.
-use Rattle.std.specs.Prelude.{◌≡◌, ℕ, Result, Ok, Err, ⊤}
+use Rattle.std.specs.Prelude.{◌≡◌, ℕ, Result, Ok, Err}
 use Rattle.denials.specs.Views.{denial_view}
 use Rattle.trust_rules.specs.State.{State}
 use Rattle.trust_rules.specs.Runs.{Command}
@@ -44,15 +44,15 @@ IsAnswered command now (Ok reply) = IsReply command now reply
 IsAnswered command now (Err fault) = status_of fault ≡ 3
 
 -- How a subcommand ends that was replied so: well, where that is a reply by which it is done; denied, where it is this denial; or by
--- another fault.
+-- another fault, with status 3.
 abbrev pub EndsBy : runs.Reply → (runs.Reply → Type 0) → Result (Unit {0}) Fault → Type 0
 EndsBy reply IsDone (Ok u) = IsDone reply
 EndsBy reply IsDone (Err (Denied denial index)) = reply ≡ runs.Refused (denial_view denial) index
-EndsBy reply IsDone (Err fault) = ⊤
+EndsBy reply IsDone (Err fault) = status_of fault ≡ 3
 
 -- How a subcommand ends that makes one command: as it was replied by the machine's step; a denial is that of a step, which changes nothing;
--- any other fault is possible.
+-- any other fault has status 3.
 abbrev pub Ends : Command → ℕ → (runs.Reply → Type 0) → Result (Unit {0}) Fault → Type 0
 Ends command now IsDone (Ok u) = (S T : State) × (reply : runs.Reply) × runs.Steps S command now (T, reply) × IsDone reply
 Ends command now IsDone (Err (Denied denial index)) = (S : State) × runs.Steps S command now (S, runs.Refused (denial_view denial) index)
-Ends command now IsDone (Err fault) = ⊤
+Ends command now IsDone (Err fault) = status_of fault ≡ 3

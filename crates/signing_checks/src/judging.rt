@@ -5,12 +5,13 @@ use drafts::{
     Folder, Said, Vouching, has_signatures, held_said, kind_of, listed_otherwise, owners_of,
     read_said, read_said_of, rules_for, see_link, unfinished_layout,
 };
+use judging::{Refusal, follows};
 use keys_roles::KeyId;
 use metadata::{Kind, Moment};
 use reasons::place_of;
 use signer::Book;
 use sqlite::Alter;
-use std::alloc::Global;
+use std::alloc::{AllocError, Global};
 use std::io::Write;
 
 /// By what a draft is judged: the folder, the key with its name, and the moment.
@@ -34,7 +35,7 @@ impl Judged<'_> {
         notes: &mut Notes<'_, E>,
     ) -> Result<(), Fault> {
         match read_said(self.alloc, role, bytes) {
-            Ok(said) => self.judge_said(book, role, &said, notes),
+            Ok(said) => self.judge_said(book, role, bytes, &said, notes),
             Err(fault) => {
                 self.tell_place(kind_of(role), role, bytes, notes);
                 let name = format!(in self.alloc; "{role}.json")?;
@@ -54,12 +55,14 @@ impl Judged<'_> {
         &self,
         book: &Book<S>,
         role: &str,
+        bytes: &[u8],
         said: &Said,
         notes: &mut Notes<'_, E>,
     ) -> Result<(), Fault> {
         self.see_rule(role, notes)?;
         self.see_book(book, notes)?;
         let held = held_said(self.alloc, self.folder, role, notes)?;
+        self.see_held(role, bytes, notes)?;
         self.see_said(role, held.as_ref(), said, notes)
     }
 
@@ -129,14 +132,30 @@ impl Judged<'_> {
         said: &Said,
         notes: &mut Notes<'_, E>,
     ) -> Result<(), Fault> {
-        if let Some(denial) = denied_behind(role, held, said) {
-            notes.warn(&role, &denial.name());
-            return Err(Fault::Denied(denial, None));
-        }
         self.see_expiry(role, said, notes)?;
         self.see_order(role, notes)?;
         self.see_layouts(said, notes)?;
         self.see_files(held, said, notes)
+    }
+
+    // The document may follow what is held of its role. A timestamp of the held one's version would count as the same, and never be taken.
+    fn see_held<E: Write>(
+        &self,
+        role: &str,
+        bytes: &[u8],
+        notes: &mut Notes<'_, E>,
+    ) -> Result<(), Fault> {
+        let Some(held) = self.folder.held(role, notes)? else {
+            return Ok(());
+        };
+        let denial = match follows(self.alloc, kind_of(role), &held, bytes) {
+            Ok(true) => return Ok(()),
+            Ok(false) => Denial::TimestampRollback,
+            Err(Refusal::Denied(denial)) => denial,
+            Err(Refusal::OutOfMemory) => return Err(Fault::from(AllocError)),
+        };
+        notes.warn(&role, &denial.name());
+        Err(Fault::Denied(denial, None))
     }
 
     // A rule has the key for the role's document.
@@ -232,42 +251,6 @@ impl Judged<'_> {
 pub fn have_key(rules: &[Vouching], id: &KeyId) -> bool {
     for vouching in rules {
         if vouching.rule.keyids.contains(id) {
-            return true;
-        }
-    }
-    false
-}
-
-// The first denial of a document behind the one that is held: 8, 13, 14, 21, 22.
-fn denied_behind(role: &str, held: Option<&Said>, said: &Said) -> Option<Denial> {
-    let held = held?;
-    match role {
-        "root" if held.version.checked_add(1) != Some(said.version) => Some(Denial::RootVersion),
-        "timestamp" if said.version <= held.version => Some(Denial::TimestampRollback),
-        "timestamp" if are_rolled_back(held, said) => Some(Denial::NamedSnapshotRollback),
-        "snapshot" if are_rolled_back(held, said) => Some(Denial::SnapshotRollback),
-        "snapshot" if are_dropped(held, said) => Some(Denial::RoleDropped),
-        _ => None,
-    }
-}
-
-// Whether a document is named at a lower version than before.
-fn are_rolled_back(held: &Said, said: &Said) -> bool {
-    for (role, before) in &held.names {
-        if said
-            .named(role.as_str())
-            .is_some_and(|version| version < *before)
-        {
-            return true;
-        }
-    }
-    false
-}
-
-// Whether a document is named no more.
-fn are_dropped(held: &Said, said: &Said) -> bool {
-    for (role, _) in &held.names {
-        if said.named(role.as_str()).is_none() {
             return true;
         }
     }

@@ -3,6 +3,7 @@ use crate::books::{BookAt, BookWork, has_bytes, worked_over};
 use crate::files::{KeyFiles, book_place};
 use crate::finding::names_of_keys;
 use crate::one::{Judging, Knowing, SigningOne, What};
+use command_line::FolderSigning;
 use command_support::{Fault, Notes, Slip, moment, print};
 use drafts::{
     Folder, Vouching, changes_of, is_held_from, owners_of, rules_for, sign_order, target_of_layout,
@@ -37,24 +38,12 @@ pub trait Anchoring {
     ) -> Result<Anchor, Fault>;
 }
 
-/// What is signed: the keys, the folder, whether nothing is signed over what is not held by its rules, the documents that are named, whether
-/// it is done without being asked, and whether another document of a kind and version that a key has signed is.
-#[derive(Clone, Copy)]
-pub struct SigningIn<'a> {
-    pub keys: &'a [String],
-    pub folder: &'a str,
-    pub strict: bool,
-    pub documents: &'a [String],
-    pub yes: bool,
-    pub again: bool,
-}
-
 /// Signs by each key in turn the drafts that are named, or all whose rules have the key and that lack its signature, in the order root,
 /// targets metadata, snapshot, timestamp, and prints a line for each. Before a leaf is spent each is judged, and before the first one the
 /// files of all keys are looked for. Where a root is given, what is held is judged by it. No book is made.
 pub fn sign_in<A: Anchoring, O: Write, E: Write>(
     rt: &HostRuntime,
-    asked: SigningIn<'_>,
+    asked: &FolderSigning,
     anchoring: &mut A,
     at: Option<u64>,
     out: &mut O,
@@ -65,7 +54,7 @@ pub fn sign_in<A: Anchoring, O: Write, E: Write>(
         return Err(unasked(rt));
     }
     see_held(rt, asked, anchoring, notes)?;
-    let keys = names_of_keys(rt, asked.keys, notes)?;
+    let keys = names_of_keys(rt, &asked.keys, notes)?;
     for key in &keys {
         see_key(rt, key.as_str(), notes)?;
     }
@@ -75,17 +64,17 @@ pub fn sign_in<A: Anchoring, O: Write, E: Write>(
         count.done = count.done.saturating_add(signed.done);
         count.declined = count.declined.saturating_add(signed.declined);
     }
-    count.end(asked.folder, notes)
+    count.end(asked.folder.as_str(), notes)
 }
 
 // What is held is compared with what is signed: it has its signatures from the root that is given, or is warned of, or refused.
 fn see_held<A: Anchoring, E: Write>(
     rt: &HostRuntime,
-    asked: SigningIn<'_>,
+    asked: &FolderSigning,
     anchoring: &mut A,
     notes: &mut Notes<'_, E>,
 ) -> Result<(), Fault> {
-    let folder = Folder::new(rt, asked.folder);
+    let folder = Folder::new(rt, asked.folder.as_str());
     folder.see(notes)?;
     let is_held = match anchoring.anchor(rt, folder, notes)? {
         Anchor::Unasked => true,
@@ -139,7 +128,7 @@ impl Signed {
 // Signs by one key: how many documents.
 fn signed_by<'a, O: Write, E: Write>(
     rt: &'a HostRuntime,
-    asked: SigningIn<'a>,
+    asked: &'a FolderSigning,
     key: &'a str,
     now: Moment,
     out: &mut O,
@@ -157,7 +146,7 @@ fn signed_by<'a, O: Write, E: Write>(
         rt,
         asked,
         key,
-        folder: Folder::new(rt, asked.folder),
+        folder: Folder::new(rt, asked.folder.as_str()),
         files: &files,
         signer: &signer,
         at,
@@ -183,7 +172,7 @@ fn unasked(rt: &HostRuntime) -> Fault {
 #[derive(Clone, Copy)]
 struct Signing<'a> {
     rt: &'a HostRuntime,
-    asked: SigningIn<'a>,
+    asked: &'a FolderSigning,
     key: &'a str,
     folder: Folder<'a>,
     files: &'a KeyFiles,
@@ -350,7 +339,7 @@ impl Signing<'_> {
     // Whether a document is named, with its ending or without.
     fn is_asked(&self, name: &str) -> bool {
         let name = name.strip_suffix(".json").unwrap_or(name);
-        for word in self.asked.documents {
+        for word in &self.asked.documents {
             if is_named(word.as_str(), name) {
                 return true;
             }
@@ -369,7 +358,7 @@ impl Signing<'_> {
     // The roles of the documents to sign: those that are named, or of all drafts those that the key may sign and has not signed.
     fn roles<E: Write>(&self, notes: &mut Notes<'_, E>) -> Result<Vec<String>, Fault> {
         let mut roles = Vec::new(self.alloc());
-        let named = self.asked.documents;
+        let named = &self.asked.documents;
         for role in &self.folder.roles(notes)? {
             let is_wanted = if named.is_empty() {
                 self.may_sign(role.as_str(), notes)?

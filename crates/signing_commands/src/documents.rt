@@ -1,6 +1,7 @@
 //! `sign`: signs a document by a leaf that no other document gets.
 use crate::books::{BookAt, BookWork, book_fault, tell_of_other_tree, worked_over};
 use crate::seeds::seed_at;
+use command_line::Signing;
 use command_support::{FILE_LIMIT, Fault, Notes, Slip, moment, print, read_at_most};
 use drafts::typed_kind;
 use keys_roles::{Key, KeyId, key_id};
@@ -12,49 +13,21 @@ use sqlite::Alter;
 use std::alloc::Global;
 use std::io::{IsTerminal, Write};
 
-/// What is signed, and by what: the files of the book, the seed and the document, and the parameters of the key; and whether the book
-/// has to be there and has to have the key.
-#[derive(Clone, Copy)]
-pub struct Signing<'a> {
-    pub book: &'a str,
-    pub seed: &'a str,
-    pub params: Params,
-    pub known: bool,
-    pub file: &'a str,
-}
-
-impl<'a> Signing<'a> {
-    pub fn new(
-        book: &'a str,
-        seed: &'a str,
-        params: Params,
-        known: bool,
-        file: &'a str,
-    ) -> Signing<'a> {
-        Signing {
-            book,
-            seed,
-            params,
-            known,
-            file,
-        }
-    }
-}
-
 /// Prints the document with a signature of the seed's key. The leaf is reserved in the book, which is made where there is none, before
 /// anything is signed; the same document gets the same leaf again. A book that is made, and a key that is put into it, are warned of: a
 /// second book for a key signs a second document by the same leaf. Where the book has to be known, none is made, and no key put into it.
 pub fn sign<O: Write, E: Write>(
     rt: &HostRuntime,
-    asked: Signing<'_>,
+    asked: &Signing,
     at: Option<u64>,
     out: &mut O,
     notes: &mut Notes<'_, E>,
 ) -> Result<(), Fault> {
     let _now = moment(rt, at)?;
-    let seed = seed_at(rt, asked.seed, notes)?;
-    let bytes = read_at_most(rt, asked.file, FILE_LIMIT, notes)?;
-    warn_of_shape(rt.alloc(), asked.file, &bytes, notes);
+    let seed = seed_at(rt, asked.seed.as_str(), notes)?;
+    let file = asked.file.as_str();
+    let bytes = read_at_most(rt, file, FILE_LIMIT, notes)?;
+    warn_of_shape(rt.alloc(), file, &bytes, notes);
     let signed = signed_by(rt, &seed, asked, &bytes, notes)?;
     print(out, &signed, notes)
 }
@@ -77,13 +50,13 @@ fn warn_of_shape<E: Write>(alloc: Global, name: &str, bytes: &[u8], notes: &mut 
 fn signed_by<E: Write>(
     rt: &HostRuntime,
     seed: &Seed,
-    asked: Signing<'_>,
+    asked: &Signing,
     bytes: &[u8],
     notes: &mut Notes<'_, E>,
 ) -> Result<Vec<u8>, Fault> {
     let at = BookAt {
-        place: asked.book,
-        name: asked.book,
+        place: asked.book.as_str(),
+        name: asked.book.as_str(),
         known: asked.known,
     };
     let mut work = Appending {
@@ -100,7 +73,7 @@ fn signed_by<E: Write>(
 struct Appending<'a> {
     rt: &'a HostRuntime,
     seed: &'a Seed,
-    asked: Signing<'a>,
+    asked: &'a Signing,
     bytes: &'a [u8],
 }
 
@@ -126,7 +99,7 @@ fn signed_with<S: Alter, E: Write>(
     alloc: Global,
     book: &mut Book<S>,
     seed: &Seed,
-    asked: Signing<'_>,
+    asked: &Signing,
     bytes: &[u8],
     notes: &mut Notes<'_, E>,
 ) -> Result<Vec<u8>, Fault> {
@@ -145,7 +118,7 @@ fn signed_with<S: Alter, E: Write>(
         Ok(signed) => Ok(signed),
         Err(SignFileFault::Book(BookFault::OtherTree)) => {
             let tree = (seed, asked.params, &id);
-            tell_of_other_tree(alloc, asked.book, book, tree, notes)?;
+            tell_of_other_tree(alloc, asked.book.as_str(), book, tree, notes)?;
             Err(Fault::Slip(Slip::Book))
         }
         Err(fault) => Err(tell_fault(fault, asked, notes)),
@@ -164,11 +137,7 @@ pub fn tell_of_tree<E: Write>(rt: &HostRuntime, params: Params, notes: &mut Note
 }
 
 // What a fault of signing comes to. It is told with the file that it is about.
-fn tell_fault<E: Write>(
-    fault: SignFileFault,
-    asked: Signing<'_>,
-    notes: &mut Notes<'_, E>,
-) -> Fault {
+fn tell_fault<E: Write>(fault: SignFileFault, asked: &Signing, notes: &mut Notes<'_, E>) -> Fault {
     match fault {
         SignFileFault::Denied(denial) => {
             notes.denied(&asked.file, denial.number());

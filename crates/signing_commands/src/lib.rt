@@ -12,9 +12,9 @@ mod leaves;
 mod one;
 mod seeds;
 
-pub use by_key::{Anchor, Anchoring, SigningIn, sign_in};
+pub use by_key::{Anchor, Anchoring, sign_in};
 pub use command_support::{Fault, Notes};
-pub use documents::{Signing, sign};
+pub use documents::sign;
 pub use files::make_keys;
 pub use key::print_key;
 pub use leaves::leaves_of;

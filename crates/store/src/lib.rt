@@ -13,8 +13,8 @@ pub use closing::{apply_and_close, close_into_file, open_and_close};
 pub use command::{Command, Reply};
 pub use laws::{migration_keeps_answers, stands, trees_tell_state};
 pub use machine::{
-    BatchRefusal, Denial, Digest, Held, Moment, Offer, Refusal, RoleName, State, TargetPath, get,
-    metadata_file, target, would_take,
+    BatchRefusal, Denial, Digest, Held, Moment, Offer, Refusal, RoleName, Search, SearchDenial,
+    State, TargetPath, get, metadata_file, search_of, target, would_take,
 };
 pub use opening::Unopened;
 pub use repository_tables::StoreFault;

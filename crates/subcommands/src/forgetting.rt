@@ -1,6 +1,7 @@
 //! When a root makes a repository forget its timestamp, and what is warned of where documents are published.
 use command_support::{Fault, Notes};
-use metadata::{Body, Document, KeyId, Kind, RoleRule, read_document};
+use judging::keeps_roles;
+use metadata::{Body, Document, Kind, read_document};
 use reasons::{HeldFiles, listed_targets};
 use std::alloc::Global;
 use std::fmt::Display;
@@ -83,25 +84,7 @@ fn forgets_by(alloc: Global, held: &[u8], root: &Document<'_>) -> Result<bool, F
 
 fn has_other_rules(held: &Body, root: &Body) -> bool {
     match (held, root) {
-        (Body::Root(held), Body::Root(root)) => {
-            !is_same(&held.timestamp, &root.timestamp) || !is_same(&held.snapshot, &root.snapshot)
-        }
+        (Body::Root(held), Body::Root(root)) => !keeps_roles(held, root),
         _ => false,
     }
-}
-
-// Whether two rules of roots that were read ask for as many signatures of the same keys: in these a key's ID is its digest.
-fn is_same(held: &RoleRule, rule: &RoleRule) -> bool {
-    held.threshold == rule.threshold
-        && are_among(&held.keyids, &rule.keyids)
-        && are_among(&rule.keyids, &held.keyids)
-}
-
-fn are_among(ids: &[KeyId], others: &[KeyId]) -> bool {
-    for id in ids {
-        if !others.contains(id) {
-            return false;
-        }
-    }
-    true
 }

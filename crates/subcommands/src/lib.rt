@@ -8,7 +8,7 @@ mod forgetting;
 mod standing;
 mod why;
 
-pub use arguments::{batch_of, documents_of, tell_argument};
+pub use arguments::{batch_of, documents_of, role_in, tell_argument};
 pub use command_support::{Denial, Fault, Notes};
 pub use files::{InputFile, read_all};
 pub use forgetting::{FORGOTTEN, Forgetting, NOT_TAKEN, forgets, root_version_of};

@@ -1,4 +1,5 @@
 //! Why documents were denied, in words.
+use crate::arguments::role_in;
 use command_support::Notes;
 use reasons::{HeldFiles, reason};
 use repository_work::{Held, Offer};
@@ -60,11 +61,7 @@ impl Offered<'_> {
     ) -> Result<Option<String>, AllocError> {
         let mut documents = Vec::new(alloc);
         for (argument, (_, bytes)) in self.arguments.iter().zip(self.batch.iter()) {
-            let role = match argument.as_str().split_once(':') {
-                Some((role, _)) => role,
-                None => "",
-            };
-            documents.push((role, *bytes))?;
+            documents.push((role_in(argument.as_str()).unwrap_or(""), *bytes))?;
         }
         reason(alloc, held, &documents, number, index)
     }

@@ -16,6 +16,7 @@ use Rattle.delegations.specs.Rows.{Rows}
 use Rattle.delegations.specs.Search.{Shelf, hops_of, most_visits, search, visited}
 use Rattle.delegations.specs.Verdicts.{Table, PassesBy, Costs, all_lacking}
 use Rattle.delegations.specs.Views.{found_view, denial_view}
+use Rattle.delegations.specs.Visits.{Visits, last_first}
 use Rattle.delegations.specs.declared.frames.Frame.{Frame}
 use Rattle.delegations.specs.declared.shelf.Found.{Found}
 use Rattle.delegations.specs.declared.shelf.SearchDenial.{SearchDenial}
@@ -46,6 +47,7 @@ module _ (V : Shelf) (path : Bytes) (now : ℕ) (T : Table) (count : ℕ) where
   pub record IsAt (hss : List Hops) (met : Names) : Type 0 where
     pub taken : List Edge
     pub left : List Edge
+    pub named : met ≡ last_first taken
     pub passed : Passes V path now most_visits taken (32 - length met)
     pub on : AllByRecursion (PassesBy V path now) taken
     pub remains : Remains (here V path) hss met left
@@ -56,6 +58,7 @@ module _ (V : Shelf) (path : Bytes) (now : ℕ) (T : Table) (count : ℕ) where
   pub record IsBefore (e : Edge) (hss : List Hops) (met : Names) : Type 0 where
     pub taken : List Edge
     pub left : List Edge
+    pub named : met ≡ last_first taken
     pub passed : Passes V path now most_visits taken (32 - length met)
     pub on : AllByRecursion (PassesBy V path now) taken
     pub remains : Remains (here V path) (hops (here V path) e.role ∷ hss) (e.role ∷ met) left
@@ -64,9 +67,9 @@ module _ (V : Shelf) (path : Bytes) (now : ℕ) (T : Table) (count : ℕ) where
 
   -- a step answers as the search does, or leaves the search further on
   abbrev pub Leads : List Frame → Names → Result (Option Found) SearchDenial → Type 0
-  Leads fs met (Ok (Some f)) = search V path now (Ok (found_view f)) × Costs V T path now count
+  Leads fs met (Ok (Some f)) = search V path now (Ok (found_view f)) × Costs V T path now count × Visits V path now met
   Leads fs met (Ok None) = IsAt (all_left path fs) met
-  Leads fs met (Err d) = search V path now (Err (Denied (denial_view d))) × Costs V T path now count
+  Leads fs met (Err d) = search V path now (Err (Denied (denial_view d))) × Costs V T path now count × Visits V path now met
 
 -- the delegations of all rows
 abbrev pub wide : Bytes → Rows → ℕ

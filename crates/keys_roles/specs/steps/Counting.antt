@@ -1,9 +1,9 @@
 -- What single entries make count. The parts of `Rules` that one call judges.
-use Rattle.std.specs.Prelude.{◌≡◌, ◌↔◌, ℕ, ◌⊎◌, ◌++◌, List, [], ◌∷◌, Some, IsTrue}
+use Rattle.std.specs.Prelude.{◌≡◌, ◌↔◌, ℕ, ◌⊎◌, ◌++◌, ◌<◌, ◌≤◌, List, [], ◌∷◌, length, Some, Contains, IsTrue}
 use Rattle.std.specs.List.{AllByRecursion}
 use Rattle.keys_roles.specs.Plain.{Key, Table, RoleRule, Signature, look_up}
 use Rattle.keys_roles.specs.Keys.{top_key}
-use Rattle.keys_roles.specs.Rules.{SpellsSignature}
+use Rattle.keys_roles.specs.Rules.{AreDistinct, Counts, SpellsSignature}
 use Rattle.keys_roles.specs.Verdicts.{Verdict}
 
 -- x is an element of the list, by recursion
@@ -30,3 +30,11 @@ IsKept old_keys new new_keys id = IsIn new id × (look_up old_keys id ≡ look_u
 -- what the verdicts say of the entry at the place is true
 abbrev pub TellOf : List ℕ → ℕ → Signature → List Verdict → Type 0
 TellOf signed place e known = AllByRecursion (λ v. v.pair.0 ≡ place → IsTrue v.verifies ↔ SpellsSignature v.pair.1 signed e.sig) known
+
+-- so many of the public keys that count: at most as many as are asked for, and all where they are fewer, or as many as the entries
+pub record AreCounted (rule : RoleRule) (table : Table) (signed : List ℕ) (entries : List Signature) (most count : ℕ) : Type 0 where
+  pub keys : List (List ℕ)
+  pub distinct : AreDistinct keys
+  pub many : count ≡ length keys
+  pub each : AllByRecursion (Counts rule table signed entries) keys
+  pub all : (count < most) ⊎ (length entries ≤ count) → (top : List ℕ) → Counts rule table signed entries top → Contains keys top

@@ -12,6 +12,7 @@ use Rattle.delegations.specs.Delegation.{Edge, Hops}
 use Rattle.delegations.specs.Search.{Shelf, hops_of, listing_of}
 use Rattle.delegations.specs.Verdicts.{Table}
 use Rattle.delegations.specs.Views.{denial_view, edge_view, shelf_view, table_view}
+use Rattle.delegations.specs.Visits.{Visits}
 use Rattle.delegations.specs.steps.Remains.{IsAt, all_left, load, wide}
 use Rattle.delegations.proofs.Onward.{ends_full, ends_denied, ends_found, goes_in, hops_there, lighter, narrow_seen, step_finished}
 use Rattle.delegations.proofs.walking.enter.Goals as goal
@@ -23,14 +24,20 @@ returns-then-room-eq0-clause-judged c =
 pub returns-in_err-file-clause-judged : goal.returns-in_err-file-clause-judged
 returns-in_err-file-clause-judged c =
     let p = err_from_is_err_and c.from_residual.result c.from_residual.ensures.1 in
-    rw (p.1, p.2) (ends_denied (shelf_view c.args.shelf.now) c.args.query.now.path.now c.args.query.now.moment (table_view c.args.query.now.known.now) c.args.checks.now (edge_view c.args.edge) (all_left c.args.query.now.path.now c.args.frames.now) c.args.visited.now c.requires.before
-    c.visit.new.checks (31 - length c.args.visited.now) (denial_view c.in_err-file.field-0.0) c.in_err-file.ensures.lacking (omega arith) c.in_err-file.ensures.answer)
+    let V : Shelf = shelf_view c.args.shelf.now in
+    let path : Bytes = c.args.query.now.path.now in
+    let ends = ends_denied V path c.args.query.now.moment (table_view c.args.query.now.known.now) c.args.checks.now (edge_view c.args.edge) (all_left path c.args.frames.now) c.args.visited.now c.requires.before
+    c.visit.new.checks (31 - length c.args.visited.now) (denial_view c.in_err-file.field-0.0) c.in_err-file.ensures.lacking (omega arith) c.in_err-file.ensures.answer in
+    rw (p.1, p.2) (ends.0, ends.1, subst (λ m. Visits V path c.args.query.now.moment m) (sym c.add.ensures) ends.2)
 
 pub returns-in-Some-clause-judged : goal.returns-in-Some-clause-judged
 returns-in-Some-clause-judged c =
-    ends_found (shelf_view c.args.shelf.now) c.args.query.now.path.now c.args.query.now.moment (table_view c.args.query.now.known.now) c.args.checks.now (edge_view c.args.edge) (all_left c.args.query.now.path.now c.args.frames.now) c.args.visited.now c.requires.before
+    let V : Shelf = shelf_view c.args.shelf.now in
+    let path : Bytes = c.args.query.now.path.now in
+    let ends = ends_found V path c.args.query.now.moment (table_view c.args.query.now.known.now) c.args.checks.now (edge_view c.args.edge) (all_left path c.args.frames.now) c.args.visited.now c.requires.before
     c.visit.new.checks (31 - length c.args.visited.now) (targets_file c.in_ok-file.file.now) (listing_view c.in-Some.listing.now) c.in_ok-file.ensures.lacking (omega arith) c.in_ok-file.ensures.answer
-    (ap (λ (p : Bytes). listing_of (targets_file c.in_ok-file.file.now).body p) (sym c.as_str.ensures.value) ∙ sym c.in-Some.ensures)
+    (ap (λ (p : Bytes). listing_of (targets_file c.in_ok-file.file.now).body p) (sym c.as_str.ensures.value) ∙ sym c.in-Some.ensures) in
+    (ends.0, ends.1, subst (λ m. Visits V path c.args.query.now.moment m) (sym c.add.ensures) ends.2)
 
 -- what a new frame stands for
 opened : (path : Bytes) (o : Option CodeDelegations) (ds : CodeDelegations) (roles : List CodeDelegation) → o ≡ Some ds → roles ≡ ds.roles.items

@@ -26,3 +26,11 @@ returns-clause-costs c =
     let T : Table = table_view c.args.query.now.known.now in
     (ends_unfound V path c.args.query.now.moment T c.frames.checks c.frames.visited
     (subst (λ fs. IsAt V path c.args.query.now.moment T c.frames.checks (all_left path fs) c.frames.visited) c.in_default.ensures.0 c.frames.invariant.at)).1
+
+pub returns-clause-made : goal.returns-clause-made
+returns-clause-made c =
+    let V : Shelf = shelf_view c.args.shelf.now in
+    let path : Bytes = c.args.query.now.path.now in
+    let T : Table = table_view c.args.query.now.known.now in
+    (ends_unfound V path c.args.query.now.moment T c.frames.checks c.frames.visited
+    (subst (λ fs. IsAt V path c.args.query.now.moment T c.frames.checks (all_left path fs) c.frames.visited) c.in_default.ensures.0 c.frames.invariant.at)).2

@@ -1,6 +1,6 @@
 use Rattle.release.specs.Serving.{asked, none}
 use Rattle.release.proofs.Serving.{then_over}
-use Rattle.release.proofs.serve.Serving.serve_next.Goals as goal
+use Rattle.release.proofs.serve.Server.serve_next.Goals as goal
 
 pub returns-in-Ok-None : goal.returns-in-Ok-None
 returns-in-Ok-None g c = none

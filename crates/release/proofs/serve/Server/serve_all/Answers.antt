@@ -1,5 +1,5 @@
 use Rattle.release.proofs.Serving.{then_over}
-use Rattle.release.proofs.serve.Serving.serve_all.Goals as goal
+use Rattle.release.proofs.serve.Server.serve_all.Goals as goal
 
 pub returns-in-Ok-All : goal.returns-in-Ok-All
 returns-in-Ok-All g c = then_over _ _ _ _ c.loop.invariant c.serve_next.ensures

@@ -1,5 +1,5 @@
 use Rattle.release.specs.Serving.{none}
-use Rattle.release.proofs.serve.Serving.serve_from.Goals as goal
+use Rattle.release.proofs.serve.Server.serve_from.Goals as goal
 
 pub returns-in-Err : goal.returns-in-Err
 returns-in-Err g c = none

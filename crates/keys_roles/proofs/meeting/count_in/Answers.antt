@@ -1,11 +1,10 @@
-use Rattle.std.proofs.Common.{◌≡◌, ◌≤◌, ◌<◌, ℕ, List, [], ◌∷◌, length, take, refl, ap, arith, rules, inl, inr}
-use Rattle.std.proofs.lemmas.List.{length-take-le}
-use Rattle.std.proofs.lemmas.Bool.{cases_lt, leb-true, le-leb}
+use Rattle.std.proofs.Common.{◌≡◌, List, [], ◌∷◌, length, take, refl, sym, ap, arith, rules}
+use Rattle.std.proofs.lemmas.List.{length-map, length-take-le}
 use Rattle.keys_roles.specs.Views.{rule_view, table_view, entry_view, entries_view}
 use Rattle.keys_roles.specs.Views.{verdict_views}
 use Rattle.keys_roles.proofs.Knowing.{tells, entry_at, entries_on, fewer_left}
-use Rattle.keys_roles.proofs.Tops.{none_found, is_met, not_met, step_none, step_some}
-use Rattle.keys_roles.proofs.meeting.meets_over.Goals as goal
+use Rattle.keys_roles.proofs.Tops.{none_found, are_some, are_all, step_none, step_some}
+use Rattle.keys_roles.proofs.meeting.count_in.Goals as goal
 
 pub entries-init : goal.entries-init
 entries-init c = record {
@@ -16,19 +15,19 @@ entries-init c = record {
   room = omega arith;
   left = refl;
   places = omega arith;
+  upto = omega arith;
   unknown = omega arith;
 }
 
-pub returns-then-count-threshold-clause-met : goal.returns-then-count-threshold-clause-met
-returns-then-count-threshold-clause-met c =
-    let asked = c.from-threshold.ensures in
+pub returns-then-count-most-clause-counted : goal.returns-then-count-most-clause-counted
+returns-then-count-most-clause-counted c =
     let long = c.entries.invariant.long in
     let few = c.entries.invariant.few in
-    let count = length-take-le c.entries.count c.entries.tops (omega arith) in (
-      λ h. is_met (rule_view c.args.rule.now) (table_view c.args.table.now) c.args.signed.now (entries_view c.args.signatures.now) (entries_view c.entries.rest.now)
-          (take c.entries.count c.entries.tops) c.entries.invariant.found (omega (arith, count, asked, c.if-count-threshold.true)),
-      λ m. refl,
-    )
+    let count = length-take-le c.entries.count c.entries.tops (omega arith) in
+    let shorter = ap length c.in-Some.ensures.cases.0 in
+    are_some (rule_view c.args.rule.now) (table_view c.args.table.now) c.args.signed.now (entries_view c.args.signatures.now) (entries_view c.entries.rest.now)
+    (take c.entries.count c.entries.tops) c.args.most c.entries.count c.entries.invariant.found (sym count) (omega (arith, c.if-count-most.true))
+    (omega (arith, c.entries.invariant.places, c.entries.invariant.upto, shorter, length-map c.args.signatures.now entry_view))
 
 pub entries-preserved-in-Some-counted : goal.entries-preserved-in-Some-counted
 entries-preserved-in-Some-counted c =
@@ -39,13 +38,14 @@ entries-preserved-in-Some-counted c =
       found = step_some (rule_view c.args.rule.now) (table_view c.args.table.now) c.args.signed.now (entries_view c.args.signatures.now) (entries_view c.entries.rest.now) (entries_view c.in-Some.later.now)
           (entry_view c.in-Some.entry.now) (take c.entries.count c.entries.tops) (take c.take_in-count.result c.take_in-count.new.tops) c.in-Some-counted.top
           (ap entries_view at) c.entries.invariant.found by (λ t b. let same = c.in-Some-counted.ensures.all t b in cc) c.take_in-count.ensures.taken;
-      few = omega (arith, c.take_in-count.ensures.most, c.if-count-threshold.false);
+      few = omega (arith, c.take_in-count.ensures.most, c.if-count-most.false);
       long = search rules;
       grows = omega (arith, c.in-Some-counted.ensures.grows, c.entries.invariant.grows);
       room = omega (arith, c.in-Some-counted.ensures.most, c.entries.invariant.room, shorter);
       left = entries_on c.entries.place (entries_view c.args.signatures.now) (entry_view c.in-Some.entry.now) (entries_view c.in-Some.later.now) (entries_view c.entries.rest.now)
           c.entries.invariant.left (ap entries_view at);
       places = omega (arith, c.entries.invariant.places, shorter);
+      upto = omega (arith, c.entries.invariant.upto, c.take_in-count.ensures.most);
       unknown = let split = fewer_left (verdict_views c.args.known.now) (rule_view c.args.rule.now) (table_view c.args.table.now) c.entries.place (entries_view c.entries.rest.now)
           (entry_view c.in-Some.entry.now) (entries_view c.in-Some.later.now) (ap entries_view at) in
           omega (arith, split, c.in-Some-counted.ensures.unknown, c.entries.invariant.unknown);
@@ -66,6 +66,7 @@ entries-preserved c =
       left = entries_on c.entries.place (entries_view c.args.signatures.now) (entry_view c.in-Some.entry.now) (entries_view c.in-Some.later.now) (entries_view c.entries.rest.now)
           c.entries.invariant.left (ap entries_view at);
       places = omega (arith, c.entries.invariant.places, shorter);
+      upto = omega (arith, c.entries.invariant.upto);
       unknown = let split = fewer_left (verdict_views c.args.known.now) (rule_view c.args.rule.now) (table_view c.args.table.now) c.entries.place (entries_view c.entries.rest.now)
           (entry_view c.in-Some.entry.now) (entries_view c.in-Some.later.now) (ap entries_view at) in
           omega (arith, split, c.counted.ensures.unknown, c.entries.invariant.unknown);
@@ -75,21 +76,13 @@ none_left : {X : Type 0} → (xs : List X) → length xs ≡ 0 → xs ≡ []
 none_left [] h = refl
 none_left (x ∷ xs) h = absurd (omega (arith, h))
 
-at_least : (a b : ℕ) → (b < a → ⊥) → a ≤ b
-at_least a b h = elim (cases_lt b a) [ inl less ↦ absurd (h less) | inr other ↦ omega arith ]
-
-pub returns-clause-met : goal.returns-clause-met
-returns-clause-met c =
-    let asked = c.from-threshold.ensures in
+pub returns-clause-counted : goal.returns-clause-counted
+returns-clause-counted c =
     let long = c.entries.invariant.long in
     let few = c.entries.invariant.few in
     let count = length-take-le c.entries.count c.entries.tops (omega arith) in
-    let asks = c.from-threshold.result in (
-      λ h. is_met (rule_view c.args.rule.now) (table_view c.args.table.now) c.args.signed.now (entries_view c.args.signatures.now) (entries_view c.entries.rest.now)
-          (take c.entries.count c.entries.tops) c.entries.invariant.found (let enough = leb-true asks c.entries.count h in omega (arith, count, asked, enough)),
-      λ m. le-leb asks c.entries.count (at_least asks c.entries.count (λ fewer. not_met (rule_view c.args.rule.now) (table_view c.args.table.now) c.args.signed.now (entries_view c.args.signatures.now) (entries_view c.entries.rest.now)
-          (take c.entries.count c.entries.tops) c.entries.invariant.found (ap entries_view (none_left c.entries.rest.now c.in_default.ensures.cases)) (omega (arith, count, asked, fewer)) m)),
-    )
+    are_all (rule_view c.args.rule.now) (table_view c.args.table.now) c.args.signed.now (entries_view c.args.signatures.now) (entries_view c.entries.rest.now)
+    (take c.entries.count c.entries.tops) c.args.most c.entries.count c.entries.invariant.found (sym count) (ap entries_view (none_left c.entries.rest.now c.in_default.ensures.cases))
 
 pub counted-requires-clause-sound : goal.counted-requires-clause-sound
 counted-requires-clause-sound c =

@@ -1,6 +1,6 @@
 use Rattle.release.specs.Serving.{none, served}
-use Rattle.release.proofs.serve.Serving.serve_one.Goals as goal
-use Rattle.release.proofs.serve.Serving.serve_one.Goals.{then-reads_only, else-reads_only}
+use Rattle.release.proofs.serve.Server.serve_one.Goals as goal
+use Rattle.release.proofs.serve.Server.serve_one.Goals.{then-reads_only, else-reads_only}
 
 pub returns-in_default : goal.returns-in_default
 returns-in_default g c = none
