@@ -2,8 +2,8 @@
 #![tactic(auto)]
 
 mod guarding;
-mod judging;
+mod judged;
 
 pub use command_support::{Fault, Notes};
 pub use guarding::Signer;
-pub use judging::{Judged, have_key};
+pub use judged::{Judged, have_key};
