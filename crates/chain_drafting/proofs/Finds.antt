@@ -1,8 +1,8 @@
 -- Rows of a key table that a word finds.
-use Rattle.std.proofs.Common.{◌≡◌, ◌⊎◌, ℕ, zero, suc, ◌+◌, ◌<◌, ◌≤◌, List, [], ◌∷◌, ◌++◌, length, take, drop, get_or, refl, sym, ap, ◌∙◌, subst, arith}
+use Rattle.std.proofs.Common.{◌≡◌, ℕ, zero, suc, ◌+◌, ◌<◌, ◌≤◌, List, [], ◌∷◌, ◌++◌, length, take, drop, get_or, refl, sym, ap, ◌∙◌, subst, arith}
 use Rattle.std.specs.List.{AllByRecursion}
 use Rattle.std.proofs.lemmas.List.{map-append}
-use Rattle.canonical_json.specs.Json.{Json, HasMember, text}
+use Rattle.canonical_json.specs.Json.{Json}
 use Rattle.keys_roles.specs.Plain as plain
 use Rattle.keys_roles.specs.Views.{id_text, key_view, rows_view}
 use Rattle.keys_roles.specs.declared.Key.{Key}
@@ -10,7 +10,7 @@ use Rattle.keys_roles.specs.declared.KeyId.{KeyId}
 use Rattle.document_parts.specs.Documents.{Document}
 use Rattle.metadata.specs.Shape.{IsDocument}
 use Rattle.document_parts.specs.declared.documents.Kind.{Kind}
-use Rattle.chain_drafting.specs.Finding.{Answer, AreSeveral, Finds, IsCalled, IsNotCalled, IsOne}
+use Rattle.chain_drafting.specs.Finding.{Answer, AreSeveral, Finds, IsCalled, IsNameOf, IsNotCalled, IsOne}
 use Rattle.chain_drafting.specs.steps.Found.{FindsBy, IsFirstCalled}
 
 abbrev pub Entry : Type 0
@@ -41,7 +41,7 @@ all_next P (e ∷ rows) zero r lt is all p = (subst (λ (x : Entry). P (row_of x
 all_next P (e ∷ rows) (suc i) r lt is all p = (all.0, all_next P rows i r (omega (arith, lt)) is all.1 p)
 
 pub one_found : (rows behind : List Entry) (names : Json) (word : List ℕ) (i : ℕ) (r : Entry) (name : List ℕ) → r ≡ get_or rows i r → behind ≡ drop (suc i) rows
-    → IsFirstCalled rows names word i → AllByRecursion (IsNotCalled names word) (rows_view behind) → HasMember names (id_text r.0) (text name) ⊎ (name ≡ word)
+    → IsFirstCalled rows names word i → AllByRecursion (IsNotCalled names word) (rows_view behind) → IsNameOf names word (id_text r.0) name
     → IsOne (rows_view rows) names word (key_view r.1) name
 one_found rows behind names word i r name at rest first none named = record {
   front = rows_view (take i rows);

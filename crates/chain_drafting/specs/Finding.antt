@@ -37,14 +37,18 @@ pub data Answer : Type 0 where
   none : Answer
   several : Answer
 
--- just one row of the table is called so, and has this key; the names call it so, or the word does
+-- the names call the key of this id so, or they call it nothing and the word does
+abbrev pub IsNameOf : Json → List ℕ → List ℕ → List ℕ → Type 0
+IsNameOf names word id name = HasMember names id (text name) ⊎ ((name ≡ word) × ((t : List ℕ) → HasMember names id (text t) → ⊥))
+
+-- just one row of the table is called so, and has this key and this name
 pub record IsOne (table : Table) (names : Json) (word : List ℕ) (key : Key) (name : List ℕ) : Type 0 where
   pub front : Table
   pub id : List ℕ
   pub back : Table
   pub is : table ≡ front ++ (id, key) ∷ back
   pub called : IsCalled names word id
-  pub named : HasMember names id (text name) ⊎ (name ≡ word)
+  pub named : IsNameOf names word id name
   pub before : AllByRecursion (IsNotCalled names word) front
   pub behind : AllByRecursion (IsNotCalled names word) back
 

@@ -1,14 +1,14 @@
 //! Keys by what a document calls them.
 ghost use Rattle.std.specs.Prelude.{◌≡◌, ◌⊎◌, ◌↔◌, ◌++◌, ◌<◌, ℕ, suc, List, [], drop, length, slice_index_or, string_bytes, IsTrue, IfOk, IfErr, MatchOption};
 ghost use Rattle.std.specs.List.{AllByRecursion};
-ghost use Rattle.canonical_json.specs.Json.{HasMember, object, text};
+ghost use Rattle.canonical_json.specs.Json.{object};
 ghost use Rattle.canonical_json.specs.View.{members_view};
 ghost use Rattle.denials.specs.declared.denial.Denial.{Denial};
 ghost use Rattle.keys_roles.specs.Views.{id_text as digits_of, rows_view, table_view};
 ghost use Rattle.metadata.specs.Shape.{IsShapeFault};
 ghost use Rattle.document_parts.specs.Views.{body_view, document_view};
 ghost use Rattle.drafting.specs.Drafts.{IsDenied};
-ghost use Rattle.chain_drafting.specs.Finding.{Finds, FindsIn, IsCalled, IsFront, IsNotCalled, key_table};
+ghost use Rattle.chain_drafting.specs.Finding.{Finds, FindsIn, IsCalled, IsFront, IsNameOf, IsNotCalled, key_table};
 ghost use Rattle.chain_drafting.specs.steps.Found.{FindsBy, IsFirstCalled, found_view};
 
 use canonical_json::Value;
@@ -204,13 +204,19 @@ fn named_key(
     word: &str,
 ) -> Result<NamedKey, AllocError>
     ensures key { IfOk result (λ k. k.key ≡ row.now.1) }
-    ensures name { IfOk result (λ k. HasMember (object (members_view names.now)) (digits_of row.now.0) (text (string_bytes k.name)) ⊎ (string_bytes k.name ≡ word.now)) }
+    ensures name { IfOk result (λ k. IsNameOf (object (members_view names.now)) word.now (digits_of row.now.0) (string_bytes k.name)) }
 {
     let digits = Digest::new(row.0.0).text(alloc)?;
-    let said = match text_at(names, digits.as_str()) {
+    let name = String::from_str(alloc, name_for(names, digits.as_str(), word))?;
+    Ok(NamedKey { key: row.1, name })
+}
+
+// What the names call the key of the id with these digits, or else the word.
+fn name_for<'a>(names: &'a [(String, Value)], digits: &str, word: &'a str) -> &'a str
+    ensures { IsNameOf (object (members_view names.now)) word.now digits.now result.now }
+{
+    match text_at(names, digits) {
         Some(said) => said,
         None => word,
-    };
-    let name = String::from_str(alloc, said)?;
-    Ok(NamedKey { key: row.1, name })
+    }
 }

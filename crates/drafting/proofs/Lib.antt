@@ -10,3 +10,7 @@ pub mod Parts
 pub mod Results
 pub mod Holders
 pub mod RootParts
+pub mod Inside
+pub mod Numbers
+pub mod PlainTexts
+pub mod Called

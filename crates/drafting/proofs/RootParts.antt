@@ -4,7 +4,10 @@ use Rattle.canonical_json.specs.Json.{Json, boolean, HasMember}
 use Rattle.document_parts.specs.declared.documents.Kind.TheVariants as kinds
 use Rattle.drafting.specs.Members.{IsNoneOf, AlikeBut, IsObjectAt, Puts, PutsAll}
 use Rattle.drafting.specs.Drafts.{File, Follows, IsBase, IsNext}
-use Rattle.drafting.specs.Roots.{DraftsRoot, PutsTable, Rules, key_rows, name_rows, root_names, rule_rows}
+use Rattle.drafting.specs.Roots.{DraftsRoot, PutsTable, Rules, key_rows, name_rows, role_name, root_names, rule_rows}
+use Rattle.drafting.specs.Targets.{IsThere}
+use Rattle.drafting.specs.declared.faults.TopRole.{TopRole}
+use Rattle.drafting.specs.declared.faults.TopRole.TheVariants as top
 use Rattle.drafting.specs.steps.Rules.{PutsOne, PutsRules}
 use Rattle.drafting.specs.declared.terms.Terms.{Terms}
 use Rattle.drafting.proofs.Alike.{other_head}
@@ -40,15 +43,17 @@ last_names : codes "consistent_snapshot" ≢ codes "names"
 last_names = differ (codes "consistent_snapshot") (codes "names") (λ (e : 99 ≡ 110). omega (arith, e))
 
 pub rules_put : (rules : Rules) (a b c d e f old roles : Json) → IsObjectAt a (codes "roles") old → AlikeBut (codes "roles" ∷ []) a b → PutsAll (rule_rows rules) old roles
+    → ((role : TopRole) → IsThere roles (role_name role))
     → PutsOne (codes "keys") (key_rows rules) roles b c → PutsOne (codes "names") (name_rows rules) roles c d → Puts (codes "roles") roles d e
     → Puts (codes "consistent_snapshot") (boolean true) e f → PutsRules rules a f
-rules_put rules a b c d e f old roles was first puts keys names put last = record {
+rules_put rules a b c d e f old roles was first puts all keys names put last = record {
   changes = record {
     old = old;
     roles = roles;
     was = was;
     has = last.others.kept (codes "roles") roles (last_roles, tt) put.has;
     puts = puts;
+    all = all;
     keys = record {
       old = keys.table.old;
       new = keys.table.new;
@@ -103,8 +108,16 @@ root_part held begun terms rules version a b c next base put follows = record {
     was = put.changes.was;
     has = stays version terms b c (codes "roles") put.changes.roles other_roles follows put.changes.has;
     puts = put.changes.puts;
+    all = put.changes.all;
     keys = table_stays version terms a b c (codes "keys") (key_rows rules) put.changes.roles other_keys follows put.changes.keys;
     names = table_stays version terms a b c (codes "names") (name_rows rules) put.changes.roles other_names follows put.changes.names;
     consistent = stays version terms b c (codes "consistent_snapshot") (boolean true) other_last follows put.changes.consistent;
   };
 }
+
+pub each_there : (roles : Json) → IsThere roles (role_name top.Root) → IsThere roles (role_name top.Targets) → IsThere roles (role_name top.Snapshot)
+    → IsThere roles (role_name top.Timestamp) → (role : TopRole) → IsThere roles (role_name role)
+each_there roles a b c d top.Root = a
+each_there roles a b c d top.Targets = b
+each_there roles a b c d top.Snapshot = c
+each_there roles a b c d top.Timestamp = d

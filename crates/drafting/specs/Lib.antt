@@ -1,4 +1,5 @@
 pub mod Members
+pub mod Names
 pub mod Drafts
 pub mod Timestamps
 pub mod Snapshots

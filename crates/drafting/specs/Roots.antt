@@ -7,6 +7,7 @@ use Rattle.keys_roles.specs.Keys.{id_of, key_object}
 use Rattle.document_parts.specs.declared.documents.Kind.TheVariants as kinds
 use Rattle.drafting.specs.Members.{HasNone, IsObjectAt, Keeps, PutsAll}
 use Rattle.drafting.specs.Drafts.{File, Drafts, IsBase}
+use Rattle.drafting.specs.Targets.{IsThere}
 use Rattle.drafting.specs.declared.terms.Terms.{Terms}
 use Rattle.drafting.specs.declared.faults.TopRole.{TopRole}
 use Rattle.drafting.specs.declared.faults.TopRole.TheVariants as top
@@ -83,7 +84,7 @@ pub record PutsTable (name : List ℕ) (rows : List (List ℕ × Json)) (roles b
   pub has : HasMember after name new
   pub table : IsTable rows roles old new
 
--- each role that is named has the rule that is said of it last, and the others keep theirs; keys and their names are those that the
+-- each role that is named has the rule that is said of it last, the others keep theirs, and each of the four has one; keys and their names are those that the
 -- rules have
 pub record ChangesRoot (rules : Rules) (before after : Json) : Type 0 where
   pub old : Json
@@ -91,6 +92,7 @@ pub record ChangesRoot (rules : Rules) (before after : Json) : Type 0 where
   pub was : IsObjectAt before (codes "roles") old
   pub has : HasMember after (codes "roles") roles
   pub puts : PutsAll (rule_rows rules) old roles
+  pub all : (role : TopRole) → IsThere roles (role_name role)
   pub keys : PutsTable (codes "keys") (key_rows rules) roles before after
   pub names : PutsTable (codes "names") (name_rows rules) roles before after
   pub consistent : HasMember after (codes "consistent_snapshot") (boolean true)

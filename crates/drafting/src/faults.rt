@@ -90,8 +90,9 @@ pub(crate) fn denial_of(fault: ShapeFault) -> Option<Denial>
 
 /// What is held is refused so.
 pub fn held_fault(fault: ShapeFault) -> DraftFault
-    ensures { (kind : Kind) (file : List ℕ) → (fault ≡ ShapeFault.OutOfMemory) ⊎ IsShapeFault kind file fault
+    ensures denial { (kind : Kind) (file : List ℕ) → (fault ≡ ShapeFault.OutOfMemory) ⊎ IsShapeFault kind file fault
         → (result ≡ DraftFault.OutOfMemory) ⊎ ((d : Denial) × (result ≡ DraftFault.Held d) × IsDenied kind file d) }
+    ensures memory { result ≡ DraftFault.OutOfMemory → fault ≡ ShapeFault.OutOfMemory }
 {
     match denial_of(fault) {
         Some(denial) => DraftFault::Held(denial),
@@ -101,8 +102,9 @@ pub fn held_fault(fault: ShapeFault) -> DraftFault
 
 /// What is gone on from is refused so.
 pub fn begun_fault(fault: ShapeFault) -> DraftFault
-    ensures { (kind : Kind) (file : List ℕ) → (fault ≡ ShapeFault.OutOfMemory) ⊎ IsShapeFault kind file fault
+    ensures denial { (kind : Kind) (file : List ℕ) → (fault ≡ ShapeFault.OutOfMemory) ⊎ IsShapeFault kind file fault
         → (result ≡ DraftFault.OutOfMemory) ⊎ ((d : Denial) × (result ≡ DraftFault.Begun d) × IsDenied kind file d) }
+    ensures memory { result ≡ DraftFault.OutOfMemory → fault ≡ ShapeFault.OutOfMemory }
 {
     match denial_of(fault) {
         Some(denial) => DraftFault::Begun(denial),
@@ -112,8 +114,9 @@ pub fn begun_fault(fault: ShapeFault) -> DraftFault
 
 /// What would be written is refused so.
 pub(crate) fn unfit_fault(fault: ShapeFault) -> DraftFault
-    ensures { (kind : Kind) (file : List ℕ) → (fault ≡ ShapeFault.OutOfMemory) ⊎ IsShapeFault kind file fault
+    ensures denial { (kind : Kind) (file : List ℕ) → (fault ≡ ShapeFault.OutOfMemory) ⊎ IsShapeFault kind file fault
         → (result ≡ DraftFault.OutOfMemory) ⊎ ((d : Denial) × (result ≡ DraftFault.Unfit d) × IsDenied kind file d) }
+    ensures memory { result ≡ DraftFault.OutOfMemory → fault ≡ ShapeFault.OutOfMemory }
 {
     match denial_of(fault) {
         Some(denial) => DraftFault::Unfit(denial),

@@ -7,6 +7,7 @@ ghost use Rattle.drafting.specs.declared.faults.TopRole.{TopRole};
 ghost use Rattle.drafting.specs.Drafts.{IsDraft, IsUndrafted};
 ghost use Rattle.drafting.specs.Members.{HasNone, IsObjectAt, PutsAll};
 ghost use Rattle.drafting.specs.Roots.{DraftsRoot, IsRuleless, role_name, rule_rows};
+ghost use Rattle.drafting.specs.Targets.{IsThere};
 ghost use Rattle.drafting.specs.steps.Rules.{PutsRules, rules_view};
 
 use crate::base::{base_members, next_version};
@@ -62,17 +63,20 @@ pub fn draft_root(
 
 // Whether each of the four roles has a rule.
 fn see_all(roles: &[(String, Value)]) -> Result<(), DraftFault>
-    ensures { IfErr result (λ e. (role : TopRole) × (e ≡ DraftFault.Missing role) × HasNone (object (members_view roles.now)) (role_name role)) }
+    ensures ok { OnOk result ((role : TopRole) → IsThere (object (members_view roles.now)) (role_name role)) }
+    ensures err { IfErr result (λ e. (role : TopRole) × (e ≡ DraftFault.Missing role) × HasNone (object (members_view roles.now)) (role_name role)) }
 {
     see(roles, TopRole::Root)?;
     see(roles, TopRole::Targets)?;
     see(roles, TopRole::Snapshot)?;
-    see(roles, TopRole::Timestamp)
+    see(roles, TopRole::Timestamp)?;
+    Ok(())
 }
 
 // Whether the role has a rule.
 fn see(roles: &[(String, Value)], role: TopRole) -> Result<(), DraftFault>
-    ensures { IfErr result (λ e. (e ≡ DraftFault.Missing role) × HasNone (object (members_view roles.now)) (role_name role)) }
+    ensures ok { OnOk result (IsThere (object (members_view roles.now)) (role_name role)) }
+    ensures err { IfErr result (λ e. (e ≡ DraftFault.Missing role) × HasNone (object (members_view roles.now)) (role_name role)) }
 {
     let there = is_there(roles, role.name());
     if there {

@@ -1,2 +1,5 @@
+pub mod Numbers
+pub mod Pieces
 pub mod Replying
 pub mod Saying
+pub mod Statuses

@@ -1,4 +1,5 @@
 pub mod Message
+pub mod Refusing
 pub mod Reply
 pub mod Request
 pub mod Sent

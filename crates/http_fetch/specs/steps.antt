@@ -1,2 +1,3 @@
 -- Definitions that contracts of private functions cite.
 pub mod Found
+pub mod Told

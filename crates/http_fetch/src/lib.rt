@@ -2,6 +2,7 @@
 #![tactic(auto)]
 
 mod body;
+mod cutting;
 mod fetching;
 mod head;
 mod message;

@@ -1,7 +1,10 @@
 //! What a reply says that gives no file: its status, and where it points to.
-ghost use Rattle.std.specs.Prelude.{◌≡◌, ◌≢◌, ◌≤◌, IfSome, IsTrue, length};
+ghost use Rattle.std.specs.Prelude.{◌≡◌, ◌≢◌, ◌≤◌, ◌⊎◌, ℕ, IfNone, IfSome, IsTrue, length};
 ghost use Rattle.std.specs.Char.{is_ascii_graphic};
 ghost use Rattle.std.specs.List.{list_all};
+ghost use Rattle.http_fetch.specs.Refusing.{HasStatus, IsNumber};
+
+use crate::cutting::after;
 
 // The most bytes of a location that are shown.
 const SHOWN: usize = 200;
@@ -14,12 +17,16 @@ pub struct Refusal<'a> {
     pub location: &'a str,
 }
 
-/// What the beginning of a reply says, where it is one of such a status. It takes no memory.
+/// What the beginning of a reply says, where it is one of such a status: `None` exactly where it has no status, or one of 200, 403 and 404.
+/// It takes no memory.
 pub fn read_refusal(beginning: &[u8]) -> Option<Refusal<'_>>
-    ensures status { IfSome result (λ r. (r.status ≢ 200) × (r.status ≢ 403) × (r.status ≢ 404)) }
+    ensures status { IfSome result (λ r. HasStatus beginning.now r.status × (r.status ≢ 200) × (r.status ≢ 403) × (r.status ≢ 404)) }
+    ensures none { IfNone result ((status : ℕ) → HasStatus beginning.now status → (status ≡ 200) ⊎ ((status ≡ 403) ⊎ (status ≡ 404))) }
     ensures shown { IfSome result (λ r. IsTrue (list_all is_ascii_graphic r.location.now) × (length r.location.now ≤ 200)) }
 {
-    let status = status_in(beginning)?;
+    let Some(status) = status_in(beginning) else {
+        return None;
+    };
     if status == 200 || status == 403 || status == 404 {
         return None;
     }
@@ -30,12 +37,35 @@ pub fn read_refusal(beginning: &[u8]) -> Option<Refusal<'_>>
 }
 
 // The status in the first line (RFC 9112, section 4).
-fn status_in(beginning: &[u8]) -> Option<u16> {
-    if !beginning.starts_with(b"HTTP/1.") {
+fn status_in(beginning: &[u8]) -> Option<u16>
+    ensures some { IfSome result (λ status. HasStatus beginning.now status) }
+    ensures once { IfSome result (λ status. (other : ℕ) → HasStatus beginning.now other → other ≡ status) }
+    ensures none { IfNone result ((status : ℕ) → HasStatus beginning.now status → ⊥) }
+{
+    let Some(rest) = after(beginning, b"HTTP/1.") else {
+        return None;
+    };
+    if rest.len() < 5 {
         return None;
     }
-    let digits = beginning.get(9..12)?;
-    str::from_utf8(digits).ok()?.parse::<u16>().ok()
+    let space = rest[1];
+    if space != b' ' {
+        return None;
+    }
+    number_of(rest[2], rest[3], rest[4])
+}
+
+// The number of three digits.
+fn number_of(a: u8, b: u8, c: u8) -> Option<u16>
+    ensures some { IfSome result (λ n. IsNumber a b c n) }
+    ensures once { IfSome result (λ n. (other : ℕ) → IsNumber a b c other → other ≡ n) }
+    ensures none { IfNone result ((n : ℕ) → IsNumber a b c n → ⊥) }
+{
+    if a.is_ascii_digit() && b.is_ascii_digit() && c.is_ascii_digit() {
+        Some(100 * u16::from(a - b'0') + 10 * u16::from(b - b'0') + u16::from(c - b'0'))
+    } else {
+        None
+    }
 }
 
 // The location in the lines of a head, if one has it.

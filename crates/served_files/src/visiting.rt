@@ -1,5 +1,5 @@
 // One walk over the files that a client may ask for.
-ghost use Rattle.std.specs.Prelude.{◌≡◌, ◌++◌, [], ◌∷◌, Some, List, IfOk, OnOk, map, option_map};
+ghost use Rattle.std.specs.Prelude.{◌≡◌, ◌++◌, [], ◌∷◌, Some, List, IfOk, OnOk, OnErr, map, option_map};
 ghost use Rattle.document_parts.specs.Views.{body_view, listing_view, meta_view};
 ghost use Rattle.document_parts.specs.declared.documents.Kind.TheVariants as kinds;
 ghost use Rattle.path_patterns.specs.Names.{dotted};
@@ -95,7 +95,8 @@ fn visit_from<V: FileVisitor>(
 
 // The fault of a walk for want of memory, and nothing where a file is no document.
 fn unless_memory<F: From<AllocError>>(fault: ShapeFault) -> Result<(), F>
-    ensures { OnOk result (fault ≡ ShapeFault.OutOfMemory → ⊥) }
+    ensures well { OnOk result (fault ≡ ShapeFault.OutOfMemory → ⊥) }
+    ensures memory { OnErr result (fault ≡ ShapeFault.OutOfMemory) }
 {
     match fault {
         ShapeFault::OutOfMemory => Err(F::from(AllocError)),

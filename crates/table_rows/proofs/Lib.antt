@@ -6,6 +6,7 @@ pub mod Selects
 pub mod FileLemmas
 pub mod Singles
 pub mod ItemLemmas
+pub mod Firsts
 pub mod FourLemmas
 pub mod SetLemmas
 pub mod One

@@ -1,7 +1,7 @@
 // Which of the six tables a schema has.
 ghost use Rattle.std.specs.Prelude.{◌≡◌, IsTrue, MatchOption};
 ghost use Rattle.sql_tables.specs.Described as listed;
-ghost use Rattle.table_rows.specs.Schema.{five, HasFirst, IsBeginning, IsFree};
+ghost use Rattle.table_rows.specs.Schema.{five, HasFirst, HasFive, IsBeginning, IsFree};
 
 use crate::described::six_tables;
 use crate::second::{has_second, is_free};
@@ -35,8 +35,10 @@ pub fn beginning_of(schema: &Schema) -> Option<usize>
 
 /// Whether the tables are the five of schema 1, which an opening brings to schema 2 where they have rows: `root2` can be made behind them
 /// and behind what else is there.
+#[tactic(auto, using(crate::proofs::Firsts::free_five, crate::proofs::Firsts::free_begins))]
 pub fn has_first_schema(schema: &Schema) -> bool
-    ensures { IsTrue result → IsFree schema.now }
+    ensures same { IsTrue result → IsFree schema.now }
+    ensures other { IsFree schema.now → IsTrue result }
 {
     match beginning_of(schema) {
         Some(count) => count == 5,
@@ -45,8 +47,10 @@ pub fn has_first_schema(schema: &Schema) -> bool
 }
 
 /// Whether the five tables of schema 1 are there, and so stand the others beside them that no opening brings them to schema 2.
+#[tactic(auto, using(crate::proofs::Firsts::others_five, crate::proofs::Firsts::five_begin))]
 pub fn has_others_behind(schema: &Schema) -> bool
-    ensures { IsTrue result → IsBeginning schema.now → ⊥ }
+    ensures same { IsTrue result → HasFive schema.now × (IsBeginning schema.now → ⊥) }
+    ensures other { HasFive schema.now → (IsBeginning schema.now → ⊥) → IsTrue result }
 {
     if beginning_of(schema).is_some() {
         return false;

@@ -9,9 +9,9 @@ file_of f = option_map (λ b. b.now) f
 pub returns-in-Err-clause-err : goal.returns-in-Err-clause-err
 returns-in-Err-clause-err c =
     or_next (unbegun c.args.kind (file_of c.args.begun) c.in-Some.file.now c.begun_fault.result (ap file_of c.in-Some.is)
-    (c.begun_fault.ensures c.args.kind c.in-Some.file.now c.in-Err.ensures.err))
+    (c.begun_fault.ensures.denial c.args.kind c.in-Some.file.now c.in-Err.ensures.err))
 
 pub returns-in-Err-members_in-clause-err : goal.returns-in-Err-members_in-clause-err
 returns-in-Err-members_in-clause-err c =
     or_last (unheld c.args.kind (file_of c.args.held) c.in-Some-held.file.now c.held_fault.result (ap file_of c.in-Some-held.is)
-    (c.held_fault.ensures c.args.kind c.in-Some-held.file.now c.in-Err-members_in.ensures.err))
+    (c.held_fault.ensures.denial c.args.kind c.in-Some-held.file.now c.in-Err-members_in.ensures.err))

@@ -9,4 +9,4 @@ file_of f = option_map (λ b. b.now) f
 pub returns-in-Err-clause-err : goal.returns-in-Err-clause-err
 returns-in-Err-clause-err c =
     or_last (unheld c.args.kind (file_of c.args.held) c.in-Some.file.now c.held_fault.result (ap file_of c.in-Some.is)
-    (c.held_fault.ensures c.args.kind c.in-Some.file.now c.in-Err.ensures.err))
+    (c.held_fault.ensures.denial c.args.kind c.in-Some.file.now c.in-Err.ensures.err))

@@ -1,6 +1,8 @@
 use Rattle.std.proofs.Common.{List, inr, codes, subst}
 use Rattle.canonical_json.specs.Json.{Json}
 use Rattle.drafting.specs.Members.{HasNone, Puts}
+use Rattle.drafting.specs.Targets.{IsThere}
+use Rattle.drafting.specs.declared.faults.TopRole.{TopRole}
 use Rattle.drafting.specs.Roots.{key_rows, name_rows, role_name}
 use Rattle.drafting.specs.steps.Rules.{PutsOne, rules_view}
 use Rattle.drafting.proofs.RootParts.{rules_put}
@@ -18,6 +20,7 @@ returns-clause-ok c =
     let roles = shown c.put_roles.new.roles.items in
     rules_put rules (shown c.args.members.now.items) b keyed named d e (shown c.take_object-roles.result.items) roles
     c.take_object-roles.ensures.object c.take_object-roles.ensures.others c.in_ok-put_roles.ensures
+    (subst (λ (r : List Row). (role : TopRole) → IsThere (shown r) (role_name role)) c.as_slice.ensures.value c.in-Ok.ensures.ok)
     (subst (λ (r : List Row). PutsOne (codes "keys") (key_rows rules) (shown r) b keyed) c.as_slice-2.ensures.value c.in_ok-put_keys.ensures)
     (subst (λ (r : List Row). PutsOne (codes "names") (name_rows rules) (shown r) keyed named) c.as_slice-3.ensures.value c.in_ok-put_names.ensures)
     (subst (λ (x : Json). Puts (codes "roles") x named d) c.object_value.ensures c.in_ok-put.ensures)
@@ -25,6 +28,6 @@ returns-clause-ok c =
 
 pub returns-in-Err-clause-err : goal.returns-in-Err-clause-err
 returns-in-Err-clause-err c =
-    let h = c.in-Err.ensures in
+    let h = c.in-Err.ensures.err in
     let none = subst (λ (r : List Row). HasNone (shown r) (role_name h.0)) c.as_slice.ensures.value h.2 in
     inr (shown c.take_object-roles.result.items, shown c.put_roles.new.roles.items, h.0, c.take_object-roles.ensures.object, c.in_ok-put_roles.ensures, none, h.1)

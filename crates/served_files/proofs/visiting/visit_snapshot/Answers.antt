@@ -10,9 +10,9 @@ pub visit_snapshot_body-requires : goal.visit_snapshot_body-requires
 visit_snapshot_body-requires g c = only_body c.one_document.ensures kinds.Snapshot c.args.bytes.now (document_view c.in-Ok.document) c.in-Ok.ensures.document
 
 pub visit_metadata-requires : goal.visit_metadata-requires
-visit_metadata-requires g c = no_document c.one_shape.ensures.none kinds.Snapshot c.args.bytes.now c.in-Err.fault c.in-Err.ensures.fault c.in_ok-unless_memory-in-Err.ensures
+visit_metadata-requires g c = no_document c.one_shape.ensures.none kinds.Snapshot c.args.bytes.now c.in-Err.fault c.in-Err.ensures.fault c.in_ok-unless_memory-in-Err.ensures.well
 
 pub returns-in_ok-unless_memory-in-Err : goal.returns-in_ok-unless_memory-in-Err
 returns-in_ok-unless_memory-in-Err g c = on_ok c.visit_metadata.result c.visit_metadata.ensures (λ step.
     became_as _ _ _ _ _ (became_one _ _ _ (metadata kinds.Snapshot c.args.name.now c.args.bytes.now) step) (λ files xs told held.
-    snapshot_unsaid files c.args.name.now c.args.bytes.now xs told held (no_document c.one_shape.ensures.none kinds.Snapshot c.args.bytes.now c.in-Err.fault c.in-Err.ensures.fault c.in_ok-unless_memory-in-Err.ensures)))
+    snapshot_unsaid files c.args.name.now c.args.bytes.now xs told held (no_document c.one_shape.ensures.none kinds.Snapshot c.args.bytes.now c.in-Err.fault c.in-Err.ensures.fault c.in_ok-unless_memory-in-Err.ensures.well)))
