@@ -15,7 +15,7 @@ ghost use Rattle.chain_drafting.specs.steps.Recorded.{IsLinkFile};
 use canonical_json::Value;
 use drafting::{Denial, DraftFault, file_of, written};
 use limits::FILE_LIMIT;
-use metadata::{ShapeFault, four_members, read_artifacts, text_of, two_members};
+use metadata::{ShapeFault, Trail, four_members, read_artifacts, text_of, two_members};
 use path_patterns::is_role_name;
 use std::alloc::Global;
 
@@ -94,7 +94,7 @@ fn judge_artifacts(alloc: Global, value: &Value) -> Result<(), DraftFault>
     ensures ok { OnOk result ((a : Artifacts) × AreArtifacts (view value.now) a) }
     ensures err { IfErr result (λ e. (e ≡ DraftFault.OutOfMemory) ⊎ ((d : Denial) × (e ≡ DraftFault.Unfit d))) }
 {
-    match read_artifacts(alloc, value) {
+    match read_artifacts(alloc, value, &mut Trail::new()) {
         Ok(_) => Ok(()),
         Err(ShapeFault::OutOfMemory) => Err(DraftFault::OutOfMemory),
         Err(_) => Err(DraftFault::Unfit(Denial::WrongShape)),

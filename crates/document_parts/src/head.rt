@@ -10,19 +10,24 @@ use crate::dates::read_date_time;
 use crate::members::{member_of, text_of};
 use crate::moment::Moment;
 use crate::parts::{is_spec_version, version_of};
+use crate::trail::Trail;
 use canonical_json::Value;
 
 /// The version and the expiry that the signed part has, beside a `spec_version`.
-pub fn read_head(signed: &Value) -> Option<(u32, Moment)>
+pub fn read_head(signed: &Value, trail: &mut Trail) -> Option<(u32, Moment)>
     requires { IsProper (view signed.now) }
     ensures { MatchOption result ((version expires : ℕ) → HasHead (view signed.now) version expires → ⊥)
         (λ head. HasHead (view signed.now) head.0 head.1) }
 {
+    trail.enter("spec_version");
     if !has_spec_version(signed) {
         return None;
     }
+    trail.turn("version");
     let version = version_of(signed)?;
+    trail.turn("expires");
     let expires = expires_of(signed)?;
+    trail.leave();
     Some((version, expires))
 }
 

@@ -21,6 +21,7 @@ use crate::documents::ShapeFault;
 use crate::members::{
     is_text, items_of, member_of, members_of, number_at, one_member, text_of, three_members,
 };
+use crate::trail::Trail;
 use canonical_json::Value;
 use keys_roles::{Key, KeyId, KeyTable, NoMemory, RoleRule, key_id, read_digits, top_key};
 use path_patterns::{Digest, one_digest};
@@ -46,22 +47,29 @@ pub struct SpelledRule {
 }
 
 /// The key that the value is.
-pub fn read_key(value: &Value) -> Option<Key>
+pub fn read_key(value: &Value, trail: &mut Trail) -> Option<Key>
     ensures { MatchOption result ((k : plain.Key) → IsKey (view value.now) k → ⊥) (λ k. IsKey (view value.now) (key_view k)) }
 {
     let Some((kind, keyval, scheme)) = three_members(value, "keytype", "keyval", "scheme") else {
         return None;
     };
+    trail.enter("keytype");
     if !is_text(kind, "lms") {
         return None;
     }
+    trail.turn("keyval");
     let digits = read_keyval(keyval)?;
     if is_text(scheme, "lms-sha256") {
-        return read_lms(digits);
+        let key = read_lms(digits)?;
+        trail.leave();
+        return Some(key);
     }
     if is_text(scheme, "hss-sha256") {
-        return read_hss(digits);
+        let key = read_hss(digits)?;
+        trail.leave();
+        return Some(key);
     }
+    trail.turn("scheme");
     None
 }
 
@@ -106,7 +114,11 @@ fn read_hss(text: &str) -> Option<Key>
 }
 
 /// The key table that the value is, whatever its names.
-pub fn read_table(alloc: Global, value: &Value) -> Result<SpelledTable, ShapeFault>
+pub fn read_table(
+    alloc: Global,
+    value: &Value,
+    trail: &mut Trail,
+) -> Result<SpelledTable, ShapeFault>
     ensures ok { IfOk result (λ t. IsTable (view value.now) (spelled_table t)) }
     ensures err { IfErr result (IsIll ((t : plain.Table) × IsTable (view value.now) t)) }
 {
@@ -116,22 +128,29 @@ pub fn read_table(alloc: Global, value: &Value) -> Result<SpelledTable, ShapeFau
     if members.len() > MOST_KEYS {
         return Err(ShapeFault::WrongShape);
     }
-    let rows = read_rows(alloc, members)?;
+    trail.enter_entries();
+    let rows = read_rows(alloc, members, trail)?;
+    trail.leave();
     Ok(SpelledTable { rows })
 }
 
-fn read_rows(alloc: Global, members: &[(String, Value)]) -> Result<Vec<(String, Key)>, ShapeFault>
+fn read_rows(
+    alloc: Global,
+    members: &[(String, Value)],
+    trail: &mut Trail,
+) -> Result<Vec<(String, Key)>, ShapeFault>
     ensures ok { IfOk result (λ rows. MembersAre IsRow (members_view members.now) (spelled_rows rows.items)) }
     ensures err { IfErr result (IsIll ((rows : plain.Table) × MembersAre IsRow (members_view members.now) rows)) }
 {
     let mut rows = Vec::new(alloc);
     let mut rest = members;
     'members: while let Some((member, later)) = rest.split_first() {
-        let Some(key) = read_key(&member.1) else {
+        let Some(key) = read_key(&member.1, trail) else {
             return Err(ShapeFault::WrongShape);
         };
         let name = member.0.clone()?;
         rows.push((name, key))?;
+        trail.next();
         rest = later;
     }
     Ok(rows)
@@ -141,22 +160,26 @@ fn read_rows(alloc: Global, members: &[(String, Value)]) -> Result<Vec<(String, 
 pub fn read_role_rule(
     alloc: Global,
     value: &Value,
-    name: &str,
+    name: &'static str,
     table: &SpelledTable,
+    trail: &mut Trail,
 ) -> Result<SpelledRule, ShapeFault>
     requires { IsProper (view value.now) }
     ensures ok { IfOk result (λ r. HasRule name.now (view value.now) (spelled_table table.now) (spelled_rule r)) }
     ensures err { IfErr result (IsIll ((r : plain.RoleRule) × HasRule name.now (view value.now) (spelled_table table.now) r)) }
 {
+    trail.enter("threshold");
     let Some(threshold) = threshold_of(value) else {
         return Err(ShapeFault::WrongShape);
     };
+    trail.turn(name);
     let Some(list) = member_of(value, name) else {
         return Err(ShapeFault::WrongShape);
     };
-    let ids = read_texts(alloc, list)?;
+    let ids = read_texts(alloc, list, trail)?;
     let rule = SpelledRule { ids, threshold };
     if is_over(table, &rule) {
+        trail.leave();
         Ok(rule)
     } else {
         Err(ShapeFault::WrongShape)
@@ -176,17 +199,24 @@ fn threshold_of(value: &Value) -> Option<u8>
 /// The texts of the list that the value is.
 ///
 /// Errors: `WrongShape` where it is no list of texts, and `OutOfMemory`.
-pub fn read_texts(alloc: Global, value: &Value) -> Result<Vec<String>, ShapeFault>
+pub fn read_texts(
+    alloc: Global,
+    value: &Value,
+    trail: &mut Trail,
+) -> Result<Vec<String>, ShapeFault>
     ensures ok { IfOk result (λ texts. IsArray IsText (view value.now) (texts_view texts.items)) }
     ensures err { IfErr result (IsIll ((texts : List (List ℕ)) × IsArray IsText (view value.now) texts)) }
 {
     let Some(items) = items_of(value) else {
         return Err(ShapeFault::WrongShape);
     };
-    texts_of(alloc, items)
+    trail.enter_items();
+    let texts = texts_of(alloc, items, trail)?;
+    trail.leave();
+    Ok(texts)
 }
 
-fn texts_of(alloc: Global, items: &[Value]) -> Result<Vec<String>, ShapeFault>
+fn texts_of(alloc: Global, items: &[Value], trail: &mut Trail) -> Result<Vec<String>, ShapeFault>
     ensures ok { IfOk result (λ texts. ItemsAre IsText (items_view items.now) (texts_view texts.items)) }
     ensures err { IfErr result (IsIll ((texts : List (List ℕ)) × ItemsAre IsText (items_view items.now) texts)) }
 {
@@ -198,6 +228,7 @@ fn texts_of(alloc: Global, items: &[Value]) -> Result<Vec<String>, ShapeFault>
         };
         let text = String::from_str(alloc, text)?;
         texts.push(text)?;
+        trail.next();
         rest = later;
     }
     Ok(texts)
@@ -315,16 +346,28 @@ fn names_row(rows: &[(String, Key)], text: &str) -> bool
     false
 }
 
-/// The key table, where each name is its key's id.
-pub fn name_table(alloc: Global, table: &SpelledTable) -> Result<KeyTable, ShapeFault>
+/// The key table that an object has under `keys`, where each name is its key's id.
+pub fn name_table(
+    alloc: Global,
+    table: &SpelledTable,
+    trail: &mut Trail,
+) -> Result<KeyTable, ShapeFault>
     ensures ok { IfOk result (λ t. (table_view t ≡ spelled_table table.now) × NamesAreIds (spelled_table table.now) × NamesAreHex (spelled_table table.now)) }
     ensures err { IfErr result (IsMisnamed (NamesAreIds (spelled_table table.now))) }
 {
-    let entries = name_rows(alloc, &table.rows)?;
+    trail.enter("keys");
+    trail.enter_entries();
+    let entries = name_rows(alloc, &table.rows, trail)?;
+    trail.leave();
+    trail.leave();
     Ok(KeyTable { entries })
 }
 
-fn name_rows(alloc: Global, rows: &[(String, Key)]) -> Result<Vec<(KeyId, Key)>, ShapeFault>
+fn name_rows(
+    alloc: Global,
+    rows: &[(String, Key)],
+    trail: &mut Trail,
+) -> Result<Vec<(KeyId, Key)>, ShapeFault>
     ensures ok { IfOk result (λ es. (rows_view es.items ≡ spelled_rows rows.now) × NamesAreIds (spelled_rows rows.now) × NamesAreHex (spelled_rows rows.now)) }
     ensures err { IfErr result (IsMisnamed (NamesAreIds (spelled_rows rows.now))) }
 {
@@ -335,6 +378,7 @@ fn name_rows(alloc: Global, rows: &[(String, Key)]) -> Result<Vec<(KeyId, Key)>,
             return Err(ShapeFault::BadKeyId);
         };
         entries.push((id, row.1))?;
+        trail.next();
         rest = later;
     }
     Ok(entries)
@@ -390,13 +434,16 @@ fn name_ids(alloc: Global, ids: &[String]) -> Result<Vec<KeyId>, ShapeFault>
 }
 
 /// The key table that the object has under `keys`.
-pub fn keys_of(alloc: Global, signed: &Value) -> Result<SpelledTable, ShapeFault>
+pub fn keys_of(alloc: Global, signed: &Value, trail: &mut Trail) -> Result<SpelledTable, ShapeFault>
     requires { IsProper (view signed.now) }
     ensures ok { IfOk result (λ t. Has (view signed.now) (codes "keys") (λ x. IsTable x (spelled_table t))) }
     ensures err { IfErr result (IsIll ((t : plain.Table) × Has (view signed.now) (codes "keys") (λ x. IsTable x t))) }
 {
+    trail.enter("keys");
     let Some(keys) = member_of(signed, "keys") else {
         return Err(ShapeFault::WrongShape);
     };
-    read_table(alloc, keys)
+    let table = read_table(alloc, keys, trail)?;
+    trail.leave();
+    Ok(table)
 }

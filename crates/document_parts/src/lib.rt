@@ -20,6 +20,7 @@ pub mod parts;
 pub mod required;
 pub mod rules;
 pub mod scopes;
+pub mod trail;
 
 pub use keys_roles::{Key, KeyId, KeyTable, RoleRule, Signature};
 pub use moment::Moment;

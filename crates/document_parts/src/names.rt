@@ -9,20 +9,29 @@ ghost use Rattle.document_parts.specs.steps.Faults.{IsIll};
 
 use crate::documents::ShapeFault;
 use crate::members::{member_of, text_of};
+use crate::trail::Trail;
 use canonical_json::Value;
 use path_patterns::RoleName;
 use std::alloc::Global;
 
 /// The name that the object has under this name.
-pub fn name_at(alloc: Global, value: &Value, name: &str) -> Result<RoleName, ShapeFault>
+pub fn name_at(
+    alloc: Global,
+    value: &Value,
+    name: &'static str,
+    trail: &mut Trail,
+) -> Result<RoleName, ShapeFault>
     requires { IsProper (view value.now) }
     ensures ok { IfOk result (λ n. Has (view value.now) name.now (λ x. IsTextOf IsName x n)) }
     ensures err { IfErr result (IsIll ((n : List ℕ) × Has (view value.now) name.now (λ x. IsTextOf IsName x n))) }
 {
+    trail.enter(name);
     let Some(found) = member_of(value, name) else {
         return Err(ShapeFault::WrongShape);
     };
-    read_name(alloc, found)
+    let found = read_name(alloc, found)?;
+    trail.leave();
+    Ok(found)
 }
 
 // The name that the value is.

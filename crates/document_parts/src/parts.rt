@@ -12,6 +12,7 @@ ghost use Rattle.document_parts.specs.Views.{meta_view, profile_view};
 
 use crate::documents::{Meta, Profile};
 use crate::members::{member_of, number_at, number_of, one_member, text_of};
+use crate::trail::Trail;
 use canonical_json::Value;
 use path_patterns::{Digest, one_digest};
 
@@ -37,13 +38,17 @@ pub fn length_of(value: &Value) -> Option<u32>
 }
 
 /// The digest that `hashes` is.
-pub fn read_hashes(value: &Value) -> Option<Digest>
+pub fn read_hashes(value: &Value, trail: &mut Trail) -> Option<Digest>
     ensures { MatchOption result ((d : List ℕ) → IsHashes (view value.now) d → ⊥) (λ d. IsHashes (view value.now) d.0) }
 {
+    trail.enter("sha256");
     let only = one_member(value, "sha256")?;
     let digits = text_of(only)?;
     match Digest::read(digits) {
-        Some(digest) => Some(digest),
+        Some(digest) => {
+            trail.leave();
+            Some(digest)
+        }
         None => {
             one_digest();
             None
@@ -52,13 +57,16 @@ pub fn read_hashes(value: &Value) -> Option<Digest>
 }
 
 /// The digest that the object has under `hashes`.
-pub fn hashes_of(value: &Value) -> Option<Digest>
+pub fn hashes_of(value: &Value, trail: &mut Trail) -> Option<Digest>
     requires { IsProper (view value.now) }
     ensures { MatchOption result ((d : List ℕ) → Has (view value.now) (codes "hashes") (λ x. IsHashes x d) → ⊥)
         (λ d. Has (view value.now) (codes "hashes") (λ x. IsHashes x d.0)) }
 {
+    trail.enter("hashes");
     let hashes = member_of(value, "hashes")?;
-    read_hashes(hashes)
+    let digest = read_hashes(hashes, trail)?;
+    trail.leave();
+    Some(digest)
 }
 
 /// The length that the object has, if it has one.
@@ -74,32 +82,36 @@ pub fn optional_length(value: &Value) -> Option<Option<u32>>
 }
 
 /// The digest that the object has under `hashes`, if it has one.
-pub fn optional_hashes(value: &Value) -> Option<Option<Digest>>
+pub fn optional_hashes(value: &Value, trail: &mut Trail) -> Option<Option<Digest>>
     requires { IsProper (view value.now) }
     ensures { MatchOption result ((d : Option (List ℕ)) → MayHave (view value.now) (codes "hashes") IsHashes d → ⊥)
         (λ d. MayHave (view value.now) (codes "hashes") IsHashes (option_map (λ b. b.0) d)) }
 {
     match member_of(value, "hashes") {
         None => Some(None),
-        Some(hashes) => Some(Some(read_hashes(hashes)?)),
+        Some(hashes) => Some(Some(read_hashes(hashes, trail)?)),
     }
 }
 
 /// What the value says of a file.
-pub fn read_meta(value: &Value) -> Option<Meta>
+pub fn read_meta(value: &Value, trail: &mut Trail) -> Option<Meta>
     requires { IsProper (view value.now) }
     ensures { MatchOption result ((m : MetaFile) → IsMetaFile (view value.now) m → ⊥)
         (λ m. IsMetaFile (view value.now) (meta_view m)) }
 {
+    trail.enter("version");
     let Some(version) = version_of(value) else {
         return None;
     };
+    trail.turn("length");
     let Some(length) = optional_length(value) else {
         return None;
     };
-    let Some(digest) = optional_hashes(value) else {
+    trail.turn("hashes");
+    let Some(digest) = optional_hashes(value, trail) else {
         return None;
     };
+    trail.leave();
     Some(Meta {
         version,
         length,

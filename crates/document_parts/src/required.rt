@@ -11,6 +11,7 @@ ghost use Rattle.document_parts.specs.steps.Faults.{IsIll};
 use crate::documents::{Profile, ShapeFault};
 use crate::members::member_of;
 use crate::scopes::read_patterns;
+use crate::trail::Trail;
 use canonical_json::Value;
 use path_patterns::Pattern;
 use std::alloc::Global;
@@ -21,6 +22,7 @@ pub fn required_of(
     alloc: Global,
     signed: &Value,
     profile: Profile,
+    trail: &mut Trail,
 ) -> Result<Option<Vec<Pattern>>, ShapeFault>
     requires { IsProper (view signed.now) }
     ensures ok { IfOk result (λ o. HasRequired (view signed.now) (profile_view profile) (option_map (λ ps. ps.items) o)) }
@@ -28,12 +30,16 @@ pub fn required_of(
 {
     match profile {
         Profile::First => Ok(None),
-        Profile::Second => patterns_at(alloc, signed),
+        Profile::Second => patterns_at(alloc, signed, trail),
     }
 }
 
 // The patterns that the object has under `layout_required`, if it has any.
-fn patterns_at(alloc: Global, signed: &Value) -> Result<Option<Vec<Pattern>>, ShapeFault>
+fn patterns_at(
+    alloc: Global,
+    signed: &Value,
+    trail: &mut Trail,
+) -> Result<Option<Vec<Pattern>>, ShapeFault>
     requires { IsProper (view signed.now) }
     ensures ok { IfOk result (λ o. MayHave (view signed.now) (codes "layout_required") (AreTextsOf IsPattern) (option_map (λ ps. ps.items) o)) }
     ensures err { IfErr result (IsIll ((o : Option (List (List ℕ))) × MayHave (view signed.now) (codes "layout_required") (AreTextsOf IsPattern) o)) }
@@ -41,6 +47,8 @@ fn patterns_at(alloc: Global, signed: &Value) -> Result<Option<Vec<Pattern>>, Sh
     let Some(found) = member_of(signed, "layout_required") else {
         return Ok(None);
     };
-    let patterns = read_patterns(alloc, found)?;
+    trail.enter("layout_required");
+    let patterns = read_patterns(alloc, found, trail)?;
+    trail.leave();
     Ok(Some(patterns))
 }

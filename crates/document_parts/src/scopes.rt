@@ -11,6 +11,7 @@ ghost use Rattle.document_parts.specs.Views.{scope_view};
 
 use crate::documents::{Scope, ShapeFault};
 use crate::members::{items_of, lacks, member_of, text_of};
+use crate::trail::Trail;
 use canonical_json::Value;
 use path_patterns::{Pattern, is_hash_prefix};
 use std::alloc::Global;
@@ -19,23 +20,26 @@ use std::alloc::Global;
 const MOST_TEXTS: usize = 64;
 
 /// What the delegation that the value is covers.
-pub fn read_scope(alloc: Global, value: &Value) -> Result<Scope, ShapeFault>
+pub fn read_scope(alloc: Global, value: &Value, trail: &mut Trail) -> Result<Scope, ShapeFault>
     requires { IsProper (view value.now) }
     ensures ok { IfOk result (λ s. HasScope (view value.now) (scope_view s)) }
     ensures err { IfErr result (IsIll ((s : plain.Scope) × HasScope (view value.now) s)) }
 {
+    trail.enter("path_hash_prefixes");
     let Some(list) = member_of(value, "paths") else {
-        return prefixes_of(alloc, value);
+        return prefixes_of(alloc, value, trail);
     };
     if !lacks(value, "path_hash_prefixes") {
         return Err(ShapeFault::WrongShape);
     }
-    let patterns = read_patterns(alloc, list)?;
+    trail.turn("paths");
+    let patterns = read_patterns(alloc, list, trail)?;
+    trail.leave();
     Ok(Scope::Patterns(patterns))
 }
 
 // The same where it covers by no patterns.
-fn prefixes_of(alloc: Global, value: &Value) -> Result<Scope, ShapeFault>
+fn prefixes_of(alloc: Global, value: &Value, trail: &mut Trail) -> Result<Scope, ShapeFault>
     requires proper { IsProper (view value.now) }
     requires none { NoMember (view value.now) (codes "paths") }
     ensures ok { IfOk result (λ s. HasScope (view value.now) (scope_view s)) }
@@ -44,7 +48,8 @@ fn prefixes_of(alloc: Global, value: &Value) -> Result<Scope, ShapeFault>
     let Some(list) = member_of(value, "path_hash_prefixes") else {
         return Err(ShapeFault::WrongShape);
     };
-    let prefixes = read_prefixes(alloc, list)?;
+    let prefixes = read_prefixes(alloc, list, trail)?;
+    trail.leave();
     Ok(Scope::Prefixes(prefixes))
 }
 
@@ -56,7 +61,11 @@ pub fn are_few(items: &[Value]) -> bool
 }
 
 /// The patterns that the value is.
-pub fn read_patterns(alloc: Global, value: &Value) -> Result<Vec<Pattern>, ShapeFault>
+pub fn read_patterns(
+    alloc: Global,
+    value: &Value,
+    trail: &mut Trail,
+) -> Result<Vec<Pattern>, ShapeFault>
     ensures ok { IfOk result (λ ps. AreTextsOf IsPattern (view value.now) ps.items) }
     ensures err { IfErr result (IsIll ((ps : List (List ℕ)) × AreTextsOf IsPattern (view value.now) ps)) }
 {
@@ -66,11 +75,17 @@ pub fn read_patterns(alloc: Global, value: &Value) -> Result<Vec<Pattern>, Shape
     if !are_few(items) {
         return Err(ShapeFault::WrongShape);
     }
-    let patterns = patterns_of(alloc, items)?;
+    trail.enter_items();
+    let patterns = patterns_of(alloc, items, trail)?;
+    trail.leave();
     Ok(patterns)
 }
 
-fn patterns_of(alloc: Global, items: &[Value]) -> Result<Vec<Pattern>, ShapeFault>
+fn patterns_of(
+    alloc: Global,
+    items: &[Value],
+    trail: &mut Trail,
+) -> Result<Vec<Pattern>, ShapeFault>
     ensures ok { IfOk result (λ ps. ItemsAre (IsTextOf IsPattern) (items_view items.now) ps.items) }
     ensures err { IfErr result (IsIll ((ps : List (List ℕ)) × ItemsAre (IsTextOf IsPattern) (items_view items.now) ps)) }
 {
@@ -79,6 +94,7 @@ fn patterns_of(alloc: Global, items: &[Value]) -> Result<Vec<Pattern>, ShapeFaul
     'items: while let Some((item, later)) = rest.split_first() {
         let pattern = read_pattern(alloc, item)?;
         patterns.push(pattern)?;
+        trail.next();
         rest = later;
     }
     Ok(patterns)
@@ -99,7 +115,7 @@ fn read_pattern(alloc: Global, value: &Value) -> Result<Pattern, ShapeFault>
 }
 
 // The prefixes that the value is.
-fn read_prefixes(alloc: Global, value: &Value) -> Result<Vec<String>, ShapeFault>
+fn read_prefixes(alloc: Global, value: &Value, trail: &mut Trail) -> Result<Vec<String>, ShapeFault>
     ensures ok { IfOk result (λ ps. AreTextsOf IsHashPrefix (view value.now) (map string_bytes ps.items)) }
     ensures err { IfErr result (IsIll ((ps : List (List ℕ)) × AreTextsOf IsHashPrefix (view value.now) ps)) }
 {
@@ -109,11 +125,17 @@ fn read_prefixes(alloc: Global, value: &Value) -> Result<Vec<String>, ShapeFault
     if !are_few(items) {
         return Err(ShapeFault::WrongShape);
     }
-    let prefixes = prefix_texts_of(alloc, items)?;
+    trail.enter_items();
+    let prefixes = prefix_texts_of(alloc, items, trail)?;
+    trail.leave();
     Ok(prefixes)
 }
 
-fn prefix_texts_of(alloc: Global, items: &[Value]) -> Result<Vec<String>, ShapeFault>
+fn prefix_texts_of(
+    alloc: Global,
+    items: &[Value],
+    trail: &mut Trail,
+) -> Result<Vec<String>, ShapeFault>
     ensures ok { IfOk result (λ ps. ItemsAre (IsTextOf IsHashPrefix) (items_view items.now) (map string_bytes ps.items)) }
     ensures err { IfErr result (IsIll ((ps : List (List ℕ)) × ItemsAre (IsTextOf IsHashPrefix) (items_view items.now) ps)) }
 {
@@ -122,6 +144,7 @@ fn prefix_texts_of(alloc: Global, items: &[Value]) -> Result<Vec<String>, ShapeF
     'items: while let Some((item, later)) = rest.split_first() {
         let prefix = read_prefix(alloc, item)?;
         prefixes.push(prefix)?;
+        trail.next();
         rest = later;
     }
     Ok(prefixes)

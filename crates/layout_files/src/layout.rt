@@ -20,6 +20,7 @@ use document_parts::documents::{Layout, ShapeFault, Step};
 use document_parts::head::expires_of;
 use document_parts::keys::{SpelledTable, keys_of, name_table};
 use document_parts::members::{items_of, member_of};
+use document_parts::trail::Trail;
 use keys_roles::KeyTable;
 use std::alloc::Global;
 
@@ -31,20 +32,23 @@ pub struct KeyedSteps {
 }
 
 /// The layout that the signed part is, its keys named by their ids.
-pub fn read_layout(alloc: Global, signed: &Value) -> Result<Layout, ShapeFault>
+pub fn read_layout(alloc: Global, signed: &Value, trail: &mut Trail) -> Result<Layout, ShapeFault>
     requires { IsProper (view signed.now) }
     ensures ok { IfOk result (λ l. IsLayout (view signed.now) (layout_view l) × NamesAreIds (table_view l.keys)) }
     ensures err { IfErr result (IsFaulty (IsLayout (view signed.now)) (λ l. NamesAreIds l.keys)) }
 {
+    trail.enter("expires");
     let Some(expires) = expires_of(signed) else {
         return Err(ShapeFault::WrongShape);
     };
+    trail.turn("inspect");
     if !has_no_inspections(signed) {
         return Err(ShapeFault::WrongShape);
     }
-    let keys = keys_of(alloc, signed)?;
-    let steps = steps_of(alloc, signed, &keys)?;
-    let keyed = named(alloc, &keys, steps)?;
+    trail.leave();
+    let keys = keys_of(alloc, signed, trail)?;
+    let steps = steps_of(alloc, signed, &keys, trail)?;
+    let keyed = named(alloc, &keys, steps, trail)?;
     Ok(Layout {
         expires,
         keys: keyed.keys,
@@ -77,15 +81,19 @@ fn steps_of(
     alloc: Global,
     signed: &Value,
     keys: &SpelledTable,
+    trail: &mut Trail,
 ) -> Result<Vec<SpelledStep>, ShapeFault>
     requires { IsProper (view signed.now) }
     ensures ok { IfOk result (λ ss. Has (view signed.now) (codes "steps") (λ x. AreSteps (spelled_table keys.now) x (spelled_steps ss.items))) }
     ensures err { IfErr result (IsIll ((ss : List plain.Step) × Has (view signed.now) (codes "steps") (λ x. AreSteps (spelled_table keys.now) x ss))) }
 {
+    trail.enter("steps");
     let Some(steps) = member_of(signed, "steps") else {
         return Err(ShapeFault::WrongShape);
     };
-    read_steps(alloc, steps, keys)
+    let steps = read_steps(alloc, steps, keys, trail)?;
+    trail.leave();
+    Ok(steps)
 }
 
 // The keys and the steps, each key named by its id.
@@ -93,13 +101,14 @@ fn named(
     alloc: Global,
     keys: &SpelledTable,
     steps: Vec<SpelledStep>,
+    trail: &mut Trail,
 ) -> Result<KeyedSteps, ShapeFault>
     requires { AllByRecursion (λ s. IsRuleOver (spelled_table keys.now) s.rule) (spelled_steps steps.items) }
     ensures keys { IfOk result (λ k. (table_view k.keys ≡ spelled_table keys.now) × NamesAreIds (spelled_table keys.now)) }
     ensures steps { IfOk result (λ k. map step_view k.steps.items ≡ spelled_steps steps.items) }
     ensures err { IfErr result (IsMisnamed (NamesAreIds (spelled_table keys.now))) }
 {
-    let table = name_table(alloc, keys)?;
+    let table = name_table(alloc, keys, trail)?;
     let steps = name_steps(alloc, steps)?;
     Ok(KeyedSteps { keys: table, steps })
 }

@@ -17,6 +17,7 @@ use document_parts::links::{Artifacts, Link};
 use document_parts::members::{member_of, members_of};
 use document_parts::names::name_at;
 use document_parts::parts::read_hashes;
+use document_parts::trail::Trail;
 use keys_roles::Signature;
 use path_patterns::{Digest, TargetPath};
 use std::alloc::Global;
@@ -26,6 +27,7 @@ pub fn read_link(
     alloc: Global,
     signatures: &[Signature],
     signed: &Value,
+    trail: &mut Trail,
 ) -> Result<Link, ShapeFault>
     requires { IsProper (view signed.now) }
     ensures ok { IfOk result (λ l. IsLink (entries_view signatures.now) (view signed.now) (link_view l)) }
@@ -34,9 +36,9 @@ pub fn read_link(
     if signatures.len() != 1 {
         return Err(ShapeFault::WrongShape);
     }
-    let name = name_at(alloc, signed, "name")?;
-    let materials = artifacts_at(alloc, signed, "materials")?;
-    let products = artifacts_at(alloc, signed, "products")?;
+    let name = name_at(alloc, signed, "name", trail)?;
+    let materials = artifacts_at(alloc, signed, "materials", trail)?;
+    let products = artifacts_at(alloc, signed, "products", trail)?;
     Ok(Link {
         name,
         materials,
@@ -45,21 +47,33 @@ pub fn read_link(
 }
 
 // The artifacts that the object has under the name.
-fn artifacts_at(alloc: Global, value: &Value, name: &str) -> Result<Artifacts, ShapeFault>
+fn artifacts_at(
+    alloc: Global,
+    value: &Value,
+    name: &'static str,
+    trail: &mut Trail,
+) -> Result<Artifacts, ShapeFault>
     requires { IsProper (view value.now) }
     ensures ok { IfOk result (λ a. Has (view value.now) name.now (λ x. AreArtifacts x (artifacts_view a))) }
     ensures err { IfErr result (IsIll ((a : plain.Artifacts) × Has (view value.now) name.now (λ x. AreArtifacts x a))) }
 {
+    trail.enter(name);
     let Some(found) = member_of(value, name) else {
         return Err(ShapeFault::WrongShape);
     };
-    read_artifacts(alloc, found)
+    let artifacts = read_artifacts(alloc, found, trail)?;
+    trail.leave();
+    Ok(artifacts)
 }
 
 /// The artifacts that the value is, in the order of their paths, which is that of the members.
 ///
 /// Errors: `WrongShape` where it is no object from target paths to digests, and `OutOfMemory`.
-pub fn read_artifacts(alloc: Global, value: &Value) -> Result<Artifacts, ShapeFault>
+pub fn read_artifacts(
+    alloc: Global,
+    value: &Value,
+    trail: &mut Trail,
+) -> Result<Artifacts, ShapeFault>
     requires { IsProper (view value.now) }
     ensures ok { IfOk result (λ a. AreArtifacts (view value.now) (artifacts_view a)) }
     ensures err { IfErr result (IsIll ((a : plain.Artifacts) × AreArtifacts (view value.now) a)) }
@@ -67,13 +81,16 @@ pub fn read_artifacts(alloc: Global, value: &Value) -> Result<Artifacts, ShapeFa
     let Some(members) = members_of(value) else {
         return Err(ShapeFault::WrongShape);
     };
-    let rows = read_rows(alloc, members)?;
+    trail.enter_entries();
+    let rows = read_rows(alloc, members, trail)?;
+    trail.leave();
     Ok(Artifacts { rows })
 }
 
 fn read_rows(
     alloc: Global,
     members: &[(String, Value)],
+    trail: &mut Trail,
 ) -> Result<Vec<(TargetPath, Digest)>, ShapeFault>
     ensures ok { IfOk result (λ rows. MembersAre IsArtifact (members_view members.now) (artifact_views rows.items)) }
     ensures err { IfErr result (IsIll ((a : plain.Artifacts) × MembersAre IsArtifact (members_view members.now) a)) }
@@ -81,19 +98,25 @@ fn read_rows(
     let mut rows = Vec::new(alloc);
     let mut rest = members;
     'members: while let Some((member, later)) = rest.split_first() {
-        let row = read_row(alloc, member.0.as_str(), &member.1)?;
+        let row = read_row(alloc, member.0.as_str(), &member.1, trail)?;
         rows.push(row)?;
+        trail.next();
         rest = later;
     }
     Ok(rows)
 }
 
 // The artifact of this path, with the digest that the value is.
-fn read_row(alloc: Global, path: &str, value: &Value) -> Result<(TargetPath, Digest), ShapeFault>
+fn read_row(
+    alloc: Global,
+    path: &str,
+    value: &Value,
+    trail: &mut Trail,
+) -> Result<(TargetPath, Digest), ShapeFault>
     ensures ok { IfOk result (λ r. IsArtifact path.now (view value.now) (artifact_view r)) }
     ensures err { IfErr result (IsIll ((a : List ℕ × List ℕ) × IsArtifact path.now (view value.now) a)) }
 {
-    let Some(digest) = read_hashes(value) else {
+    let Some(digest) = read_hashes(value, trail) else {
         return Err(ShapeFault::WrongShape);
     };
     let Some(path) = TargetPath::read(alloc, path)? else {

@@ -23,6 +23,7 @@ use document_parts::keys::{SpelledRule, SpelledTable, name_rule, read_role_rule}
 use document_parts::members::{items_of, member_of};
 use document_parts::names::name_at;
 use document_parts::rules::Rule;
+use document_parts::trail::Trail;
 use path_patterns::RoleName;
 use std::alloc::Global;
 
@@ -51,6 +52,7 @@ pub fn read_steps(
     alloc: Global,
     value: &Value,
     keys: &SpelledTable,
+    trail: &mut Trail,
 ) -> Result<Vec<SpelledStep>, ShapeFault>
     requires { IsProper (view value.now) }
     ensures ok { IfOk result (λ ss. AreSteps (spelled_table keys.now) (view value.now) (spelled_steps ss.items)) }
@@ -62,7 +64,9 @@ pub fn read_steps(
     if !are_few(items) {
         return Err(ShapeFault::WrongShape);
     }
-    let steps = steps_of(alloc, items, keys)?;
+    trail.enter_items();
+    let steps = steps_of(alloc, items, keys, trail)?;
+    trail.leave();
     if are_distinct(&steps) {
         Ok(steps)
     } else {
@@ -81,6 +85,7 @@ fn steps_of(
     alloc: Global,
     items: &[Value],
     keys: &SpelledTable,
+    trail: &mut Trail,
 ) -> Result<Vec<SpelledStep>, ShapeFault>
     requires { EachItem IsSound (items_view items.now) }
     ensures ok { IfOk result (λ ss. ItemsAre (IsStep (spelled_table keys.now)) (items_view items.now) (spelled_steps ss.items)) }
@@ -89,23 +94,29 @@ fn steps_of(
     let mut steps = Vec::new(alloc);
     let mut rest = items;
     'items: while let Some((item, later)) = rest.split_first() {
-        let step = read_step(alloc, item, keys)?;
+        let step = read_step(alloc, item, keys, trail)?;
         steps.push(step)?;
+        trail.next();
         rest = later;
     }
     Ok(steps)
 }
 
 // The step over the table that the value is.
-fn read_step(alloc: Global, value: &Value, keys: &SpelledTable) -> Result<SpelledStep, ShapeFault>
+fn read_step(
+    alloc: Global,
+    value: &Value,
+    keys: &SpelledTable,
+    trail: &mut Trail,
+) -> Result<SpelledStep, ShapeFault>
     requires { IsProper (view value.now) }
     ensures ok { IfOk result (λ s. IsStep (spelled_table keys.now) (view value.now) (spelled_step s)) }
     ensures err { IfErr result (IsIll ((s : plain.Step) × IsStep (spelled_table keys.now) (view value.now) s)) }
 {
-    let name = name_at(alloc, value, "name")?;
-    let rule = read_role_rule(alloc, value, "pubkeys", keys)?;
-    let materials = rules_at(alloc, value, "expected_materials")?;
-    let products = rules_at(alloc, value, "expected_products")?;
+    let name = name_at(alloc, value, "name", trail)?;
+    let rule = read_role_rule(alloc, value, "pubkeys", keys, trail)?;
+    let materials = rules_at(alloc, value, "expected_materials", trail)?;
+    let products = rules_at(alloc, value, "expected_products", trail)?;
     Ok(SpelledStep {
         name,
         rule,
@@ -115,15 +126,23 @@ fn read_step(alloc: Global, value: &Value, keys: &SpelledTable) -> Result<Spelle
 }
 
 // The rules that the object has under the name.
-fn rules_at(alloc: Global, value: &Value, name: &str) -> Result<Vec<Rule>, ShapeFault>
+fn rules_at(
+    alloc: Global,
+    value: &Value,
+    name: &'static str,
+    trail: &mut Trail,
+) -> Result<Vec<Rule>, ShapeFault>
     requires { IsProper (view value.now) }
     ensures ok { IfOk result (λ rs. Has (view value.now) name.now (λ x. IsRuleList x (map rule_view rs.items))) }
     ensures err { IfErr result (IsIll ((rs : List ArtifactRule) × Has (view value.now) name.now (λ x. IsRuleList x rs))) }
 {
+    trail.enter(name);
     let Some(found) = member_of(value, name) else {
         return Err(ShapeFault::WrongShape);
     };
-    read_rules(alloc, found)
+    let rules = read_rules(alloc, found, trail)?;
+    trail.leave();
+    Ok(rules)
 }
 
 /// The steps, the keys of their rules named by their ids.

@@ -23,6 +23,7 @@ use document_parts::keys::{
 };
 use document_parts::members::{bool_at, items_of, member_of, text_of};
 use document_parts::scopes::read_scope;
+use document_parts::trail::Trail;
 use path_patterns::RoleName;
 use std::alloc::Global;
 
@@ -57,19 +58,23 @@ pub(crate) struct SpelledDelegations {
 pub(crate) fn read_delegations(
     alloc: Global,
     value: &Value,
+    trail: &mut Trail,
 ) -> Result<SpelledDelegations, ShapeFault>
     requires { IsProper (view value.now) }
     ensures ok { IfOk result (λ d. HasDelegations (view value.now) (spelled_delegations d)) }
     ensures err { IfErr result (IsIll ((d : plain.Delegations) × HasDelegations (view value.now) d)) }
 {
+    trail.enter("keys");
     let Some(table) = member_of(value, "keys") else {
         return Err(ShapeFault::WrongShape);
     };
-    let keys = read_table(alloc, table)?;
+    let keys = read_table(alloc, table, trail)?;
+    trail.turn("roles");
     let Some(list) = member_of(value, "roles") else {
         return Err(ShapeFault::WrongShape);
     };
-    let roles = read_roles(alloc, list, &keys)?;
+    let roles = read_roles(alloc, list, &keys, trail)?;
+    trail.leave();
     Ok(SpelledDelegations { keys, roles })
 }
 
@@ -78,6 +83,7 @@ fn read_roles(
     alloc: Global,
     value: &Value,
     keys: &SpelledTable,
+    trail: &mut Trail,
 ) -> Result<Vec<SpelledDelegation>, ShapeFault>
     requires { IsProper (view value.now) }
     ensures ok { IfOk result (λ ds. AreDelegations (spelled_table keys.now) (view value.now) (spelled_list ds.items)) }
@@ -89,7 +95,9 @@ fn read_roles(
     if items.len() > MOST_DELEGATIONS {
         return Err(ShapeFault::WrongShape);
     }
-    let roles = roles_of(alloc, items, keys)?;
+    trail.enter_items();
+    let roles = roles_of(alloc, items, keys, trail)?;
+    trail.leave();
     if are_distinct(&roles) {
         Ok(roles)
     } else {
@@ -101,6 +109,7 @@ fn roles_of(
     alloc: Global,
     items: &[Value],
     keys: &SpelledTable,
+    trail: &mut Trail,
 ) -> Result<Vec<SpelledDelegation>, ShapeFault>
     requires { EachItem IsSound (items_view items.now) }
     ensures ok { IfOk result (λ ds. ItemsAre (IsDelegation (spelled_table keys.now)) (items_view items.now) (spelled_list ds.items)) }
@@ -109,8 +118,9 @@ fn roles_of(
     let mut roles = Vec::new(alloc);
     let mut rest = items;
     'items: while let Some((item, later)) = rest.split_first() {
-        let role = read_role(alloc, item, keys)?;
+        let role = read_role(alloc, item, keys, trail)?;
         roles.push(role)?;
+        trail.next();
         rest = later;
     }
     Ok(roles)
@@ -121,20 +131,25 @@ fn read_role(
     alloc: Global,
     value: &Value,
     keys: &SpelledTable,
+    trail: &mut Trail,
 ) -> Result<SpelledDelegation, ShapeFault>
     requires { IsProper (view value.now) }
     ensures ok { IfOk result (λ d. IsDelegation (spelled_table keys.now) (view value.now) (spelled_delegation d)) }
     ensures err { IfErr result (IsIll ((d : plain.Delegation) × IsDelegation (spelled_table keys.now) (view value.now) d)) }
 {
+    trail.enter("name");
     let Some(text) = member_of(value, "name") else {
         return Err(ShapeFault::WrongShape);
     };
     let name = read_name(alloc, text)?;
-    let rule = read_role_rule(alloc, value, "keyids", keys)?;
+    trail.leave();
+    let rule = read_role_rule(alloc, value, "keyids", keys, trail)?;
+    trail.enter("terminating");
     let Some(terminating) = bool_at(value, "terminating") else {
         return Err(ShapeFault::WrongShape);
     };
-    let scope = read_scope(alloc, value)?;
+    trail.leave();
+    let scope = read_scope(alloc, value, trail)?;
     Ok(SpelledDelegation {
         name,
         rule,
@@ -171,13 +186,14 @@ fn is_given(name: &str) -> bool
 pub(crate) fn name_delegations(
     alloc: Global,
     spelled: SpelledDelegations,
+    trail: &mut Trail,
 ) -> Result<Delegations, ShapeFault>
     requires { AreAllOver spelled }
     ensures ok { IfOk result (λ d. (delegations_view d ≡ spelled_delegations spelled) × NamesAreIds (spelled_table spelled.keys)) }
     ensures err { IfErr result (IsMisnamed (NamesAreIds (spelled_table spelled.keys))) }
 {
     let SpelledDelegations { keys, roles } = spelled;
-    let table = name_table(alloc, &keys)?;
+    let table = name_table(alloc, &keys, trail)?;
     let roles = name_roles(alloc, roles)?;
     Ok(Delegations { keys: table, roles })
 }

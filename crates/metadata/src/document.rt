@@ -17,6 +17,7 @@ use crate::targets::read_targets;
 use crate::timestamp::read_timestamp;
 use canonical_json::{ReadFault, Value, member, read};
 use document_parts::documents::{Body, Document, Kind, ShapeFault};
+use document_parts::trail::Trail;
 use keys_roles::Signature;
 use layout_files::layout::read_layout;
 use layout_files::link::read_link;
@@ -34,6 +35,20 @@ pub fn read_document<'a>(
     ensures document { IfOk result (λ d. IsDocument kind bytes.now (document_view d)) }
     ensures fault { IfErr result (λ e. (e ≡ ShapeFault.OutOfMemory) ⊎ IsShapeFault kind bytes.now e) }
 {
+    read_document_along(alloc, kind, bytes, &mut Trail::new())
+}
+
+/// The same along a new trail, which stands at the member or the item at fault where the shape, the type or a key's id is: at the document
+/// itself where its members are not those of an envelope, and for another fault.
+pub fn read_document_along<'a>(
+    alloc: Global,
+    kind: Kind,
+    bytes: &'a [u8],
+    trail: &mut Trail,
+) -> Result<Document<'a>, ShapeFault>
+    ensures document { IfOk result (λ d. IsDocument kind bytes.now (document_view d)) }
+    ensures fault { IfErr result (λ e. (e ≡ ShapeFault.OutOfMemory) ⊎ IsShapeFault kind bytes.now e) }
+{
     if bytes.len() > FILE_LIMIT {
         return Err(ShapeFault::TooLong);
     }
@@ -41,7 +56,7 @@ pub fn read_document<'a>(
         Ok(value) => value,
         Err(fault) => return Err(unread(fault)),
     };
-    let (signatures, body) = read_value(alloc, kind, &value)?;
+    let (signatures, body) = read_value(alloc, kind, &value, trail)?;
     let Some(signed) = member(bytes, "signed") else {
         return Err(ShapeFault::WrongShape);
     };
@@ -70,16 +85,20 @@ fn read_value(
     alloc: Global,
     kind: Kind,
     value: &Value,
+    trail: &mut Trail,
 ) -> Result<(Vec<Signature>, Body), ShapeFault>
     requires { IsProper (view value.now) }
     ensures ok { IfOk result (λ r. IsSignedAs kind (view value.now) (entries_view r.0.items) (body_view r.1)) }
     ensures err { IfErr result (IsFaultOf kind (view value.now)) }
 {
-    let envelope = read_envelope(alloc, value)?;
+    let envelope = read_envelope(alloc, value, trail)?;
+    trail.enter("signed");
+    trail.enter("_type");
     if !is_kind(kind, envelope.type_name) {
         return Err(ShapeFault::WrongType);
     }
-    let body = read_body(alloc, kind, &envelope)?;
+    trail.leave();
+    let body = read_body(alloc, kind, &envelope, trail)?;
     Ok((envelope.signatures, body))
 }
 
@@ -99,7 +118,12 @@ fn is_kind(kind: Kind, type_name: &str) -> bool
 }
 
 // What the signed part of the envelope says, by its kind.
-fn read_body(alloc: Global, kind: Kind, envelope: &Envelope) -> Result<Body, ShapeFault>
+fn read_body(
+    alloc: Global,
+    kind: Kind,
+    envelope: &Envelope,
+    trail: &mut Trail,
+) -> Result<Body, ShapeFault>
     requires { IsProper (view envelope.now.part.now) }
     ensures ok { IfOk result (λ b. IsBody kind (entries_view envelope.now.signatures.items) (view envelope.now.part.now) (body_view b)
         × AllByRecursion NamesAreIds (tables (body_view b))) }
@@ -108,14 +132,14 @@ fn read_body(alloc: Global, kind: Kind, envelope: &Envelope) -> Result<Body, Sha
 {
     let part = envelope.part;
     match kind {
-        Kind::Root => Ok(Body::Root(read_root(alloc, part)?)),
-        Kind::Timestamp => match read_timestamp(part) {
+        Kind::Root => Ok(Body::Root(read_root(alloc, part, trail)?)),
+        Kind::Timestamp => match read_timestamp(part, trail) {
             Some(timestamp) => Ok(Body::Timestamp(timestamp)),
             None => Err(ShapeFault::WrongShape),
         },
-        Kind::Snapshot => Ok(Body::Snapshot(read_snapshot(alloc, part)?)),
-        Kind::Targets => Ok(Body::Targets(read_targets(alloc, part)?)),
-        Kind::Layout => Ok(Body::Layout(read_layout(alloc, part)?)),
-        Kind::Link => Ok(Body::Link(read_link(alloc, &envelope.signatures, part)?)),
+        Kind::Snapshot => Ok(Body::Snapshot(read_snapshot(alloc, part, trail)?)),
+        Kind::Targets => Ok(Body::Targets(read_targets(alloc, part, trail)?)),
+        Kind::Layout => Ok(Body::Layout(read_layout(alloc, part, trail)?)),
+        Kind::Link => Ok(Body::Link(read_link(alloc, &envelope.signatures, part, trail)?)),
     }
 }

@@ -13,6 +13,7 @@ use canonical_json::Value;
 use document_parts::distinct::are_distinct;
 use document_parts::documents::ShapeFault;
 use document_parts::members::{items_of, member_of, text_of, two_members};
+use document_parts::trail::Trail;
 use keys_roles::{KeyId, Signature};
 use limits::MOST_SIGNATURES;
 use path_patterns::{Digest, are_hex_digits};
@@ -30,7 +31,11 @@ pub(crate) struct Envelope<'a> {
 }
 
 /// The envelope that the value is.
-pub(crate) fn read_envelope<'a>(alloc: Global, value: &'a Value) -> Result<Envelope<'a>, ShapeFault>
+pub(crate) fn read_envelope<'a>(
+    alloc: Global,
+    value: &'a Value,
+    trail: &mut Trail,
+) -> Result<Envelope<'a>, ShapeFault>
     requires { IsProper (view value.now) }
     ensures ok { IfOk result (λ e. IsEnvelope (view value.now) (entries_view e.signatures.items) (view e.part.now) e.type_name.now) }
     ensures proper { IfOk result (λ e. IsProper (view e.part.now)) }
@@ -40,10 +45,15 @@ pub(crate) fn read_envelope<'a>(alloc: Global, value: &'a Value) -> Result<Envel
     let Some((list, part)) = two_members(value, "signatures", "signed") else {
         return Err(ShapeFault::WrongShape);
     };
+    trail.enter("signed");
+    trail.enter("_type");
     let Some(type_name) = type_of(part) else {
         return Err(ShapeFault::WrongShape);
     };
-    let signatures = read_signatures(alloc, list)?;
+    trail.leave();
+    trail.turn("signatures");
+    let signatures = read_signatures(alloc, list, trail)?;
+    trail.leave();
     Ok(Envelope {
         signatures,
         part,
@@ -62,7 +72,11 @@ fn type_of(part: &Value) -> Option<&str>
 }
 
 // The signatures that the value is.
-fn read_signatures(alloc: Global, value: &Value) -> Result<Vec<Signature>, ShapeFault>
+fn read_signatures(
+    alloc: Global,
+    value: &Value,
+    trail: &mut Trail,
+) -> Result<Vec<Signature>, ShapeFault>
     requires { IsProper (view value.now) }
     ensures ok { IfOk result (λ s. AreSignatures (view value.now) (entries_view s.items)) }
     ensures err { IfErr result (IsIll ((s : List plain.Signature) × AreSignatures (view value.now) s)) }
@@ -73,7 +87,9 @@ fn read_signatures(alloc: Global, value: &Value) -> Result<Vec<Signature>, Shape
     if items.len() > MOST_SIGNATURES {
         return Err(ShapeFault::WrongShape);
     }
-    let signatures = signatures_of(alloc, items)?;
+    trail.enter_items();
+    let signatures = signatures_of(alloc, items, trail)?;
+    trail.leave();
     if are_distinct(&signatures) {
         Ok(signatures)
     } else {
@@ -81,34 +97,42 @@ fn read_signatures(alloc: Global, value: &Value) -> Result<Vec<Signature>, Shape
     }
 }
 
-fn signatures_of(alloc: Global, items: &[Value]) -> Result<Vec<Signature>, ShapeFault>
+fn signatures_of(
+    alloc: Global,
+    items: &[Value],
+    trail: &mut Trail,
+) -> Result<Vec<Signature>, ShapeFault>
     ensures ok { IfOk result (λ s. ItemsAre IsEntry (items_view items.now) (entries_view s.items)) }
     ensures err { IfErr result (IsIll ((s : List plain.Signature) × ItemsAre IsEntry (items_view items.now) s)) }
 {
     let mut signatures = Vec::new(alloc);
     let mut rest = items;
     'items: while let Some((item, later)) = rest.split_first() {
-        let signature = read_signature(alloc, item)?;
+        let signature = read_signature(alloc, item, trail)?;
         signatures.push(signature)?;
+        trail.next();
         rest = later;
     }
     Ok(signatures)
 }
 
 // The signature that the value is.
-fn read_signature(alloc: Global, value: &Value) -> Result<Signature, ShapeFault>
+fn read_signature(alloc: Global, value: &Value, trail: &mut Trail) -> Result<Signature, ShapeFault>
     ensures ok { IfOk result (λ s. IsEntry (view value.now) (entry_view s)) }
     ensures err { IfErr result (IsIll ((s : plain.Signature) × IsEntry (view value.now) s)) }
 {
     let Some((keyid, digits)) = signature_texts(value) else {
         return Err(ShapeFault::WrongShape);
     };
+    trail.enter("keyid");
     let Some(digest) = Digest::read(keyid) else {
         return Err(ShapeFault::WrongShape);
     };
+    trail.turn("sig");
     if !are_signature_digits(digits.as_bytes()) {
         return Err(ShapeFault::WrongShape);
     }
+    trail.leave();
     let keyid = KeyId(digest.0);
     let sig = String::from_str(alloc, digits)?;
     Ok(Signature { keyid, sig })

@@ -25,7 +25,7 @@ ghost use Rattle.document_parts.specs.declared.documents.Kind.{Kind};
 ghost use Rattle.document_parts.specs.declared.documents.ShapeFault.{ShapeFault};
 
 use canonical_json::one_spelling;
-pub use document::read_document;
+pub use document::{read_document, read_document_along};
 pub use document_parts::dates::read_date_time;
 pub use document_parts::documents::{
     Body, Delegation, Delegations, Document, Kind, Layout, LayoutReference, Listing, Meta, Profile,
@@ -36,6 +36,7 @@ pub use document_parts::links::{Artifacts, Link};
 pub use document_parts::members::{four_members, items_of, members_of, text_of, two_members};
 pub use document_parts::moment::{Moment, live};
 pub use document_parts::rules::{Match, Rule, Side};
+pub use document_parts::trail::{Part, Trail};
 pub use file::{
     File, read_layout_file, read_link_file, read_root_file, read_snapshot_file, read_targets_file,
     read_timestamp_file,

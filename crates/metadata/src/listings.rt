@@ -17,6 +17,7 @@ use canonical_json::Value;
 use document_parts::documents::{LayoutReference, Listing, ShapeFault};
 use document_parts::members::members_of;
 use document_parts::parts::{hashes_of, length_of};
+use document_parts::trail::Trail;
 use path_patterns::{Digest, TargetPath};
 use std::alloc::Global;
 
@@ -30,7 +31,11 @@ pub(crate) struct SpelledListing {
 }
 
 /// The listings that the value is, whatever the names in their key tables.
-pub(crate) fn read_table(alloc: Global, value: &Value) -> Result<Vec<SpelledListing>, ShapeFault>
+pub(crate) fn read_table(
+    alloc: Global,
+    value: &Value,
+    trail: &mut Trail,
+) -> Result<Vec<SpelledListing>, ShapeFault>
     requires { IsProper (view value.now) }
     ensures ok { IfOk result (λ listings. IsObject IsListing (view value.now) (spelled_listings listings.items)) }
     ensures err { IfErr result (IsIll ((listings : List plain.Listing) × IsObject IsListing (view value.now) listings)) }
@@ -38,12 +43,16 @@ pub(crate) fn read_table(alloc: Global, value: &Value) -> Result<Vec<SpelledList
     let Some(members) = members_of(value) else {
         return Err(ShapeFault::WrongShape);
     };
-    read_listings(alloc, members)
+    trail.enter_entries();
+    let listings = read_listings(alloc, members, trail)?;
+    trail.leave();
+    Ok(listings)
 }
 
 fn read_listings(
     alloc: Global,
     members: &[(String, Value)],
+    trail: &mut Trail,
 ) -> Result<Vec<SpelledListing>, ShapeFault>
     requires { EachMember IsSound (members_view members.now) }
     ensures ok { IfOk result (λ listings. MembersAre IsListing (members_view members.now) (spelled_listings listings.items)) }
@@ -52,26 +61,34 @@ fn read_listings(
     let mut listings = Vec::new(alloc);
     let mut rest = members;
     'members: while let Some((member, later)) = rest.split_first() {
-        let listing = read_listing(alloc, member.0.as_str(), &member.1)?;
+        let listing = read_listing(alloc, member.0.as_str(), &member.1, trail)?;
         listings.push(listing)?;
+        trail.next();
         rest = later;
     }
     Ok(listings)
 }
 
 // The target of this path, with what the value says of it.
-fn read_listing(alloc: Global, path: &str, value: &Value) -> Result<SpelledListing, ShapeFault>
+fn read_listing(
+    alloc: Global,
+    path: &str,
+    value: &Value,
+    trail: &mut Trail,
+) -> Result<SpelledListing, ShapeFault>
     requires { IsProper (view value.now) }
     ensures ok { IfOk result (λ l. IsListing path.now (view value.now) (spelled_listing l)) }
     ensures err { IfErr result (IsIll ((l : plain.Listing) × IsListing path.now (view value.now) l)) }
 {
+    trail.enter("length");
     let Some(length) = length_of(value) else {
         return Err(ShapeFault::WrongShape);
     };
-    let Some(digest) = hashes_of(value) else {
+    trail.leave();
+    let Some(digest) = hashes_of(value, trail) else {
         return Err(ShapeFault::WrongShape);
     };
-    let layout = reference_of(alloc, value)?;
+    let layout = reference_of(alloc, value, trail)?;
     let Some(path) = TargetPath::read(alloc, path)? else {
         return Err(ShapeFault::WrongShape);
     };
@@ -87,6 +104,7 @@ fn read_listing(alloc: Global, path: &str, value: &Value) -> Result<SpelledListi
 pub(crate) fn name_listings(
     alloc: Global,
     spelled: Vec<SpelledListing>,
+    trail: &mut Trail,
 ) -> Result<Vec<Listing>, ShapeFault>
     requires { AllByRecursion (λ l. IsOwned l.layout) (spelled_listings spelled.items) }
     ensures ok { IfOk result (λ ls. (map listing_view ls.items ≡ spelled_listings spelled.items)
@@ -95,13 +113,18 @@ pub(crate) fn name_listings(
 {
     let mut listings = Vec::new(alloc);
     for listing in spelled {
-        let named = name_listing(alloc, listing)?;
+        let named = name_listing(alloc, listing, trail)?;
         listings.push(named)?;
+        trail.next();
     }
     Ok(listings)
 }
 
-fn name_listing(alloc: Global, spelled: SpelledListing) -> Result<Listing, ShapeFault>
+fn name_listing(
+    alloc: Global,
+    spelled: SpelledListing,
+    trail: &mut Trail,
+) -> Result<Listing, ShapeFault>
     requires { IsOwned (spelled_listing spelled).layout }
     ensures ok { IfOk result (λ l. (listing_view l ≡ spelled_listing spelled) × HasIds (spelled_listing spelled).layout) }
     ensures err { IfErr result (IsMisnamed (HasIds (spelled_listing spelled).layout)) }
@@ -112,7 +135,7 @@ fn name_listing(alloc: Global, spelled: SpelledListing) -> Result<Listing, Shape
         digest,
         layout,
     } = spelled;
-    let layout = name_layout(alloc, layout)?;
+    let layout = name_layout(alloc, layout, trail)?;
     Ok(Listing {
         path,
         length,
@@ -125,6 +148,7 @@ fn name_listing(alloc: Global, spelled: SpelledListing) -> Result<Listing, Shape
 fn name_layout(
     alloc: Global,
     spelled: Option<SpelledReference>,
+    trail: &mut Trail,
 ) -> Result<Option<LayoutReference>, ShapeFault>
     requires { IsOwned (option_map spelled_reference spelled) }
     ensures ok { IfOk result (λ o. (option_map reference_view o ≡ option_map spelled_reference spelled) × HasIds (option_map spelled_reference spelled)) }
@@ -133,6 +157,10 @@ fn name_layout(
     let Some(spelled) = spelled else {
         return Ok(None);
     };
-    let reference = name_reference(alloc, spelled)?;
+    trail.enter("custom");
+    trail.enter("layout");
+    let reference = name_reference(alloc, spelled, trail)?;
+    trail.leave();
+    trail.leave();
     Ok(Some(reference))
 }

@@ -24,6 +24,7 @@ use document_parts::keys::{
 use document_parts::members::{items_of, member_of, members_of, next_member, text_of};
 use document_parts::names::name_at;
 use document_parts::scopes::are_few;
+use document_parts::trail::Trail;
 use path_patterns::{RoleName, TargetPath};
 use std::alloc::Global;
 
@@ -42,6 +43,7 @@ pub(crate) struct SpelledReference {
 pub(crate) fn reference_of(
     alloc: Global,
     value: &Value,
+    trail: &mut Trail,
 ) -> Result<Option<SpelledReference>, ShapeFault>
     requires { IsProper (view value.now) }
     ensures ok { IfOk result (λ o. HasLayoutReference (view value.now) (option_map spelled_reference o)) }
@@ -50,12 +52,18 @@ pub(crate) fn reference_of(
     let Some(custom) = member_of(value, "custom") else {
         return Ok(None);
     };
-    let reference = reference_in(alloc, custom)?;
+    trail.enter("custom");
+    let reference = reference_in(alloc, custom, trail)?;
+    trail.leave();
     Ok(reference)
 }
 
 // The layout that `custom` refers to, if it refers to one.
-fn reference_in(alloc: Global, custom: &Value) -> Result<Option<SpelledReference>, ShapeFault>
+fn reference_in(
+    alloc: Global,
+    custom: &Value,
+    trail: &mut Trail,
+) -> Result<Option<SpelledReference>, ShapeFault>
     requires { IsProper (view custom.now) }
     ensures ok { IfOk result (λ o. IsCustom (view custom.now) (option_map spelled_reference o)) }
     ensures err { IfErr result (IsIll ((o : Option plain.LayoutReference) × IsCustom (view custom.now) o)) }
@@ -66,12 +74,18 @@ fn reference_in(alloc: Global, custom: &Value) -> Result<Option<SpelledReference
     let Some(found) = member_of(custom, "layout") else {
         return Ok(None);
     };
-    let reference = read_reference(alloc, found)?;
+    trail.enter("layout");
+    let reference = read_reference(alloc, found, trail)?;
+    trail.leave();
     Ok(Some(reference))
 }
 
 // The reference to a layout that the value is.
-fn read_reference(alloc: Global, value: &Value) -> Result<SpelledReference, ShapeFault>
+fn read_reference(
+    alloc: Global,
+    value: &Value,
+    trail: &mut Trail,
+) -> Result<SpelledReference, ShapeFault>
     requires { IsProper (view value.now) }
     ensures ok { IfOk result (λ l. IsLayoutReference (view value.now) (spelled_reference l)) }
     ensures err { IfErr result (IsIll ((l : plain.LayoutReference) × IsLayoutReference (view value.now) l)) }
@@ -79,15 +93,17 @@ fn read_reference(alloc: Global, value: &Value) -> Result<SpelledReference, Shap
     if !has_just_those(value) {
         return Err(ShapeFault::WrongShape);
     }
-    let keys = keys_of(alloc, value)?;
-    let owners = read_role_rule(alloc, value, "keyids", &keys)?;
-    let links = links_of(alloc, value)?;
-    let path = path_at(alloc, value, "path")?;
+    let keys = keys_of(alloc, value, trail)?;
+    let owners = read_role_rule(alloc, value, "keyids", &keys, trail)?;
+    let links = links_of(alloc, value, trail)?;
+    let path = path_at(alloc, value, "path", trail)?;
+    trail.enter("links");
     if !are_apart(&path, &links) {
         return Err(ShapeFault::WrongShape);
     }
-    let product = path_at(alloc, value, "product")?;
-    let step = name_at(alloc, value, "step")?;
+    trail.leave();
+    let product = path_at(alloc, value, "product", trail)?;
+    let step = name_at(alloc, value, "step", trail)?;
     Ok(SpelledReference {
         owners,
         keys,
@@ -158,19 +174,26 @@ fn behind<'a>(members: &'a [(String, Value)], name: &str) -> Option<&'a [(String
 }
 
 // The paths that the object has under `links`.
-fn links_of(alloc: Global, value: &Value) -> Result<Vec<TargetPath>, ShapeFault>
+fn links_of(alloc: Global, value: &Value, trail: &mut Trail) -> Result<Vec<TargetPath>, ShapeFault>
     requires { IsProper (view value.now) }
     ensures ok { IfOk result (λ ps. Has (view value.now) (codes "links") (λ x. AreTextsOf IsTargetPath x ps.items)) }
     ensures err { IfErr result (IsIll ((ps : List (List ℕ)) × Has (view value.now) (codes "links") (λ x. AreTextsOf IsTargetPath x ps))) }
 {
+    trail.enter("links");
     let Some(found) = member_of(value, "links") else {
         return Err(ShapeFault::WrongShape);
     };
-    read_paths(alloc, found)
+    let links = read_paths(alloc, found, trail)?;
+    trail.leave();
+    Ok(links)
 }
 
 // The paths that the value is.
-fn read_paths(alloc: Global, value: &Value) -> Result<Vec<TargetPath>, ShapeFault>
+fn read_paths(
+    alloc: Global,
+    value: &Value,
+    trail: &mut Trail,
+) -> Result<Vec<TargetPath>, ShapeFault>
     ensures ok { IfOk result (λ ps. AreTextsOf IsTargetPath (view value.now) ps.items) }
     ensures err { IfErr result (IsIll ((ps : List (List ℕ)) × AreTextsOf IsTargetPath (view value.now) ps)) }
 {
@@ -180,11 +203,17 @@ fn read_paths(alloc: Global, value: &Value) -> Result<Vec<TargetPath>, ShapeFaul
     if !are_few(items) {
         return Err(ShapeFault::WrongShape);
     }
-    let paths = paths_of(alloc, items)?;
+    trail.enter_items();
+    let paths = paths_of(alloc, items, trail)?;
+    trail.leave();
     Ok(paths)
 }
 
-fn paths_of(alloc: Global, items: &[Value]) -> Result<Vec<TargetPath>, ShapeFault>
+fn paths_of(
+    alloc: Global,
+    items: &[Value],
+    trail: &mut Trail,
+) -> Result<Vec<TargetPath>, ShapeFault>
     ensures ok { IfOk result (λ ps. ItemsAre (IsTextOf IsTargetPath) (items_view items.now) ps.items) }
     ensures err { IfErr result (IsIll ((ps : List (List ℕ)) × ItemsAre (IsTextOf IsTargetPath) (items_view items.now) ps)) }
 {
@@ -193,21 +222,30 @@ fn paths_of(alloc: Global, items: &[Value]) -> Result<Vec<TargetPath>, ShapeFaul
     'items: while let Some((item, later)) = rest.split_first() {
         let path = read_path(alloc, item)?;
         paths.push(path)?;
+        trail.next();
         rest = later;
     }
     Ok(paths)
 }
 
 // The path that the object has under the name.
-fn path_at(alloc: Global, value: &Value, name: &str) -> Result<TargetPath, ShapeFault>
+fn path_at(
+    alloc: Global,
+    value: &Value,
+    name: &'static str,
+    trail: &mut Trail,
+) -> Result<TargetPath, ShapeFault>
     requires { IsProper (view value.now) }
     ensures ok { IfOk result (λ p. Has (view value.now) name.now (λ x. IsTextOf IsTargetPath x p)) }
     ensures err { IfErr result (IsIll ((p : List ℕ) × Has (view value.now) name.now (λ x. IsTextOf IsTargetPath x p))) }
 {
+    trail.enter(name);
     let Some(found) = member_of(value, name) else {
         return Err(ShapeFault::WrongShape);
     };
-    read_path(alloc, found)
+    let path = read_path(alloc, found)?;
+    trail.leave();
+    Ok(path)
 }
 
 // The path that the value is.
@@ -235,6 +273,7 @@ fn are_apart(path: &TargetPath, links: &[TargetPath]) -> bool
 pub(crate) fn name_reference(
     alloc: Global,
     spelled: SpelledReference,
+    trail: &mut Trail,
 ) -> Result<LayoutReference, ShapeFault>
     requires { IsRuleOver (spelled_table spelled.keys) (spelled_rule spelled.owners) }
     ensures ok { IfOk result (λ l. (reference_view l ≡ spelled_reference spelled) × NamesAreIds (spelled_table spelled.keys)) }
@@ -248,7 +287,7 @@ pub(crate) fn name_reference(
         product,
         step,
     } = spelled;
-    let table = name_table(alloc, &keys)?;
+    let table = name_table(alloc, &keys, trail)?;
     let owners = name_rule(alloc, &owners)?;
     Ok(LayoutReference {
         owners,

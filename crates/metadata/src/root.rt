@@ -22,6 +22,7 @@ use document_parts::members::{four_members, is_true_at, member_of};
 use document_parts::moment::Moment;
 use document_parts::parts::{profile_of, version_of};
 use document_parts::required::required_of;
+use document_parts::trail::Trail;
 use keys_roles::{KeyTable, RoleRule};
 use std::alloc::Global;
 
@@ -45,19 +46,25 @@ pub(crate) struct Keyed {
 }
 
 /// The root that the signed part is, its keys named by their ids.
-pub(crate) fn read_root(alloc: Global, signed: &Value) -> Result<Root, ShapeFault>
+pub(crate) fn read_root(
+    alloc: Global,
+    signed: &Value,
+    trail: &mut Trail,
+) -> Result<Root, ShapeFault>
     requires { IsProper (view signed.now) }
     ensures ok { IfOk result (λ r. IsRoot (view signed.now) (root_view r) × NamesAreIds (table_view r.keys)) }
     ensures err { IfErr result (IsFaulty (IsRoot (view signed.now)) (λ r. NamesAreIds r.keys)) }
 {
-    let Some((profile, version, expires)) = read_root_head(signed) else {
+    let Some((profile, version, expires)) = read_root_head(signed, trail) else {
         return Err(ShapeFault::WrongShape);
     };
+    trail.enter("consistent_snapshot");
     if !is_true_at(signed, "consistent_snapshot") {
         return Err(ShapeFault::WrongShape);
     }
-    let required = required_of(alloc, signed, profile)?;
-    let keyed = keyed_of(alloc, signed)?;
+    trail.leave();
+    let required = required_of(alloc, signed, profile, trail)?;
+    let keyed = keyed_of(alloc, signed, trail)?;
     Ok(Root {
         version,
         expires,
@@ -72,14 +79,18 @@ pub(crate) fn read_root(alloc: Global, signed: &Value) -> Result<Root, ShapeFaul
 }
 
 // The profile, the version and the expiry that the signed part has.
-fn read_root_head(signed: &Value) -> Option<(Profile, u32, Moment)>
+fn read_root_head(signed: &Value, trail: &mut Trail) -> Option<(Profile, u32, Moment)>
     requires { IsProper (view signed.now) }
     ensures { MatchOption result ((profile : documents.Profile) (version expires : ℕ) → HasRootHead (view signed.now) profile version expires → ⊥)
         (λ head. HasRootHead (view signed.now) (profile_view head.0) head.1 head.2) }
 {
+    trail.enter("spec_version");
     let profile = profile_at(signed)?;
+    trail.turn("version");
     let version = version_of(signed)?;
+    trail.turn("expires");
     let expires = expires_of(signed)?;
+    trail.leave();
     Some((profile, version, expires))
 }
 
@@ -95,31 +106,44 @@ fn profile_at(signed: &Value) -> Option<Profile>
 }
 
 // The keys and the rules of the four roles that the object has, each key named by its id.
-fn keyed_of(alloc: Global, signed: &Value) -> Result<Keyed, ShapeFault>
+fn keyed_of(alloc: Global, signed: &Value, trail: &mut Trail) -> Result<Keyed, ShapeFault>
     requires { IsProper (view signed.now) }
     ensures ok { IfOk result (λ k. HasKeyed (view signed.now) (keyed_view k) × NamesAreIds (table_view k.keys)) }
     ensures err { IfErr result (IsFaulty (HasKeyed (view signed.now)) (λ k. NamesAreIds k.0)) }
 {
-    let keys = keys_of(alloc, signed)?;
-    let roles = roles_of(alloc, signed, &keys)?;
-    let keyed = named(alloc, &keys, &roles)?;
+    let keys = keys_of(alloc, signed, trail)?;
+    let roles = roles_of(alloc, signed, &keys, trail)?;
+    let keyed = named(alloc, &keys, &roles, trail)?;
     Ok(keyed)
 }
 
 // The rules of the four roles that the object has under `roles`.
-fn roles_of(alloc: Global, signed: &Value, keys: &SpelledTable) -> Result<SpelledRoles, ShapeFault>
+fn roles_of(
+    alloc: Global,
+    signed: &Value,
+    keys: &SpelledTable,
+    trail: &mut Trail,
+) -> Result<SpelledRoles, ShapeFault>
     requires { IsProper (view signed.now) }
     ensures ok { IfOk result (λ r. Has (view signed.now) (codes "roles") (λ x. AreRoles x (spelled_table keys.now) (spelled_roles r))) }
     ensures err { IfErr result (IsIll ((r : Roles) × Has (view signed.now) (codes "roles") (λ x. AreRoles x (spelled_table keys.now) r))) }
 {
+    trail.enter("roles");
     let Some(roles) = member_of(signed, "roles") else {
         return Err(ShapeFault::WrongShape);
     };
-    read_roles(alloc, roles, keys)
+    let roles = read_roles(alloc, roles, keys, trail)?;
+    trail.leave();
+    Ok(roles)
 }
 
 // The rules of the four roles that the value is.
-fn read_roles(alloc: Global, roles: &Value, keys: &SpelledTable) -> Result<SpelledRoles, ShapeFault>
+fn read_roles(
+    alloc: Global,
+    roles: &Value,
+    keys: &SpelledTable,
+    trail: &mut Trail,
+) -> Result<SpelledRoles, ShapeFault>
     requires { IsProper (view roles.now) }
     ensures ok { IfOk result (λ r. AreRoles (view roles.now) (spelled_table keys.now) (spelled_roles r)) }
     ensures err { IfErr result (IsIll ((r : Roles) × AreRoles (view roles.now) (spelled_table keys.now) r)) }
@@ -133,10 +157,15 @@ fn read_roles(alloc: Global, roles: &Value, keys: &SpelledTable) -> Result<Spell
     ) else {
         return Err(ShapeFault::WrongShape);
     };
-    let root = read_role_rule(alloc, root, "keyids", keys)?;
-    let snapshot = read_role_rule(alloc, snapshot, "keyids", keys)?;
-    let targets = read_role_rule(alloc, targets, "keyids", keys)?;
-    let timestamp = read_role_rule(alloc, timestamp, "keyids", keys)?;
+    trail.enter("root");
+    let root = read_role_rule(alloc, root, "keyids", keys, trail)?;
+    trail.turn("snapshot");
+    let snapshot = read_role_rule(alloc, snapshot, "keyids", keys, trail)?;
+    trail.turn("targets");
+    let targets = read_role_rule(alloc, targets, "keyids", keys, trail)?;
+    trail.turn("timestamp");
+    let timestamp = read_role_rule(alloc, timestamp, "keyids", keys, trail)?;
+    trail.leave();
     Ok(SpelledRoles {
         root,
         snapshot,
@@ -146,12 +175,17 @@ fn read_roles(alloc: Global, roles: &Value, keys: &SpelledTable) -> Result<Spell
 }
 
 // The keys and the rules, each key named by its id.
-fn named(alloc: Global, keys: &SpelledTable, roles: &SpelledRoles) -> Result<Keyed, ShapeFault>
+fn named(
+    alloc: Global,
+    keys: &SpelledTable,
+    roles: &SpelledRoles,
+    trail: &mut Trail,
+) -> Result<Keyed, ShapeFault>
     requires { AreOver keys.now roles.now }
     ensures ok { IfOk result (λ k. (keyed_view k ≡ (spelled_table keys.now, spelled_roles roles.now)) × NamesAreIds (spelled_table keys.now)) }
     ensures err { IfErr result (IsMisnamed (NamesAreIds (spelled_table keys.now))) }
 {
-    let table = name_table(alloc, keys)?;
+    let table = name_table(alloc, keys, trail)?;
     let root = name_rule(alloc, &roles.root)?;
     let targets = name_rule(alloc, &roles.targets)?;
     let snapshot = name_rule(alloc, &roles.snapshot)?;

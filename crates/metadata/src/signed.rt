@@ -7,6 +7,7 @@ use crate::document::unread;
 use crate::envelope::read_envelope;
 use canonical_json::{member, read};
 use document_parts::documents::ShapeFault;
+use document_parts::trail::Trail;
 use keys_roles::Signature;
 use limits::FILE_LIMIT;
 use std::alloc::Global;
@@ -31,7 +32,7 @@ pub fn read_signed<'a>(alloc: Global, bytes: &'a [u8]) -> Result<SignedFile<'a>,
         Ok(value) => value,
         Err(fault) => return Err(unread(fault)),
     };
-    let signatures = read_envelope(alloc, &value)?.signatures;
+    let signatures = read_envelope(alloc, &value, &mut Trail::new())?.signatures;
     let Some(signed) = member(bytes, "signed") else {
         return Err(ShapeFault::WrongShape);
     };

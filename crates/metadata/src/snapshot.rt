@@ -17,6 +17,7 @@ use document_parts::documents::{Meta, ShapeFault, Snapshot};
 use document_parts::head::read_head;
 use document_parts::members::{member_of, members_of};
 use document_parts::parts::read_meta;
+use document_parts::trail::Trail;
 use path_patterns::RoleName;
 use std::alloc::Global;
 
@@ -24,18 +25,24 @@ use std::alloc::Global;
 const MOST_ROLES: usize = 128;
 
 /// What the signed part of a snapshot says.
-pub(crate) fn read_snapshot(alloc: Global, signed: &Value) -> Result<Snapshot, ShapeFault>
+pub(crate) fn read_snapshot(
+    alloc: Global,
+    signed: &Value,
+    trail: &mut Trail,
+) -> Result<Snapshot, ShapeFault>
     requires { IsProper (view signed.now) }
     ensures ok { IfOk result (λ s. IsSnapshot (view signed.now) (snapshot_view s)) }
     ensures err { IfErr result (IsIll ((s : plain.Snapshot) × IsSnapshot (view signed.now) s)) }
 {
-    let Some((version, expires)) = read_head(signed) else {
+    let Some((version, expires)) = read_head(signed, trail) else {
         return Err(ShapeFault::WrongShape);
     };
+    trail.enter("meta");
     let Some(found) = member_of(signed, "meta") else {
         return Err(ShapeFault::WrongShape);
     };
-    let meta = read_table(alloc, found)?;
+    let meta = read_table(alloc, found, trail)?;
+    trail.leave();
     Ok(Snapshot {
         version,
         expires,
@@ -44,7 +51,11 @@ pub(crate) fn read_snapshot(alloc: Global, signed: &Value) -> Result<Snapshot, S
 }
 
 // The roles of a snapshot, with what is said of their documents.
-fn read_table(alloc: Global, value: &Value) -> Result<Vec<(RoleName, Meta)>, ShapeFault>
+fn read_table(
+    alloc: Global,
+    value: &Value,
+    trail: &mut Trail,
+) -> Result<Vec<(RoleName, Meta)>, ShapeFault>
     requires { IsProper (view value.now) }
     ensures ok { IfOk result (λ rows. AreMetaRows (view value.now) (rows_view rows.items)) }
     ensures err { IfErr result (IsIll ((rows : List (List ℕ × plain.MetaFile)) × AreMetaRows (view value.now) rows)) }
@@ -55,7 +66,9 @@ fn read_table(alloc: Global, value: &Value) -> Result<Vec<(RoleName, Meta)>, Sha
     if members.len() > MOST_ROLES {
         return Err(ShapeFault::WrongShape);
     }
-    let rows = read_rows(alloc, members)?;
+    trail.enter_entries();
+    let rows = read_rows(alloc, members, trail)?;
+    trail.leave();
     if !is_listed(&rows, "targets") {
         return Err(ShapeFault::WrongShape);
     }
@@ -69,6 +82,7 @@ fn read_table(alloc: Global, value: &Value) -> Result<Vec<(RoleName, Meta)>, Sha
 fn read_rows(
     alloc: Global,
     members: &[(String, Value)],
+    trail: &mut Trail,
 ) -> Result<Vec<(RoleName, Meta)>, ShapeFault>
     requires { EachMember IsSound (members_view members.now) }
     ensures ok { IfOk result (λ rows. MembersAre IsMetaRow (members_view members.now) (rows_view rows.items)) }
@@ -77,15 +91,21 @@ fn read_rows(
     let mut rows = Vec::new(alloc);
     let mut rest = members;
     'members: while let Some((member, later)) = rest.split_first() {
-        let row = read_row(alloc, member.0.as_str(), &member.1)?;
+        let row = read_row(alloc, member.0.as_str(), &member.1, trail)?;
         rows.push(row)?;
+        trail.next();
         rest = later;
     }
     Ok(rows)
 }
 
 // The role whose file this is, with what the value says of it.
-fn read_row(alloc: Global, name: &str, value: &Value) -> Result<(RoleName, Meta), ShapeFault>
+fn read_row(
+    alloc: Global,
+    name: &str,
+    value: &Value,
+    trail: &mut Trail,
+) -> Result<(RoleName, Meta), ShapeFault>
     requires { IsProper (view value.now) }
     ensures ok { IfOk result (λ e. IsMetaRow name.now (view value.now) (e.0, meta_view e.1)) }
     ensures err { IfErr result (IsIll ((e : List ℕ × plain.MetaFile) × IsMetaRow name.now (view value.now) e)) }
@@ -93,7 +113,7 @@ fn read_row(alloc: Global, name: &str, value: &Value) -> Result<(RoleName, Meta)
     let Some(text) = role_of(name) else {
         return Err(ShapeFault::WrongShape);
     };
-    let Some(meta) = read_meta(value) else {
+    let Some(meta) = read_meta(value, trail) else {
         return Err(ShapeFault::WrongShape);
     };
     let Some(role) = RoleName::read(alloc, text)? else {

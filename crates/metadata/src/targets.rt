@@ -19,24 +19,33 @@ use canonical_json::Value;
 use document_parts::documents::{Delegations, ShapeFault, Targets};
 use document_parts::head::read_head;
 use document_parts::members::member_of;
+use document_parts::trail::Trail;
 use std::alloc::Global;
 
 /// The targets metadata that the signed part is, the keys of its delegations named by their ids.
-pub(crate) fn read_targets(alloc: Global, signed: &Value) -> Result<Targets, ShapeFault>
+pub(crate) fn read_targets(
+    alloc: Global,
+    signed: &Value,
+    trail: &mut Trail,
+) -> Result<Targets, ShapeFault>
     requires { IsProper (view signed.now) }
     ensures ok { IfOk result (λ t. IsTargets (view signed.now) (targets_view t) × AreNamed (targets_view t)) }
     ensures err { IfErr result (IsFaulty (IsTargets (view signed.now)) AreNamed) }
 {
-    let Some((version, expires)) = read_head(signed) else {
+    let Some((version, expires)) = read_head(signed, trail) else {
         return Err(ShapeFault::WrongShape);
     };
+    trail.enter("targets");
     let Some(found) = member_of(signed, "targets") else {
         return Err(ShapeFault::WrongShape);
     };
-    let listings = read_table(alloc, found)?;
-    let spelled = delegations_of(alloc, signed)?;
-    let delegations = named(alloc, spelled)?;
-    let targets = name_listings(alloc, listings)?;
+    let listings = read_table(alloc, found, trail)?;
+    trail.turn("delegations");
+    let spelled = delegations_of(alloc, signed, trail)?;
+    let delegations = named(alloc, spelled, trail)?;
+    trail.turn("targets");
+    trail.enter_entries();
+    let targets = name_listings(alloc, listings, trail)?;
     Ok(Targets {
         version,
         expires,
@@ -46,7 +55,11 @@ pub(crate) fn read_targets(alloc: Global, signed: &Value) -> Result<Targets, Sha
 }
 
 // The delegations that the object has, if it has any, whatever the names in their key table.
-fn delegations_of(alloc: Global, signed: &Value) -> Result<Option<SpelledDelegations>, ShapeFault>
+fn delegations_of(
+    alloc: Global,
+    signed: &Value,
+    trail: &mut Trail,
+) -> Result<Option<SpelledDelegations>, ShapeFault>
     requires { IsProper (view signed.now) }
     ensures ok { IfOk result (λ o. MayHave (view signed.now) (codes "delegations") HasDelegations (option_map spelled_delegations o)) }
     ensures err { IfErr result (IsIll ((o : Option plain.Delegations) × MayHave (view signed.now) (codes "delegations") HasDelegations o)) }
@@ -54,7 +67,7 @@ fn delegations_of(alloc: Global, signed: &Value) -> Result<Option<SpelledDelegat
     let Some(found) = member_of(signed, "delegations") else {
         return Ok(None);
     };
-    let delegations = read_delegations(alloc, found)?;
+    let delegations = read_delegations(alloc, found, trail)?;
     Ok(Some(delegations))
 }
 
@@ -62,6 +75,7 @@ fn delegations_of(alloc: Global, signed: &Value) -> Result<Option<SpelledDelegat
 fn named(
     alloc: Global,
     spelled: Option<SpelledDelegations>,
+    trail: &mut Trail,
 ) -> Result<Option<Delegations>, ShapeFault>
     requires { IfSome spelled AreAllOver }
     ensures ok { IfOk result (λ o. (option_map delegations_view o ≡ option_map spelled_delegations spelled)
@@ -71,6 +85,6 @@ fn named(
     let Some(spelled) = spelled else {
         return Ok(None);
     };
-    let delegations = name_delegations(alloc, spelled)?;
+    let delegations = name_delegations(alloc, spelled, trail)?;
     Ok(Some(delegations))
 }

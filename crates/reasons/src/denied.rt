@@ -2,7 +2,7 @@
 use crate::counts::counted;
 use crate::held::HeldFiles;
 use crate::incoherent::incoherent;
-use crate::members::Found;
+use crate::path::Found;
 use crate::place::place_of;
 use crate::thresholds::{by_delegation, by_root, worded};
 use metadata::Kind;

@@ -1,6 +1,6 @@
 //! Why what a batch leaves does not belong together.
 use crate::held::HeldFiles;
-use crate::members::Found;
+use crate::path::Found;
 use crate::standing::{Standing, file_at, listed, named_at, snapshot_at, standing_behind};
 use std::alloc::Global;
 

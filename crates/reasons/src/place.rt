@@ -4,39 +4,38 @@ ghost use Rattle.metadata.specs.Shape.{IsShapeFault};
 ghost use Rattle.document_parts.specs.declared.documents.ShapeFault.{ShapeFault};
 
 use crate::bytes::first_stray;
-use crate::ids::misnamed;
-use crate::kinds::document;
-use crate::members::Found;
-use canonical_json::{ReadFault, Value, read};
-use metadata::{Kind, ShapeFault, read_document};
+use crate::path::{Found, told};
+use canonical_json::{ReadFault, read};
+use metadata::{Kind, ShapeFault, Trail, read_document_along};
 use std::alloc::{AllocError, Global};
 
-/// The first member that is missing or of another form, in the order of the document's members, as `signed.roles.root.threshold` or
-/// `signatures[0].sig`; for bytes that are no canonical JSON one that cannot stand where it does, as `byte 17`, counted from 0; for a
-/// file that is too long `length 300000`. A name that a terminal does not show is told as `?`. `None` where the file is such a
-/// document, or where nothing is certain, as of layouts and links.
+/// The member or the item at which the reading of the file failed, as `signed.roles.root.threshold` or `signatures[0].sig`; for bytes
+/// that are no canonical JSON one that cannot stand where it does, as `byte 17`, counted from 0; for a file that is too long
+/// `length 300000`. A name that a terminal does not show is told as `?`, and members that are not those of an envelope as `the envelope`.
+/// `None` where the file is such a document, or where nothing is certain.
 pub fn place_of(alloc: Global, kind: Kind, bytes: &[u8]) -> Result<Option<String>, AllocError>
     ensures { IfOk result (λ o. IfSome o (λ _. (fault : ShapeFault) × IsShapeFault kind bytes.now fault)) }
 {
-    match fault_of(alloc, kind, bytes) {
+    let mut trail = Trail::new();
+    match fault_of(alloc, kind, bytes, &mut trail) {
         None => Ok(None),
         Some(ShapeFault::OutOfMemory) => Err(AllocError),
-        Some(fault) => place_by(alloc, kind, bytes, fault),
+        Some(fault) => place_by(alloc, bytes, fault, &trail),
     }
 }
 
-// Why the file is no document of the kind, if it is none.
-fn fault_of(alloc: Global, kind: Kind, bytes: &[u8]) -> Option<ShapeFault>
+// Why the file is no document of the kind, if it is none. The trail then stands at the fault.
+fn fault_of(alloc: Global, kind: Kind, bytes: &[u8], trail: &mut Trail) -> Option<ShapeFault>
     ensures { IfSome result (λ e. (e ≡ ShapeFault.OutOfMemory) ⊎ IsShapeFault kind bytes.now e) }
 {
-    match read_document(alloc, kind, bytes) {
+    match read_document_along(alloc, kind, bytes, trail) {
         Ok(_) => None,
         Err(fault) => Some(fault),
     }
 }
 
 // Where the fault is.
-fn place_by(alloc: Global, kind: Kind, bytes: &[u8], fault: ShapeFault) -> Found {
+fn place_by(alloc: Global, bytes: &[u8], fault: ShapeFault, trail: &Trail) -> Found {
     match fault {
         ShapeFault::TooLong => {
             let length = bytes.len();
@@ -46,31 +45,17 @@ fn place_by(alloc: Global, kind: Kind, bytes: &[u8], fault: ShapeFault) -> Found
             Some(place) => Ok(Some(format!(in alloc; "byte {place}")?)),
             None => Ok(None),
         },
-        ShapeFault::WrongType => Ok(Some(String::from_str(alloc, "signed._type")?)),
-        ShapeFault::WrongShape | ShapeFault::BadKeyId => member_of(alloc, kind, bytes, fault),
+        ShapeFault::WrongShape | ShapeFault::WrongType | ShapeFault::BadKeyId => {
+            path_of(alloc, bytes, trail)
+        }
         ShapeFault::OutOfMemory => Ok(None),
     }
 }
 
-fn member_of(alloc: Global, kind: Kind, bytes: &[u8], fault: ShapeFault) -> Found {
+fn path_of(alloc: Global, bytes: &[u8], trail: &Trail) -> Found {
     match read(alloc, bytes) {
-        Ok(value) => path_of(alloc, kind, &value, fault),
+        Ok(value) => Ok(Some(told(alloc, &value, trail.parts())?)),
         Err(ReadFault::OutOfMemory) => Err(AllocError),
         Err(_) => Ok(None),
     }
-}
-
-// The path to the fault, without the dot before its first name.
-fn path_of(alloc: Global, kind: Kind, value: &Value, fault: ShapeFault) -> Found {
-    let found = if fault == ShapeFault::BadKeyId {
-        misnamed(alloc, kind, value)?
-    } else {
-        document(alloc, kind, value)?
-    };
-    let Some(path) = found else {
-        return Ok(None);
-    };
-    let path = path.as_str();
-    let shown = path.strip_prefix(".").unwrap_or(path);
-    Ok(Some(String::from_str(alloc, shown)?))
 }

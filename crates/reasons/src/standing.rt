@@ -1,9 +1,9 @@
 //! What stands at a place of a batch: what was offered before it, and what is held.
 use crate::held::HeldFiles;
-use crate::members::{find, object_in};
+use crate::path::find;
 use canonical_json::{ReadFault, Value, member, read};
 use judging::keeps_roles;
-use metadata::{Body, Kind, ShapeFault, read_document};
+use metadata::{Body, Kind, ShapeFault, members_of, read_document};
 use std::alloc::{AllocError, Global};
 
 // The names that lead to the version of a document.
@@ -197,7 +197,7 @@ pub(crate) fn listed(alloc: Global, snapshot: &[u8]) -> Result<Vec<(String, u32)
 
 fn rows_of(alloc: Global, meta: &Value) -> Result<Vec<(String, u32)>, AllocError> {
     let mut rows = Vec::new(alloc);
-    let Some(members) = object_in(Some(meta)) else {
+    let Some(members) = members_of(meta) else {
         return Ok(rows);
     };
     for (name, entry) in members {

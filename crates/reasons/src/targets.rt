@@ -1,8 +1,8 @@
 //! How many targets are listed.
 use crate::held::HeldFiles;
-use crate::members::object_in;
 use crate::standing::{Standing, file_at, listed, named_at, part, snapshot_at};
 use canonical_json::{ReadFault, read};
+use metadata::members_of;
 use std::alloc::{AllocError, Global};
 
 /// How many targets the targets metadata in use lists: that which the snapshot lists that the timestamp names. A path that two roles list
@@ -46,7 +46,7 @@ fn listings_of(alloc: Global, file: &[u8]) -> Result<u64, AllocError> {
         return Ok(0);
     };
     match read(alloc, targets) {
-        Ok(value) => Ok(object_in(Some(&value)).map_or(0, |rows| rows.len() as u64)),
+        Ok(value) => Ok(members_of(&value).map_or(0, |rows| rows.len() as u64)),
         Err(ReadFault::OutOfMemory) => Err(AllocError),
         Err(_) => Ok(0),
     }

@@ -1,7 +1,7 @@
 //! Which rule a document did not meet, and by how many keys.
 use crate::counts::{Tally, counted};
 use crate::held::HeldFiles;
-use crate::members::Found;
+use crate::path::Found;
 use crate::standing::{
     Standing, file_at, held_root, last_of, listed, named_at, snapshot_at, standing_behind,
 };

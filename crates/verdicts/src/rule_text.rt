@@ -17,8 +17,8 @@ use crate::rule_case::RuleCase;
 use crate::words::bytes_of;
 use canonical_json::{ReadFault, Value, one_spelling, read};
 use metadata::{
-    Link, RoleName, Side, four_members, items_of, members_of, read_artifacts, read_texts, text_of,
-    two_members,
+    Link, RoleName, Side, Trail, four_members, items_of, members_of, read_artifacts, read_texts,
+    text_of, two_members,
 };
 use std::alloc::Global;
 
@@ -145,8 +145,8 @@ fn link_of(alloc: Global, step: &str, value: &Value) -> Result<Link, CaseFault>
     let Some(name) = RoleName::read(alloc, step)? else {
         return Err(CaseFault::NotUnderstood);
     };
-    let materials = read_artifacts(alloc, before)?;
-    let products = read_artifacts(alloc, after)?;
+    let materials = read_artifacts(alloc, before, &mut Trail::new())?;
+    let products = read_artifacts(alloc, after, &mut Trail::new())?;
     Ok(Link {
         name,
         materials,
@@ -172,7 +172,7 @@ fn lists_of(alloc: Global, items: &[Value]) -> Result<Vec<Vec<String>>, CaseFaul
     let mut lists = Vec::new(alloc);
     let mut rest = items;
     'items: while let Some((item, later)) = rest.split_first() {
-        let texts = read_texts(alloc, item)?;
+        let texts = read_texts(alloc, item, &mut Trail::new())?;
         lists.push(texts)?;
         rest = later;
     }

@@ -40,3 +40,8 @@ pub returns-in_err-product-clause-err : goal.returns-in_err-product-clause-err
 returns-in_err-product-clause-err c =
     let p = err_from_is_err_and c.from_residual-in_err-product.result c.from_residual-in_err-product.ensures.1 in
     rw (p.1, p.2) (ill_again _ c.in_err-product.ensures.err (λ l. (l.0.product, l.1.product)))
+
+pub returns-in_err-step-clause-err : goal.returns-in_err-step-clause-err
+returns-in_err-step-clause-err c =
+    let p = err_from_is_err_and c.from_residual-in_err-step.result c.from_residual-in_err-step.ensures.1 in
+    rw (p.1, p.2) (ill_again _ c.in_err-step.ensures.err (λ l. (l.0.step, l.1.step)))

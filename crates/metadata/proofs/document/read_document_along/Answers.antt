@@ -1,7 +1,7 @@
 use Rattle.std.proofs.Common.{◌≡◌, false, true}
 use Rattle.canonical_json.specs.View.{view}
 use Rattle.metadata.proofs.Judged.{signed_there}
-use Rattle.metadata.proofs.document.read_document.Goals as goal
+use Rattle.metadata.proofs.document.read_document_along.Goals as goal
 
 pub returns-in_default-clause-fault : goal.returns-in_default-clause-fault
 returns-in_default-clause-fault c =
