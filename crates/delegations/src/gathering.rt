@@ -15,7 +15,7 @@ ghost use Rattle.delegations.specs.steps.Gathering.{AreEdges, IsGathered};
 
 use crate::shelf::{Edge, Shelf};
 use crate::verdicts::document;
-use keys_roles::{Verdict, with_verdicts};
+use keys_roles::{Steps, Verdict, with_verdicts};
 use metadata::{Delegations, File, Targets};
 use std::alloc::{AllocError, Global};
 
@@ -129,5 +129,6 @@ fn gather_over(
         file.source.signed(),
         file.source.signatures(),
         known,
+        &mut Steps::new(),
     )
 }

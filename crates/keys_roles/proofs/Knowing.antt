@@ -120,6 +120,11 @@ unknown_with known place (Some key) ps =
     let alone = unknown_one known place key [] in
     omega (arith, more, alone)
 
+pub one_unknown : (known : List Verdict) (place : ℕ) (o : Option Key) (key : Key) → o ≡ Some key → unknown known (with_pair place o []) ≡ cond (is_known known (place, key)) 0 1
+one_unknown known place o key is =
+    let one = unknown_one known place key [] in
+    ap (λ k. unknown known (with_pair place k [])) is ∙ (let all : unknown known ((place, key) ∷ []) ≡ cond (is_known known (place, key)) 0 1 = omega (arith, one) in all)
+
 -- the key that an id of the rule names
 named_by : (rule : RoleRule) (table : Table) (id : List ℕ) (key : Key) (b : Bool) → list_any (λ own. bytes_eq own id) rule.keyids ≡ b
     → cond b (look_up table id) None ≡ Some key → (b ≡ true) × (look_up table id ≡ Some key)

@@ -7,3 +7,4 @@ pub mod Staying
 pub mod Signatures
 pub mod Tops
 pub mod LmsAlone
+pub mod Checking

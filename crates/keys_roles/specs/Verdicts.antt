@@ -1,8 +1,8 @@
 -- What is known of a file's signatures before they are checked.
-use Rattle.std.specs.Prelude.{◌↔◌, ℕ, suc, Bool, false, cond, not, ◌&&◌, List, [], ◌∷◌, length, filter, slice_get, Option, Some, None, bytes_eq, nat_eq, IsTrue, IsSomeAnd}
+use Rattle.std.specs.Prelude.{◌≡◌, ◌↔◌, ◌+◌, ◌≤◌, ℕ, suc, Bool, true, false, cond, not, ◌&&◌, List, [], ◌∷◌, length, filter, slice_get, Option, Some, None, bytes_eq, nat_eq, IsTrue, IsSomeAnd}
 use Rattle.std.specs.List.{AllByRecursion, list_any}
 use Rattle.keys_roles.specs.Plain.{Key, lms, hss, Table, RoleRule, Signature, look_up}
-use Rattle.keys_roles.specs.Rules.{SpellsSignature}
+use Rattle.keys_roles.specs.Rules.{AreDigitsOf, SpellsSignature}
 
 -- a signature entry by its place in the file's list, and a whole public key
 abbrev pub Pair : Type 0
@@ -51,3 +51,24 @@ is_known known pair = list_any (λ v. same_pair v.pair pair) known
 
 abbrev pub unknown : List Verdict → List Pair → ℕ
 unknown known ps = length (filter (λ p. not (is_known known p)) ps)
+
+-- so many checks the digits of a signature take: one where they spell as many bytes as the longest signature has at most, else none
+pub record TakesCheck (digits : List ℕ) (count : ℕ) : Type 0 where
+  pub one : (bytes : List ℕ) → AreDigitsOf digits bytes → length bytes ≤ 74988 → count ≡ 1
+  pub none : ((bytes : List ℕ) → AreDigitsOf digits bytes → length bytes ≤ 74988 → ⊥) → count ≡ 0
+
+-- and none where something is known of the pair, and where the id names no key
+abbrev pub TakesPair : Bool → List ℕ → ℕ → Type 0
+TakesPair true digits count = count ≡ 0
+TakesPair false digits count = TakesCheck digits count
+
+abbrev pub TakesEntry : List Verdict → ℕ → Option Key → List ℕ → ℕ → Type 0
+TakesEntry known place None digits count = count ≡ 0
+TakesEntry known place (Some key) digits count = TakesPair (is_known known (place, key)) digits count
+
+-- so many take the entries from a place on, one after another
+abbrev pub TakesChecks : RoleRule → Table → List Verdict → ℕ → List Signature → ℕ → Type 0
+TakesChecks rule table known place [] count = count ≡ 0
+TakesChecks rule table known place (e ∷ es) count =
+    (here : ℕ) × (later : ℕ) × (count ≡ here + later)
+    × TakesEntry known place (named_key rule table e.keyid) e.sig here × TakesChecks rule table known (suc place) es later

@@ -1,7 +1,8 @@
 // Signatures in hex digits, and whether they verify.
-ghost use Rattle.std.specs.Prelude.{◌≡◌, ◌↔◌, ◌+◌, ◌*◌, ◌<◌, ◌≤◌, ◌^◌, List, ℕ, length, IsTrue};
+ghost use Rattle.std.specs.Prelude.{◌≡◌, ◌↔◌, ◌+◌, ◌-◌, ◌*◌, ◌<◌, ◌≤◌, ◌^◌, List, ℕ, length, IsTrue};
 ghost use Rattle.keys_roles.specs.Keys.{VerifiesUnder};
 ghost use Rattle.keys_roles.specs.Rules.{AreDigitsOf, SpellsSignature};
+ghost use Rattle.keys_roles.specs.Verdicts.{TakesCheck};
 ghost use Rattle.keys_roles.specs.Views.{key_view};
 
 use crate::Key;
@@ -16,6 +17,7 @@ const LONGEST: usize = 74_988;
 pub(crate) fn digits_verify(key: &Key, signed: &[u8], digits: &[u8], steps: &mut Steps) -> bool
     requires { steps.old + 1 < 2 ^ 64 }
     ensures valid { IsTrue result ↔ (SpellsSignature (key_view key.now) signed.now digits.now) }
+    ensures counted { TakesCheck digits.now (steps.new - steps.old) }
     ensures grows { steps.old ≤ steps.new }
     ensures most { steps.new ≤ steps.old + 1 }
 {

@@ -1,8 +1,8 @@
 // When a rule of keys and a threshold is met (TUF 1.0, sections 4.2 and 5).
-ghost use Rattle.std.specs.Prelude.{◌≡◌, ◌↔◌, ◌⊎◌, ◌∷◌, [], ◌++◌, ◌+◌, ◌<◌, ◌≤◌, ◌^◌, List, ℕ, Some, length, take, IsTrue, IfOk, IfSome};
+ghost use Rattle.std.specs.Prelude.{◌≡◌, ◌↔◌, ◌⊎◌, ◌∷◌, [], ◌++◌, ◌+◌, ◌-◌, ◌<◌, ◌≤◌, ◌^◌, List, ℕ, Some, length, take, IsTrue, IfOk, IfSome, OnErr};
 ghost use Rattle.keys_roles.specs.Rules.{HaveSigned, Meets};
-ghost use Rattle.keys_roles.specs.Verdicts.{AreVerdicts, named_key, pairs, unknown, with_pair};
-ghost use Rattle.keys_roles.specs.steps.Counting.{AreCounted, IsIn, CountsBy, IsTaken, TellOf};
+ghost use Rattle.keys_roles.specs.Verdicts.{AreVerdicts, TakesChecks, TakesEntry, named_key, pairs, unknown, with_pair};
+ghost use Rattle.keys_roles.specs.steps.Counting.{AreChecked, AreCounted, IsIn, CountsBy, IsTaken, TellOf};
 ghost use Rattle.keys_roles.specs.Views.{rule_view, table_view, entry_view, entries_view, verdict_views};
 
 use crate::ids::top_key;
@@ -11,7 +11,8 @@ use crate::{KeyTable, NoMemory, RoleRule, Signature, Verdict};
 use lms::Steps;
 use std::alloc::Global;
 
-// The most keys that a document's threshold asks for, and the most that any does.
+// The most keys that a document's threshold asks for, which is the most signatures that a document has, and the most keys that any
+// threshold does.
 const USUAL: usize = 16;
 
 const MOST: usize = 255;
@@ -36,6 +37,8 @@ pub fn meets_counted(
     requires { steps.old < 2 ^ 63 }
     ensures met { IsTrue result ↔ (Meets (rule_view rule.now) (table_view table.now) signed.now (entries_view signatures.now)) }
     ensures grows { steps.old ≤ steps.new }
+    ensures checked { (n : ℕ) × (TakesChecks (rule_view rule.now) (table_view table.now) [] 0 (take n (entries_view signatures.now)) (steps.new - steps.old))
+        × ((length signatures.now ≤ n) ⊎ (Meets (rule_view rule.now) (table_view table.now) signed.now (take n (entries_view signatures.now)))) }
     ensures most { steps.new ≤ steps.old + length signatures.now }
 {
     meets_with_counted(rule, table, signed, signatures, &[], steps)
@@ -43,7 +46,7 @@ pub fn meets_counted(
 
 /// How many keys of the rule have signed: the public keys that `meets` compares with the threshold, each once.
 ///
-/// Errors: `NoMemory`, where it is refused for a public key a signature.
+/// Errors: `NoMemory`, where it is refused for a public key a signature. Up to 16 signatures take none.
 pub fn signed_count(
     alloc: Global,
     rule: &RoleRule,
@@ -51,9 +54,22 @@ pub fn signed_count(
     signed: &[u8],
     signatures: &[Signature],
 ) -> Result<usize, NoMemory>
-    ensures { IfOk result (λ count. HaveSigned (rule_view rule.now) (table_view table.now) signed.now (entries_view signatures.now) count) }
+    ensures signed { IfOk result (λ count. HaveSigned (rule_view rule.now) (table_view table.now) signed.now (entries_view signatures.now) count) }
+    ensures memory { OnErr result (16 < length signatures.now) }
 {
     let most = signatures.len();
+    if most <= USUAL {
+        return Ok(count_in(
+            rule,
+            table,
+            signed,
+            signatures,
+            &[],
+            &mut [[0; 56]; USUAL],
+            most,
+            &mut Steps::new(),
+        ));
+    }
     let mut tops = vec![in alloc; [0; 56]; most]?;
     Ok(count_in(
         rule,
@@ -82,8 +98,9 @@ pub fn meets_with(
     meets_with_counted(rule, table, signed, signatures, known, &mut Steps::new())
 }
 
-/// The same, with one tick for each signature check: at most one for each listed signature, and at most one for each listed
-/// signature whose id names a key in the rule, and of which nothing is known with this key.
+/// The same, with one tick for each signature check: one for each listed signature whose id names a key in the rule, of which
+/// nothing is known with this key, and whose digits are those of bytes that may be a signature, and none for any other. It ends
+/// with the listed signatures, or where those before meet the rule already.
 pub fn meets_with_counted(
     rule: &RoleRule,
     table: &KeyTable,
@@ -96,6 +113,8 @@ pub fn meets_with_counted(
     requires room { steps.old < 2 ^ 63 }
     ensures met { IsTrue result ↔ (Meets (rule_view rule.now) (table_view table.now) signed.now (entries_view signatures.now)) }
     ensures grows { steps.old ≤ steps.new }
+    ensures checked { (n : ℕ) × (TakesChecks (rule_view rule.now) (table_view table.now) (verdict_views known.now) 0 (take n (entries_view signatures.now)) (steps.new - steps.old))
+        × ((length signatures.now ≤ n) ⊎ (Meets (rule_view rule.now) (table_view table.now) signed.now (take n (entries_view signatures.now)))) }
     ensures most { steps.new ≤ steps.old + length signatures.now }
     ensures unknown { steps.new ≤ steps.old + unknown (verdict_views known.now) (pairs (rule_view rule.now) (table_view table.now) (entries_view signatures.now)) }
 {
@@ -141,6 +160,7 @@ fn count_in(
     requires room { steps.old < 2 ^ 63 }
     requires places { most ≤ length tops.old }
     ensures counted { AreCounted (rule_view rule.now) (table_view table.now) signed.now (entries_view signatures.now) most result }
+    ensures checked { AreChecked (rule_view rule.now) (table_view table.now) signed.now (verdict_views known.now) (entries_view signatures.now) most result (steps.new - steps.old) }
     ensures grows { steps.old ≤ steps.new }
     ensures most { steps.new ≤ steps.old + length signatures.now }
     ensures unknown { steps.new ≤ steps.old + unknown (verdict_views known.now) (pairs (rule_view rule.now) (table_view table.now) (entries_view signatures.now)) }
@@ -175,6 +195,7 @@ fn counted(
     requires room { steps.old + 1 < 2 ^ 64 }
     ensures found { IfSome result (λ top. CountsBy (rule_view rule.now) (table_view table.now) signed.now (entry_view entry.entry.1.now) top) }
     ensures all { (top : List ℕ) → CountsBy (rule_view rule.now) (table_view table.now) signed.now (entry_view entry.entry.1.now) top → result ≡ Some top }
+    ensures checked { TakesEntry (verdict_views known.now) entry.entry.0 (named_key (rule_view rule.now) (table_view table.now) (entry_view entry.entry.1.now).keyid) (entry_view entry.entry.1.now).sig (steps.new - steps.old) }
     ensures grows { steps.old ≤ steps.new }
     ensures most { steps.new ≤ steps.old + 1 }
     ensures unknown { steps.new ≤ steps.old + unknown (verdict_views known.now) (with_pair entry.entry.0 (named_key (rule_view rule.now) (table_view table.now) (entry_view entry.entry.1.now).keyid) []) }

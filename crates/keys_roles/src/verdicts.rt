@@ -1,7 +1,7 @@
 // What is known of a file's signatures, and what is found out of them.
-ghost use Rattle.std.specs.Prelude.{◌≡◌, ◌↔◌, ◌⊎◌, ◌+◌, ◌<◌, ◌≤◌, ◌^◌, cond, find, map, option_map, Contains, IfOk, IsTrue};
+ghost use Rattle.std.specs.Prelude.{◌≡◌, ◌↔◌, ◌⊎◌, ◌+◌, ◌-◌, ◌<◌, ◌≤◌, ◌^◌, cond, find, map, option_map, Contains, IfOk, IsTrue};
 ghost use Rattle.keys_roles.specs.Rules.{AreDistinct, SpellsSignature};
-ghost use Rattle.keys_roles.specs.Verdicts.{AreVerdicts, Pair, is_known, named_key, pairs, same_key, same_pair};
+ghost use Rattle.keys_roles.specs.Verdicts.{AreVerdicts, Pair, TakesPair, is_known, named_key, pairs, same_key, same_pair, unknown};
 ghost use Rattle.keys_roles.specs.steps.Counting.{TellOf};
 ghost use Rattle.keys_roles.specs.Views.{entries_view, entry_view, id_text, key_view, rule_view, table_view, verdict_view, verdict_views};
 
@@ -12,7 +12,10 @@ use lms::Steps;
 use std::alloc::AllocError;
 
 /// Verdicts on a file with those under one more rule: one on each listed signature whose id stands in the rule and names a key
-/// in the table, where they have none on it yet. What is known already is not checked again.
+/// in the table, where they have none on it yet. What is known already is not checked again: one tick for each signature check,
+/// at most one for each such signature of which nothing is known.
+///
+/// Errors: no memory, where it is refused for a verdict.
 pub fn with_verdicts(
     verdicts: Vec<Verdict>,
     rule: &RoleRule,
@@ -20,13 +23,17 @@ pub fn with_verdicts(
     signed: &[u8],
     signatures: &[Signature],
     known: &[Verdict],
+    steps: &mut Steps,
 ) -> Result<Vec<Verdict>, AllocError>
+    requires room { steps.old < 2 ^ 63 }
     requires known { AreVerdicts signed.now (entries_view signatures.now) (verdict_views known.now) }
     requires sound { AreVerdicts signed.now (entries_view signatures.now) (verdict_views verdicts.items) }
     requires distinct { AreDistinct (map (λ v. v.pair) (verdict_views verdicts.items)) }
     ensures all { IfOk result (λ vs. (p : Pair) → IsTrue (is_known (verdict_views vs.items) p) ↔ (IsTrue (is_known (verdict_views verdicts.items) p) ⊎ (Contains (pairs (rule_view rule.now) (table_view table.now) (entries_view signatures.now)) p))) }
     ensures sound { IfOk result (λ vs. AreVerdicts signed.now (entries_view signatures.now) (verdict_views vs.items)) }
     ensures distinct { IfOk result (λ vs. AreDistinct (map (λ v. v.pair) (verdict_views vs.items))) }
+    ensures grows { steps.old ≤ steps.new }
+    ensures unknown { steps.new ≤ steps.old + unknown (verdict_views known.now) (pairs (rule_view rule.now) (table_view table.now) (entries_view signatures.now)) }
 {
     let mut verdicts = verdicts;
     let mut place = 0usize;
@@ -34,7 +41,7 @@ pub fn with_verdicts(
     'entries: while let Some((entry, later)) = rest.split_first() {
         if let Some(key) = named(rule, table, &entry.keyid) {
             if !is_held(&verdicts, place, key) {
-                let verifies = verdict(key, signed, place, entry, known, &mut Steps::new());
+                let verifies = verdict(key, signed, place, entry, known, steps);
                 verdicts.push(Verdict {
                     place,
                     key: *key,
@@ -81,6 +88,7 @@ pub(crate) fn verdict(
     requires sound { TellOf signed.now place (entry_view entry.now) (verdict_views known.now) }
     requires room { steps.old + 1 < 2 ^ 64 }
     ensures told { IsTrue result ↔ (SpellsSignature (key_view key.now) signed.now (entry_view entry.now).sig) }
+    ensures counted { TakesPair (is_known (verdict_views known.now) (place, key_view key.now)) (entry_view entry.now).sig (steps.new - steps.old) }
     ensures grows { steps.old ≤ steps.new }
     ensures most { steps.new ≤ steps.old + cond (is_known (verdict_views known.now) (place, key_view key.now)) 0 1 }
 {

@@ -1,5 +1,5 @@
 -- A key and a signature of several levels have one reading, and what a level leaves is what `VerifiesDown` speaks of.
-use Rattle.std.proofs.Common.{◌≡◌, ℕ, zero, suc, ◌+◌, List, ◌++◌, length, take, drop, refl, sym, subst, ap, ◌∙◌, arith, length-append}
+use Rattle.std.proofs.Common.{◌≡◌, ℕ, zero, suc, ◌+◌, ◌-◌, ◌≤◌, ◌⊎◌, inl, inr, List, ◌++◌, length, take, drop, refl, sym, subst, ap, ◌∙◌, arith, length-append}
 use Rattle.std.proofs.lemmas.List.{take-append-drop}
 use Rattle.lms.specs.declared.OtsType.{OtsType}
 use Rattle.lms.specs.declared.LmsType.{LmsType}
@@ -7,10 +7,10 @@ use Rattle.lms.specs.Parameters.{signature_len}
 use Rattle.lms.specs.Text.{u32, HasTypes}
 use Rattle.lms.specs.Parts.{IsKeyOf, IsSignatureOf}
 use Rattle.lms.specs.Verifies.{Verifies, hash_count}
-use Rattle.lms.specs.Hss.{AreLevels, VerifiesDown, VerifiesHss, hashes_of, hashes_down}
+use Rattle.lms.specs.Hss.{AreLevels, IsLevel, TakesDown, TakesHashes, VerifiesDown, VerifiesHss, hashes_of, hashes_down}
 use Rattle.lms.specs.steps.Levels.{IsOnlyCut}
 use Rattle.lms.proofs.Bytes.{cancel, word_one}
-use Rattle.lms.proofs.Readings.{has_key, parts_under, length_under}
+use Rattle.lms.proofs.Readings.{has_key, parts_under, length_under, types_one}
 
 -- a key that anything verifies under has 56 bytes, and what verifies has the length of the key's types
 pub key_len : (public message signature : List ℕ) → Verifies public message signature → length public ≡ 56
@@ -42,6 +42,12 @@ length_cut whole s n l e =
     let inner = length-append n l in
     omega (arith, ap (length {A = ℕ}) e, outer, inner)
 
+-- what is cut off a level has the length of the key's types
+pub level_len : (signer rest s n l : List ℕ) (lms : LmsType) (ots : OtsType) → HasTypes signer lms ots → IsLevel signer rest s n l → length s ≡ signature_len ots lms
+level_len signer rest s n l lms ots types level =
+    let same = types_one signer level.lms level.ots lms ots level.types types in
+    level.signature_length ∙ ap (λ (o : OtsType). signature_len o level.lms) same.1 ∙ ap (signature_len ots) same.0
+
 -- a key and a signature have one number of levels, one top key and one rest
 pub levels_one : (public signature : List ℕ) (n : ℕ) (top rest : List ℕ) (n' : ℕ) (top' rest' : List ℕ)
     → AreLevels public signature n top rest → AreLevels public signature n' top' rest' → (n ≡ n') × (top ≡ top') × (rest ≡ rest')
@@ -64,6 +70,19 @@ ticked public message signature before after counted v =
     let key = has_key public message signature v in
     counted v.lms v.ots v.identifier v.root v.q v.randomizer v.elements v.path key
     (parts_under public message signature v v.lms v.ots v.identifier v.root key)
+
+-- what the count of one verification says of it, valid or not
+pub took : (public message signature : List ℕ) (before after : ℕ)
+    → ((lms : LmsType) (ots : OtsType) (identifier root : List ℕ) (q : ℕ) (randomizer : List ℕ) (elements path : List (List ℕ))
+    → IsKeyOf public lms ots identifier root → IsSignatureOf lms ots signature q randomizer elements path
+    → after ≡ before + hash_count lms ots identifier message q randomizer)
+    → (((lms : LmsType) (ots : OtsType) (identifier root : List ℕ) (q : ℕ) (randomizer : List ℕ) (elements path : List (List ℕ))
+    → IsKeyOf public lms ots identifier root → IsSignatureOf lms ots signature q randomizer elements path → ⊥) → after ≡ before)
+    → TakesHashes public message signature (after - before)
+took public message signature before after counted refused = record {
+  parts = λ lms ots i root q r e p key is. let all = counted lms ots i root q r e p key is in omega (arith, all);
+  none = λ no. let same = refused no in omega (arith, same);
+}
 
 -- the first level of a proof, cut as it has to be
 module _ (m : ℕ) (signer message rest s n l : List ℕ)
@@ -123,6 +142,46 @@ module _ (message : List ℕ) (n : ℕ) (top whole : List ℕ) where
   pub stuck : (left : ℕ) (signer rest : List ℕ) (steps : ℕ) → IsAsFar left signer rest steps → (VerifiesDown left signer message rest → ⊥)
       → VerifiesDown n top message whole → ⊥
   stuck left signer rest steps far none v = none (far.counts v).0
+
+module _ (message : List ℕ) (n : ℕ) (top whole : List ℕ) where
+  -- after so many hashes so many signed keys are left under a signer: what they take is the rest of what the whole takes
+  abbrev pub HasTaken : ℕ → List ℕ → List ℕ → ℕ → Type 0
+  HasTaken left signer rest steps = (b : ℕ) → TakesDown left signer message rest b → TakesDown n top message whole (steps + b)
+
+  pub taken_left : (left left' : ℕ) (signer rest : List ℕ) (steps : ℕ) → left ≡ left' → HasTaken left signer rest steps → HasTaken left' signer rest steps
+  taken_left left left' signer rest steps e taken = let P : ℕ → Type 0 = λ k. HasTaken k signer rest steps in subst P e taken
+
+  pub none_taken : (steps : ℕ) → steps ≡ 0 → HasTaken n top whole steps
+  none_taken steps e b t = let P : ℕ → Type 0 = λ k. TakesDown n top message whole k in subst P (let same : b ≡ steps + b = omega (arith, e) in same) t
+
+  to_count : (a b : ℕ) → a ≡ b → TakesDown n top message whole a → TakesDown n top message whole b
+  to_count a b e t = let P : ℕ → Type 0 = λ k. TakesDown n top message whole k in subst P e t
+
+  pub next_taken : (m : ℕ) (signer rest : List ℕ) (steps : ℕ) (signature next later : List ℕ) (steps' : ℕ) → HasTaken (suc m) signer rest steps
+      → IsLevel signer rest signature next later → Verifies signer next signature → steps ≤ steps' → TakesHashes signer next signature (steps' - steps)
+      → HasTaken m next later steps'
+  next_taken m signer rest steps signature next later steps' taken is v more here b below =
+      let same : steps + ((steps' - steps) + b) ≡ steps' + b = omega (arith, more) in
+      to_count _ _ same (taken ((steps' - steps) + b) (inr (signature, next, later, is, steps' - steps, b, refl, here, inr (v, below))))
+
+  -- the last level that is looked at is cut off and does not verify, or none is cut off
+  pub unsigned_taken : (m : ℕ) (signer rest : List ℕ) (steps : ℕ) (signature next later : List ℕ) (steps' : ℕ) → HasTaken (suc m) signer rest steps
+      → IsLevel signer rest signature next later → (Verifies signer next signature → ⊥) → steps ≤ steps' → TakesHashes signer next signature (steps' - steps)
+      → TakesDown n top message whole steps'
+  unsigned_taken m signer rest steps signature next later steps' taken is unsigned more here =
+      let one : steps' - steps ≡ (steps' - steps) + 0 = omega arith in
+      let same : steps + (steps' - steps) ≡ steps' = omega (arith, more) in
+      to_count _ _ same (taken (steps' - steps) (inr (signature, next, later, is, steps' - steps, 0, one, here, inl (unsigned, refl))))
+
+  pub uncut_taken : (m : ℕ) (signer rest : List ℕ) (steps : ℕ) → HasTaken (suc m) signer rest steps
+      → ((signature next later : List ℕ) → IsLevel signer rest signature next later → ⊥) → TakesDown n top message whole steps
+  uncut_taken m signer rest steps taken none = to_count _ _ (omega arith) (taken 0 (inl (none, refl)))
+
+  pub all_taken : (signer rest : List ℕ) (steps steps' : ℕ) → HasTaken 0 signer rest steps → steps ≤ steps' → TakesHashes signer message rest (steps' - steps)
+      → TakesDown n top message whole steps'
+  all_taken signer rest steps steps' taken more here =
+      let same : steps + (steps' - steps) ≡ steps' = omega (arith, more) in
+      to_count _ _ same (taken (steps' - steps) here)
 
 -- the levels that were read are those of any proof
 pub hss_down : (public message signature : List ℕ) (n : ℕ) (top rest : List ℕ) → AreLevels public signature n top rest → (v : VerifiesHss public message signature)

@@ -2,7 +2,7 @@
 
 ghost use Rattle.std.specs.Prelude.{◌≡◌, ◌↔◌, ◌+◌, ◌*◌, ◌++◌, ◌<◌, ◌≤◌, ◌^◌, IsTrue, ℕ, List, length, MatchOption};
 ghost use Rattle.lms.specs.Verifies.{Verifies};
-ghost use Rattle.lms.specs.Hss.{AreLevels, VerifiesDown, VerifiesHss, hashes_down};
+ghost use Rattle.lms.specs.Hss.{AreLevels, IsLevel, TakesDown, TakesHss, VerifiesDown, VerifiesHss, hashes_down};
 ghost use Rattle.lms.specs.steps.Levels.{IsOnlyCut};
 
 use crate::Steps;
@@ -37,9 +37,12 @@ fn read_levels<'a>(
 // The signature and the key that the bytes begin with, and what follows them, or None where the signer's types are unknown or
 // the bytes are too few.
 fn split<'a>(signer: &[u8; 56], rest: &'a [u8]) -> Option<(&'a [u8], &'a [u8; 56], &'a [u8])>
-    ensures { MatchOption result
+    ensures only { MatchOption result
         ((signature next later : List ℕ) → rest.now ≡ signature ++ (next ++ later) → length next ≡ 56 → Verifies signer.now next signature → ⊥)
         (λ p. (rest.now ≡ p.0.now ++ (p.1.now ++ p.2.now)) × IsOnlyCut signer.now rest.now p.0.now p.1.now p.2.now) }
+    ensures cut { MatchOption result
+        ((signature next later : List ℕ) → IsLevel signer.now rest.now signature next later → ⊥)
+        (λ p. IsLevel signer.now rest.now p.0.now p.1.now p.2.now) }
 {
     let types = read_public(signer)?;
     let (signature, behind) = rest.split_at_checked(signature_len(types.lms, types.ots))?;
@@ -59,6 +62,7 @@ fn verify_down(
     requires fresh { steps.old ≡ 0 }
     ensures valid { IsTrue result ↔ (VerifiesDown signed_keys top.now message.now rest.now) }
     ensures counted { (v : VerifiesDown signed_keys top.now message.now rest.now) → steps.new ≡ hashes_down signed_keys top.now message.now rest.now v }
+    ensures taken { TakesDown signed_keys top.now message.now rest.now steps.new }
     ensures most { steps.new ≤ 8698 * (signed_keys + 1) }
 {
     let mut signer = top;
@@ -77,7 +81,7 @@ fn verify_down(
 }
 
 /// The same as `verify_hss`, with one tick of `steps` for each hash of each level, as `verify_counted` counts them, up to the
-/// first level that does not verify: at most 8,698 a level.
+/// first level that does not verify, be the signature valid or not: at most 8,698 a level.
 pub fn verify_hss_counted(
     public: &[u8; 60],
     message: &[u8],
@@ -87,6 +91,7 @@ pub fn verify_hss_counted(
     requires { steps.old < 2 ^ 63 }
     ensures valid { IsTrue result ↔ (VerifiesHss public.now message.now signature.now) }
     ensures counted { (v : VerifiesHss public.now message.now signature.now) → steps.new ≡ steps.old + hashes_down v.signed_keys v.top message.now v.rest v.down }
+    ensures taken { (count : ℕ) × (steps.new ≡ steps.old + count) × TakesHss public.now message.now signature.now count }
     ensures grows { steps.old ≤ steps.new }
     ensures most { steps.new ≤ steps.old + 69584 }
 {

@@ -1,10 +1,10 @@
 -- What single entries make count. The parts of `Rules` that one call judges.
-use Rattle.std.specs.Prelude.{◌≡◌, ◌↔◌, ℕ, ◌⊎◌, ◌++◌, ◌<◌, ◌≤◌, List, [], ◌∷◌, length, Some, Contains, IsTrue}
+use Rattle.std.specs.Prelude.{◌≡◌, ◌↔◌, ℕ, ◌⊎◌, ◌++◌, ◌<◌, ◌≤◌, List, [], ◌∷◌, length, take, Some, Contains, IsTrue}
 use Rattle.std.specs.List.{AllByRecursion}
 use Rattle.keys_roles.specs.Plain.{Key, Table, RoleRule, Signature, look_up}
 use Rattle.keys_roles.specs.Keys.{top_key}
 use Rattle.keys_roles.specs.Rules.{AreDistinct, Counts, SpellsSignature}
-use Rattle.keys_roles.specs.Verdicts.{Verdict}
+use Rattle.keys_roles.specs.Verdicts.{TakesChecks, Verdict}
 
 -- x is an element of the list, by recursion
 abbrev pub IsIn : {X : Type 0} → List X → X → Type 0
@@ -38,3 +38,16 @@ pub record AreCounted (rule : RoleRule) (table : Table) (signed : List ℕ) (ent
   pub many : count ≡ length keys
   pub each : AllByRecursion (Counts rule table signed entries) keys
   pub all : (count < most) ⊎ (length entries ≤ count) → (top : List ℕ) → Counts rule table signed entries top → Contains keys top
+
+-- so many distinct public keys have signed among these entries
+pub record AreAmong (rule : RoleRule) (table : Table) (signed : List ℕ) (entries : List Signature) (count : ℕ) : Type 0 where
+  pub keys : List (List ℕ)
+  pub distinct : AreDistinct keys
+  pub many : count ≡ length keys
+  pub each : AllByRecursion (Counts rule table signed entries) keys
+
+-- so many checks were taken by the first n entries: these are all, or as many keys as are asked for have signed among them
+pub record AreChecked (rule : RoleRule) (table : Table) (signed : List ℕ) (known : List Verdict) (entries : List Signature) (most count checks : ℕ) : Type 0 where
+  pub n : ℕ
+  pub taken : TakesChecks rule table known 0 (take n entries) checks
+  pub ended : (length entries ≤ n) ⊎ ((most ≤ count) × AreAmong rule table signed (take n entries) count)

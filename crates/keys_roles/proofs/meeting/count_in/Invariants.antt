@@ -1,6 +1,7 @@
-use Rattle.std.proofs.Common.{◌≡◌, ◌+◌, ◌≤◌, drop, length, take}
+use Rattle.std.proofs.Common.{◌≡◌, ◌+◌, ◌-◌, ◌≤◌, drop, length, take}
 use Rattle.keys_roles.specs.Verdicts.{pairs, pairs_from, unknown}
 use Rattle.keys_roles.specs.Views.{rule_view, table_view, entries_view, verdict_views}
+use Rattle.keys_roles.proofs.Checking.{Among, HasTaken}
 use Rattle.keys_roles.proofs.Tops.{AreFound}
 use Rattle.keys_roles.proofs.meeting.count_in.Given as goal
 
@@ -16,6 +17,8 @@ invariant-entries l = record {
   places : l.place + length l.rest ≡ length l.signatures;
   unknown : l.steps + unknown (verdict_views l.known) (pairs_from (rule_view l.rule) (table_view l.table) l.place (entries_view l.rest))
       ≤ l.fn.steps + unknown (verdict_views l.known) (pairs (rule_view l.rule) (table_view l.table) (entries_view l.signatures));
+  among : Among (rule_view l.rule) (table_view l.table) l.signed (entries_view l.signatures) l.place (take l.count l.tops);
+  taken : HasTaken (rule_view l.rule) (table_view l.table) (verdict_views l.known) (entries_view l.signatures) l.place (entries_view l.rest) (l.steps - l.fn.steps);
 }
 
 abbrev pub decreases-entries : goal.decreases-entries

@@ -1,4 +1,4 @@
-use Rattle.std.proofs.Common.{◌≡◌, ◌↔◌, ℕ, ◌++◌, ◌+◌, List, [], ◌∷◌, map, length, Bool, true, false, refl, sym, ap, subst, ◌∙◌, arith}
+use Rattle.std.proofs.Common.{◌≡◌, ◌↔◌, ℕ, ◌++◌, ◌+◌, ◌≤◌, List, [], ◌∷◌, cond, map, length, Bool, true, false, refl, sym, ap, subst, ◌∙◌, arith}
 use Rattle.keys_roles.specs.Plain as plain
 use Rattle.keys_roles.specs.Rules.{AreDistinct}
 use Rattle.keys_roles.specs.Verdicts.{AreVerdicts, Pair, is_known, pairs, pairs_from, with_pair}
@@ -7,7 +7,7 @@ use Rattle.keys_roles.specs.declared.Signature.{Signature}
 use Rattle.keys_roles.specs.declared.Verdict.{Verdict}
 use Rattle.keys_roles.specs.steps.Counting.{IsIn}
 use Rattle.keys_roles.specs.Views.{entries_view, entry_view, rule_view, table_view, key_view, verdict_views}
-use Rattle.keys_roles.proofs.Knowing.{tells, entry_at, entries_on, pairs_on, with_verdict, verdict_more, is_verdict, has_pair, in_known, known_all, distinct_verdicts}
+use Rattle.keys_roles.proofs.Knowing.{tells, entry_at, entries_on, pairs_on, with_verdict, verdict_more, is_verdict, has_pair, in_known, known_all, distinct_verdicts, fewer_left, one_unknown}
 use Rattle.keys_roles.proofs.verdicts.with_verdicts.Goals as goal
 use Rattle.keys_roles.proofs.verdicts.with_verdicts.Goals.{in-Some-named+then-not-is_held+in_ok-push, in-Some-named+else-not-is_held, in_default-named}
 
@@ -20,6 +20,10 @@ verdict-verifies-requires-clause-sound c =
     tells c.args.signed.now (entries_view c.args.signatures.now) c.entries.place (entry_view c.in-Some.entry.now) (verdict_views c.args.known.now)
     (entry_at c.entries.place (entries_view c.args.signatures.now) (entry_view c.in-Some.entry.now) (entries_view c.in-Some.later.now) (entries_view c.entries.rest.now)
     c.entries.invariant.left (ap entries_view at)) c.requires.known
+
+at_most_one : (b : Bool) → cond b 0 1 ≤ 1
+at_most_one true = omega arith
+at_most_one false = omega arith
 
 abbrev of : List Verdict → List Pair
 of vs = map (λ v. v.pair) (verdict_views vs)
@@ -93,7 +97,45 @@ entries-preserved c =
         | in_default-named w ↦
             subst (λ vs. AreDistinct (of vs)) (sym (ap (λ vs. vs.items) w.verdicts-is)) c.entries.invariant.distinct
       ];
+      grows = elim c.match-named.branch [
+        | in-Some-named+then-not-is_held+in_ok-push w ↦ omega (arith, w.steps-is, w.verdict-verifies.ensures.grows, c.entries.invariant.grows)
+        | in-Some-named+else-not-is_held w ↦ omega (arith, w.steps-is, c.entries.invariant.grows)
+        | in_default-named w ↦ omega (arith, w.steps-is, c.entries.invariant.grows)
+      ];
+      room = elim c.match-named.branch [
+        | in-Some-named+then-not-is_held+in_ok-push w ↦
+            let one = at_most_one (is_known (verdict_views c.args.known.now) (c.entries.place, key_view w.in-Some-named.key.now)) in
+            omega (arith, w.steps-is, w.verdict-verifies.ensures.most, one, c.entries.invariant.room, shorter)
+        | in-Some-named+else-not-is_held w ↦ omega (arith, w.steps-is, c.entries.invariant.room, shorter)
+        | in_default-named w ↦ omega (arith, w.steps-is, c.entries.invariant.room, shorter)
+      ];
+      unknown =
+          let split = fewer_left (verdict_views c.args.known.now) rule table c.entries.place (entries_view c.entries.rest.now) entry later (ap entries_view at) in
+          elim c.match-named.branch [
+            | in-Some-named+then-not-is_held+in_ok-push w ↦
+                let one = one_unknown (verdict_views c.args.known.now) c.entries.place _ (key_view w.in-Some-named.key.now) (sym w.in-Some-named.ensures) in
+                omega (arith, w.steps-is, split, one, w.verdict-verifies.ensures.most, c.entries.invariant.unknown)
+            | in-Some-named+else-not-is_held w ↦ omega (arith, w.steps-is, split, c.entries.invariant.unknown)
+            | in_default-named w ↦ omega (arith, w.steps-is, split, c.entries.invariant.unknown)
+          ];
     }
+
+pub returns-in_err-push-clause-grows : goal.returns-in_err-push-clause-grows
+returns-in_err-push-clause-grows c = omega (arith, c.verdict-verifies.ensures.grows, c.entries.invariant.grows)
+
+pub returns-in_err-push-clause-unknown : goal.returns-in_err-push-clause-unknown
+returns-in_err-push-clause-unknown c =
+    let at = c.in-Some.ensures.cases.0 in
+    let split = fewer_left (verdict_views c.args.known.now) (rule_view c.args.rule.now) (table_view c.args.table.now) c.entries.place (entries_view c.entries.rest.now)
+    (entry_view c.in-Some.entry.now) (entries_view c.in-Some.later.now) (ap entries_view at) in
+    let one = one_unknown (verdict_views c.args.known.now) c.entries.place _ (key_view c.in-Some-named.key.now) (sym c.in-Some-named.ensures) in
+    omega (arith, split, one, c.verdict-verifies.ensures.most, c.entries.invariant.unknown)
+
+pub returns-clause-grows : goal.returns-clause-grows
+returns-clause-grows c = c.entries.invariant.grows
+
+pub returns-clause-unknown : goal.returns-clause-unknown
+returns-clause-unknown c = omega (arith, c.entries.invariant.unknown)
 
 none_left : (rule : plain.RoleRule) (table : plain.Table) (place : ℕ) (rest : List Signature) → length rest ≡ 0 → pairs_from rule table place (entries_view rest) ≡ []
 none_left rule table place [] h = refl

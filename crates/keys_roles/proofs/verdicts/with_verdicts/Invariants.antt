@@ -1,6 +1,6 @@
-use Rattle.std.proofs.Common.{◌≡◌, ◌↔◌, ◌++◌, ◌+◌, drop, length, map}
+use Rattle.std.proofs.Common.{◌≡◌, ◌↔◌, ◌++◌, ◌+◌, ◌≤◌, drop, length, map}
 use Rattle.keys_roles.specs.Rules.{AreDistinct}
-use Rattle.keys_roles.specs.Verdicts.{AreVerdicts, Pair, pairs, pairs_from}
+use Rattle.keys_roles.specs.Verdicts.{AreVerdicts, Pair, pairs, pairs_from, unknown}
 use Rattle.keys_roles.specs.Views.{entries_view, rule_view, table_view, verdict_views}
 use Rattle.keys_roles.specs.steps.Counting.{IsIn}
 use Rattle.keys_roles.proofs.verdicts.with_verdicts.Given as goal
@@ -13,6 +13,10 @@ invariant-entries l = record {
       ↔ IsIn (map (λ v. v.pair) (verdict_views l.fn.verdicts.items) ++ pairs (rule_view l.rule) (table_view l.table) (entries_view l.signatures)) p;
   sound : AreVerdicts l.signed (entries_view l.signatures) (verdict_views l.verdicts.items);
   distinct : AreDistinct (map (λ v. v.pair) (verdict_views l.verdicts.items));
+  grows : l.fn.steps ≤ l.steps;
+  room : l.steps + length l.rest ≤ l.fn.steps + length l.signatures;
+  unknown : l.steps + unknown (verdict_views l.known) (pairs_from (rule_view l.rule) (table_view l.table) l.place (entries_view l.rest))
+      ≤ l.fn.steps + unknown (verdict_views l.known) (pairs (rule_view l.rule) (table_view l.table) (entries_view l.signatures));
 }
 
 abbrev pub decreases-entries : goal.decreases-entries

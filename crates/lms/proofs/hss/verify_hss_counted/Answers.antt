@@ -1,4 +1,4 @@
-use Rattle.std.proofs.Common.{◌≡◌, ℕ, ◌+◌, true, false, ap, ◌∙◌}
+use Rattle.std.proofs.Common.{◌≡◌, ℕ, ◌+◌, true, false, inl, inr, refl, ap, ◌∙◌, arith}
 use Rattle.lms.proofs.HssReadings.{hss_down}
 use Rattle.lms.proofs.hss.verify_hss_counted.Goals as goal
 
@@ -30,3 +30,11 @@ returns-clause-counted c v =
     let some = c.in-Some in
     let down = hss_down c.args.public.now c.args.message.now c.args.signature.now some.signed_keys some.top.now some.rest.now c.in-Some.ensures v in
     c.add.ensures ∙ ap (λ (n : ℕ). c.args.steps.now + n) (c.verify_down-valid.ensures.counted down.0 ∙ down.1)
+
+pub returns-in_default-clause-taken : goal.returns-in_default-clause-taken
+returns-in_default-clause-taken c = (0, omega arith, inl (c.in_default.ensures, refl))
+
+pub returns-clause-taken : goal.returns-clause-taken
+returns-clause-taken c =
+    let some = c.in-Some in
+    (c.verify_down-valid.new.steps, c.add.ensures, inr (some.signed_keys, some.top.now, some.rest.now, some.ensures, c.verify_down-valid.ensures.taken))
