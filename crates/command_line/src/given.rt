@@ -7,10 +7,10 @@ ghost use Rattle.command_line.specs.CommandLine.{HasNumber, HasNumberOr, HasPara
 ghost use Rattle.command_words.specs.Subcommands.{last_moment, last_port, most_connections, most_days, most_seconds};
 
 use crate::tasks::{
-    LAST_MOMENT, LAST_PORT, MOST_CONNECTIONS, MOST_DAYS, MOST_MIRRORS, MOST_SECONDS, Place, Server,
-    Unread,
+    LAST_PORT, MOST_CONNECTIONS, MOST_DAYS, MOST_MIRRORS, MOST_SECONDS, Place, Server, Unread,
 };
 use clap::ArgMatches;
+use limits::LAST_MOMENT;
 use lms::{OtsType, Params, SigningHeight};
 use mirrors::read_mirror;
 use std::alloc::{AllocError, Global};

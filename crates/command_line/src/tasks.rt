@@ -3,9 +3,6 @@ use lms::Params;
 use std::alloc::AllocError;
 use thiserror::Error;
 
-/// The last moment, 9999-12-31T23:59:59Z.
-pub const LAST_MOMENT: u64 = 253402300799;
-
 /// The last port.
 pub const LAST_PORT: u64 = 65535;
 

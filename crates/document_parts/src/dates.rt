@@ -9,9 +9,11 @@ use jiff::tz::Offset;
 // The bytes of a text.
 const LENGTH: usize = 20;
 
-const FIRST_YEAR: u16 = 1970;
+/// The first year in which a document can expire.
+pub const FIRST_YEAR: u16 = 1970;
 
-const LAST_YEAR: u16 = 9998;
+/// The last year in which a document can expire.
+pub const LAST_YEAR: u16 = 9998;
 
 // The number that two digits spell.
 fn read_two(tens: u8, ones: u8) -> Option<u8>

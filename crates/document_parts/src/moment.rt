@@ -2,10 +2,8 @@
 ghost use Rattle.std.specs.Prelude.{◌≡◌, ◌↔◌, ◌<◌, ◌≤◌, IsTrue, IfSome, IfNone};
 ghost use Rattle.document_parts.specs.Dates.{IsLive, last_moment};
 
+use limits::LAST_MOMENT;
 use std::marker::Model;
-
-// 9999-12-31T23:59:59Z.
-const LAST: u64 = 253_402_300_799;
 
 /// A moment: the whole seconds since 1970-01-01T00:00:00Z, without leap seconds, from 0 to 253402300799, which is
 /// 9999-12-31T23:59:59Z. Moments are ordered by time. A clause sees the seconds.
@@ -34,7 +32,7 @@ impl Moment {
         ensures some { IfSome result (λ m. (m ≡ seconds) × (seconds ≤ last_moment)) }
         ensures none { IfNone result (last_moment < seconds) }
     {
-        if seconds <= LAST {
+        if seconds <= LAST_MOMENT {
             Some(Moment { seconds })
         } else {
             None

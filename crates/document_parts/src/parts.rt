@@ -16,8 +16,8 @@ use crate::trail::Trail;
 use canonical_json::Value;
 use path_patterns::{Digest, one_digest};
 
-// The greatest version and length.
-const LAST_NUMBER: u32 = 4_294_967_295;
+/// The greatest version and length.
+pub const LAST_NUMBER: u32 = 4_294_967_295;
 
 /// The version that the object has.
 pub fn version_of(value: &Value) -> Option<u32>

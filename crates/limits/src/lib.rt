@@ -19,7 +19,10 @@ pub const MOST_DOCUMENTS: usize = 160;
 /// The most signatures of a file.
 pub const MOST_SIGNATURES: usize = 16;
 
-/// A law, which does nothing: the constants are the limits that contracts name.
+/// The last moment, in seconds since 1970-01-01T00:00:00Z: 9999-12-31T23:59:59Z.
+pub const LAST_MOMENT: u64 = 253_402_300_799;
+
+/// A law, which does nothing: these constants are the limits that contracts name.
 pub fn limits_of_contracts()
     ensures bytes { BLOB_LIMIT ≡ blob_limit }
     ensures files { FILE_LIMIT ≡ file_limit }
