@@ -34,6 +34,7 @@ pub fn read_link(
     ensures err { IfErr result (IsIll ((l : plain.Link) × IsLink (entries_view signatures.now) (view signed.now) l)) }
 {
     if signatures.len() != 1 {
+        trail.turn("signatures");
         return Err(ShapeFault::WrongShape);
     }
     let name = name_at(alloc, signed, "name", trail)?;
