@@ -306,7 +306,10 @@ ill_documents_are_warned_of() {
     by_hand f/root.json 'it["version"] = 0'
     "$release" sign --book typed.book --seed root.seed --ots "${ots:-4}" --height 5 f/root.json >typed.json 2>"$folder/err"
     names 'warning: f/root.json: it would be denied: signed.version'
-    rm typed.book*
+    printf '%s' '{"signatures":[],"signed":{"_type":"layout","expires":"2031-01-01T00:00:00Z","inspect":[],"keys":{},"steps":[{"name":"build"}]}}' >f/ill.layout
+    "$release" sign --book typed.book --seed root.seed --ots "${ots:-4}" --height 5 f/ill.layout >typed.json 2>"$folder/err"
+    names 'warning: f/ill.layout: it would be denied: signed.steps[0].threshold'
+    rm f/ill.layout typed.book*
 }
 
 # A link is judged as all else is: by its shape, and by whether the book knows what the key has signed here.

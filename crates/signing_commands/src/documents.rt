@@ -6,7 +6,7 @@ use command_support::{FILE_LIMIT, Fault, Notes, Slip, moment, print, read_at_mos
 use drafts::typed_kind;
 use keys_roles::{Key, KeyId, key_id};
 use lms::{KeyPair, Params, SigningHeight};
-use metadata::read_signed;
+use metadata::{Kind, read_signed};
 use reasons::place_of;
 use signer::{Book, BookFault, Seed, SignFileFault, sign_file_with};
 use sqlite::Alter;
@@ -40,6 +40,10 @@ fn warn_of_shape<E: Write>(alloc: Global, name: &str, bytes: &[u8], notes: &mut 
     let Some(kind) = typed_kind(file.signed) else {
         return;
     };
+    // A link without a signature is none yet.
+    if kind == Kind::Link && file.signatures.is_empty() {
+        return;
+    }
     if let Ok(Some(place)) = place_of(alloc, kind, bytes) {
         if let Ok(told) = format!(in alloc; "it would be denied: {place}") {
             notes.warn(&name, &told);
