@@ -1,9 +1,10 @@
 //! The search for a target through delegations (TUF 1.0, section 5.6.7).
-ghost use Rattle.std.specs.Prelude.{◌≡◌, ◌+◌, ◌-◌, ◌<◌, ◌≤◌, ◌^◌};
+ghost use Rattle.std.specs.Prelude.{◌≡◌, ◌+◌, ◌-◌, ◌<◌, ◌≤◌, ◌^◌, length};
 ghost use Rattle.delegations.specs.Search.{search};
 ghost use Rattle.delegations.specs.Verdicts.{AreFew, AreTrue, Costs, IsComplete};
 ghost use Rattle.delegations.specs.Views.{shelf_view, found_view, answer_view};
 ghost use Rattle.delegations.specs.Visits.{Visits};
+ghost use Rattle.metadata.specs.File.{Names};
 
 use crate::shelf::{Found, SearchDenial, Shelf};
 use crate::verdicts::Verdicts;
@@ -44,6 +45,7 @@ pub fn search_counted<'a>(
     ensures checks { checks.new ≤ checks.old + 512 }
     ensures visits_grow { visits.old ≤ visits.new }
     ensures visits { visits.new ≤ visits.old + 32 }
+    ensures made { (roles : Names) × Visits (shelf_view shelf.now) path.now now roles × (visits.new ≡ visits.old + length roles) }
 {
     let query = Query {
         path,
@@ -105,7 +107,8 @@ pub fn search_seen<'a>(
     (answer, visited)
 }
 
-/// The same, with one tick for each signature that is checked. They are made when the search is done.
+/// The same as `search_with`, with one tick for each signature that is checked in place of their number. They are made when the search
+/// is done.
 pub fn search_with_counted<'a>(
     shelf: &Shelf<'a>,
     verdicts: &Verdicts,

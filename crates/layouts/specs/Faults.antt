@@ -2,6 +2,8 @@
 use Rattle.std.specs.Prelude.{◌≡◌, ◌⊎◌, ℕ, Result, Ok, Err}
 use Rattle.denials.specs.Numbers as no
 use Rattle.denials.specs.Orders.{Denied, Order, Plain}
+use Rattle.artifact_rules.specs.declared.faults.RuleFault.{RuleFault}
+use Rattle.artifact_rules.specs.declared.faults.RuleFault.TheVariants as rule_faults
 use Rattle.layouts.specs.declared.faults.LayoutFault.{LayoutFault}
 use Rattle.layouts.specs.declared.faults.LayoutFault.TheVariants.{LayoutThreshold, LayoutExpired, StepThreshold, LinksDisagree, Disallowed, Required, ProductMismatch, OutOfMemory}
 
@@ -15,6 +17,12 @@ fault_number Disallowed = no.disallowed
 fault_number Required = no.required
 fault_number ProductMismatch = no.product_mismatch
 fault_number OutOfMemory = 0
+
+-- the fault that the fault of a list of rules is told as: want of memory is told as such, and for no other
+abbrev pub fault_of : RuleFault → LayoutFault
+fault_of (rule_faults.Disallowed place path) = Disallowed
+fault_of (rule_faults.Required place path) = Required
+fault_of rule_faults.OutOfMemory = OutOfMemory
 
 -- memory was refused, or the order denies with the fault's number
 abbrev pub IsDeniedBy : {A : Type 0} → Order A → LayoutFault → Type 0

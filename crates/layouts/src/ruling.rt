@@ -5,7 +5,7 @@ ghost use Rattle.artifact_rules.specs.Rules.{link_of};
 ghost use Rattle.artifact_rules.specs.Views.{links_view};
 ghost use Rattle.document_parts.specs.RuleViews.{link_view, rule_view, side_view};
 ghost use Rattle.document_parts.specs.Views.{step_view};
-ghost use Rattle.layouts.specs.Faults.{IsJudged};
+ghost use Rattle.layouts.specs.Faults.{IsJudged, fault_of};
 ghost use Rattle.layouts.specs.Layouts.{HasProduct, all, ruled, step_rules};
 
 use crate::faults::LayoutFault;
@@ -53,9 +53,18 @@ fn check_side(
 {
     match check(alloc, rules, side, link, links) {
         Ok(()) => Ok(()),
-        Err(RuleFault::Disallowed(_, _)) => Err(LayoutFault::Disallowed),
-        Err(RuleFault::Required(_, _)) => Err(LayoutFault::Required),
-        Err(RuleFault::OutOfMemory) => Err(LayoutFault::OutOfMemory),
+        Err(fault) => Err(told(&fault)),
+    }
+}
+
+// What the fault of a list of rules is told as.
+fn told(fault: &RuleFault<'_>) -> LayoutFault
+    ensures { result ≡ fault_of fault.now }
+{
+    match fault {
+        RuleFault::Disallowed(_, _) => LayoutFault::Disallowed,
+        RuleFault::Required(_, _) => LayoutFault::Required,
+        RuleFault::OutOfMemory => LayoutFault::OutOfMemory,
     }
 }
 

@@ -8,4 +8,5 @@ pub mod Loading
 pub mod Asking
 pub mod Cells
 pub mod Opening
+pub mod Faults
 pub mod Outliving

@@ -6,6 +6,7 @@ ghost use Rattle.sqlite.specs.Schema.{Schema};
 ghost use Rattle.sqlite.specs.Held.{state};
 ghost use Rattle.sqlite.specs.State.{CommitsShowing, HasCleanDisk, IsRolledBack, IsUnchanged, Survives};
 ghost use Rattle.sql_tables.specs.Asking.{Reads};
+ghost use Rattle.sql_tables.specs.Faults.{fault_of};
 ghost use Rattle.sql_tables.specs.Opening.{IsSettled};
 
 use sqlite::{Alter, Connection, Error, ErrorCode};
@@ -14,7 +15,9 @@ use sqlite_trees::store::Store;
 use std::alloc::Global;
 
 // The fault of a connection for one of its store. Want of memory stays what it is.
-fn error_of(error: StoreError) -> Error {
+fn error_of(error: StoreError) -> Error
+    ensures { result ≡ fault_of error }
+{
     match error {
         StoreError::OutOfMemory => Error::SqliteFailure(ErrorCode::OutOfMemory),
         StoreError::Io => Error::SqliteFailure(ErrorCode::SystemIoFailure),
