@@ -12,7 +12,11 @@ use Rattle.document_parts.specs.declared.documents.ShapeFault.{ShapeFault}
 use Rattle.document_parts.specs.declared.documents.ShapeFault.TheVariants.{TooLong, NotCanonical, WrongShape, WrongType, BadKeyId, OutOfMemory}
 use Rattle.path_patterns.specs.Grammar.{IsName}
 use Rattle.drafting.specs.Drafts.{File, unsigned_file}
-use Rattle.chain_drafting.specs.Links.{IsLinkPart, IsUnsignedLink}
+use Rattle.denials.specs.declared.denial.Denial.{Denial}
+use Rattle.denials.specs.declared.denial.Denial.TheVariants as denials
+use Rattle.drafting.specs.declared.faults.DraftFault.{DraftFault}
+use Rattle.drafting.specs.declared.faults.DraftFault.TheVariants as drafts
+use Rattle.chain_drafting.specs.Links.{HasLinkMembers, IsLinkPart, IsUnfitLink, IsUnsignedLink}
 use Rattle.chain_drafting.specs.steps.Recorded.{IsLinkFile}
 
 shape_fault : (file : File) (e : ShapeFault) → IsEnvelopeFault file e → IsShapeFault kinds.Link file e
@@ -59,3 +63,39 @@ unsigned_link file v part short canonical is found =
       };
       is = link;
     }
+
+-- ---- why there is none
+
+pub other_link : (v k m n p : Json) → v ≡ object (member (codes "_type") k (member (codes "materials") m (member (codes "name") n (member (codes "products") p no_members))))
+    → (IsText k (codes "link") → (x : List ℕ) × IsTextOf IsName n x → (a : Artifacts) × AreArtifacts m a → (a : Artifacts) × AreArtifacts p a → ⊥) → HasLinkMembers v → ⊥
+other_link v k m n p is none h =
+    let both : object (member (codes "_type") k (member (codes "materials") m (member (codes "name") n (member (codes "products") p no_members))))
+    ≡ object (member (codes "_type") h.kind (member (codes "materials") h.materials (member (codes "name") h.name (member (codes "products") h.products no_members)))) = sym is ∙ h.members in
+    let kind : h.kind ≡ k = cc in
+    let materials : h.materials ≡ m = cc in
+    let name : h.name ≡ n = cc in
+    let products : h.products ≡ p = cc in
+    none (subst (λ (x : Json). IsText x (codes "link")) kind h.is_typed) (subst (λ (x : Json). (t : List ℕ) × IsTextOf IsName x t) name h.is_named)
+    (subst (λ (x : Json). (a : Artifacts) × AreArtifacts x a) materials h.are_materials) (subst (λ (x : Json). (a : Artifacts) × AreArtifacts x a) products h.are_products)
+
+pub unfit_as : {P Q A B : Type 0} → P ⊎ (Q × A) → (A → B) → P ⊎ (Q × B)
+unfit_as (inl p) f = inl p
+unfit_as (inr h) f = inr (h.0, f h.1)
+
+pub shape_unfit : (v : Json) (e : DraftFault)
+    → (e ≡ drafts.OutOfMemory) ⊎ ((e ≡ drafts.Unfit denials.WrongShape) × ((part : Json) → v ≡ unsigned_file part → HasLinkMembers part → ⊥))
+    → (e ≡ drafts.OutOfMemory) ⊎ ((d : Denial) × (e ≡ drafts.Unfit d) × ((part : Json) → v ≡ unsigned_file part → IsUnfitLink part d))
+shape_unfit v e (inl h) = inl h
+shape_unfit v e (inr h) = inr (denials.WrongShape, h.0, (λ part is. inr (inr (refl, h.1 part is))))
+
+pub unfit_part : (v part : Json) (e : DraftFault) → v ≡ unsigned_file part
+    → (e ≡ drafts.OutOfMemory) ⊎ ((d : Denial) × (e ≡ drafts.Unfit d) × ((p : Json) → v ≡ unsigned_file p → IsUnfitLink p d))
+    → (e ≡ drafts.OutOfMemory) ⊎ ((d : Denial) × (e ≡ drafts.Unfit d) × IsUnfitLink part d)
+unfit_part v part e is (inl h) = inl h
+unfit_part v part e is (inr h) = inr (h.0, h.1, h.2 part is)
+
+pub undrafted : (part : Json) (e : DraftFault) (Parts : Json → Type 0) (Begun : Type 0) → Parts part
+    → (e ≡ drafts.OutOfMemory) ⊎ ((d : Denial) × (e ≡ drafts.Unfit d) × IsUnfitLink part d)
+    → (e ≡ drafts.OutOfMemory) ⊎ (Begun ⊎ ((d : Denial) × (e ≡ drafts.Unfit d) × ((p : Json) × Parts p × IsUnfitLink p d)))
+undrafted part e Parts Begun is (inl h) = inl h
+undrafted part e Parts Begun is (inr h) = inr (inr (h.0, h.1, (part, is, h.2)))

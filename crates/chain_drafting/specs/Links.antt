@@ -1,13 +1,22 @@
 -- Drafts of links (in-toto 1.0, section 4.4).
-use Rattle.std.specs.Prelude.{◌≡◌, ℕ, List, [], ◌∷◌, codes, map, Option, Some, None}
-use Rattle.canonical_json.specs.Json.{Json, text, HasMember}
-use Rattle.canonical_json.specs.Spelling.{IsCanonical}
+use Rattle.std.specs.Prelude.{◌≡◌, ◌⊎◌, ℕ, ◌<◌, List, [], ◌∷◌, codes, length, map, Option, Some, None}
+use Rattle.limits.specs.Limits.{file_limit}
+use Rattle.canonical_json.specs.Json.{Json, text, object, no_members, member, HasMember}
+use Rattle.canonical_json.specs.Spelling.{spelling, IsCanonical}
+use Rattle.canonical_json.specs.Faults.{write_fault}
+use Rattle.canonical_json.specs.declared.WriteFault.{WriteFault}
+use Rattle.denials.specs.Numbers as no
+use Rattle.denials.specs.Orders.{Plain}
+use Rattle.denials.specs.Views.{denial_view}
+use Rattle.denials.specs.declared.denial.Denial.{Denial}
 use Rattle.keys_roles.specs.Plain.{Signature}
-use Rattle.document_parts.specs.Bodies.{IsLink}
-use Rattle.document_parts.specs.Links.{Link}
+use Rattle.document_parts.specs.Bodies.{AreArtifacts, IsLink, IsTextOf}
+use Rattle.document_parts.specs.Links.{Artifacts, Link}
+use Rattle.document_parts.specs.Members.{IsText}
 use Rattle.metadata.specs.Shape.{kind_name, IsSignedBy, IsSignedFile}
 use Rattle.document_parts.specs.declared.documents.Kind.TheVariants as kinds
-use Rattle.drafting.specs.Drafts.{File}
+use Rattle.path_patterns.specs.Grammar.{IsName}
+use Rattle.drafting.specs.Drafts.{File, unsigned_file}
 use Rattle.drafting.specs.Members.{Puts, PutsAll}
 use Rattle.drafting.specs.Targets.{hashes}
 use Rattle.chain_drafting.specs.Within.{Inside, typed_part}
@@ -49,3 +58,24 @@ pub record IsLinkPart (part : Json) : Type 0 where
 pub record IsUnsignedLink (part : Json) (file : File) : Type 0 where
   pub unsigned : IsSignedFile file [] part (kind_name kinds.Link)
   pub is : IsLinkPart part
+
+-- ---- why there is none
+
+-- the members of a link, these four and no other
+pub record HasLinkMembers (part : Json) : Type 0 where
+  pub kind : Json
+  pub materials : Json
+  pub name : Json
+  pub products : Json
+  pub members : part ≡ object (member (codes "_type") kind (member (codes "materials") materials (member (codes "name") name (member (codes "products") products no_members))))
+  pub is_typed : IsText kind (kind_name kinds.Link)
+  pub is_named : (n : List ℕ) × IsTextOf IsName name n
+  pub are_materials : (a : Artifacts) × AreArtifacts materials a
+  pub are_products : (a : Artifacts) × AreArtifacts products a
+
+-- the file without signatures is too long or has no canonical text, or the signed part is no link's
+abbrev pub IsUnfitLink : Json → Denial → Type 0
+IsUnfitLink part denial =
+    ((denial_view denial ≡ Plain no.too_long) × (file_limit < length (spelling (unsigned_file part))))
+    ⊎ (((fault : WriteFault) × (write_fault (unsigned_file part) ≡ Some fault) × (denial_view denial ≡ Plain no.not_canonical))
+    ⊎ ((denial_view denial ≡ Plain no.wrong_shape) × (HasLinkMembers part → ⊥)))

@@ -6,7 +6,7 @@ ghost use Rattle.denials.specs.declared.denial.Denial.{Denial};
 ghost use Rattle.document_parts.specs.declared.documents.Kind.TheVariants as kinds;
 ghost use Rattle.drafting.specs.Drafts.{IsDenied, IsHeldAnd};
 ghost use Rattle.drafting.specs.Members.{Puts, PutsAll};
-ghost use Rattle.chain_drafting.specs.Links.{DraftsLink, IsUnsignedLink, Joins, Records, artifact_rows};
+ghost use Rattle.chain_drafting.specs.Links.{DraftsLink, IsUnfitLink, IsUnsignedLink, Joins, Records, artifact_rows};
 ghost use Rattle.chain_drafting.specs.steps.Said.{artifacts_view};
 
 use crate::bases::link_members;
@@ -41,7 +41,9 @@ pub fn draft_link(
         × IsUnsignedLink part out.items) }
     ensures fault { IfErr result (λ e. (e ≡ DraftFault.OutOfMemory)
         ⊎ (((d : Denial) × (e ≡ DraftFault.Begun d) × IsHeldAnd (option_map (λ f. f.now) begun.entry) (λ f. IsDenied kinds.Link f d))
-        ⊎ ((d : Denial) × (e ≡ DraftFault.Unfit d)))) }
+        ⊎ ((d : Denial) × (e ≡ DraftFault.Unfit d)
+        × ((part : Json) × DraftsLink (option_map (λ f. f.now) begun.entry) name.now (artifacts_view materials.now) (artifacts_view products.now) part
+        × IsUnfitLink part d)))) }
 {
     let mut members = link_members(alloc, begun)?;
     put_link(alloc, &mut members, name, materials, products)?;

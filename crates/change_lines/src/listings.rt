@@ -1,10 +1,11 @@
 //! Targets as targets metadata list them, and documents as a snapshot or a timestamp names them.
-use crate::lines::{Lines, LinesFault};
+use crate::lines::{Lines, changes_in};
 use crate::places::{member_of, number_of, text_of};
 use crate::spelling::{digits_of, spelled};
 use canonical_json::Value;
 use plain_text::plain;
-use value_changes::{Change, Step, changes};
+use std::alloc::AllocError;
+use value_changes::{Change, Step};
 
 /// The lines of a target that is listed otherwise than before.
 pub(crate) fn put_listing(
@@ -12,9 +13,9 @@ pub(crate) fn put_listing(
     path: &str,
     before: &Value,
     after: &Value,
-) -> Result<(), LinesFault> {
+) -> Result<(), AllocError> {
     let path = plain(lines.alloc, path)?;
-    let found = changes(lines.alloc, before, after)?;
+    let found = changes_in(lines.alloc, before, after)?;
     if found.iter().any(|change| is_of_file(change)) {
         let before = file_words(lines, before)?;
         let after = file_words(lines, after)?;
@@ -34,7 +35,7 @@ pub(crate) fn put_listing_side(
     mark: char,
     path: &str,
     value: &Value,
-) -> Result<(), LinesFault> {
+) -> Result<(), AllocError> {
     let path = plain(lines.alloc, path)?;
     let words = file_words(lines, value)?;
     lines.put(format!(in lines.alloc; "{mark} {path}: {words}"))?;
@@ -50,7 +51,7 @@ fn is_of_file(change: &Change<'_>) -> bool {
 }
 
 // A target's length and digest, or all of its listing where it has not just these.
-fn file_words(lines: &Lines<'_>, value: &Value) -> Result<String, LinesFault> {
+fn file_words(lines: &Lines<'_>, value: &Value) -> Result<String, AllocError> {
     let alloc = lines.alloc;
     let hashes = member_of(value, "hashes");
     let is_alone = match hashes {
@@ -60,7 +61,7 @@ fn file_words(lines: &Lines<'_>, value: &Value) -> Result<String, LinesFault> {
     match (number_of(value, "length"), text_of(hashes, "sha256")) {
         (Some(length), Some(digits)) if is_alone => {
             let digits = plain(alloc, digits_of(digits, lines.whole))?;
-            Ok(format!(in alloc; "{length} bytes, {digits}")?)
+            format!(in alloc; "{length} bytes, {digits}")
         }
         _ => spelled(alloc, value, true),
     }
@@ -72,9 +73,9 @@ pub(crate) fn put_named(
     file: &str,
     before: &Value,
     after: &Value,
-) -> Result<(), LinesFault> {
+) -> Result<(), AllocError> {
     let name = plain(lines.alloc, role_of(file))?;
-    for change in &changes(lines.alloc, before, after)? {
+    for change in &changes_in(lines.alloc, before, after)? {
         match (change.place.as_slice(), change.before, change.after) {
             ([Step::Member(member)], Some(before), Some(after)) if *member == "version" => {
                 let before = spelled(lines.alloc, before, lines.whole)?;
@@ -93,7 +94,7 @@ pub(crate) fn put_named_side(
     mark: char,
     file: &str,
     value: &Value,
-) -> Result<(), LinesFault> {
+) -> Result<(), AllocError> {
     let name = plain(lines.alloc, role_of(file))?;
     match member_of(value, "version") {
         Some(version) => {

@@ -1,10 +1,11 @@
 //! Rules of roles, and delegations.
 use crate::keys::key_words;
-use crate::lines::{Lines, LinesFault};
+use crate::lines::{Lines, changes_in};
 use crate::places::{items_of, number_of, text_of};
 use canonical_json::Value;
 use plain_text::plain;
-use value_changes::{Change, Step, changes};
+use std::alloc::AllocError;
+use value_changes::{Change, Step};
 
 /// The lines of a rule that is another: how many of how many keys, the keys that come and go, and whatever else differs.
 pub(crate) fn put_rule(
@@ -12,8 +13,8 @@ pub(crate) fn put_rule(
     role: &str,
     before: &Value,
     after: &Value,
-) -> Result<(), LinesFault> {
-    let found = changes(lines.alloc, before, after)?;
+) -> Result<(), AllocError> {
+    let found = changes_in(lines.alloc, before, after)?;
     if found.iter().any(|change| is_of_rule(change)) {
         let one = rule_words(lines, before)?;
         let other = rule_words(lines, after)?;
@@ -36,10 +37,10 @@ fn is_of_rule(change: &Change<'_>) -> bool {
     }
 }
 
-fn rule_words(lines: &Lines<'_>, rule: &Value) -> Result<String, LinesFault> {
+fn rule_words(lines: &Lines<'_>, rule: &Value) -> Result<String, AllocError> {
     let threshold = number_of(rule, "threshold").unwrap_or(0);
     let count = items_of(Some(rule), "keyids").len();
-    Ok(format!(in lines.alloc; "{threshold} of {count} keys")?)
+    format!(in lines.alloc; "{threshold} of {count} keys")
 }
 
 // The keys that a rule has no more, and those that it has now; where these are the same, whether they stand in another order.
@@ -48,7 +49,7 @@ fn put_keys(
     role: &str,
     before: &Value,
     after: &Value,
-) -> Result<(), LinesFault> {
+) -> Result<(), AllocError> {
     let one = items_of(Some(before), "keyids");
     let other = items_of(Some(after), "keyids");
     let gone = put_missing(lines, '-', role, one, other)?;
@@ -66,7 +67,7 @@ fn put_missing(
     role: &str,
     of: &[Value],
     not_in: &[Value],
-) -> Result<usize, LinesFault> {
+) -> Result<usize, AllocError> {
     let mut count = 0usize;
     for item in of {
         if let Value::Text(digits) = item {
@@ -84,7 +85,7 @@ fn put_key_of(
     mark: char,
     role: &str,
     digits: &str,
-) -> Result<(), LinesFault> {
+) -> Result<(), AllocError> {
     let words = key_words(lines.alloc, lines.names, digits, lines.whole)?;
     lines.put(format!(in lines.alloc; "{mark} {role} key {words}"))
 }
@@ -121,7 +122,7 @@ pub(crate) fn put_rule_side(
     mark: char,
     role: &str,
     rule: &Value,
-) -> Result<(), LinesFault> {
+) -> Result<(), AllocError> {
     let words = rule_words(lines, rule)?;
     lines.put(format!(in lines.alloc; "{mark} {role}: {words}"))?;
     put_missing(lines, mark, role, items_of(Some(rule), "keyids"), &[])?;
@@ -133,7 +134,7 @@ pub(crate) fn put_delegations(
     lines: &mut Lines<'_>,
     before: &[Value],
     after: &[Value],
-) -> Result<(), LinesFault> {
+) -> Result<(), AllocError> {
     if !have_own_names(before) || !have_own_names(after) {
         return Ok(());
     }
@@ -151,7 +152,7 @@ pub(crate) fn put_delegations(
     Ok(())
 }
 
-fn put_gone(lines: &mut Lines<'_>, before: &[Value], after: &[Value]) -> Result<(), LinesFault> {
+fn put_gone(lines: &mut Lines<'_>, before: &[Value], after: &[Value]) -> Result<(), AllocError> {
     for item in before {
         if named(after, name_of(item)).is_none() {
             put_delegation_side(lines, '-', item)?;
@@ -160,7 +161,7 @@ fn put_gone(lines: &mut Lines<'_>, before: &[Value], after: &[Value]) -> Result<
     Ok(())
 }
 
-fn put_delegation(lines: &mut Lines<'_>, before: &Value, after: &Value) -> Result<(), LinesFault> {
+fn put_delegation(lines: &mut Lines<'_>, before: &Value, after: &Value) -> Result<(), AllocError> {
     let head = head_of(lines, after)?;
     put_rule(lines, head.as_str(), before, after)
 }
@@ -170,7 +171,7 @@ pub(crate) fn put_delegation_side(
     lines: &mut Lines<'_>,
     mark: char,
     item: &Value,
-) -> Result<(), LinesFault> {
+) -> Result<(), AllocError> {
     let head = head_of(lines, item)?;
     let words = rule_words(lines, item)?;
     let head = head.as_str();
@@ -179,9 +180,9 @@ pub(crate) fn put_delegation_side(
     lines.put_others(mark, head, item, &["keyids", "name", "threshold"])
 }
 
-fn head_of(lines: &Lines<'_>, item: &Value) -> Result<String, LinesFault> {
+fn head_of(lines: &Lines<'_>, item: &Value) -> Result<String, AllocError> {
     let name = plain(lines.alloc, name_of(item))?;
-    Ok(format!(in lines.alloc; "delegation to {name}")?)
+    format!(in lines.alloc; "delegation to {name}")
 }
 
 // The name of a delegation's role, empty where it has none.
@@ -228,7 +229,7 @@ fn place_of(items: &[Value], name: &str) -> Option<usize> {
     items.iter().position(|item| name_of(item) == name)
 }
 
-fn order_of(lines: &Lines<'_>, items: &[Value]) -> Result<String, LinesFault> {
+fn order_of(lines: &Lines<'_>, items: &[Value]) -> Result<String, AllocError> {
     let mut order = String::new(lines.alloc);
     for item in items {
         order.push(' ')?;

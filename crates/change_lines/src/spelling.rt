@@ -1,6 +1,5 @@
 //! Values and texts on one line.
-use crate::lines::LinesFault;
-use canonical_json::{Value, write};
+use canonical_json::{Value, WriteFault, write};
 use path_patterns::Digest;
 use plain_text::plain;
 use std::alloc::{AllocError, Global};
@@ -8,19 +7,23 @@ use std::alloc::{AllocError, Global};
 // So many digits of a digest or of a key's id stand where not all are wanted.
 const FIRST_DIGITS: usize = 8;
 
+// What stands for a value without a spelling.
+const UNSPELLED: &str = "(no canonical JSON)";
+
 /// The value as canonical JSON spells it, on one line. A text that is a digest stands by its first digits where not all are wanted.
-pub(crate) fn spelled(alloc: Global, value: &Value, whole: bool) -> Result<String, LinesFault> {
+/// Each value that is read has a spelling; one that has none is told so.
+pub(crate) fn spelled(alloc: Global, value: &Value, whole: bool) -> Result<String, AllocError> {
     if let Value::Text(text) = value {
         if !whole && Digest::read(text.as_str()).is_some() {
             let digits = digits_of(text.as_str(), whole);
-            return Ok(format!(in alloc; "\"{digits}..\"")?);
+            return format!(in alloc; "\"{digits}..\"");
         }
     }
     let mut bytes = Vec::new(alloc);
-    write(value, &mut bytes)?;
-    match str::from_utf8(&bytes) {
-        Ok(text) => Ok(plain(alloc, text)?),
-        Err(_) => Err(LinesFault::NotCanonical),
+    match write(value, &mut bytes) {
+        Ok(()) => plain(alloc, str::from_utf8(&bytes).unwrap_or(UNSPELLED)),
+        Err(WriteFault::OutOfMemory) => Err(AllocError),
+        Err(WriteFault::TooDeep | WriteFault::Unordered) => String::from_str(alloc, UNSPELLED),
     }
 }
 

@@ -14,3 +14,4 @@ pub mod Inside
 pub mod Numbers
 pub mod PlainTexts
 pub mod Called
+pub mod Rising

@@ -1,7 +1,8 @@
 //! Members of objects that are changed.
-ghost use Rattle.std.specs.Prelude.{◌≡◌, ◌⊎◌, ◌<◌, ◌≤◌, ◌∷◌, [], List, length, pos, slice_index_or, string_bytes, vec_len, IfOk, OnOk, MatchOption, String, true, false};
+ghost use Rattle.std.specs.Prelude.{◌≡◌, ◌⊎◌, ◌<◌, ◌≤◌, ◌∷◌, ℕ, [], List, length, pos, slice_index_or, string_bytes, vec_len, IfOk, OnOk, MatchOption, String, true, false};
 ghost use Rattle.std.specs.declared.alloc.Global.{Global};
-ghost use Rattle.canonical_json.specs.Json.{Json, Items, Members, array, boolean, integer, text, object, HasMember};
+ghost use Rattle.canonical_json.specs.Json.{Json, Items, Members, array, boolean, integer, text, object, names, HasMember};
+ghost use Rattle.canonical_json.specs.Spelling.{AreRising, IsBefore};
 ghost use Rattle.canonical_json.specs.View.{view, items_view, members_view};
 ghost use Rattle.canonical_json.specs.declared.Value.{Value};
 ghost use Rattle.drafting.specs.Members.{AlikeBut, Drops, HasNone, IsListAt, IsObjectAt, Puts, without};
@@ -45,14 +46,15 @@ pub fn take_out(members: &mut Vec<(String, Value)>, name: &str)
     }
 }
 
-/// Puts a member, in the place of those of its name.
+/// Puts a member, in the place of those of its name. Where the names rise, they rise still.
 pub fn put(
     alloc: Global,
     members: &mut Vec<(String, Value)>,
     name: &str,
     value: Value,
 ) -> Result<(), AllocError>
-    ensures { OnOk result (Puts name.now (view value) (object (members_view members.old.items)) (object (members_view members.new.items))) }
+    ensures puts { OnOk result (Puts name.now (view value) (object (members_view members.old.items)) (object (members_view members.new.items))) }
+    ensures rising { OnOk result (AreRising (names (members_view members.old.items)) → AreRising (names (members_view members.new.items))) }
 {
     take_out(members, name);
     let at = place_for(members, name);
@@ -61,9 +63,11 @@ pub fn put(
     Ok(())
 }
 
-// How many members at the front stand before this name.
+// How many members at the front do not stand behind this name.
 fn place_for(members: &[(String, Value)], name: &str) -> usize
-    ensures { result ≤ length members.now }
+    ensures bound { result ≤ length members.now }
+    ensures front { (k : ℕ) → k < result → (d : String Global × Value) → IsBefore name.now (string_bytes (slice_index_or members.now k d).0) → ⊥ }
+    ensures behind { result < length members.now → (d : String Global × Value) → IsBefore name.now (string_bytes (slice_index_or members.now result d).0) }
 {
     for (i, member) in members.iter().enumerate() {
         if name < member.0.as_str() {

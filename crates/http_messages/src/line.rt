@@ -1,6 +1,8 @@
 // Readers and writers of which it can be said that they do not fail.
-ghost use Rattle.std.specs.Prelude.{◌≡◌, ◌≤◌, ◌<◌, ◌+◌, ◌++◌, ℕ, List, Bool, true, false, length, take, drop, IsOk, IfOk, OnOk, OnErr};
+ghost use Rattle.std.specs.Prelude.{◌≡◌, ◌≤◌, ◌<◌, ◌+◌, ◌++◌, ℕ, List, Bool, Some, true, false, length, take, drop, IsOk, IfOk, IfErr, OnOk, OnErr};
 ghost use Rattle.std.specs.Io.{ReadsAtMost, WritesAtMost};
+ghost use Rattle.std.specs.IoError.{error_kind};
+ghost use Rattle.std.specs.declared.io.ErrorKind.TheVariants as kinds;
 ghost use Rattle.std.specs.Io.KnownBytes.{Appends, ReadConsumes, WriteAppends};
 ghost use Rattle.http_messages.specs.Sound.{StaysSound, TakesSome};
 ghost use Rattle.http_messages.specs.Taken.{TookSome};
@@ -113,10 +115,17 @@ impl Receive for &TcpStream {
     }
 }
 
+/// It takes the whole text; an error says that memory was refused.
 impl Transmit for Vec<u8> {
     ghost sound = { λ _. false };
 
-    fn transmit(&mut self, buf: &[u8]) -> io::Result<usize> {
+    fn transmit(&mut self, buf: &[u8]) -> io::Result<usize>
+        ensures bound { WritesAtMost result buf.now }
+        ensures bytes { WriteAppends (Some self.old.items) (Some self.new.items) result buf.now }
+        ensures sound { TakesSome false buf.now result false }
+        ensures whole { IfOk result (λ n. n ≡ length buf.now) }
+        ensures memory { IfErr result (λ e. error_kind e ≡ kinds.OutOfMemory) }
+    {
         self.write(buf)
     }
 }

@@ -13,7 +13,7 @@ returns c =
     let a = shown c.args.members.now.items in
     let b = shown c.take_object-names.new.members.items in
     let d = shown c.put.new.members.items in
-    on_ok _ _ c.put.result c.put.ensures (λ put.
+    on_ok _ _ c.put.result c.put.ensures.puts (λ put.
     one_put (codes "names") (name_rows (all_view c.args.delegated.now)) (shown c.args.list.now) a b d (shown c.take_object-names.result.items) (shown c.add_names.new.table.items)
     (shown c.keep_named.new.table.items) c.take_object-names.ensures.object c.take_object-names.ensures.others c.in_ok-add_names.ensures c.keep_named.ensures
     (subst (λ (x : Json). Puts (codes "names") x b d) c.object_value.ensures put))

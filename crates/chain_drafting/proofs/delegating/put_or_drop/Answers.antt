@@ -30,10 +30,10 @@ returns c =
     let e = shown c.put-2.new.members.items in
     let values = c.in_ok-values.values.items in
     let some : rows_view rows ≡ [] → ⊥ = λ is. let none : length rows ≡ 0 = no_view rows is in absurd (search rules) in
-    on_ok _ _ c.put-2.result c.put-2.ensures (λ put.
+    on_ok _ _ c.put-2.result c.put-2.ensures.puts (λ put.
     put_any delegated (rows_view rows) i b e some (standing delegated rows i j k b d e values
     (subst (λ (r : List Row). PutsOne (codes "keys") (key_rows delegated) (shown r) i j) c.as_slice.ensures.value c.in_ok-put_keys.ensures)
     (subst (λ (r : List Row). PutsOne (codes "names") (name_rows delegated) (shown r) b d) c.as_slice-2.ensures.value c.in_ok-put_names.ensures)
     c.in_ok-values.ensures
-    (subst (λ (x : Json). Puts (codes "roles") x j k) (list_view c.in_ok-values.values) c.in_ok-put.ensures)
+    (subst (λ (x : Json). Puts (codes "roles") x j k) (list_view c.in_ok-values.values) c.in_ok-put.ensures.puts)
     (subst (λ (x : Json). Puts (codes "delegations") x d e) c.object_value.ensures put)))

@@ -20,7 +20,7 @@ artifacts-preserved c =
     let later = c.in-Some.later.now in
     let is : c.artifacts.rest.now ≡ artifact ∷ later = search rules in
     let path = string_bytes artifact.path in
-    let put = subst (λ (x : Json). Puts path x m a) c.in_ok-value.ensures (subst (λ (n : List ℕ). Puts n (view c.in_ok-value.value) m a) c.as_str.ensures.value c.in_ok-put.ensures) in
+    let put = subst (λ (x : Json). Puts path x m a) c.in_ok-value.ensures (subst (λ (n : List ℕ). Puts n (view c.in_ok-value.value) m a) c.as_str.ensures.value c.in_ok-put.ensures.puts) in
     c.artifacts.invariant d (subst (λ (r : List Artifact). PutsAll (artifact_rows (artifacts_view r)) m d) (sym is)
     (puts_more (path, hashes artifact.digest.0) (artifact_rows (artifacts_view later)) m a d put more))
 

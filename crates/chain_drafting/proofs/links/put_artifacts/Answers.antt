@@ -14,7 +14,7 @@ returns c =
     let b = shown c.take_object-rows.new.members.items in
     let d = shown c.put.new.members.items in
     let new = shown c.add_artifacts.new.rows.items in
-    on_ok _ _ c.put.result c.put.ensures (λ put.
+    on_ok _ _ c.put.result c.put.ensures.puts (λ put.
     inside c.args.name.now (PutsAll (artifact_rows (artifacts_view c.args.artifacts.now))) a b d (shown c.take_object-rows.result.items) new
     c.take_object-rows.ensures.object c.take_object-rows.ensures.others (subst (λ (x : Json). Puts c.args.name.now x b d) c.object_value.ensures put)
     c.in_ok-add_artifacts.ensures)

@@ -14,7 +14,7 @@ returns c =
     let b = shown c.take_object-custom.new.members.items in
     let d = shown c.put.new.members.items in
     let new = shown c.put_layout.new.custom.items in
-    on_ok _ _ c.put.result c.put.ensures (λ put.
+    on_ok _ _ c.put.result c.put.ensures.puts (λ put.
     inside (codes "custom") (PutsReference (reference_view c.args.said.now)) a b d (shown c.take_object-custom.result.items) new
     c.take_object-custom.ensures.object c.take_object-custom.ensures.others (subst (λ (x : Json). Puts (codes "custom") x b d) c.object_value.ensures put)
     c.in_ok-put_layout.ensures)

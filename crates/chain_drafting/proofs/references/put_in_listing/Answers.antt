@@ -15,7 +15,7 @@ returns-clause-ok c =
     let d = shown c.put.new.members.items in
     let new = shown c.put_in_custom.new.listing.items in
     inside c.args.target.now (Inside (codes "custom") (PutsReference (reference_view c.args.said.now))) a b d (shown c.take_object-listing.result.items) new
-    c.take_object-listing.ensures.object c.take_object-listing.ensures.others (subst (λ (x : Json). Puts c.args.target.now x b d) c.object_value.ensures c.in_ok-put.ensures)
+    c.take_object-listing.ensures.object c.take_object-listing.ensures.others (subst (λ (x : Json). Puts c.args.target.now x b d) c.object_value.ensures c.in_ok-put.ensures.puts)
     c.in_ok-put_in_custom.ensures
 
 pub returns-then-not-is_there-clause-err : goal.returns-then-not-is_there-clause-err

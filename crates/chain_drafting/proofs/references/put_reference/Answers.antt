@@ -15,5 +15,5 @@ returns-clause-ok c =
     let d = shown c.put.new.members.items in
     let new = shown c.put_in_listing.new.targets.items in
     inside (codes "targets") (Inside c.args.target.now (Inside (codes "custom") (PutsReference (reference_view c.args.said.now)))) a b d (shown c.take_object-targets.result.items) new
-    c.take_object-targets.ensures.object c.take_object-targets.ensures.others (subst (λ (x : Json). Puts (codes "targets") x b d) c.object_value.ensures c.in_ok-put.ensures)
+    c.take_object-targets.ensures.object c.take_object-targets.ensures.others (subst (λ (x : Json). Puts (codes "targets") x b d) c.object_value.ensures c.in_ok-put.ensures.puts)
     c.in_ok-put_in_listing.ensures.ok

@@ -13,9 +13,9 @@ returns-clause-ok c =
     let d = shown c.put-2.new.members.items in
     let t = string_bytes c.in_ok-text.text in
     let term = integer (pos c.args.terms.seconds) in
-    let expires = subst (λ (x : Json). Puts (codes "expires") x a b) c.string_value.ensures c.in_ok-put.ensures in
+    let expires = subst (λ (x : Json). Puts (codes "expires") x a b) c.string_value.ensures c.in_ok-put.ensures.puts in
     let seconds = subst (λ (z : ℤ). Puts (codes "term") (integer z) b d) (to_z_pos w64 c.args.terms.seconds (omega arith))
-    (subst (λ (x : Json). Puts (codes "term") x b d) c.integer_value.ensures c.in_ok-put-2.ensures) in (
+    (subst (λ (x : Json). Puts (codes "term") x b d) c.integer_value.ensures c.in_ok-put-2.ensures.puts) in (
       t,
       c.in_ok-text.ensures.ok,
       puts_more (codes "expires", text t) ((codes "term", term) ∷ []) a b d expires (puts_more (codes "term", term) [] b d d seconds (puts_none d)),

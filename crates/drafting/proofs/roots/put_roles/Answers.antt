@@ -23,7 +23,7 @@ loop-rule-preserved c =
     let i = c.loop-rule.rule-index in
     let rule = c.rule-item.result in
     let is = drop_at c.args.rules.now i rule c.loop-rule-test.true c.rule-item.is in
-    let put = subst (λ (x : Json). Puts (role_name rule.0) x m a) c.in_ok-value.ensures (subst (λ (n : List ℕ). Puts n (view c.in_ok-value.value) m a) c.name.ensures c.in_ok-put.ensures) in
+    let put = subst (λ (x : Json). Puts (role_name rule.0) x m a) c.in_ok-value.ensures (subst (λ (n : List ℕ). Puts n (view c.in_ok-value.value) m a) c.name.ensures c.in_ok-put.ensures.puts) in
     c.loop-rule.invariant d (subst (λ (r : List Said). PutsAll (rule_rows (rules_view r)) m d) (sym is)
     (puts_more (role_name rule.0, rule_object (rule_view rule.1)) (rule_rows (rules_view (drop (i + 1) c.args.rules.now))) m a d put more))
 

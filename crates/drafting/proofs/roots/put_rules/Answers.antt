@@ -23,8 +23,8 @@ returns-clause-ok c =
     (subst (λ (r : List Row). (role : TopRole) → IsThere (shown r) (role_name role)) c.as_slice.ensures.value c.in-Ok.ensures.ok)
     (subst (λ (r : List Row). PutsOne (codes "keys") (key_rows rules) (shown r) b keyed) c.as_slice-2.ensures.value c.in_ok-put_keys.ensures)
     (subst (λ (r : List Row). PutsOne (codes "names") (name_rows rules) (shown r) keyed named) c.as_slice-3.ensures.value c.in_ok-put_names.ensures)
-    (subst (λ (x : Json). Puts (codes "roles") x named d) c.object_value.ensures c.in_ok-put.ensures)
-    (subst (λ (x : Json). Puts (codes "consistent_snapshot") x d e) c.true_value.ensures c.in_ok-put-2.ensures)
+    (subst (λ (x : Json). Puts (codes "roles") x named d) c.object_value.ensures c.in_ok-put.ensures.puts)
+    (subst (λ (x : Json). Puts (codes "consistent_snapshot") x d e) c.true_value.ensures c.in_ok-put-2.ensures.puts)
 
 pub returns-in-Err-clause-err : goal.returns-in-Err-clause-err
 returns-in-Err-clause-err c =

@@ -12,7 +12,7 @@ returns c =
     let b = shown c.take_object-meta.new.members.items in
     let d = shown c.put.new.members.items in
     let new = shown c.put_roles.new.meta.items in
-    on_ok _ _ c.put.result c.put.ensures (λ put.
+    on_ok _ _ c.put.result c.put.ensures.puts (λ put.
     let is = subst (λ (x : Json). Puts (codes "meta") x b d) c.object_value.ensures put in
     record {
       lists = record {

@@ -20,7 +20,7 @@ keys-preserved c =
     let key = c.in-Some.key.now in
     let later = c.in-Some.later.now in
     let is : c.keys.rest.now ≡ key ∷ later = search rules in
-    let put = subst (λ (x : Json). Puts (id_of (key_view key.key)) x m a) (c.in_ok-value.ensures ∙ ap text c.as_str.ensures.value) (subst (λ (n : List ℕ). Puts n (view c.in_ok-value.value) m a) (c.as_str-in-Some.ensures.value ∙ c.in_ok-id.ensures) c.in_ok-put.ensures) in
+    let put = subst (λ (x : Json). Puts (id_of (key_view key.key)) x m a) (c.in_ok-value.ensures ∙ ap text c.as_str.ensures.value) (subst (λ (n : List ℕ). Puts n (view c.in_ok-value.value) m a) (c.as_str-in-Some.ensures.value ∙ c.in_ok-id.ensures) c.in_ok-put.ensures.puts) in
     c.keys.invariant rows d (subst (λ (r : List NamedKey). PutsAll (names_of (keys_view r) ++ rows) m d) (sym is)
     (puts_more (id_of (key_view key.key), text (string_bytes key.name)) (names_of (keys_view later) ++ rows) m a d put more))
 

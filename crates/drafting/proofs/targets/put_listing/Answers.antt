@@ -14,7 +14,7 @@ returns c =
     let d = shown c.put.new.members.items in
     let old = shown c.take_object-listing.result.items in
     let new = shown c.put_said.new.listing.items in
-    on_ok _ _ c.put.result c.put.ensures (λ put. record {
+    on_ok _ _ c.put.result c.put.ensures.puts (λ put. record {
       old = old;
       new = new;
       was = subst (λ (n : List ℕ). IsObjectAt a n old) c.as_str.ensures.value c.take_object-listing.ensures.object;

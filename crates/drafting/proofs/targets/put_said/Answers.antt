@@ -13,7 +13,7 @@ returns c =
     let a = shown c.args.listing.now.items in
     let b = shown c.put.new.members.items in
     let d = shown c.put-2.new.members.items in
-    on_ok _ _ c.put-2.result c.put-2.ensures (λ q.
+    on_ok _ _ c.put-2.result c.put-2.ensures.puts (λ q.
     listed (addition_view c.args.said.now).1 a b (members_view c.put-2.new.members.items)
-    (subst (λ (x : Json). Puts (codes "hashes") x a b) c.in_ok-value.ensures c.in_ok-put.ensures)
+    (subst (λ (x : Json). Puts (codes "hashes") x a b) c.in_ok-value.ensures c.in_ok-put.ensures.puts)
     (subst (λ (x : Json). Puts (codes "length") x b d) c.number_value.ensures q))

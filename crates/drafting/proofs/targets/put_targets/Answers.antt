@@ -11,7 +11,7 @@ returns-clause-ok c =
     let b = shown c.take_object-targets.new.members.items in
     let d = shown c.put.new.members.items in
     let new = shown c.add_all.new.targets.items in
-    let is = subst (λ (x : Json). Puts (codes "targets") x b d) c.object_value.ensures c.in_ok-put.ensures in
+    let is = subst (λ (x : Json). Puts (codes "targets") x b d) c.object_value.ensures c.in_ok-put.ensures.puts in
     record {
       makes = record {
         old = shown c.take_object-targets.result.items;

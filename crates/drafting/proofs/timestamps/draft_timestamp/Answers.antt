@@ -16,7 +16,7 @@ returns-clause-draft c =
     let held = file c.args.held in
     let begun = file c.args.begun in
     let after = shown c.put_head.new.members.items in
-    let made = timestamp_part held begun c.args.terms c.args.snapshot c.in_ok-version.version (shown c.in_ok-members.members.items) (shown c.put.new.members.items) after _ c.in_ok-version.ensures.ok c.in_ok-members.ensures.ok c.in_ok-meta.ensures c.in_ok-put.ensures c.in_ok-put_head.ensures.ok in
+    let made = timestamp_part held begun c.args.terms c.args.snapshot c.in_ok-version.version (shown c.in_ok-members.members.items) (shown c.put.new.members.items) after _ c.in_ok-version.ensures.ok c.in_ok-members.ensures.ok c.in_ok-meta.ensures c.in_ok-put.ensures.puts c.in_ok-put_head.ensures.ok in
     if_ok _ _ c.finish.result c.finish.ensures.ok (λ out draft. (after, made, draft))
 
 pub returns-clause-fault : goal.returns-clause-fault
@@ -24,5 +24,5 @@ returns-clause-fault c =
     let held = file c.args.held in
     let begun = file c.args.begun in
     let after = shown c.put_head.new.members.items in
-    let made = timestamp_part held begun c.args.terms c.args.snapshot c.in_ok-version.version (shown c.in_ok-members.members.items) (shown c.put.new.members.items) after _ c.in_ok-version.ensures.ok c.in_ok-members.ensures.ok c.in_ok-meta.ensures c.in_ok-put.ensures c.in_ok-put_head.ensures.ok in
+    let made = timestamp_part held begun c.args.terms c.args.snapshot c.in_ok-version.version (shown c.in_ok-members.members.items) (shown c.put.new.members.items) after _ c.in_ok-version.ensures.ok c.in_ok-members.ensures.ok c.in_ok-meta.ensures c.in_ok-put.ensures.puts c.in_ok-put_head.ensures.ok in
     if_err _ _ c.finish.result c.finish.ensures.err (λ e why. unfinished kinds.Timestamp held begun c.args.terms (DraftsTimestamp held begun c.args.terms c.args.snapshot) nothing_else after e made why)
