@@ -3,3 +3,4 @@ pub mod BatchOneByOne
 pub mod ChangesMake
 pub mod LastLines
 pub mod OneMoreBlob
+pub mod FirstLines

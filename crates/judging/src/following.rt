@@ -41,8 +41,8 @@ fn root_is_next(alloc: Global, held: &[u8], bytes: &[u8]) -> Result<bool, Refusa
     Ok(true)
 }
 
-// Whether a new root may follow the held one.
-fn after_root(old: &File<Root>, new: &File<Root>) -> Result<(), Refusal>
+/// Whether a new root may follow the held one.
+pub(crate) fn after_root(old: &File<Root>, new: &File<Root>) -> Result<(), Refusal>
     ensures { Gives (root_follows (root_file old.now) (root_file new.now)) (λ u. u) result }
 {
     if !is_next(old.body.version, new.body.version) {

@@ -9,11 +9,12 @@ ghost use Rattle.trusted_state.specs.Views.{draft_view};
 
 use crate::compared::keeps_roles;
 use crate::files::new_root;
+use crate::following::after_root;
 use denials::Denial;
 use metadata::{File, Root};
 use std::alloc::Global;
 use trusted_state::draft::Draft;
-use trusted_state::pieces::checks::{are_same, is_next, is_signed, keeps_profile};
+use trusted_state::pieces::checks::{are_same, is_signed};
 use trusted_state::refusal::Refusal;
 
 // Whether a new root keeps the rules of the timestamp and the snapshot role, where it may follow the trusted one.
@@ -21,12 +22,7 @@ fn judge_root(draft: &Draft<'_>, old: &File<Root>, new: &File<Root>) -> Result<b
     ensures { Gives (commands.renew_root (draft_view draft.now) (root_file old.now) (root_file new.now))
         (λ keeps. cond keeps (with_root (draft_view draft.now) (root_file new.now)) (emptied (with_root (draft_view draft.now) (root_file new.now)))) result }
 {
-    if !is_next(old.body.version, new.body.version) {
-        return Err(Refusal::Denied(Denial::RootVersion));
-    }
-    if !keeps_profile(&old.body, &new.body) {
-        return Err(Refusal::Denied(Denial::ProfileLowered));
-    }
+    after_root(old, new)?;
     if !is_signed(&old.body.root, &old.body.keys, &new.source) {
         return Err(Refusal::Denied(Denial::OldThreshold));
     }

@@ -1,4 +1,4 @@
-use Rattle.std.proofs.Common.{List, inl, inr, map, refl}
+use Rattle.std.proofs.Common.{List, inl, inr, map, refl, subst, sym}
 use Rattle.artifact_rules.specs.Faults.{IsRuleFault}
 use Rattle.artifact_rules.specs.Views.{links_view}
 use Rattle.artifact_rules.specs.declared.faults.RuleFault.{RuleFault}
