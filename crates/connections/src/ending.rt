@@ -1,7 +1,6 @@
 //! The end of a connection.
 use crate::deadlines::{ALL_SECONDS, LAST_SECONDS, Timer};
 use crate::incoming::{Incoming, read_within};
-use crate::outgoing::Outgoing;
 use std::io::Read;
 use std::net::{Shutdown, TcpStream};
 
@@ -10,20 +9,20 @@ const PIECE: usize = 8192;
 // So many pieces that have come already are taken away without waiting.
 const PIECES: u32 = 128;
 
-/// Ends a connection behind its reply, so that its stream may be closed: nothing is sent any more. Where the request came
-/// whole, nothing is waited for. Otherwise what the peer still sends is read away until it ends or its time is over, so that the
+/// Ends a connection after its reply, so that its stream may be closed: nothing is sent any more. Where the request came
+/// whole, as one of a command that was made or denied did, nothing is waited for. Otherwise what the peer still sends is read away until it ends or its time is over, so that the
 /// reply reaches a peer that is still sending.
 pub fn end(
     rt: &HostRuntime,
     stream: &TcpStream,
     incoming: &Incoming<'_, '_>,
-    outgoing: &Outgoing<'_>,
+    is_of_command: bool,
     timer: &Timer<'_>,
 ) {
     if stream.shutdown(Shutdown::Write).is_err() {
         return;
     }
-    if outgoing.is_of_command() || incoming.is_whole() {
+    if is_of_command || incoming.is_whole() {
         take_what_came(stream);
         return;
     }

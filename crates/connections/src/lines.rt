@@ -3,6 +3,7 @@ use crate::deadlines::Timer;
 use crate::incoming::Incoming;
 use crate::outgoing::Outgoing;
 use command_support::Notes;
+use http_messages::Status;
 use metadata::Moment;
 use std::fmt;
 use std::io::Write;
@@ -12,6 +13,8 @@ use std::io::Write;
 pub fn tell_connection<E: Write>(
     incoming: &Incoming<'_, '_>,
     outgoing: &Outgoing<'_>,
+    status: Option<Status>,
+    denial: Option<u8>,
     now: Moment,
     timer: &Timer<'_>,
     notes: &mut Notes<'_, E>,
@@ -23,9 +26,9 @@ pub fn tell_connection<E: Write>(
     let line = Line {
         method: visible(words.next()),
         path: visible(words.next()),
-        status: outgoing.status().unwrap_or("-"),
+        status: status.map(number_of),
         bytes: outgoing.sent(),
-        denial: outgoing.denial().unwrap_or("-"),
+        denial,
         milliseconds: timer.milliseconds(),
     };
     notes.tell(&now.seconds(), &line);
@@ -44,9 +47,9 @@ fn visible(word: Option<&[u8]>) -> &str {
 struct Line<'a> {
     method: &'a str,
     path: &'a str,
-    status: &'a str,
+    status: Option<u16>,
     bytes: u64,
-    denial: &'a str,
+    denial: Option<u8>,
     milliseconds: u128,
 }
 
@@ -60,9 +63,33 @@ impl fmt::Display for Line<'_> {
             denial,
             milliseconds,
         } = self;
-        write!(
-            f,
-            "{method} {path} {status} {bytes} {denial} {milliseconds}"
-        )
+        write!(f, "{method} {path} ")?;
+        write_number(f, *status)?;
+        write!(f, " {bytes} ")?;
+        write_number(f, *denial)?;
+        write!(f, " {milliseconds}")
+    }
+}
+
+fn write_number<N: fmt::Display + Copy, W: fmt::Write>(
+    f: &mut fmt::Formatter<W>,
+    number: Option<N>,
+) -> fmt::Result {
+    match number {
+        Some(number) => write!(f, "{number}"),
+        None => f.write_str("-"),
+    }
+}
+
+// The number of a status (RFC 9110, section 15).
+fn number_of(status: Status) -> u16 {
+    match status {
+        Status::Ok => 200,
+        Status::BadRequest => 400,
+        Status::Forbidden => 403,
+        Status::NotFound => 404,
+        Status::MethodNotAllowed => 405,
+        Status::TooLarge => 413,
+        Status::Unavailable => 503,
     }
 }

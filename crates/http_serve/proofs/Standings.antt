@@ -17,7 +17,8 @@ use Rattle.http_messages.specs.declared.line.Cut.{Cut}
 use Rattle.store.specs.Standing.{Keeps, Standing, StandsAt}
 use Rattle.http_serve.specs.Response.{kind_of}
 use Rattle.http_serve.specs.Serving.{Made, by_step, no_memory, no_database, Wrote}
-use Rattle.http_serve.specs.steps.Views.{IsDenial, IsServed, IsSaid, IsUnmade, Told, Performed}
+use Rattle.http_serve.specs.declared.replies.Written.{Written}
+use Rattle.http_serve.specs.steps.Views.{IsDenial, IsServed, IsSaid, IsUnmade, Told, Performed, WroteAs}
 
 -- a text was written by two clauses of a call
 pub wrote : (old new : Option (List ℕ)) (text : List ℕ) (r : Result (Unit {0}) Cut) → OnOk r (Appends old new text) → OnErr r (TookSome old new text) → Wrote old new text r
@@ -118,7 +119,7 @@ replied A B c now reply S at served makes = let (T, to, so) = makes.0 S at in sa
 -- ---- a command and its answer
 
 -- a reply was written
-pub told : (A B : Standing) (c : Command) (now : ℕ) (reply : Answer) (from to : Option (List ℕ)) (r : Result (Unit {0}) Cut)
+pub told : (A B : Standing) (c : Command) (now : ℕ) (reply : Answer) (from to : Option (List ℕ)) (r : Written)
     → IsServed c → Makes A B c now (Ok reply) → Told (kind_of c) (reply_view reply) from to r → Performed A c now B from to r
 told A B c now reply from to r served (moves, holds) (text, inl says, wrote) = (text, by_step (reply_view reply) text B moves says holds, wrote)
 told A B c now reply from to r served (moves, holds) (text, inr (denial, e), wrote) = (
@@ -131,8 +132,8 @@ told A B c now reply from to r served (moves, holds) (text, inr (denial, e), wro
 )
 
 -- that the command was not made was written
-pub untold : (A B : Standing) (c : Command) (now : ℕ) (fault : StoreFault) (word : Said) (from to : Option (List ℕ)) (r : Result (Unit {0}) Cut)
-    → IsUnmade fault word → Makes A B c now (Err fault) → Wrote from to (fault_response word) r → Performed A c now B from to r
+pub untold : (A B : Standing) (c : Command) (now : ℕ) (fault : StoreFault) (word : Said) (from to : Option (List ℕ)) (r : Written)
+    → IsUnmade fault word → Makes A B c now (Err fault) → WroteAs from to (fault_response word) r → Performed A c now B from to r
 untold A B c now OutOfMemory word from to r is kept wrote =
     (fault_response word, subst (λ w. Made A c now (fault_response w) B) (sym is) (no_memory B kept), wrote)
 untold A B c now Database word from to r is kept wrote =

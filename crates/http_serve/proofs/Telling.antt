@@ -1,15 +1,16 @@
 -- The bytes that say a reply.
-use Rattle.std.proofs.Common.{◌≡◌, inl, inr, ℕ, List, Option, None, Result, sym, ap, subst, ◌∙◌}
+use Rattle.std.proofs.Common.{◌≡◌, inl, inr, ℕ, List, Option, None, Some, sym, ap, subst, ◌∙◌}
 use Rattle.denials.specs.Orders as orders
 use Rattle.trust_rules.specs.Runs.{Reply, BatchDone, Stored, Pruned, FileBytes, Refused}
 use Rattle.http_messages.specs.Bodies.{denial_text}
 use Rattle.http_messages.specs.Text.{response}
-use Rattle.http_messages.specs.declared.line.Cut.{Cut}
 use Rattle.http_messages.specs.declared.reply.Kind.{Kind}
 use Rattle.http_messages.specs.declared.reply.Kind.TheVariants.{Json}
 use Rattle.http_messages.specs.declared.reply.Status.{Status}
 use Rattle.http_messages.specs.declared.reply.Status.TheVariants.{Ok as Fine}
-use Rattle.http_serve.specs.Response.{Says, denial_status, done, stored, pruned, file, absent, denied}
+use Rattle.http_serve.specs.Response.{Says, Shows, denial_status, done, stored, pruned, file, absent, denied, of_denial}
+use Rattle.http_serve.specs.declared.replies.Answer.{Answer}
+use Rattle.http_serve.specs.declared.replies.Written.{Written}
 use Rattle.http_serve.specs.steps.Views.{IsDenial, Told}
 
 any-kind : (k m : Kind) (reply : Reply) (text : List ℕ) → IsDenial reply → Says k reply text → Says m reply text
@@ -21,7 +22,7 @@ any-kind k m reply text is absent = absurd is
 any-kind k m reply text is (denied d i) = denied d i
 
 -- a denial is told the same in any place
-pub denied-told : (k m : Kind) (d : orders.Denial) (i : Option ℕ) (old new : Option (List ℕ)) (r : Result (Unit {0}) Cut)
+pub denied-told : (k m : Kind) (d : orders.Denial) (i : Option ℕ) (old new : Option (List ℕ)) (r : Written)
     → Told k (Refused d i) old new r → Told m (Refused d i) old new r
 denied-told k m d i old new r (text, inl says, wrote) = (text, inl (any-kind k m (Refused d i) text tt says), wrote)
 denied-told k m d i old new r (text, inr h, wrote) = (text, inr h, wrote)
@@ -44,3 +45,9 @@ says-denied k d i status number name body n m s b =
     let same_body : body ≡ denial_text (orders.number d) i (orders.name d) = b ∙ ap (λ x. denial_text x i name) n ∙ ap (λ x. denial_text (orders.number d) i x) m in
     subst (λ x. Says k (Refused d i) (response x Json None body)) (sym s)
     (subst (λ x. Says k (Refused d i) (response (denial_status d) Json None x)) (sym same_body) (denied d i))
+
+pub shows-denied : (d : orders.Denial) (i : Option ℕ) (answer : Answer) (number : ℕ) (name body : List ℕ) → number ≡ orders.number d → name ≡ orders.name d
+    → answer.status ≡ denial_status d → answer.denial ≡ Some number → body ≡ denial_text number i name → Shows answer (response answer.status Json None body)
+shows-denied d i answer number name body n m s told b =
+    let same_body : body ≡ denial_text (orders.number d) i (orders.name d) = b ∙ ap (λ x. denial_text x i name) n ∙ ap (λ x. denial_text (orders.number d) i x) m in
+    of_denial d i s (told ∙ ap Some n) (ap (λ x. response x Json None body) s ∙ ap (λ x. response (denial_status d) Json None x) same_body)

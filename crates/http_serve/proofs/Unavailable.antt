@@ -1,5 +1,5 @@
 -- A connection while no database can be opened.
-use Rattle.std.proofs.Common.{◌≡◌, ℕ, List, Bool, true, Bor, Option, Result, Ok, Err, map, refl, sym, subst}
+use Rattle.std.proofs.Common.{◌≡◌, ℕ, List, Bool, true, Bor, Option, None, Some, Result, Ok, Err, map, refl, sym, subst}
 use Rattle.std.specs.Io.KnownBytes.{Appends}
 use Rattle.trust_rules.specs.Runs.{Batch}
 use Rattle.http_messages.specs.Framing.{Document}
@@ -11,10 +11,11 @@ use Rattle.http_messages.specs.Taken.{TookSome}
 use Rattle.http_messages.specs.declared.faults.Fault.{Fault}
 use Rattle.http_messages.specs.declared.faults.Fault.TheVariants.{Database, Memory}
 use Rattle.http_messages.specs.declared.line.Cut.{Cut}
-use Rattle.http_serve.specs.Response.{IsCommand}
+use Rattle.http_serve.specs.Response.{IsCommand, Shows}
 use Rattle.store.specs.Standing.{Standing}
-use Rattle.http_serve.specs.Serving.{AnsweredBy, at_fault, by_command, unread, no_database, EndedBy, EndedUnavailable, Line, UnavailableBy, own_fault, database_fault, memory_fault, Wrote}
+use Rattle.http_serve.specs.Serving.{AnsweredBy, at_fault, by_command, unread, no_database, EndedBy, EndedUnavailable, Line, UnavailableBy, own_fault, database_fault, memory_fault, ToldUnavailable, Wrote}
 use Rattle.http_serve.specs.steps.Views.{HasEnded, IsUnavailable}
+use Rattle.http_serve.specs.declared.replies.Answer.{Answer}
 use Rattle.http_serve.specs.declared.serve.ServeFault.{ServeFault}
 use Rattle.http_serve.specs.declared.serve.ServeFault.TheVariants.{Read, Write}
 use Rattle.http_serve.proofs.Asked.{IsSomething, has-wanted}
@@ -33,11 +34,21 @@ of_want request some only input asks = memory_fault (has-wanted only input reque
 
 -- ---- how a connection ends
 
-pub ends_unavailable : (only : Bool) (line : Line) (held : Option (List ℕ)) (input text : List ℕ) (after : Bool) (written : Result (Unit {0}) Cut) (r : Result (Unit {0}) ServeFault)
-    → IsInput line.given input → UnavailableBy only input text → Wrote line.held held text written → StaysSound line.writes written after → HasEnded written r
-    → EndedUnavailable only line held r
-ends_unavailable only line held input text after (Ok u) r is answered w sound e = subst (λ x. EndedUnavailable only line held x) (sym e) (input, is, text, answered, w)
-ends_unavailable only line held input text after (Err f) r is answered w sound e = subst (λ x. EndedUnavailable only line held x) (sym e) (sound, (input, is, text, answered, w))
+pub tells_unavailable : (only : Bool) (line : Line) (held : Option (List ℕ)) (input text : List ℕ) (after : Bool) (written : Result (Unit {0}) Cut) (answer : Answer) (r : Result (Unit {0}) ServeFault × Option Answer)
+    → IsInput line.given input → UnavailableBy only input text → Wrote line.held held text written × Shows answer text → StaysSound line.writes written after → HasEnded written answer r
+    → ToldUnavailable only line held r.0 r.1
+tells_unavailable only line held input text after (Ok u) answer r is answered (wrote, shows) sound e =
+    subst (λ (x : Result (Unit {0}) ServeFault × Option Answer). ToldUnavailable only line held x.0 x.1) (sym e) (input, is, text, answered, wrote, shows)
+tells_unavailable only line held input text after (Err f) answer r is answered (wrote, shows) sound e =
+    subst (λ (x : Result (Unit {0}) ServeFault × Option Answer). ToldUnavailable only line held x.0 x.1) (sym e) (sound, (input, is, text, answered, wrote, shows))
+
+pub ends_unavailable : (only : Bool) (line : Line) (held : Option (List ℕ)) (r : Result (Unit {0}) ServeFault) (answer : Option Answer) → ToldUnavailable only line held r answer → EndedUnavailable only line held r
+ends_unavailable only line held (Ok u) (Some answer) (input, is, text, answered, wrote, shows) = (input, is, text, answered, wrote)
+ends_unavailable only line held (Ok u) None h = absurd h
+ends_unavailable only line held (Err Read) (Some answer) h = absurd h
+ends_unavailable only line held (Err Read) None h = h
+ends_unavailable only line held (Err Write) (Some answer) (sound, (input, is, text, answered, wrote, shows)) = (sound, (input, is, text, answered, wrote))
+ends_unavailable only line held (Err Write) None h = absurd h
 
 -- ---- as one that is served
 

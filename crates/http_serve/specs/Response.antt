@@ -1,5 +1,5 @@
 -- The response of a release repository: from a state, a request and a moment to the bytes that are written and the state that is left.
-use Rattle.std.specs.Prelude.{ℕ, List, Option, None, map, cond}
+use Rattle.std.specs.Prelude.{◌≡◌, ℕ, List, Option, None, Some, map, cond}
 use Rattle.denials.specs.Orders as orders
 use Rattle.path_patterns.specs.Names.{IsNameOf}
 use Rattle.trust_rules.specs.State.{State}
@@ -8,13 +8,14 @@ use Rattle.trust_rules.specs.Runs.{Command, Batch, PutBlob, Prune, Metadata, Tar
 use Rattle.http_messages.specs.Request.{Request, fault, batch, put_blob, prune, metadata, target, Asks}
 use Rattle.http_messages.specs.Text.{response}
 use Rattle.http_messages.specs.Bodies.{accepted_text, stored_text, pruned_text, denial_text}
-use Rattle.http_messages.specs.Faults.{fault_response}
+use Rattle.http_messages.specs.Faults.{fault_response, fault_status}
 use Rattle.http_messages.specs.declared.faults.Fault.{Fault}
 use Rattle.http_messages.specs.declared.faults.Fault.TheVariants.{Name}
 use Rattle.http_messages.specs.declared.reply.Kind.{Kind}
 use Rattle.http_messages.specs.declared.reply.Kind.TheVariants.{Json, Octets}
 use Rattle.http_messages.specs.declared.reply.Status.{Status}
 use Rattle.http_messages.specs.declared.reply.Status.TheVariants.{Ok, Forbidden, NotFound}
+use Rattle.http_serve.specs.declared.replies.Answer.{Answer}
 
 -- the command that a request is
 pub data IsCommand : Request → Command → Type 0 where
@@ -50,6 +51,12 @@ pub data Says (kind : Kind) : Reply → List ℕ → Type 0 where
   file : (bytes : List ℕ) → Says kind (FileBytes bytes) (response Ok kind None bytes)
   absent : Says kind Absent (fault_response Name)
   denied : (d : orders.Denial) (index : Option ℕ) → Says kind (Refused d index) (denial_response d index)
+
+-- A text has this status, and is that of the denial of this number or of none: a fault, what was done, or a denial.
+pub data Shows (answer : Answer) (text : List ℕ) : Type 0 where
+  of_fault : (why : Fault) → answer.status ≡ fault_status why → answer.denial ≡ None → text ≡ fault_response why → Shows answer text
+  of_done : (kind : Kind) (body : List ℕ) → answer.status ≡ Ok → answer.denial ≡ None → text ≡ response Ok kind None body → Shows answer text
+  of_denial : (d : orders.Denial) (index : Option ℕ) → answer.status ≡ denial_status d → answer.denial ≡ Some (orders.number d) → text ≡ denial_response d index → Shows answer text
 
 -- A request is answered at a moment: a fault by its own text and with no change, and a command by what the trust machine replies, with
 -- the state that its step leaves.

@@ -1,5 +1,5 @@
 -- What serving does: one connection, and a list of them in order.
-use Rattle.std.specs.Prelude.{◌≡◌, ℕ, ◌+◌, List, [], ◌∷◌, Option, Result, Ok, Err, Bool, true, false}
+use Rattle.std.specs.Prelude.{◌≡◌, ℕ, ◌+◌, List, [], ◌∷◌, Option, None, Some, Result, Ok, Err, Bool, true, false}
 use Rattle.std.specs.Io.KnownBytes.{Appends, Keeps as KeepsBytes}
 use Rattle.trust_rules.specs.Runs.{Command, Reply}
 use Rattle.http_messages.specs.Head.{IsInput}
@@ -8,9 +8,10 @@ use Rattle.http_messages.specs.Faults.{fault_response}
 use Rattle.http_messages.specs.Taken.{TookSome}
 use Rattle.http_messages.specs.declared.faults.Fault.{Fault}
 use Rattle.http_messages.specs.declared.faults.Fault.TheVariants.{Memory, Database}
-use Rattle.http_serve.specs.Response.{IsCommand, Says, kind_of}
+use Rattle.http_serve.specs.Response.{IsCommand, Says, Shows, kind_of}
 use Rattle.store.specs.Applies.{Replies}
 use Rattle.store.specs.Standing.{Holds, IsClean, Keeps, Moves, Standing}
+use Rattle.http_serve.specs.declared.replies.Answer.{Answer}
 use Rattle.http_serve.specs.declared.serve.ServeFault.{ServeFault}
 use Rattle.http_serve.specs.declared.serve.ServeFault.TheVariants.{Read, Write}
 use Rattle.http_messages.specs.declared.line.Cut.{Cut}
@@ -56,6 +57,19 @@ EndedBy reads_only line held A (Err Write) B =
 abbrev pub Ended : Line → Option (List ℕ) → Standing → Result (Unit {0}) ServeFault → Standing → Type 0
 Ended = EndedBy false
 
+-- The same with what is told of the answer: its status, and the number of the denial that it is, if it is one. Nothing is told where
+-- nothing was done.
+abbrev pub ToldBy : Bool → Line → Option (List ℕ) → Standing → Result (Unit {0}) ServeFault → Option Answer → Standing → Type 0
+ToldBy reads_only line held A (Ok u) (Some answer) B =
+    (input : List ℕ) × IsInput line.given input × (text : List ℕ) × AnsweredBy reads_only A input line.now text B × Appends line.held held text × Shows answer text
+ToldBy reads_only line held A (Ok u) None B = ⊥
+ToldBy reads_only line held A (Err Read) (Some answer) B = ⊥
+ToldBy reads_only line held A (Err Read) None B = (line.reads ≡ true → ⊥) × (B ≡ A) × KeepsBytes line.held held
+ToldBy reads_only line held A (Err Write) (Some answer) B =
+    (line.writes ≡ true → ⊥)
+    × ((input : List ℕ) × IsInput line.given input × (text : List ℕ) × AnsweredBy reads_only A input line.now text B × TookSome line.held held text × Shows answer text)
+ToldBy reads_only line held A (Err Write) None B = ⊥
+
 -- a text was written whole, or a beginning of it
 abbrev pub Wrote : Option (List ℕ) → Option (List ℕ) → List ℕ → Result (Unit {0}) Cut → Type 0
 Wrote old new text (Ok u) = Appends old new text
@@ -78,6 +92,18 @@ EndedUnavailable reads_only line held (Err Write) =
     (line.writes ≡ true → ⊥)
     × ((input : List ℕ) × IsInput line.given input × (text : List ℕ) × UnavailableBy reads_only input text × TookSome line.held held text)
 
+-- the same of the answer that is told of
+abbrev pub ToldUnavailable : Bool → Line → Option (List ℕ) → Result (Unit {0}) ServeFault → Option Answer → Type 0
+ToldUnavailable reads_only line held (Ok u) (Some answer) =
+    (input : List ℕ) × IsInput line.given input × (text : List ℕ) × UnavailableBy reads_only input text × Appends line.held held text × Shows answer text
+ToldUnavailable reads_only line held (Ok u) None = ⊥
+ToldUnavailable reads_only line held (Err Read) (Some answer) = ⊥
+ToldUnavailable reads_only line held (Err Read) None = (line.reads ≡ true → ⊥) × KeepsBytes line.held held
+ToldUnavailable reads_only line held (Err Write) (Some answer) =
+    (line.writes ≡ true → ⊥)
+    × ((input : List ℕ) × IsInput line.given input × (text : List ℕ) × UnavailableBy reads_only input text × TookSome line.held held text × Shows answer text)
+ToldUnavailable reads_only line held (Err Write) None = ⊥
+
 -- one for each connection that ended well
 abbrev pub one_if_ok : Result (Unit {0}) ServeFault → ℕ
 one_if_ok (Ok u) = 1
@@ -94,3 +120,14 @@ ServesBy reads_only (line ∷ lines) [] A B count = ⊥
 
 abbrev pub Serves : List Line → List (Option (List ℕ)) → Standing → Standing → ℕ → Type 0
 Serves = ServesBy false
+
+-- the same with what is told of each answer
+abbrev pub TellsBy : Bool → List Line → List (Option (List ℕ)) → List (Option Answer) → Standing → Standing → ℕ → Type 0
+TellsBy reads_only [] [] [] A B count = (B ≡ A) × (count ≡ 0)
+TellsBy reads_only (line ∷ lines) (held ∷ helds) (answer ∷ answers) A B count =
+    (result : Result (Unit {0}) ServeFault) × (mid : Standing) × (others : ℕ)
+    × ToldBy reads_only line held A result answer mid × TellsBy reads_only lines helds answers mid B others × (count ≡ one_if_ok result + others)
+TellsBy reads_only [] [] (answer ∷ answers) A B count = ⊥
+TellsBy reads_only [] (held ∷ helds) answers A B count = ⊥
+TellsBy reads_only (line ∷ lines) [] answers A B count = ⊥
+TellsBy reads_only (line ∷ lines) (held ∷ helds) [] A B count = ⊥

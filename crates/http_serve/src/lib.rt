@@ -7,10 +7,11 @@ mod replies;
 mod respond;
 mod serve;
 
-pub use http_messages::{Cut, Fault, Receive, Routes, Transmit};
+pub use http_messages::{Cut, Fault, Receive, Routes, Status, Transmit};
 pub use laws::{
     one_response, only_responses, reading_changes_nothing, runs_on, unavailable_is_served,
 };
+pub use replies::Answer;
 pub use serve::{
     ServeFault, serve_list, serve_list_reading, serve_one, serve_one_reading, serve_unavailable,
 };

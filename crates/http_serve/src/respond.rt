@@ -12,8 +12,8 @@ ghost use Rattle.store.specs.Standing.{seen};
 ghost use Rattle.http_serve.specs.steps.Views.{IsUnmade, IsServed, Performed, Responded};
 
 use crate::offers::offers_of;
-use crate::replies::{kind_of, write_reply};
-use http_messages::{Asked, Cut, Fault, Transmit, write_fault};
+use crate::replies::{Written, kind_of, write_fault, write_reply};
+use http_messages::{Asked, Fault, Transmit};
 use metadata::Moment;
 use path_patterns::{RoleName, read_asked};
 use sqlite::Alter;
@@ -27,8 +27,8 @@ pub fn respond<W: Transmit, S: Alter>(
     store: &mut Store<S>,
     asked: Asked<'_>,
     now: Moment,
-) -> Result<(), Cut>
-    ensures sound { StaysSound (W.sound writer.old) result (W.sound writer.new) }
+) -> Written
+    ensures sound { StaysSound (W.sound writer.old) result.written (W.sound writer.new) }
     ensures responded { Responded (seen store.old.kept (state S.Store store.old.conn)) (request_of asked.entry) now
         (seen store.new.kept (state S.Store store.new.conn)) (W.contents writer.old) (W.contents writer.new) result }
 {
@@ -51,8 +51,8 @@ fn respond_batch<W: Transmit, S: Alter>(
     store: &mut Store<S>,
     documents: Vec<(RoleName, &[u8])>,
     now: Moment,
-) -> Result<(), Cut>
-    ensures sound { StaysSound (W.sound writer.old) result (W.sound writer.new) }
+) -> Written
+    ensures sound { StaysSound (W.sound writer.old) result.written (W.sound writer.new) }
     ensures responded { Responded (seen store.old.kept (state S.Store store.old.conn)) (batch (map {B = Document} (λ d. (d.0, d.1.now)) documents.entry.items)) now
         (seen store.new.kept (state S.Store store.new.conn)) (W.contents writer.old) (W.contents writer.new) result }
 {
@@ -69,8 +69,8 @@ fn respond_target<W: Transmit, S: Alter>(
     store: &mut Store<S>,
     text: &str,
     now: Moment,
-) -> Result<(), Cut>
-    ensures sound { StaysSound (W.sound writer.old) result (W.sound writer.new) }
+) -> Written
+    ensures sound { StaysSound (W.sound writer.old) result.written (W.sound writer.new) }
     ensures responded { Responded (seen store.old.kept (state S.Store store.old.conn)) (target text.now) now
         (seen store.new.kept (state S.Store store.new.conn)) (W.contents writer.old) (W.contents writer.new) result }
 {
@@ -90,9 +90,9 @@ fn perform<W: Transmit, S: Alter>(
     store: &mut Store<S>,
     command: Command<'_>,
     now: Moment,
-) -> Result<(), Cut>
+) -> Written
     requires { IsServed (command_view command) }
-    ensures sound { StaysSound (W.sound writer.old) result (W.sound writer.new) }
+    ensures sound { StaysSound (W.sound writer.old) result.written (W.sound writer.new) }
     ensures performed { Performed (seen store.old.kept (state S.Store store.old.conn)) (command_view command.entry) now
         (seen store.new.kept (state S.Store store.new.conn)) (W.contents writer.old) (W.contents writer.new) result }
 {

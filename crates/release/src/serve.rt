@@ -8,9 +8,9 @@ use command_support::{Fault, Notes, moment, print};
 use connections::{
     Beginning, Incoming, Outgoing, Timer, end, listen, next_stream, tell_connection,
 };
-use http_serve::{Routes, serve_list, serve_list_reading, serve_unavailable};
+use http_serve::{Answer, Routes, Status, serve_list, serve_list_reading, serve_unavailable};
 use metadata::Moment;
-use repository_work::{Work, is_shut, worked};
+use repository_work::{Work, worked};
 use sqlite::Alter;
 use std::io::Write;
 use std::net::{TcpListener, TcpStream};
@@ -59,8 +59,8 @@ enum Next {
     Shut,
 }
 
-// What a connection is read from and written to.
-type Sides<'a, 'k> = (Incoming<'a, 'k>, Outgoing<'a>, Moment);
+// What a connection is read from and written to, its moment, and what it was answered.
+type Sides<'a, 'k> = (Incoming<'a, 'k>, Outgoing<'a>, Moment, Option<Answer>);
 
 // A server: what it is asked for, and the moment that was handed in. What it does over its repository it does as often as that is opened:
 // so many connections are left, and one may have been accepted that waits for a database.
@@ -201,7 +201,8 @@ impl<O: Write> Server<'_, '_, O> {
             let available = self.serve_one(reads_only, &accepted, repository, notes);
             return Ok(Next::Served(available));
         }
-        if is_shut(repository, accepted.now) {
+        let is_shut = matches!(repository.is_open(), Ok(false));
+        if is_shut {
             self.waiting = Some(accepted);
             return Ok(Next::Shut);
         }
@@ -246,7 +247,7 @@ impl<O: Write> Server<'_, '_, O> {
             serve_list(rt.alloc(), self.routes, connections, repository);
         }
         end_one(rt, accepted, &sides, &timer, notes);
-        sides.1.is_available()
+        is_available(sides.3)
     }
 
     // Answers the connection that waits while no database can be opened, and waits for the next one, if one more is to be served.
@@ -264,9 +265,9 @@ impl<O: Write> Server<'_, '_, O> {
             return;
         };
         let mut sides = sides_of(accepted, timer, self.kept);
-        let (incoming, outgoing, _) = &mut sides;
+        let (incoming, outgoing, _, answer) = &mut sides;
         let reads_only = self.asked.read_only;
-        let _ = serve_unavailable(rt.alloc(), self.routes, reads_only, incoming, outgoing);
+        *answer = serve_unavailable(rt.alloc(), self.routes, reads_only, incoming, outgoing).1;
         end_one(rt, accepted, &sides, &timer, notes);
     }
 }
@@ -281,10 +282,16 @@ fn sides_of<'a, 'k>(
         Incoming::new(stream, timer, kept),
         Outgoing::new(stream, timer),
         accepted.now,
+        None,
     )
 }
 
-// Tells of a connection, and ends it behind its reply.
+// Whether an answer says nothing against the database: it is there, and has another status than 503.
+fn is_available(answer: Option<Answer>) -> bool {
+    answer.is_some_and(|answer| answer.status != Status::Unavailable)
+}
+
+// Tells of a connection, and ends it after its reply. Of a reply of which the peer took nothing nothing is told.
 fn end_one<E: Write>(
     rt: &HostRuntime,
     accepted: &Accepted,
@@ -292,9 +299,13 @@ fn end_one<E: Write>(
     timer: &Timer<'_>,
     notes: &mut Notes<'_, E>,
 ) {
-    let (incoming, outgoing, now) = sides;
-    tell_connection(incoming, outgoing, *now, timer, notes);
-    if outgoing.status().is_some() {
-        end(rt, &accepted.stream, incoming, outgoing, timer);
+    let (incoming, outgoing, now, answer) = sides;
+    let answer = if outgoing.sent() > 0 { *answer } else { None };
+    let status = answer.map(|answer| answer.status);
+    let denial = answer.and_then(|answer| answer.denial);
+    tell_connection(incoming, outgoing, status, denial, *now, timer, notes);
+    if let Some(status) = status {
+        let is_of_command = status == Status::Ok || denial.is_some();
+        end(rt, &accepted.stream, incoming, is_of_command, timer);
     }
 }

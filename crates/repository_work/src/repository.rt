@@ -2,7 +2,7 @@
 //! files.
 ghost use Rattle.std.specs.Prelude.{◌≡◌, IfErr, Result, ⊤};
 ghost use Rattle.sqlite.specs.Held.{state};
-ghost use Rattle.store.specs.Standing.{Keeps, Standing, seen};
+ghost use Rattle.store.specs.Standing.{Standing, seen};
 ghost use Rattle.store.specs.Views.{command_view};
 ghost use Rattle.command_support.specs.Statuses.{status_of};
 ghost use Rattle.command_support.specs.declared.fault.Fault.{Fault as Why};
@@ -16,7 +16,7 @@ use sqlite::{Alter, Connection, FileStore};
 use sqlite_disk::Disk;
 use std::io::Write;
 use std::time::Instant;
-use store::{Command, Reply, Store, StoreFault, Unopened, close_into_file, stands};
+use store::{Command, Reply, Store, Unopened, close_into_file, stands};
 
 // What is told of a database that another process has.
 const IN_USE: &str = "in use by another process; where a server runs over it, use --port";
@@ -154,16 +154,6 @@ fn tell_opening<E: Write>(
         "signatures checked: {signatures}, opened in {took} ms"
     ) {
         notes.tell(&db, &told);
-    }
-}
-
-/// Whether an earlier fault has shut the database, so that every command would be answered a fault. What stands stays.
-pub fn is_shut<S: Alter>(repository: &mut Store<S>, now: Moment) -> bool
-    ensures { Keeps (seen repository.old.kept (state S.Store repository.old.conn)) (seen repository.new.kept (state S.Store repository.new.conn)) }
-{
-    match repository.apply(Command::Metadata(""), now) {
-        Err(StoreFault::Database) => true,
-        _ => false,
     }
 }
 

@@ -12,7 +12,7 @@ use Rattle.table_rows.specs.Tables.{HoldsWhole, IsStore}
 use Rattle.table_rows.specs.declared.faults.StoreFault.{StoreFault}
 use Rattle.table_rows.specs.declared.faults.StoreFault.TheVariants.{Damaged, Database, OutOfMemory}
 use Rattle.store.specs.Applies.{Applies, HoldsReply, Makes}
-use Rattle.store.specs.Standing.{IsStateOf, StandsAt, seen}
+use Rattle.store.specs.Standing.{IsStateOf, Keeps, StandsAt, seen}
 use Rattle.store.specs.StateRows.{rows_of}
 use Rattle.store.specs.Views.{reply_view}
 use Rattle.store.specs.declared.command.Reply.{Reply as Answer}
@@ -39,6 +39,12 @@ pub stands_on : (kept left : Held) (old new : database.State) → left ≡ kept 
 stands_on kept left old new same reads S at =
     stands_at left new S (subst (λ k. IsStateOf k S) (sym same) at.state)
     (λ clean there. reads.kept clean there (rows_of S) (store_at kept old S at (omega (arith, clean, reads.survives.clean)) (reads.was_open clean there)))
+
+pub reads_keep : (kept left : Held) (old new : database.State) → left ≡ kept → ReadsOnly old new → Keeps (seen kept old) (seen left new)
+reads_keep kept left old new same reads = record {
+  state = λ S at. (S, stands_on kept left old new same reads S at, refl);
+  clean = λ clean. omega (arith, clean, reads.survives.clean);
+}
 
 pub reads_nothing : (db : database.State) → ReadsOnly db db
 reads_nothing db = record {

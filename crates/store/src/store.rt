@@ -1,5 +1,5 @@
 //! A store: a state of the trust machine, whose rows the tables hold.
-ghost use Rattle.std.specs.Prelude.{◌≡◌, ◌≢◌, ◌⊎◌, ◌<◌, ◌≤◌, ◌^◌, Err, IfOk, IsTrue, None, OnErr, OnOk, option_map};
+ghost use Rattle.std.specs.Prelude.{◌≡◌, ◌≢◌, ◌⊎◌, ◌<◌, ◌≤◌, ◌^◌, Err, IfOk, IsTrue, None, Ok, OnErr, OnOk, option_map, true};
 ghost use Rattle.sha2.specs.Sha256.{sha256};
 ghost use Rattle.sqlite.specs.Held.{state};
 ghost use Rattle.sqlite.specs.State.{HasCleanDisk, Survives};
@@ -37,7 +37,7 @@ use metadata::Moment;
 use path_patterns::{Digest, TargetPath};
 use repository_tables::StoreFault;
 use sqlite::{Alter, Connection};
-use std::alloc::Global;
+use std::alloc::{AllocError, Global};
 use std::marker::Model;
 
 /// What a state of the trust machine holds beside the bytes of its target files, and the connection to the tables that hold its rows. A
@@ -149,6 +149,21 @@ impl<S: Alter> Store<S> {
     {
         self.held.is_known();
         get_from_counted(self.alloc, &self.held, &mut self.rows, path, now, checks)
+    }
+
+    /// Whether the connection is open, which is asked of the database by one small query: a fault that has shut it shows here, before a
+    /// command is answered one. What stands stays. `false` is answered only after a call of the database answered a fault.
+    ///
+    /// Error: memory was refused, so that it is not known.
+    pub fn is_open(&mut self) -> Result<bool, AllocError>
+        ensures keeps { Keeps (seen self.old.kept (state S.Store self.old.conn)) (seen self.new.kept (state S.Store self.new.conn)) }
+        ensures open { HasCleanDisk (state S.Store self.new.conn) → result ≡ Ok true → IsTrue (state S.Store self.old.conn).is_open × IsTrue (state S.Store self.new.conn).is_open }
+    {
+        match self.touch() {
+            Ok(()) => Ok(true),
+            Err(StoreFault::OutOfMemory) => Err(AllocError),
+            Err(_) => Ok(false),
+        }
     }
 
     /// The connection of a store that is done.

@@ -1,5 +1,5 @@
 -- What the code's values stand for, and what its parts are asked.
-use Rattle.std.specs.Prelude.{◌≡◌, ◌⊎◌, ℕ, List, Option, Result, Ok, Err, Bool, map, ⊤}
+use Rattle.std.specs.Prelude.{◌≡◌, ◌⊎◌, ℕ, List, Option, Some, Result, Ok, Err, Bool, map, ⊤}
 use Rattle.std.specs.Borrow.{Bor}
 use Rattle.trust_rules.specs.Runs.{Command, Init, OfferOne, Batch, PutBlob, Prune, Metadata, Target, Reply, Begun, Offered, BatchDone, Stored, Pruned, FileBytes, Absent, Refused}
 use Rattle.trust_rules.specs.Offers.{Offer, offer_of}
@@ -11,9 +11,11 @@ use Rattle.http_messages.specs.declared.faults.Fault.{Fault}
 use Rattle.http_messages.specs.declared.faults.Fault.TheVariants.{Memory, Database}
 use Rattle.http_messages.specs.declared.reply.Kind.{Kind}
 use Rattle.http_messages.specs.declared.line.Cut.{Cut}
-use Rattle.http_serve.specs.Response.{Says}
+use Rattle.http_serve.specs.Response.{Says, Shows}
 use Rattle.http_serve.specs.Serving.{AnsweredBy, Made, UnavailableBy, Wrote}
 use Rattle.store.specs.Standing.{Standing}
+use Rattle.http_serve.specs.declared.replies.Answer.{Answer}
+use Rattle.http_serve.specs.declared.replies.Written.{Written}
 use Rattle.http_serve.specs.declared.serve.ServeFault.{ServeFault}
 use Rattle.http_serve.specs.declared.serve.ServeFault.TheVariants.{Write}
 
@@ -59,23 +61,27 @@ IsUnmade store.OutOfMemory said = said ≡ Memory
 IsUnmade store.Database said = said ≡ Database
 IsUnmade store.Damaged said = ⊥
 
+-- a text was written whole, or a beginning of it, and what is told of it
+abbrev pub WroteAs : Option (List ℕ) → Option (List ℕ) → List ℕ → Written → Type 0
+WroteAs old new text w = Wrote old new text w.written × Shows w.answer text
+
 -- a reply was written, or, of a denial, that there was no memory for it
-abbrev pub Told : Kind → Reply → Option (List ℕ) → Option (List ℕ) → Result (Unit {0}) Cut → Type 0
-Told kind reply old new r = (text : List ℕ) × (Says kind reply text ⊎ (IsDenial reply × (text ≡ fault_response Memory))) × Wrote old new text r
+abbrev pub Told : Kind → Reply → Option (List ℕ) → Option (List ℕ) → Written → Type 0
+Told kind reply old new r = (text : List ℕ) × (Says kind reply text ⊎ (IsDenial reply × (text ≡ fault_response Memory))) × WroteAs old new text r
 
 -- a command was made, and the answer written
-abbrev pub Performed : Standing → Command → ℕ → Standing → Option (List ℕ) → Option (List ℕ) → Result (Unit {0}) Cut → Type 0
-Performed A command now B old new r = (text : List ℕ) × Made A command now text B × Wrote old new text r
+abbrev pub Performed : Standing → Command → ℕ → Standing → Option (List ℕ) → Option (List ℕ) → Written → Type 0
+Performed A command now B old new r = (text : List ℕ) × Made A command now text B × WroteAs old new text r
 
 -- a request was answered: each input that asks it is, of a server of all routes as of one that only reads
-abbrev pub Responded : Standing → Request → ℕ → Standing → Option (List ℕ) → Option (List ℕ) → Result (Unit {0}) Cut → Type 0
-Responded A request now B old new r = (text : List ℕ) × ((reads_only : Bool) (input : List ℕ) → AsksOf reads_only input request → AnsweredBy reads_only A input now text B) × Wrote old new text r
+abbrev pub Responded : Standing → Request → ℕ → Standing → Option (List ℕ) → Option (List ℕ) → Written → Type 0
+Responded A request now B old new r = (text : List ℕ) × ((reads_only : Bool) (input : List ℕ) → AsksOf reads_only input request → AnsweredBy reads_only A input now text B) × WroteAs old new text r
 
 -- a fault says of a request that no database can be opened: each input that asks it is so answered
 abbrev pub IsUnavailable : Request → Fault → Type 0
 IsUnavailable request why = (reads_only : Bool) (input : List ℕ) → AsksOf reads_only input request → UnavailableBy reads_only input (fault_response why)
 
 -- how a connection ends by how its answer was written
-abbrev pub HasEnded : Result (Unit {0}) Cut → Result (Unit {0}) ServeFault → Type 0
-HasEnded (Ok u) r = r ≡ Ok tt
-HasEnded (Err e) r = r ≡ Err Write
+abbrev pub HasEnded : Result (Unit {0}) Cut → Answer → Result (Unit {0}) ServeFault × Option Answer → Type 0
+HasEnded (Ok u) answer r = r ≡ (Ok tt, Some answer)
+HasEnded (Err e) answer r = r ≡ (Err Write, Some answer)

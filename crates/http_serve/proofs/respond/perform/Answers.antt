@@ -3,7 +3,7 @@ use Rattle.sqlite.specs.Held.{state}
 use Rattle.store.specs.Standing.{seen}
 use Rattle.store.specs.Views.{command_view, reply_view}
 use Rattle.http_serve.specs.steps.Views.{Told}
-use Rattle.http_serve.proofs.Standings.{replied, told, undamaged, untold, wrote}
+use Rattle.http_serve.proofs.Standings.{replied, told, undamaged, untold}
 use Rattle.http_serve.proofs.respond.perform.Goals as goal
 
 pub write_reply-requires : goal.write_reply-requires
@@ -26,4 +26,4 @@ pub returns-in-Err-clause-performed : goal.returns-in-Err-clause-performed
 returns-in-Err-clause-performed g c =
     untold (seen c.args.store.now.kept (state g.S.Store c.args.store.now.conn)) (seen c.apply-result.new.self.kept (state g.S.Store c.apply-result.new.self.conn))
     (command_view c.args.command) c.args.now c.in-Err.fault c.unmade.result _ _ _ c.unmade.ensures c.in-Err.ensures.makes
-    (wrote _ _ _ _ c.write_fault.ensures.ok c.write_fault.ensures.err)
+    c.write_fault.ensures.wrote

@@ -1,12 +1,11 @@
 use Rattle.http_messages.specs.Request.{metadata, prune, put_blob}
 use Rattle.http_serve.specs.Response.{names, prunes, puts}
 use Rattle.http_serve.proofs.Responding.{faulty, served}
-use Rattle.http_serve.proofs.Standings.{wrote}
 use Rattle.http_serve.proofs.respond.respond.Goals as goal
 
 pub returns-in-Fault-clause-responded : goal.returns-in-Fault-clause-responded
 returns-in-Fault-clause-responded g c =
-    rw c.in-Fault.is (faulty _ c.in-Fault.fault c.args.now _ _ c.write_fault.result (wrote _ _ _ _ c.write_fault.ensures.ok c.write_fault.ensures.err))
+    rw c.in-Fault.is (faulty _ c.in-Fault.fault c.args.now _ _ c.write_fault.result c.write_fault.ensures.wrote)
 
 pub returns-in-Batch-clause-responded : goal.returns-in-Batch-clause-responded
 returns-in-Batch-clause-responded g c = rw c.in-Batch.is c.respond_batch.ensures.responded

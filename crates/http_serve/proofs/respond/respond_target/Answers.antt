@@ -6,7 +6,7 @@ use Rattle.http_serve.specs.Response.{asks}
 use Rattle.store.specs.Standing.{seen}
 use Rattle.http_serve.specs.steps.Views.{Performed}
 use Rattle.http_serve.proofs.Responding.{served, wanting}
-use Rattle.http_serve.proofs.Standings.{rests, wrote}
+use Rattle.http_serve.proofs.Standings.{rests}
 use Rattle.http_serve.proofs.respond.respond_target.Goals as goal
 
 pub returns-in-Ok-clause-responded : goal.returns-in-Ok-clause-responded
@@ -20,4 +20,4 @@ returns-in-Ok-clause-responded g c =
 pub returns-in-Err-clause-responded : goal.returns-in-Err-clause-responded
 returns-in-Err-clause-responded g c =
     wanting _ _ _ c.args.now _ _ c.write_fault.result tt (rests _)
-    (wrote _ _ _ _ c.write_fault.ensures.ok c.write_fault.ensures.err)
+    c.write_fault.ensures.wrote

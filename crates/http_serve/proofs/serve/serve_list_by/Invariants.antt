@@ -1,6 +1,6 @@
 use Rattle.std.proofs.Common.{◌≡◌, ◌≤◌, length, take, drop, map}
 use Rattle.sqlite.specs.Held.{state}
-use Rattle.http_serve.specs.Serving.{ServesBy}
+use Rattle.http_serve.specs.Serving.{ServesBy, TellsBy}
 use Rattle.store.specs.Standing.{seen}
 use Rattle.http_serve.proofs.serve.serve_list_by.Given as goal
 
@@ -10,6 +10,12 @@ invariant-loop-reader g l = record {
   count : l.count ≤ l.reader-index;
   len : length l.connections ≡ length l.initial.connections;
   rest : drop l.reader-index l.connections ≡ drop l.reader-index l.initial.connections;
+  told : TellsBy l.reads_only
+      (map (λ c. record { given = g.R.Read.remaining c.0; held = g.W.Write.contents c.1; now = c.2; reads = g.R.Receive.sound c.0; writes = g.W.Transmit.sound c.1 }) (take l.reader-index l.initial.connections))
+      (map (λ c. g.W.Write.contents c.1) (take l.reader-index l.connections))
+      (map (λ c. c.3) (take l.reader-index l.connections))
+      (seen l.initial.store.kept (state g.S.Store l.initial.store.conn))
+      (seen l.store.kept (state g.S.Store l.store.conn)) l.count;
   served : ServesBy l.reads_only
       (map (λ c. record { given = g.R.Read.remaining c.0; held = g.W.Write.contents c.1; now = c.2; reads = g.R.Receive.sound c.0; writes = g.W.Transmit.sound c.1 }) (take l.reader-index l.initial.connections))
       (map (λ c. g.W.Write.contents c.1) (take l.reader-index l.connections))

@@ -7,15 +7,17 @@ use Rattle.http_messages.specs.declared.faults.Fault.TheVariants.{Memory}
 use Rattle.http_messages.proofs.Asking.{input-is}
 use Rattle.http_serve.specs.Serving.{Line, memory_fault}
 use Rattle.http_serve.proofs.Responding.{of-no-memory, of-read}
-use Rattle.http_serve.proofs.Standings.{wrote}
-use Rattle.http_serve.proofs.Unavailable.{ends_unavailable}
+use Rattle.http_serve.proofs.Unavailable.{ends_unavailable, tells_unavailable}
 use Rattle.http_serve.proofs.serve.serve_unavailable.Goals as goal
 
-pub returns-in-Err-Read : goal.returns-in-Err-Read
-returns-in-Err-Read g c = λ now. (of-read c.in-Err-Read.field-0 _ _ c.in-Err-Read.field-0-is c.in-Err-Read.ensures.sound, Keeps-refl _)
+pub returns-in-Err-Read-clause-told : goal.returns-in-Err-Read-clause-told
+returns-in-Err-Read-clause-told g c = λ now. (of-read c.in-Err-Read.field-0 _ _ c.in-Err-Read.field-0-is c.in-Err-Read.ensures.sound, Keeps-refl _)
 
-pub returns-in-Err-OutOfMemory : goal.returns-in-Err-OutOfMemory
-returns-in-Err-OutOfMemory g c = λ now.
+pub returns-in-Err-Read-clause-ended : goal.returns-in-Err-Read-clause-ended
+returns-in-Err-Read-clause-ended g c = λ now. (of-read c.in-Err-Read.field-0 _ _ c.in-Err-Read.field-0-is c.in-Err-Read.ensures.sound, Keeps-refl _)
+
+pub returns-in-Err-OutOfMemory-clause-told : goal.returns-in-Err-OutOfMemory-clause-told
+returns-in-Err-OutOfMemory-clause-told g c = λ now.
     let line : Line = record {
       given = g.R.Read.remaining c.args.reader.now;
       held = g.W.Write.contents c.args.writer.now;
@@ -24,12 +26,23 @@ returns-in-Err-OutOfMemory g c = λ now.
       writes = g.W.Transmit.sound c.args.writer.now;
     } in
     let (input, is, wants) = of-no-memory c.in-Err-OutOfMemory.field-0 _ c.in-Err-OutOfMemory.field-0-is c.in-Err-OutOfMemory.ensures.memory in
-    ends_unavailable c.args.reads_only line _ input (fault_response Memory) _ c.write_fault.result c.ended.result is
+    tells_unavailable c.args.reads_only line _ input (fault_response Memory) _ c.write_fault.result.written c.write_fault.result.answer c.ended.result is
     (memory_fault wants.wants)
-    (wrote _ _ _ _ c.write_fault.ensures.ok c.write_fault.ensures.err) c.write_fault.ensures.sound c.ended.ensures
+    c.write_fault.ensures.wrote c.write_fault.ensures.sound c.ended.ensures
 
-pub returns-in-Err : goal.returns-in-Err
-returns-in-Err g c = λ now.
+pub returns-in-Err-OutOfMemory-clause-ended : goal.returns-in-Err-OutOfMemory-clause-ended
+returns-in-Err-OutOfMemory-clause-ended g c = λ now.
+    let line : Line = record {
+      given = g.R.Read.remaining c.args.reader.now;
+      held = g.W.Write.contents c.args.writer.now;
+      now = now;
+      reads = g.R.Receive.sound c.args.reader.now;
+      writes = g.W.Transmit.sound c.args.writer.now;
+    } in
+    ends_unavailable c.args.reads_only line _ c.ended.result.0 c.ended.result.1 (returns-in-Err-OutOfMemory-clause-told g c now)
+
+pub returns-in-Err-clause-told : goal.returns-in-Err-clause-told
+returns-in-Err-clause-told g c = λ now.
     let line : Line = record {
       given = g.R.Read.remaining c.args.reader.now;
       held = g.W.Write.contents c.args.writer.now;
@@ -38,13 +51,25 @@ returns-in-Err g c = λ now.
       writes = g.W.Transmit.sound c.args.writer.now;
     } in
     let (gave, consumes, says, wants) = c.in-Ok.ensures.asked in
-    ends_unavailable c.args.reads_only line _ (gave ++ left (g.R.Read.remaining c.read_request_of.new.reader)) (fault_response Memory) _ c.write_fault-in-Err.result c.ended-in-Err.result
+    tells_unavailable c.args.reads_only line _ (gave ++ left (g.R.Read.remaining c.read_request_of.new.reader)) (fault_response Memory) _
+    c.write_fault-in-Err.result.written c.write_fault-in-Err.result.answer c.ended-in-Err.result
     (input-is _ _ gave consumes)
     (memory_fault (wants c.in-Err.ensures.memory))
-    (wrote _ _ _ _ c.write_fault-in-Err.ensures.ok c.write_fault-in-Err.ensures.err) c.write_fault-in-Err.ensures.sound c.ended-in-Err.ensures
+    c.write_fault-in-Err.ensures.wrote c.write_fault-in-Err.ensures.sound c.ended-in-Err.ensures
 
-pub returns : goal.returns
-returns g c = λ now.
+pub returns-in-Err-clause-ended : goal.returns-in-Err-clause-ended
+returns-in-Err-clause-ended g c = λ now.
+    let line : Line = record {
+      given = g.R.Read.remaining c.args.reader.now;
+      held = g.W.Write.contents c.args.writer.now;
+      now = now;
+      reads = g.R.Receive.sound c.args.reader.now;
+      writes = g.W.Transmit.sound c.args.writer.now;
+    } in
+    ends_unavailable c.args.reads_only line _ c.ended-in-Err.result.0 c.ended-in-Err.result.1 (returns-in-Err-clause-told g c now)
+
+pub returns-clause-told : goal.returns-clause-told
+returns-clause-told g c = λ now.
     let line : Line = record {
       given = g.R.Read.remaining c.args.reader.now;
       held = g.W.Write.contents c.args.writer.now;
@@ -54,6 +79,18 @@ returns g c = λ now.
     } in
     let (gave, consumes, says, wants) = c.in-Ok.ensures.asked in
     let input = gave ++ left (g.R.Read.remaining c.read_request_of.new.reader) in
-    ends_unavailable c.args.reads_only line _ input (fault_response c.unavailable.result) _ c.write_fault-2.result c.ended-2.result (input-is _ _ gave consumes)
+    tells_unavailable c.args.reads_only line _ input (fault_response c.unavailable.result) _ c.write_fault-2.result.written c.write_fault-2.result.answer c.ended-2.result
+    (input-is _ _ gave consumes)
     (c.unavailable.ensures c.args.reads_only input (says (request_of c.in-Ok-asked.asked) c.in-Ok-asked.ensures.asked))
-    (wrote _ _ _ _ c.write_fault-2.ensures.ok c.write_fault-2.ensures.err) c.write_fault-2.ensures.sound c.ended-2.ensures
+    c.write_fault-2.ensures.wrote c.write_fault-2.ensures.sound c.ended-2.ensures
+
+pub returns-clause-ended : goal.returns-clause-ended
+returns-clause-ended g c = λ now.
+    let line : Line = record {
+      given = g.R.Read.remaining c.args.reader.now;
+      held = g.W.Write.contents c.args.writer.now;
+      now = now;
+      reads = g.R.Receive.sound c.args.reader.now;
+      writes = g.W.Transmit.sound c.args.writer.now;
+    } in
+    ends_unavailable c.args.reads_only line _ c.ended-2.result.0 c.ended-2.result.1 (returns-clause-told g c now)

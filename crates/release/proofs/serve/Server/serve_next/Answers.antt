@@ -9,7 +9,7 @@ pub returns-in-Err : goal.returns-in-Err
 returns-in-Err g c = none
 
 pub returns-then-is_shut : goal.returns-then-is_shut
-returns-then-is_shut g c = asked none c.is_shut.ensures
+returns-then-is_shut g c = asked none c.is_open.ensures.keeps
 
 pub returns : goal.returns
-returns g c = then_over _ _ _ _ (asked none c.is_shut.ensures) c.serve_one-available-2.ensures
+returns g c = then_over _ _ _ _ (asked none c.is_open.ensures.keeps) c.serve_one-available-2.ensures
