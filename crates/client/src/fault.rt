@@ -1,8 +1,10 @@
 //! Why a call of a client ends without what was wanted.
 ghost use Rattle.std.specs.Prelude.{◌≡◌, ◌≢◌};
+ghost use Rattle.table_rows.specs.declared.faults.StoreFault.TheVariants as stores;
 ghost use Rattle.table_rows.specs.declared.faults.StoreFault.TheVariants.{Damaged};
 ghost use Rattle.client.specs.Session.{IsUnmade};
 ghost use Rattle.client.specs.Views.{fault_view};
+ghost use Rattle.client.specs.Views as views;
 
 use fetch::FetchFault;
 use std::alloc::AllocError;
@@ -48,10 +50,12 @@ impl From<AllocError> for ClientFault {
     }
 }
 
-// A command was not made.
+// A command was not made: the store's want of memory is the client's, and a fault of its database too.
 pub(crate) fn unmade(fault: StoreFault) -> ClientFault
     requires { fault ≢ Damaged }
-    ensures { IsUnmade (fault_view result) }
+    ensures unmade { IsUnmade (fault_view result) }
+    ensures memory { fault ≡ stores.OutOfMemory → fault_view result ≡ views.OutOfMemory }
+    ensures database { fault ≡ stores.Database → fault_view result ≡ views.Database }
 {
     match fault {
         StoreFault::OutOfMemory => ClientFault::OutOfMemory,

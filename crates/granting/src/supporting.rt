@@ -1,5 +1,5 @@
 //! The files that a target's layout needs, and whether the layout allows the target (in-toto 1.0, section 5.2).
-ghost use Rattle.std.specs.Prelude.{◌≡◌, ◌↔◌, ◌≤◌, ◌∷◌, false, map, IfOk, IsNone, IsSome, IsTrue};
+ghost use Rattle.std.specs.Prelude.{◌≡◌, ◌↔◌, ◌+◌, ◌<◌, ◌≤◌, ◌^◌, ◌∷◌, false, map, IfOk, IsNone, IsSome, IsTrue};
 ghost use Rattle.std.specs.List.{AllByRecursion, list_all};
 ghost use Rattle.repository_rows.specs.Contents.{lengths_of};
 ghost use Rattle.delegations.specs.Delegation.{before};
@@ -189,10 +189,12 @@ fn supports(
 
 // So many ticks more, as far as a counter counts.
 fn add_ticks(checks: &mut Steps, count: u64)
+    ensures counted { checks.old + count < 2 ^ 64 → checks.new ≡ checks.old + count }
+    ensures full { 2 ^ 64 ≤ checks.old + count → checks.new + 1 ≡ 2 ^ 64 }
     ensures grows { checks.old ≤ checks.new }
     ensures none { count ≡ 0 → checks.new ≡ checks.old }
 {
-    for _ in 0..count {
+    'ticks: for _made in 0..count {
         if checks.count() < u64::MAX {
             checks.tick();
         }

@@ -13,6 +13,7 @@ pub use laws::{
 };
 pub use replies::Answer;
 pub use serve::{
-    ServeFault, serve_list, serve_list_reading, serve_one, serve_one_reading, serve_unavailable,
+    ServeFault, serve_list, serve_list_reading, serve_list_told, serve_one, serve_one_reading,
+    serve_one_told, serve_unavailable,
 };
 pub use store::{Moment, Store};

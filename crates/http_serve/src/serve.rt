@@ -35,10 +35,25 @@ pub enum ServeFault {
 /// A fault of the request is answered by its own status and changes nothing. A denial is answered 403, or 404 where something
 /// is missing, and changes nothing. Where memory is refused, or the database answers a fault, the answer is 503 and nothing is
 /// changed. The replies of commands that write, and those of 503, take no memory.
-///
-/// Beside it stands what was answered: the status, and the number of the denial, if it was one. It stands there where the writer took no
-/// more, too, and not where the reader failed.
 pub fn serve_one<R: Receive, W: Transmit, S: Alter>(
+    alloc: Global,
+    routes: &Routes,
+    reader: &mut R,
+    writer: &mut W,
+    store: &mut Store<S>,
+    now: Moment,
+) -> Result<(), ServeFault>
+    ensures { Ended (record { given = R.remaining reader.old; held = W.contents writer.old; now = now; reads = R.sound reader.old; writes = W.sound writer.old })
+        (W.contents writer.new) (seen store.old.kept (state S.Store store.old.conn)) result
+        (seen store.new.kept (state S.Store store.new.conn)) }
+{
+    let (ended, _) = serve_one_told(alloc, routes, reader, writer, store, now);
+    ended
+}
+
+/// Serves one connection as `serve_one` does. Beside it stands what was answered: the status, and the number of the denial, if it was one. It stands
+/// there where the writer took no more, too, and not where the reader failed.
+pub fn serve_one_told<R: Receive, W: Transmit, S: Alter>(
     alloc: Global,
     routes: &Routes,
     reader: &mut R,
@@ -56,7 +71,7 @@ pub fn serve_one<R: Receive, W: Transmit, S: Alter>(
     serve_one_by(alloc, routes, false, reader, writer, store, now)
 }
 
-/// Serves one connection as `serve_one` does, but that routes by which something may be changed are not there: such a request is the
+/// Serves one connection as `serve_one_told` does, but that routes by which something may be changed are not there: such a request is the
 /// fault `route` (404), as one of an unknown path is, of whatever method; no byte of its body is read, and no command is made.
 pub fn serve_one_reading<R: Receive, W: Transmit, S: Alter>(
     alloc: Global,
@@ -107,7 +122,7 @@ fn serve_one_by<R: Receive, W: Transmit, S: Alter>(
 
 /// Serves one connection while no database can be opened, with all routes, or with those that only read: reads one request, and writes its
 /// own fault, or 503 `database` where it asks for a command, or 503 `memory` where memory was refused before it was known for which. What was
-/// answered stands beside it, as with `serve_one`.
+/// answered stands beside it, as with `serve_one_told`.
 pub fn serve_unavailable<R: Receive, W: Transmit>(
     alloc: Global,
     routes: &Routes,
@@ -168,8 +183,29 @@ fn ended(reply: Written) -> (Result<(), ServeFault>, Option<Answer>)
 }
 
 /// Serves connections in their order, each as `serve_one` does and at its own moment, whatever fault an earlier one met, and
-/// answers how many ended without a fault. What each was answered is put beside its moment: `None` where its reader failed.
+/// answers how many ended without a fault.
 pub fn serve_list<R: Receive, W: Transmit, S: Alter>(
+    alloc: Global,
+    routes: &Routes,
+    connections: &mut [(R, W, Moment)],
+    store: &mut Store<S>,
+) -> usize
+    ensures { Serves (map (λ c. record { given = R.remaining c.0; held = W.contents c.1; now = c.2; reads = R.sound c.0; writes = W.sound c.1 }) connections.old)
+        (map (λ c. W.contents c.1) connections.new) (seen store.old.kept (state S.Store store.old.conn))
+        (seen store.new.kept (state S.Store store.new.conn)) result }
+{
+    let mut count = 0;
+    for (reader, writer, now) in connections.iter_mut() {
+        let ended = serve_one(alloc, routes, reader, writer, store, *now);
+        if ended.is_ok() {
+            count += 1;
+        }
+    }
+    count
+}
+
+/// Serves connections as `serve_list` does. What each was answered is put beside its moment: `None` where its reader failed.
+pub fn serve_list_told<R: Receive, W: Transmit, S: Alter>(
     alloc: Global,
     routes: &Routes,
     connections: &mut [(R, W, Moment, Option<Answer>)],
@@ -185,7 +221,7 @@ pub fn serve_list<R: Receive, W: Transmit, S: Alter>(
     serve_list_by(alloc, routes, false, connections, store)
 }
 
-/// Serves connections as `serve_list` does, each by `serve_one_reading`.
+/// Serves connections as `serve_list_told` does, each by `serve_one_reading`.
 pub fn serve_list_reading<R: Receive, W: Transmit, S: Alter>(
     alloc: Global,
     routes: &Routes,

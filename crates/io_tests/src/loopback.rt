@@ -38,7 +38,7 @@ fn exchange(rt: HostRuntime, store: &mut Store<MemStore>) -> Result<(), Fail> {
     let _ = store.apply(Command::Init(ROOT.as_bytes()), now)?;
     let routes = Routes::new(rt.alloc())?;
     let (mut client, stream) = connected(rt)?;
-    let (served, _) = serve_one(rt.alloc(), &routes, &mut &stream, &mut &stream, store, now);
+    let served = serve_one(rt.alloc(), &routes, &mut &stream, &mut &stream, store, now);
     drop(stream);
     served?;
     is_answered(rt, &mut client)

@@ -8,7 +8,7 @@ use command_support::{Fault, Notes, moment, print};
 use connections::{
     Beginning, Incoming, Outgoing, Timer, end, listen, next_stream, tell_connection,
 };
-use http_serve::{Answer, Routes, Status, serve_list, serve_list_reading, serve_unavailable};
+use http_serve::{Answer, Routes, Status, serve_list_reading, serve_list_told, serve_unavailable};
 use metadata::Moment;
 use repository_work::{Work, worked};
 use sqlite::Alter;
@@ -244,7 +244,7 @@ impl<O: Write> Server<'_, '_, O> {
         if reads_only {
             serve_list_reading(rt.alloc(), self.routes, connections, repository);
         } else {
-            serve_list(rt.alloc(), self.routes, connections, repository);
+            serve_list_told(rt.alloc(), self.routes, connections, repository);
         }
         end_one(rt, accepted, &sides, &timer, notes);
         is_available(sides.3)

@@ -18,7 +18,7 @@ pub fn response(
 ) -> Result<Vec<u8>, LineFault> {
     let mut reader = request;
     let mut writer = Vec::new(alloc);
-    match serve_one(alloc, routes, &mut reader, &mut writer, store, now).0 {
+    match serve_one(alloc, routes, &mut reader, &mut writer, store, now) {
         Ok(()) => Ok(writer),
         Err(_) => Err(LineFault::OutOfMemory),
     }

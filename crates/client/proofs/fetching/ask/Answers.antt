@@ -16,4 +16,4 @@ pub returns-in-Ok : goal.returns-in-Ok
 returns-in-Ok g c = target_asked c.replies_tell.ensures.targets _ _ c.as_str.result.now c.args.path.now c.args.now c.in-Ok.reply c.asked_of.result c.in-Ok.ensures.makes c.asked_of.ensures c.as_str.ensures.value
 
 pub returns-in-Err : goal.returns-in-Err
-returns-in-Err g c = (unoffered _ _ (Target c.as_str.result.now None) c.args.now c.in-Err.fault c.in-Err.ensures.makes, c.unmade.ensures)
+returns-in-Err g c = (unoffered _ _ (Target c.as_str.result.now None) c.args.now c.in-Err.fault c.in-Err.ensures.makes, c.unmade.ensures.unmade)

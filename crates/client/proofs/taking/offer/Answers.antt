@@ -14,4 +14,4 @@ returns-in-Ok g c =
 pub returns-in-Err : goal.returns-in-Err
 returns-in-Err g c =
     becomes _ _ (unoffered _ _ (command_view c.command_for-command.result) c.args.now c.in-Err.fault c.in-Err.ensures.makes)
-    (λ C D same. not_made c.args.now _ C D _ same c.unmade.ensures)
+    (λ C D same. not_made c.args.now _ C D _ same c.unmade.ensures.unmade)

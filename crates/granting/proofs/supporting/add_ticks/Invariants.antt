@@ -1,5 +1,10 @@
-use Rattle.std.proofs.Common.{◌≡◌, ◌≤◌}
+use Rattle.std.proofs.Common.{◌≡◌, ◌+◌, ◌<◌, ◌≤◌, ◌^◌}
 use Rattle.granting.proofs.supporting.add_ticks.Given as goal
 
-abbrev pub invariant-loop : goal.invariant-loop
-invariant-loop l = record { grows : l.fn.checks ≤ l.checks; none : l.count ≡ 0 → l.checks ≡ l.fn.checks }
+abbrev pub invariant-ticks : goal.invariant-ticks
+invariant-ticks l = record {
+  grows : l.fn.checks ≤ l.checks;
+  none : l.count ≡ 0 → l.checks ≡ l.fn.checks;
+  counted : l.fn.checks + l._made < 2 ^ 64 → l.checks ≡ l.fn.checks + l._made;
+  full : 2 ^ 64 ≤ l.fn.checks + l._made → l.checks + 1 ≡ 2 ^ 64;
+}

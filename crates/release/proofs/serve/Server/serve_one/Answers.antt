@@ -9,5 +9,5 @@ pub returns : goal.returns
 returns g c =
     elim c.if-reads_only.branch [
       | then-reads_only w ↦ rw w.if-reads_only.true (rw w.repository-is (served _ _ _ none w.serve_list_reading.ensures.serves))
-      | else-reads_only w ↦ rw w.if-reads_only.false (rw w.repository-is (served _ _ _ none w.serve_list.ensures.serves))
+      | else-reads_only w ↦ rw w.if-reads_only.false (rw w.repository-is (served _ _ _ none w.serve_list_told.ensures.serves))
     ]
