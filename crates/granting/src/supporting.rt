@@ -190,7 +190,6 @@ fn supports(
 // So many ticks more, as far as a counter counts.
 fn add_ticks(checks: &mut Steps, count: u64)
     ensures counted { checks.old + count < 2 ^ 64 → checks.new ≡ checks.old + count }
-    ensures full { 2 ^ 64 ≤ checks.old + count → checks.new + 1 ≡ 2 ^ 64 }
     ensures grows { checks.old ≤ checks.new }
     ensures none { count ≡ 0 → checks.new ≡ checks.old }
 {

@@ -6,5 +6,4 @@ invariant-ticks l = record {
   grows : l.fn.checks ≤ l.checks;
   none : l.count ≡ 0 → l.checks ≡ l.fn.checks;
   counted : l.fn.checks + l._made < 2 ^ 64 → l.checks ≡ l.fn.checks + l._made;
-  full : 2 ^ 64 ≤ l.fn.checks + l._made → l.checks + 1 ≡ 2 ^ 64;
 }
