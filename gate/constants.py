@@ -1,7 +1,7 @@
 """No number twice: a constant of one meaning stands in one crate, and the others read it there.
 
-Two crates that have a constant of the same name and value are a fault, and so are two that have one of the same number over 1,000, but for
-those numbers of which REASONS says that they mean something else in each place.
+Tools and tests say their own. Else two crates that have a constant of the same name and value are a fault,
+and so are two that have one of the same number over 1,000, but for those numbers of which REASONS says that they mean something else in each place.
 """
 import glob
 import re
@@ -49,9 +49,12 @@ def misses():
 
 
 def faults():
-    paths = sorted(glob.glob("crates/*/src/**/*.rt", recursive=True))
+    with open("crates.txt", encoding="utf-8") as file:
+        tests = {line.split(":")[0] for line in file.read().split("# tools and tests")[1].splitlines()}
     sources = []
-    for path in paths:
+    for path in sorted(glob.glob("crates/*/src/**/*.rt", recursive=True)):
+        if path.split("/")[1] in tests:
+            continue
         with open(path, encoding="utf-8") as file:
             sources.append((path.split("/")[1], file.read()))
     yield from repeated(sources)

@@ -4,8 +4,8 @@ use command_line::{Drafting, LayoutDraft};
 use command_support::{FILE_LIMIT, Fault, Notes, Slip, read_at_most};
 use drafting::{Addition, Rule, TargetsChanges, draft_targets};
 use drafting_commands::{
-    Before, DAYS as TARGETS_DAYS, Known, RuleRead, addition_of, digest_in, drafted, items_in,
-    kept_terms, rule_of, see_unsigned, terms_of, usage,
+    Before, Known, RuleRead, TARGETS_DAYS, addition_of, digest_in, drafted, items_in, kept_terms,
+    rule_of, see_unsigned, terms_of, usage,
 };
 use drafts::{
     Folder, chain_name, kind_of, layout_in, layout_name, layout_path, link_path, read_said,
@@ -16,7 +16,7 @@ use std::alloc::{AllocError, Global};
 use std::io::Write;
 
 // The days that a layout is valid.
-const DAYS: u64 = 365;
+const LAYOUT_DAYS: u64 = 365;
 
 // A step that was read.
 #[derive(Drop)]
@@ -340,7 +340,7 @@ impl Chain<'_> {
         notes: &mut Notes<'_, E>,
     ) -> Result<Vec<u8>, Fault> {
         let given = asked.expires.as_deref();
-        let terms = terms_of(self.alloc(), given, begun, DAYS, now)?;
+        let terms = terms_of(self.alloc(), given, begun, LAYOUT_DAYS, now)?;
         let steps = lent(self.alloc(), steps)?;
         let draft = draft_layout(self.alloc(), begun, terms, &steps);
         drafted(self.alloc(), draft, "layout", notes)

@@ -11,3 +11,4 @@ mod spelling;
 
 pub use keys::{Names, key_text, key_words};
 pub use lines::{Compared, LinesFault, lines_of};
+pub use spelling::FIRST_DIGITS;

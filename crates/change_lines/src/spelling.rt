@@ -4,8 +4,8 @@ use path_patterns::Digest;
 use plain_text::plain;
 use std::alloc::{AllocError, Global};
 
-// So many digits of a digest or of a key's id stand where not all are wanted.
-const FIRST_DIGITS: usize = 8;
+/// So many digits of a digest or of a key's id stand where not all are wanted.
+pub const FIRST_DIGITS: usize = 8;
 
 // What stands for a value without a spelling.
 const UNSPELLED: &str = "(no canonical JSON)";

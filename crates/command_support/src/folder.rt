@@ -10,8 +10,8 @@ use std::alloc::{AllocError, Global};
 use std::fs;
 use std::io::{self, ErrorKind, Write};
 
-// The mode of what is written, less the process's mask: nothing of it is secret.
-const FOR_ALL: u32 = 0o666;
+/// The mode of what everybody may read, less the process's mask.
+pub const FOR_ALL: u32 = 0o666;
 
 /// A folder of drafts: `ROLE.json` of each document that is on its way, `held/ROLE.json` of what is held, `files/DIGEST` of each target
 /// file that waits to be put, `layouts/PATH` of each layout and link that is listed as a target, with `~` for each slash of its path,

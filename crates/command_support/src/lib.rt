@@ -16,7 +16,7 @@ pub use databases::connected;
 pub use denials::Denial;
 pub use fault::{Fault, Slip, file_fault};
 pub use files::{names_of, print, read, read_at_most, read_regular};
-pub use folder::Folder;
+pub use folder::{FOR_ALL, Folder};
 pub use limits::FILE_LIMIT;
 pub use locking::FolderLock;
 pub use loose_json::CanonFault;

@@ -9,7 +9,7 @@ use std::time::Duration;
 // So often the lock is asked for, and so many milliseconds lie between.
 const TRIES: u32 = 100;
 
-const WAIT: u64 = 100;
+const BETWEEN: u64 = 100;
 
 /// What keeps other commands from writing in a folder: a lock of the folder itself, which leaves no file in it. The system lets go of it with
 /// the process, however that ends.
@@ -50,7 +50,7 @@ fn is_locked<E: Write>(
     for _ in 0..TRIES {
         match folder.try_lock() {
             Ok(()) => return true,
-            Err(TryLockError::WouldBlock) => thread::sleep(rt, Duration::from_millis(WAIT)),
+            Err(TryLockError::WouldBlock) => thread::sleep(rt, Duration::from_millis(BETWEEN)),
             Err(TryLockError::Error(error)) => {
                 notes.warn(&path, &error);
                 return true;

@@ -4,13 +4,14 @@ use crate::incoming::{Incoming, read_within};
 use std::io::Read;
 use std::net::{Shutdown, TcpStream};
 
-const PIECE: usize = 8192;
+// So many bytes are read away at once.
+const AWAY: usize = 8192;
 
 // So many pieces that have come already are taken away without waiting.
 const PIECES: u32 = 128;
 
-/// Ends a connection after its reply, so that its stream may be closed: nothing is sent any more. Where the request came
-/// whole, as one of a command that was made or denied did, nothing is waited for. Otherwise what the peer still sends is read away until it ends or its time is over, so that the
+/// Ends a connection after its reply, so that its stream may be closed: nothing is sent any more. Where the request came whole, as one
+/// of a command that was made or denied did, nothing is waited for. Otherwise what the peer still sends is read away until it ends or its time is over, so that the
 /// reply reaches a peer that is still sending.
 pub fn end(
     rt: &HostRuntime,
@@ -37,7 +38,7 @@ fn take_what_came(stream: &TcpStream) {
         return;
     }
     let mut stream = stream;
-    let mut piece = [0; PIECE];
+    let mut piece = [0; AWAY];
     for _ in 0..PIECES {
         match stream.read(&mut piece) {
             Ok(0) | Err(_) => return,
@@ -48,7 +49,7 @@ fn take_what_came(stream: &TcpStream) {
 
 // Reads away what still comes, until it ends or no time is left.
 fn read_away(stream: &TcpStream, timer: &Timer<'_>, last: &Timer<'_>) {
-    let mut piece = [0; PIECE];
+    let mut piece = [0; AWAY];
     for _ in 0..u64::MAX {
         if timer.left(ALL_SECONDS).is_err() {
             return;

@@ -13,13 +13,11 @@ ghost use Rattle.drafting.specs.Drafts.{HasPart, HasVersion, IsBase, IsDenied, I
 use crate::faults::{DraftFault, begun_fault, held_fault};
 use crate::members::{put, text_value};
 use canonical_json::{Value, read};
+use document_parts::parts::LAST_NUMBER;
 use metadata::{Body, Kind, ShapeFault, read_document};
 use std::alloc::{AllocError, Global};
 
 const SPEC_VERSION: &str = "1.0.31";
-
-// The last version.
-const LAST: u32 = 4_294_967_295;
 
 /// The version that the document says, and 0 where it has none.
 pub fn version_of(body: &Body) -> u32
@@ -57,7 +55,7 @@ pub fn next_version(alloc: Global, kind: Kind, held: Option<&[u8]>) -> Result<u3
         return Ok(1);
     };
     match version_in(alloc, kind, file) {
-        Ok(version) if version < LAST => Ok(version + 1),
+        Ok(version) if version < LAST_NUMBER => Ok(version + 1),
         Ok(_) => Err(DraftFault::Spent),
         Err(fault) => Err(held_fault(fault)),
     }

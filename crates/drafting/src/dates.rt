@@ -3,14 +3,15 @@ ghost use Rattle.std.specs.Prelude.{◌≡◌, ◌⊎◌, ◌+◌, ◌/◌, ◌%
 ghost use Rattle.document_parts.specs.Dates.{IsDateTime, IsShown, two_digits, four_digits};
 
 use crate::faults::DraftFault;
+use document_parts::dates;
 use jiff::Timestamp;
 use jiff::tz::Offset;
 use metadata::Moment;
 use std::alloc::{AllocError, Global};
 
-const FIRST_YEAR: i16 = 1970;
+const FIRST_YEAR: i16 = dates::FIRST_YEAR as i16;
 
-const LAST_YEAR: i16 = 9998;
+const LAST_YEAR: i16 = dates::LAST_YEAR as i16;
 
 // What a calendar and a clock show in UTC.
 #[derive(Clone, Copy)]

@@ -11,7 +11,7 @@ mod terms;
 pub use command_support::{Fault, Notes};
 pub use drafting_faults::{drafted, usage};
 pub use keys::{Known, RuleRead, items_in, last_segment, rule_of};
-pub use listing::{DAYS, addition_of, digest_in, draft_listing};
+pub use listing::{TARGETS_DAYS, addition_of, digest_in, draft_listing};
 pub use rooting::draft_rules;
 pub use saving::{Before, see_unsigned};
 pub use terms::{kept_terms, terms_of};

@@ -15,7 +15,7 @@ use std::io::{IsTerminal, Write};
 use std::{fmt, fs};
 
 // The days that a first one is valid.
-pub const DAYS: u64 = 90;
+pub const TARGETS_DAYS: u64 = 90;
 
 // A delegation that was read.
 #[derive(Drop)]
@@ -45,7 +45,7 @@ pub fn draft_listing<E: Write>(
         rt.alloc(),
         asked.expires.as_deref(),
         before.latest(),
-        DAYS,
+        TARGETS_DAYS,
         now,
     )?;
     let next = Next {

@@ -12,7 +12,7 @@ use std::alloc::AllocError;
 use std::io::Write;
 
 // The days that a first root is valid.
-const DAYS: u64 = 365;
+const ROOT_DAYS: u64 = 365;
 
 /// Drafts the next root, with these rules for the roles that the words name.
 pub fn draft_rules<E: Write>(
@@ -57,7 +57,7 @@ fn put_root<E: Write>(
     notes: &mut Notes<'_, E>,
 ) -> Result<(), Fault> {
     let given = asked.expires.as_deref();
-    let terms = terms_of(rt.alloc(), given, before.latest(), DAYS, now)?;
+    let terms = terms_of(rt.alloc(), given, before.latest(), ROOT_DAYS, now)?;
     let rules = lent(rt, read)?;
     let draft = draft_root(rt.alloc(), before.held(), before.begun(), terms, &rules);
     let draft = drafted(rt.alloc(), draft, "root", notes)?;

@@ -3,6 +3,7 @@ use crate::counting::count_of;
 use crate::roles::kind_of;
 use crate::said::{Said, read_said_of};
 use crate::vouching::{Vouching, vouching_of};
+use change_lines::FIRST_DIGITS;
 use command_support::{Fault, Folder, Notes};
 use drafting::{Look, look_at};
 use keys_roles::KeyId;
@@ -11,9 +12,6 @@ use metadata::{
 };
 use std::alloc::{AllocError, Global};
 use std::io::Write;
-
-// So many digits of a key's id stand in the name of its link.
-const DIGITS: usize = 8;
 
 /// What refers a target to its layout: the layout's path, the rule of its owners, the links, and the step among whose products the target
 /// stands, with its path there.
@@ -111,7 +109,7 @@ pub fn link_path(
     id: &KeyId,
 ) -> Result<String, AllocError> {
     let digits = Digest::new(id.0).digits();
-    let first = str::from_utf8(&digits[..DIGITS]).unwrap_or("-");
+    let first = str::from_utf8(&digits[..FIRST_DIGITS]).unwrap_or("-");
     format!(in alloc; "{target}.{step}.{first}.json")
 }
 

@@ -17,7 +17,7 @@ pub use chains::{
     links_in, listed_otherwise, owners_of, path_of, reference_of, see_link, signed_step,
     target_of_layout, unfinished_layout,
 };
-pub use change_lines::{Names, key_text};
+pub use change_lines::{FIRST_DIGITS, Names, key_text};
 pub use changes::{changes_of, signed_in};
 pub use command_support::{Fault, Folder, Notes, Slip};
 pub use counting::{Count, count_of, has_signatures, has_signed};

@@ -1,5 +1,5 @@
 //! The files of a repository in a folder, under the names that clients ask for.
-use command_support::{Denial, Fault, Notes, file_fault, put_in_place};
+use command_support::{Denial, FOR_ALL, Fault, Notes, file_fault, put_in_place};
 use exported_files::Mirror;
 use limits::BLOB_LIMIT;
 use metadata::{Listing, Moment, digest_of};
@@ -7,9 +7,6 @@ use repository_work::{Command, Reply, Store, fault_of_store};
 use sqlite::Alter;
 use std::fs::{self, File, Metadata};
 use std::io::{self, ErrorKind, Read, Write};
-
-// The mode of what is exported: everybody may read it, as far as the process's mask lets them.
-const FOR_ALL: u32 = 0o666;
 
 /// A repository that is written into a folder. What is told of it has the name of its database file.
 #[derive(Drop)]

@@ -1,9 +1,9 @@
 //! What a folder of drafts has.
 use command_support::{Fault, Notes};
 use drafts::{
-    Folder, Names, Said, SaidRule, Vouching, changes_of, has_signed, key_text, layout_in, links_in,
-    listed_otherwise, name_of_key, owners_of, read_said, read_said_of, rules_for, sign_order,
-    signed_in, target_of_layout, unfinished_layout, version_in,
+    FIRST_DIGITS, Folder, Names, Said, SaidRule, Vouching, changes_of, has_signed, key_text,
+    layout_in, links_in, listed_otherwise, name_of_key, owners_of, read_said, read_said_of,
+    rules_for, sign_order, signed_in, target_of_layout, unfinished_layout, version_in,
 };
 use keys_roles::KeyId;
 use metadata::{Kind, Moment, SignedFile, read_signed};
@@ -12,9 +12,6 @@ use path_patterns::Digest;
 use plain_text::{is_plain_name, plain};
 use std::alloc::{AllocError, Global};
 use std::io::Write;
-
-// So many digits of a key's id stand where it has no name that can stand as a word.
-const FIRST_DIGITS: usize = 8;
 
 /// What a folder has: each draft with its version and the held one, when it expires, what it changes, who has signed and who has not; the
 /// layouts and links; and what is to be done next, over the database where one is given.

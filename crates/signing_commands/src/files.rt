@@ -2,7 +2,9 @@
 use crate::books::{BookAt, BookWork, book_fault, has_bytes, worked_over};
 use crate::documents::tell_of_tree;
 use crate::seeds::seed_at;
-use command_support::{Fault, Notes, OWNER_ALONE, Slip, file_fault, moment, print, read_at_most};
+use command_support::{
+    FOR_ALL, Fault, Notes, OWNER_ALONE, Slip, file_fault, moment, print, read_at_most,
+};
 use drafts::{KEY_FILE_LIMIT, key_in};
 use keys_roles::{Key, KeyId, key_id, key_object};
 use lms::{KeyPair, OtsType, Params, SigningHeight, public_of};
@@ -13,9 +15,6 @@ use std::fs::{self, File};
 use std::io::{self, Write};
 use std::os::unix::fs::OpenOptionsExt;
 use std::random::RandomSource;
-
-// The mode of the public half, less the process's mask.
-const FOR_ALL: u32 = 0o666;
 
 /// The public half of a key, as `NAME.key` has it: its parameters and its id.
 #[derive(Clone, Copy)]
