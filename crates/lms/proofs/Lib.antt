@@ -1,6 +1,7 @@
 pub mod Nodes
 pub mod Readings
 pub mod HssReadings
+pub mod HssLaws
 pub mod Placed
 pub mod Counts
 pub mod Bytes

@@ -6,4 +6,5 @@ pub mod Tree
 pub mod Verifies
 pub mod Keys
 pub mod Hss
+pub mod HssKeys
 pub mod steps

@@ -9,9 +9,12 @@
 ghost use Rattle.std.specs.Prelude.{◌≡◌, ◌<◌, ◌^◌, ℕ, List, length};
 ghost use Rattle.lms.specs.declared.OtsType.{OtsType};
 ghost use Rattle.lms.specs.declared.LmsType.{LmsType};
+ghost use Rattle.lms.specs.declared.Params.{Params};
 ghost use Rattle.lms.specs.Parameters.{height};
 ghost use Rattle.lms.specs.Verifies.{Verifies};
 ghost use Rattle.lms.specs.Keys.{public_bytes, signature_bytes};
+ghost use Rattle.lms.specs.Hss.{VerifiesHss};
+ghost use Rattle.lms.specs.HssKeys.{Spends, hss_public_bytes, hss_signature_bytes, message_count};
 
 use thiserror::Error;
 
@@ -48,6 +51,14 @@ pub struct Params {
     pub height: SigningHeight,
 }
 
+/// The parameters of a key of the hierarchical scheme of two levels (section 6): those of its top tree, and those of each tree
+/// whose public key the top tree signs.
+#[derive(Debug, Clone, Copy, PartialEq, Eq)]
+pub struct Levels {
+    pub top: Params,
+    pub bottom: Params,
+}
+
 /// What all private elements of a key pair come from (appendix A). It has no `Debug`, so that no secret is printed.
 #[derive(Clone, Copy)]
 pub struct Seed {
@@ -72,6 +83,7 @@ mod arrays;
 mod chains;
 mod hashes;
 mod hss;
+mod hss_keys;
 mod key_pairs;
 mod keys;
 mod lanes;
@@ -83,6 +95,7 @@ mod tree;
 mod verifying;
 
 pub use hss::{verify_hss, verify_hss_counted};
+pub use hss_keys::{HssKeyPair, child_of, hss_public, join_levels};
 pub use key_pairs::KeyPair;
 pub use keys::public_of;
 pub use signing::sign;
@@ -95,4 +108,20 @@ pub fn signatures_verify()
     ensures { (lms : LmsType) (ots : OtsType) (identifier secret : List ℕ) (q : ℕ) (message : List ℕ)
         → length identifier ≡ 16 → q < 2 ^ height lms
         → Verifies (public_bytes lms ots identifier secret) message (signature_bytes lms ots identifier secret q message) }
+{}
+
+/// The same of the hierarchical scheme: what a key of up to eight levels signs with any of its lowest leaves verifies under its public
+/// key. The call does nothing.
+pub fn hss_signatures_verify()
+    ensures { (params : Params) (below : List Params) (identifier secret : List ℕ) (g : ℕ) (message : List ℕ)
+        → length identifier ≡ 16 → length below < 8 → g < message_count params below
+        → VerifiesHss (hss_public_bytes params below identifier secret) message (hss_signature_bytes params below identifier secret g message) }
+{}
+
+/// The law that a key of the hierarchical scheme signs one message with each of its one-time keys, those of the trees below its top tree
+/// too, as long as each lowest leaf signs one message. The call does nothing.
+pub fn one_message_each()
+    ensures { (params : Params) (below : List Params) (identifier secret : List ℕ) (f g : ℕ) (m n leaves a b : List ℕ)
+        → (f ≡ g → m ≡ n)
+        → Spends params below identifier secret f m leaves a → Spends params below identifier secret g n leaves b → a ≡ b }
 {}
