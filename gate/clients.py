@@ -91,6 +91,9 @@ class Clients:
         db = repository(self.room, release)
         run("put", *AT, "--db", db, f"{EXAMPLE}/empty.txt", release=release)
         self.folder = f"{self.room}/files"
+        self.long = f"{self.room}/long"
+        with open(self.long, "wb") as file:
+            file.write(262145 * b"x")
         run("export", *AT, "--db", db, "--to", self.folder, release=release)
 
     def begun(self, parts):
@@ -183,6 +186,120 @@ GETS = [
     (("close", HELLO), UP, 3, BROKEN, FETCHED, [TARGETS, FILE]),
     (("silent", HELLO), UP, 3, BROKEN, FETCHED, [TARGETS, FILE]),
 ]
+
+
+GARBAGE = f"{EXAMPLE}/hello.txt"
+# In place of this word a file stands that has a byte more than a document may have.
+LONG = "LONG"
+# What a mirror does that lies about the next root or about all, and what is told of it where another one is honest.
+LIARS = [
+    (("file", ROOT, GARBAGE), "denied 2 NotCanonical"),
+    (("file", ROOT, LONG), "longer than its limit"),
+    (("endless", ROOT), None),
+    (("file", ROOT, f"{EXAMPLE}/root.json"), None),
+    (("other", TIMESTAMP), "denied 12 TimestampThreshold"),
+    (("file", TIMESTAMP, f"{EXAMPLE}/snapshot.json"), "denied 4 WrongType"),
+    (("withhold",), None),
+    (("fail",), None),
+    (("close",), None),
+    (("drip",), None),
+]
+# The same of a target, or its role's document. All mirrors together come first, so one that breaks off is passed over there.
+TARGET_LIARS = [
+    (("other", HELLO), "denied 39 DigestMismatch"),
+    (("other", TARGETS), "denied 28 RoleHash"),
+    (("endless", HELLO), None),
+    (("withhold",), None),
+    (("drip",), None),
+]
+
+
+def by_mirrors(clients, wrongs):
+    """Mirrors that do so, and the words that name them in this order."""
+    mirrors = [Mirror(clients.folder, *(clients.long if word == LONG else word for word in wrong)) for wrong in wrongs]
+    urls = [f"http://127.0.0.1:{mirror.port}" for mirror in mirrors]
+    return mirrors, urls, [word for url in urls for word in ("--mirror", url)]
+
+
+def warned(urls, wrongs, told):
+    """The warnings of the liars among the mirrors, in their order."""
+    return "".join(f"warning: {url}: {told}\n" for url, wrong in zip(urls, wrongs) if told and wrong != ("honest",))
+
+
+def an_honest_mirror_updates(clients, liar, told, wrongs):
+    """Beside liars, in any order, one honest mirror brings a client up to date within the time of the call, and the liars are told."""
+    what = f"update by {wrongs}"
+    db = clients.begun(())
+    mirrors, urls, places = by_mirrors(clients, wrongs)
+    began = time.monotonic()
+    clients.ends(what, 0, "updated\n", warned(urls, wrongs, told), "update", *AT, "--db", db, "--within", "60", *places)
+    want(time.monotonic() - began < 70, f"{what}: it took over its time")
+    for mirror in mirrors:
+        mirror.asked()
+    want(rows(db) == rows_of(UP), f"{what}: the rows, beside {liar}")
+
+
+def an_honest_mirror_serves(clients, liar, told, wrongs):
+    """Beside liars, in any order, one honest mirror gives a client the target that its server grants."""
+    what = f"get by {wrongs}"
+    db = clients.begun(UP)
+    mirrors, urls, places = by_mirrors(clients, wrongs)
+    out = f"{db}.out"
+    # The joined turn takes each file from the first mirror that has one: a liar that stands after the honest one is not asked.
+    lies = told if wrongs[0] == liar else None
+    warnings = "".join(f"warning: {url}: {lies}\n" for url, wrong in zip(urls, wrongs[:wrongs.index(("honest",))]) if lies and wrong == liar)
+    clients.ends(what, 0, "written\n", warnings, "get", *AT, "--db", db, "--within", "60", *places, "--out", out, "hello.txt")
+    for mirror in mirrors:
+        mirror.asked()
+    want(read(out) == read(f"{EXAMPLE}/hello.txt"), f"{what}: the file that is written")
+
+
+def orders(liar):
+    """One honest mirror among three liars, in each place."""
+    return [(*place * (liar,), ("honest",), *(3 - place) * (liar,)) for place in range(4)]
+
+
+def only_liars(clients):
+    """Where no mirror is honest the first denial is told, and what each of them did."""
+    db = clients.begun(())
+    wrongs = [("close",), ("other", TIMESTAMP), ("file", ROOT, GARBAGE)]
+    mirrors, urls, places = by_mirrors(clients, wrongs)
+    error = f"warning: {urls[1]}: denied 12 TimestampThreshold\nwarning: {urls[2]}: denied 2 NotCanonical\ndenied 12 TimestampThreshold\n"
+    clients.ends("only liars", 1, "", error, "update", *AT, "--db", db, *places)
+    for mirror in mirrors:
+        mirror.asked()
+    want(rows(db) == rows_of(()), "only liars: the rows")
+
+
+def half_mirrors(clients):
+    """Of two mirrors that have a half each, both together give a target."""
+    db = clients.begun(UP)
+    mirrors, _, places = by_mirrors(clients, [("withhold", TARGETS), ("withhold", HELLO)])
+    out = f"{db}.out"
+    clients.ends("half mirrors", 0, "written\n", "", "get", *AT, "--db", db, *places, "--out", out, "hello.txt")
+    for mirror in mirrors:
+        mirror.asked()
+    want(read(out) == read(f"{EXAMPLE}/hello.txt"), "half mirrors: the file that is written")
+
+
+def an_old_mirror(clients):
+    """A mirror that is behind, with documents that are live still, before and after one that has the newest."""
+    room = tempfile.mkdtemp(dir=clients.room)
+    newest = repository(room, clients.release)
+    run("put", *AT, "--db", newest, f"{EXAMPLE}/empty.txt", release=clients.release)
+    run("publish", *AT, "--db", newest, *(f"{role}:{EXAMPLE}/chain/{role}.json" for role in FETCHED), release=clients.release)
+    run("export", *AT, "--db", newest, "--to", f"{room}/files", release=clients.release)
+    for is_first in (True, False):
+        folders = [clients.folder, f"{room}/files"] if is_first else [f"{room}/files", clients.folder]
+        db = clients.begun(())
+        mirrors = [Mirror(folder, "honest") for folder in folders]
+        urls = [f"http://127.0.0.1:{mirror.port}" for mirror in mirrors]
+        error = "" if is_first else f"warning: {urls[1]}: denied 13 TimestampRollback\n"
+        places = [word for url in urls for word in ("--mirror", url)]
+        clients.ends("an old mirror", 0, "updated\n", error, "update", *AT, "--db", db, *places)
+        for mirror in mirrors:
+            mirror.asked()
+        want(rows(db)["current"] == rows(newest)["current"], "an old mirror: the rows")
 
 
 def an_old_timestamp(clients):
@@ -283,6 +400,9 @@ def main(words):
     cases += [functools.partial(gets, clients, *case) for case in GETS]
     cases += [functools.partial(case, clients) for case in (an_old_timestamp, a_server_of_files, on_a_terminal, a_large_database,
                                                             a_folder_is_listed, a_call_has_its_deadline)]
+    cases += [functools.partial(case, clients) for case in (only_liars, half_mirrors, an_old_mirror)]
+    cases += [functools.partial(an_honest_mirror_updates, clients, liar, told, order) for liar, told in LIARS for order in orders(liar)]
+    cases += [functools.partial(an_honest_mirror_serves, clients, liar, told, order) for liar, told in TARGET_LIARS for order in orders(liar)]
     failed = 0
     with concurrent.futures.ThreadPoolExecutor(8) as pool:
         for done in concurrent.futures.as_completed(pool.submit(case) for case in cases):

@@ -34,6 +34,7 @@ NO_RULE_CASES = [
         (b'"products":{}', b'"products":[]'), (b'"materials":{},"products":{}', b'"products":{},"materials":{}'),
     ]
 ]
+SEED = b"07" * 16 + b" " + b"07" * 32
 # The input, the number of the first line that is no case, and what is printed for the lines before it.
 NO_CASES = [
     (b"\n", 1, b""),
@@ -58,6 +59,12 @@ NO_CASES = [
     (b"key -\n", 1, b""),
     (b"key 00\n", 1, b""),
     (b"sign 1 5 - - 0 -\n", 1, b""),
+    (b"hss_made 4 5 4 5 - - 0 -\n", 1, b""),
+    (b"hss_made 4 5 " + SEED + b" 0 -\n", 1, b""),
+    (b"hss_made 4 5 3 5 " + SEED + b" 0 -\n", 1, b""),
+    (b"hss_made 4 15 4 5 " + SEED + b" 0 -\n", 1, b""),
+    (b"hss_made 4 5 4 5 " + SEED + b" 4294967296 -\n", 1, b""),
+    (b"hss_made 4 5 4 5 " + SEED + b" 0 - -\n", 1, b""),
     (b"calendar\n", 1, b""),
     (b"calendar ff\n", 1, b""),
     (b"calendar 30 30\n", 1, b""),

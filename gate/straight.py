@@ -4,7 +4,7 @@
     straight.py    reads `stdin` and `stdout` of crates/verdicts, and compares each line of the one but `json`, `document` and `rules` with
                    the line of the other. LMS (RFC 8554): the verdict and the hashes by section 5.4.2, that of the hierarchical
                    scheme by section 6.3, the id as SHA-256 of the key's canonical object, the key and the signature by
-                   sections 4 and 5 and appendix A. Dates: Python's calendar. Names: TUF 1.0, section 6.2. Patterns and
+                   sections 4 and 5 and appendix A, and those of two levels by section 6, each tree below by a seed from its leaf. Dates: Python's calendar. Names: TUF 1.0, section 6.2. Patterns and
                    prefixes: TUF 1.0, section 4.5
 
 It prints how many lines agree, and each that does not.
@@ -142,6 +142,27 @@ def signed(w, height, identifier, secret, q, message):
     return f"{(types + identifier + tree[1]).hex()} {b''.join(signature).hex()}"
 
 
+def of_two_levels(top, bottom, identifier, secret, number, message):
+    """The public key of two levels and its signature, or None where there is no such leaf. Each tree is a width and a height. The seed of the
+    tree below a leaf comes from the leaf as its private elements do (appendix A), by two numbers that no chain has."""
+    q, leaf = divmod(number, 1 << bottom[1])
+    if q >= 1 << top[1]:
+        return None
+    below, name = (digest(identifier, u32(q), u16(i), b"\xff", secret) for i in (0xFFFE, 0xFFFF))
+    key, last = signed(*bottom, name[:16], below, leaf, message).split(" ")
+    public, first = signed(*top, identifier, secret, q, bytes.fromhex(key)).split(" ")
+    return u32(2) + bytes.fromhex(public), u32(1) + bytes.fromhex(first + key + last)
+
+
+def made(*words):
+    """The public key, the length of the signature and its SHA-256."""
+    both = of_two_levels(*words)
+    if both is None:
+        return "leaf_range"
+    public, signature = both
+    return f"{public.hex()} {len(signature)} {hashlib.sha256(signature).hexdigest()}"
+
+
 def seconds(text):
     """RFC 3339 in the one form of TUF 1.0, section 4.2.1, of the years 1970 to 9998."""
     parts = re.fullmatch(rb"(\d{4})-(\d\d)-(\d\d)T(\d\d):(\d\d):(\d\d)Z", text)
@@ -213,6 +234,10 @@ def expected(line):
     if kind == "sign":
         w, height, identifier, secret, q, message = words
         return signed(int(w), int(height), bytes_of(identifier), bytes_of(secret), int(q), bytes_of(message))
+    if kind == "hss_made":
+        top_width, top_height, width, height, identifier, secret, number, message = words
+        trees = (int(top_width), int(top_height)), (int(width), int(height))
+        return made(*trees, bytes_of(identifier), bytes_of(secret), int(number), bytes_of(message))
     if kind == "calendar":
         return seconds(*map(bytes_of, words))
     if kind == "asked":

@@ -93,3 +93,35 @@ def disagreement(server, before, after, path, now, end):
     if type(own) is bytes:
         return "a denial where the server grants"
     return None if type(left) is Denied else "a denial where the state that is left grants"
+
+
+def is_level(state, server):
+    """The same roots, timestamp and snapshot."""
+
+    def held(one):
+        return [root.bytes for root in one.roots], *(document and document.bytes for document in (one.timestamp, one.snapshot))
+
+    return held(state) == held(server)
+
+
+def denies_all(state, paths, now):
+    return all(isinstance(granted(state, path, now), Denied) for path in paths)
+
+
+def unbrought(server, before, after, paths, now):
+    """What one honest mirror among several forbids of an update, or None: the client was behind and is, so it is level, or neither grants anything."""
+    if not repository.is_coherent(server) or not is_behind(before, server, now) or not is_behind(after, server, now):
+        return None
+    if is_level(after, server) or denies_all(server, paths, now) and denies_all(after, paths, now):
+        return None
+    return "not level with the honest mirror's server"
+
+
+def unserved(server, before, after, path, now, end):
+    """What one honest mirror among several forbids of a fetch, or None: the client was level and is behind, so it has what the server grants."""
+    if not repository.is_coherent(server) or not is_level(before, server) or not is_behind(after, server, now):
+        return None
+    own = granted(server, path, now)
+    if type(own) is bytes:
+        return None if end == own else "not what the server grants"
+    return None if type(end) is not bytes else "bytes that the server does not grant"

@@ -96,3 +96,50 @@ class Client:
                 if not self.take_missing(denied, now):
                     raise
                 fetched.append(denied.missing)
+
+
+def worse(fault, more):
+    """Of two faults the first denial, or where there is none, the first that says more than that there is no answer."""
+    if isinstance(fault, Denied):
+        return fault
+    return more if isinstance(more, Denied) or str(fault) == "broken" else fault
+
+
+class Several:
+    """A client over several sources, each asked in its turn into one state. Want of memory ends all of them."""
+
+    # What they were asked for is not kept.
+    asked = ()
+
+    def __init__(self, state, sources):
+        self.client = Client(state, None)
+        self.sources = sources
+
+    @property
+    def state(self):
+        return self.client.state
+
+    def by_each(self, call, is_last):
+        """The end of the calls: the bytes of the first that has them, or None where one ended well, or the fault that is told."""
+        is_well, fault = False, SourceFault("broken")
+        for source in self.sources:
+            self.client.source = source
+            try:
+                end = call()
+            except (Denied, SourceFault) as refused:
+                if str(refused) == "refused":
+                    raise
+                fault = worse(fault, refused)
+                continue
+            if is_last:
+                return end
+            is_well = True
+        if not is_well:
+            raise fault
+        return None
+
+    def update(self, now):
+        return self.by_each(lambda: self.client.update(now), False)
+
+    def fetch_target(self, path, now):
+        return self.by_each(lambda: self.client.fetch_target(path, now), True)

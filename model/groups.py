@@ -26,6 +26,7 @@ import rule_cases
 import scenes
 import signature_cases
 import shown_changes_cases
+import several
 import signing_cases
 import words
 from documents import DELEGATIONS_ARE_READ
@@ -34,6 +35,7 @@ from documents import DELEGATIONS_ARE_READ
 def by_hand(chosen):
     """The model alone."""
     yield "test keys beside straight.py", signature_cases.compare_keys
+    yield "test keys of a seed with two levels", signature_cases.compare_made
     yield "delegations by hand: searches", delegation_rows.compare_searches
     yield "delegations by hand: who vouches", delegation_rows.compare_vouchers
     yield "delegations by hand: what is covered", delegation_rows.compare_covered
@@ -124,6 +126,7 @@ def of_delegations(chosen):
     yield "clients: random histories", client_histories.compare_histories, chosen.histories
     yield "clients: random chains", client_histories.compare_chains, chosen.chains // 10
     yield "clients: agreement with their server", following.compare_histories, chosen.histories
+    yield "clients: one honest mirror", several.compare_histories, chosen.histories
 
 
 def groups(chosen):

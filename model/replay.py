@@ -78,18 +78,19 @@ class Script:
         return f"  {name} {limit} {told}\n"
 
     def run(self, subject, label, line, call):
-        """A call of a client: the names asked for and the end, then the rows, then what is due."""
+        """A call of a client: the names asked for and the end, then the rows, then what is due. Gives the bytes, None or the refusal that it ended in."""
         try:
             found = call()
             end = "updated" if found is None else self.file(found)
         except Denied as denied:
-            end = denial_text(denied)
+            found, end = denied, denial_text(denied)
         except client.SourceFault as fault:
-            end = f"fault {fault}"
+            found, end = fault, f"fault {fault}"
         asked = "".join(self.asked(*one) for one in subject.asked)
         self.say(line, f"{label}: names and end", asked + end)
         self.say("client rows", f"{label}: rows", self.rows(subject.state))
         self.say("client due", f"{label}: due", due(subject.state))
+        return found
 
     def compare(self, session):
         """Runs the lines, and compares reply by reply up to the first that differs."""

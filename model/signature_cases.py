@@ -11,11 +11,12 @@ from http_requests import post
 from program import World
 from repository import State
 from scenes import LIVE, NOW, SIMPLE_RULES, signed_document
-from test_keys import KEYS
+from test_keys import KEYS, HssKeyOfSeed
 
 # Of one, two and three levels.
 HSS_KEYS = (KEYS[4], KEYS[1], KEYS[6])
 STRAIGHT = Path(__file__).resolve().parent.parent / "gate/straight.py"
+VECTORS = Path(__file__).resolve().parent.parent / "crates/verdicts"
 
 
 def straight():
@@ -46,6 +47,41 @@ def compare_keys(session, random):
         for case, public, signature in [*odd_levels(random, key, message), *odd_tops(key, message)]:
             verdict = other.hierarchical(public, signature, message)
             session.check(f"{label}: {case}", verdict == "valid", lms.verify_hss(public, message, signature))
+
+
+def made_by(keys, seed, kinds, number, message):
+    """What `hss_made` of `verdicts` prints. One key makes all signatures of its seed."""
+    if (seed, kinds) not in keys:
+        keys[seed, kinds] = HssKeyOfSeed(seed, *kinds)
+    key = keys[seed, kinds]
+    signature = key.sign_with(number, message)
+    if signature is None:
+        return "leaf_range"
+    return f"{key.public.hex()} {len(signature)} {lms.sha256(signature).hex()}"
+
+
+def compare_made(session, random):
+    """Keys of two levels from a seed: the vectors of another implementation, and one more beside `straight.py`. What is made verifies."""
+    keys = {}
+    cases = (VECTORS / "stdin").read_text().splitlines()
+    for case, line in zip(cases, (VECTORS / "stdout").read_text().splitlines(), strict=True):
+        if case.startswith("hss_made "):
+            top_width, top_height, width, height, identifier, seed, number, message = case.split(" ")[1:]
+            kinds = (int(top_width), int(top_height)), (int(width), int(height))
+            message = b"" if message == "-" else bytes.fromhex(message)
+            session.check(case[:60], line, made_by(keys, identifier + seed, kinds, int(number), message))
+    for key in keys.values():
+        message = random.randbytes(20)
+        signature = key.sign_with(random.randrange(key.top.messages()), message)
+        session.check("what is made verifies", True, lms.verify_hss(key.public, message, signature))
+        session.check("of another message", False, lms.verify_hss(key.public, message + b"x", signature))
+    seed, number, message = random.randbytes(48), random.randrange(1024), random.randbytes(20)
+    kinds = (2, 5), (1, 5)
+    wanted = straight().made(*kinds, seed[:16], seed[16:], number, message)
+    session.check("a seed at random", wanted, made_by({}, seed.hex(), kinds, number, message))
+    three = HssKeyOfSeed(seed.hex(), (1, 5), (2, 5), (1, 5))
+    signature = three.sign_with(random.randrange(32 ** 3), message)
+    session.check("of three levels", True, lms.verify_hss(three.public, message, signature))
 
 
 def replaced(text, first, part):

@@ -108,6 +108,56 @@ class HssKey:
         return b"".join(parts) + self.levels[-1].sign(message)
 
 
+# The numbers by which a leaf makes the seed and the identifier of the tree below it: no chain has them, nor the randomizer.
+SEED_BELOW, IDENTIFIER_BELOW = 0xFFFE, 0xFFFF
+
+
+class Tree(Key):
+    """A tree of a key that has further trees below its leaves."""
+
+    def __init__(self, identifier, seed, kinds):
+        self.below_kinds = kinds[1:]
+        self.below = {}
+        self.begin(identifier, seed, *kinds[0])
+
+    def tree_below(self, leaf):
+        if leaf not in self.below:
+            identifier, seed = self.private_element(leaf, IDENTIFIER_BELOW)[:16], self.private_element(leaf, SEED_BELOW)
+            self.below[leaf] = Tree(identifier, seed, self.below_kinds)
+        return self.below[leaf]
+
+    def messages(self):
+        """How many messages are signed by the lowest leaves below."""
+        count = 1 << self.height
+        for _, height in self.below_kinds:
+            count <<= height
+        return count
+
+    def signed_down(self, number, message):
+        """Section 6.2: each leaf signs the key of the tree below it, and the lowest one the message."""
+        if not self.below_kinds:
+            return self.sign_with(number, message)
+        leaf, rest = divmod(number, self.messages() >> self.height)
+        below = self.tree_below(leaf)
+        return self.sign_with(leaf, below.public) + below.public + below.signed_down(rest, message)
+
+
+class HssKeyOfSeed:
+    """A key of several levels, all of whose trees come from one seed: 16 bytes and 32 in hex digits, and a width and a height for each level."""
+
+    def __init__(self, text, *kinds):
+        said = bytes.fromhex(text)
+        self.top = Tree(said[:16], said[16:], kinds)
+        self.signed_keys = len(kinds) - 1
+        self.public = u32(len(kinds)) + self.top.public
+
+    def sign_with(self, number, message):
+        """None where there is no such lowest leaf."""
+        if number >= self.top.messages():
+            return None
+        return u32(self.signed_keys) + self.top.signed_down(number, message)
+
+
 LMS_KEYS = [Key(b"test key %d" % number, width_of(number), 10 if number == 11 else 5) for number in range(26)]
 # The keys of these places are HSS keys, and the last ones are so over keys that are there for themselves too.
 LEVELS = {1: (1, 21), 4: (4,), 6: (6, 2, 22), 9: (9, 11), 13: (13, 23), 17: (17,), 24: (24, 2, 22, 8, 10, 12, 14, 16)}

@@ -93,6 +93,16 @@ the_drafts_chapter() {
     same "what the chapter 'drafts' prints" "$folder/drafts/wanted" "$folder/drafts/said"
 }
 
+# A ceremony for a root: what each person does, on one machine here.
+the_ceremony_chapter() {
+    mkdir "$folder/ceremony"
+    chapter ceremony "$folder/ceremony" AUDITORS.md
+    tail -n 1 "$folder/ceremony/out" >"$folder/ceremony/said"
+    echo begun >"$folder/ceremony/wanted"
+    same "what the ceremony ends in" "$folder/ceremony/wanted" "$folder/ceremony/said"
+    [ "$(wc -l <"$folder/ceremony/minutes")" = 6 ] || fail "the minutes of the ceremony: $(cat "$folder/ceremony/minutes")"
+}
+
 the_backup_chapter() {
     local chapter=$folder/chapter
     mkdir "$chapter"
@@ -100,6 +110,23 @@ the_backup_chapter() {
     chapter backup "$chapter" OPERATING.md
     grep -q '^ok$' "$chapter/out" || fail "the chapter on backups: the backup is not sound"
     grep -q '{"stored":true}' "$chapter/out" || fail "the chapter on backups: nothing was stored"
+    checks=$((checks + 1))
+}
+
+# A key of two levels that gate/straight.py makes stands for one in a module.
+the_outside_chapter() {
+    local outside=$folder/module
+    mkdir "$outside"
+    of_two_levels public /dev/null >"$outside/module.public"
+    {
+        printf '#!/usr/bin/env bash\nset -e\nrepository=%q\n' "$repository"
+        declare -f of_two_levels
+        printf 'of_two_levels signature "$1"\n'
+    } >"$outside/sign-by-module"
+    chmod +x "$outside/sign-by-module"
+    chapter outside "$outside" OPERATING.md
+    [ "$(tail -n 1 "$outside/out")" = begun ] || fail "the chapter on signatures by another tool: $(cat "$outside/out")"
+    grep -q '^warning: root: no book keeps what this key has signed: ' "$outside/err" || fail 'the chapter on signatures by another tool: no warning'
     checks=$((checks + 1))
 }
 

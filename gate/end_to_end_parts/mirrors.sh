@@ -1,4 +1,4 @@
-# Mirrors by their URLs: each file comes from the first of them that has it.
+# Mirrors by their URLs: each is asked in its turn, and by 'get' all together first, each file from the first of them that has it.
 
 far=$folder/far.db
 # The processes of mirrors, which are ended behind this part.
@@ -66,7 +66,8 @@ mirrors_are_asked_in_order() {
     words_that_are_no_mirror
 }
 
-# The first mirror lacks the target, or has another that is too long: that file alone comes from the second.
+# The first mirror lacks the target, or has another that is too long: that file alone comes from the second. Where none has it, the first denial
+# is told, and the mirror that sends too much is warned of.
 the_first_that_has_it() {
     local lacking long first
     mirror_of withhold "$hello"
@@ -74,17 +75,17 @@ the_first_that_has_it() {
     fresh
     updates 0 'updated\n' '' --mirror "$lacking" --mirror "$whole"
     was_asked "$first" metadata/2.root.json metadata/timestamp.json metadata/1.snapshot.json
-    was_asked "$honest" metadata/2.root.json
+    was_asked "$honest" metadata/2.root.json metadata/timestamp.json
     gets 0 'written\n' "$lacking: metadata/1.targets.json: $(bytes_of targets.json) bytes\n$(
         )$lacking: $hello: none\n$whole: $hello: 32 bytes\n" -v --mirror "$lacking" --mirror "$whole"
-    was_asked "$honest" metadata/2.root.json "$hello"
+    was_asked "$honest" metadata/2.root.json metadata/timestamp.json "$hello"
     mirror_of long "$hello"
     long=$url
     fresh
     updates 0 'updated\n' '' --mirror "$long"
-    gets 3 '' 'fault network\n' --mirror "$long"
-    gets 3 '' 'fault network\n' --mirror "$long" --mirror "$lacking"
-    gets 3 '' 'fault network\n' --mirror "$lacking" --mirror "$long"
+    gets 3 '' "warning: $long: longer than its limit\nfault network\n" --mirror "$long"
+    gets 1 '' "warning: $long: longer than its limit\ndenied 37 BlobMissing\n" --mirror "$long" --mirror "$lacking"
+    gets 1 '' "warning: $long: longer than its limit\ndenied 37 BlobMissing\n" --mirror "$lacking" --mirror "$long"
     gets 1 '' 'denied 37 BlobMissing\n' --mirror "$lacking"
     gets 0 'written\n' "$long: $hello: longer than its limit\n$whole: $hello: 32 bytes\n" -v --mirror "$long" --mirror "$whole"
 }
@@ -98,8 +99,8 @@ mirrors_that_are_none() {
     fresh
     updates 3 '' 'fault network\n' --mirror "$dead" --mirror "$closing"
     updates 0 'updated\n' "$dead: Connection refused (os error 111)\n$whole: metadata/2.root.json: none\n$(
-        )$dead: Connection refused (os error 111)\n$whole: metadata/timestamp.json: $(bytes_of timestamp.json) bytes\n$(
-        )$dead: Connection refused (os error 111)\n$whole: metadata/1.snapshot.json: $(bytes_of snapshot.json) bytes\n$(
+        )$whole: metadata/timestamp.json: $(bytes_of timestamp.json) bytes\n$(
+        )$whole: metadata/1.snapshot.json: $(bytes_of snapshot.json) bytes\n$(
         )$far: root 1, timestamp 1, snapshot 1; before: root 1, no timestamp, no snapshot\n$far: root 1 is trusted\n$(
         )$far: the first expiry is at $(first_expiry)\n" -v --mirror "$dead" --mirror "$whole"
     gets 3 '' 'fault network\n' --mirror "$dead" --mirror "$closing" --mirror http://nowhere.invalid/files

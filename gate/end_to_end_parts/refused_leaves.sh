@@ -68,6 +68,7 @@ refusals_cost_no_leaf() {
     the_old_forms_warn
     links_are_judged
     several_keys_sign
+    several_documents_are_signed
     cd "$here"
 }
 
@@ -359,4 +360,51 @@ several_keys_sign() {
     spares 'refused nothing' sign --at $now --key right --key left --in pair --yes
     usage key --new left --seed left.seed
     says "'name' cannot be used with '--seed" key --seed left.seed --ots 4 --height 5 right
+}
+
+# signs_by_one FAULT TEXT ..: by the one key all that it may sign of its folder is signed in one call, each as the text says, in this order; then
+# the command ends so.
+signs_by_one() {
+    local status=0
+    "$release" sign --at $now --key single --in singly --yes >"$folder/out" 2>"$folder/err" || status=$?
+    same "what one key signs" <(printf 'signed %s of 32\n' "${@:2}") "$folder/out"
+    same "what one key is refused" <(printf "$1") <(tail -n 1 "$folder/err")
+    [ "$status" = "$([ -n "$1" ] && echo 1 || echo 0)" ] || fail "status $status: $(cat "$folder/err")"
+}
+
+# drafts_by_one WORD ..
+drafts_by_one() {
+    "$release" draft --at $now --in singly "$@" >"$folder/out" 2>"$folder/err" || fail "draft $*: $(cat "$folder/err")"
+}
+
+# One key signs several documents in one call: each is judged over those that were signed before it, a timestamp over a snapshot, and targets
+# metadata over a layout, which stands otherwise than they list it by then.
+several_documents_are_signed() {
+    makes_key single
+    drafts_by_one root root=single.key targets=single.key snapshot=single.key timestamp=single.key
+    drafts_by_one targets --add hello.txt --delegate 'tools=single.key:tools/*'
+    signs_by_one '' 'root with leaf 0' 'targets with leaf 1'
+    drafts_by_one seal
+    cp -r singly singly.unsigned
+    signs_by_one '' 'snapshot with leaf 2' 'timestamp with leaf 3'
+    a_call_that_is_refused_midway
+}
+
+# What was signed before the refusal stands, and what is behind it is not signed.
+a_call_that_is_refused_midway() {
+    drafts_by_one --anew layout --target hello.txt --owners single.key build=maker.key:hello.txt
+    "$release" draft --at $now --in singly.made link --step build --products hello.txt >/dev/null
+    "$release" sign --at $now --key maker --in singly.made --yes >/dev/null
+    drafts_by_one take --target hello.txt singly.made/links/build.json
+    signs_by_one 'refused file\n' 'layouts/hello.txt.layout.json with leaf 4'
+    names 'warning: hello.txt.layout.json: it has changed since it was listed; draft the targets metadata again'
+    drafts_by_one targets
+    cp single.book older
+    cp targets.book single.book
+    cp singly.unsigned/timestamp.json singly/timestamp.json
+    spares 'refused book' sign --at $now --key single --in singly --yes
+    cp older single.book
+    "$release" sign --at $now --key single --in singly --yes --again >"$folder/out"
+    is_told 'signed targets with leaf 5 of 32'
+    is_told 'signed timestamp with leaf 3 of 32'
 }

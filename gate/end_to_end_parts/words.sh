@@ -241,7 +241,22 @@ words_of_drafts() {
     says "'document' cannot be used with '--in" publish --db "$db" --in "$folder/files" root:a
     says required draft seal
     says required draft --in "$folder/files"
-    says 'root, targets, layout, link, seal or take' draft --in "$folder/files" roots
+    says 'root, targets, layout, link, seal, take, message or attach' draft --in "$folder/files" roots
+    says "'seed' cannot be used with '--public" key --public "$folder/key" --seed "$db"
+    says "'new' cannot be used with '--public" key --public "$folder/key" --new "$db"
+    says "'ots' cannot be used with '--public" key --public "$folder/key" --ots 4
+    says "'name' cannot be used with '--public" key --public "$folder/key" "$db"
+    says required draft --in "$folder/files" message
+    says "'word' may stand 1 to 1 times" draft --in "$folder/files" message root targets
+    says "'expires' cannot be used with 'message'" draft --in "$folder/files" --expires 9d message root
+    says "'db' cannot be used with 'message'" draft --in "$folder/files" --db "$db" message root
+    says "'key' cannot be used with 'message'" draft --in "$folder/files" message root --key a
+    says "'key' cannot be used with 'root'" draft --in "$folder/files" root --key a
+    says required draft --in "$folder/files" attach root a
+    says '<ROLE> <SIG>' draft --in "$folder/files" attach root --key a
+    says "'word' may stand 1 to 2 times" draft --in "$folder/files" attach root a b --key a
+    says "'anew' cannot be used with 'attach'" draft --in "$folder/files" --anew attach root a --key a
+    says "'add' cannot be used with 'attach'" draft --in "$folder/files" attach root a --key a --add a
     says "'target' cannot be used with 'root'" draft --in "$folder/files" root --target a
     says "'step' cannot be used with 'targets'" draft --in "$folder/files" targets --step a
     says "'owners' cannot be used with 'take'" draft --in "$folder/files" take --owners a b

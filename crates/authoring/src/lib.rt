@@ -5,13 +5,13 @@ mod publishing;
 mod sealing;
 mod showing;
 
-use chain_commands::{draft_chain, draft_step, relist, see_listable, take_all};
+use chain_commands::{attach_signature, draft_chain, draft_step, relist, see_listable, take_all};
 use command_line::{Draft, Drafting};
 use command_support::{Fault, Notes, moment};
-use drafting_commands::{draft_listing, draft_rules};
+use drafting_commands::{draft_listing, draft_rules, print_message};
 use drafts::Folder;
 use overview_rows::follow;
-pub use publishing::{Batch, complete_batch_in, empty, waiting_file, waiting_files};
+pub use publishing::{Drafted, complete_batch_in, empty, waiting_files};
 use sealing::seal;
 pub use showing::show;
 use showing::show_folder;
@@ -19,7 +19,7 @@ use std::io::Write;
 
 /// Drafts the next document of a kind into a folder, over what a database holds where one is given, and prints what the folder then has. No
 /// leaf is spent. Layouts and links are listed as they stand signed after it; where that is refused as the folder stands, nothing is drafted.
-/// No other command writes in the folder meanwhile.
+/// No other command writes in the folder meanwhile. What is signed of a draft is printed, and no file changes.
 pub fn draft<O: Write, E: Write>(
     rt: &HostRuntime,
     asked: &Drafting,
@@ -29,6 +29,9 @@ pub fn draft<O: Write, E: Write>(
 ) -> Result<(), Fault> {
     let now = moment(rt, at)?;
     let folder = Folder::new(rt, asked.folder.as_str());
+    if let Draft::Message { role } = &asked.kind {
+        return print_message(rt, folder, role, out, notes);
+    }
     folder.make(notes)?;
     let _lock = folder.lock(notes)?;
     if let Some(db) = &asked.db {
@@ -44,6 +47,8 @@ pub fn draft<O: Write, E: Write>(
         Draft::Layout(told) => draft_chain(rt, folder, asked, told, now, notes),
         Draft::Link(told) => draft_step(rt, folder, told, asked.anew, notes),
         Draft::Take { target, files } => take_all(rt, folder, target.as_deref(), files, notes),
+        Draft::Message { .. } => Ok(()),
+        Draft::Attach(told) => attach_signature(rt, folder, told, notes),
     };
     drafted?;
     relist(rt, folder, asked.anew, notes)?;

@@ -2,18 +2,17 @@
 use crate::sealing::forgets_all;
 use command_support::{Fault, Notes, Slip};
 use drafts::{Folder, ListedFile, kind_of, offer_order, read_said};
-use limits::BLOB_LIMIT;
 use metadata::{Digest, Kind, RoleName};
-use overviews::Growing;
 use std::alloc::{AllocError, Global};
 use std::io::Write;
-use subcommands::Offer;
+use subcommands::{Offer, Waiting};
 
-/// The documents of a folder of drafts, in the order in which they are offered: the roles with their files' places, and the bytes.
+/// The documents of a folder of drafts, in the order in which they are offered: the roles, the arguments by which they are told, and the bytes.
 #[derive(Drop)]
-pub struct Batch {
-    pub roles: Vec<String>,
-    pub files: Vec<Vec<u8>>,
+pub struct Drafted {
+    roles: Vec<String>,
+    pub arguments: Vec<String>,
+    files: Vec<Vec<u8>>,
 }
 
 /// The documents of a folder of drafts.
@@ -21,9 +20,10 @@ pub fn batch_in<E: Write>(
     alloc: Global,
     folder: Folder<'_>,
     notes: &mut Notes<'_, E>,
-) -> Result<Batch, Fault> {
-    let mut batch = Batch {
+) -> Result<Drafted, Fault> {
+    let mut batch = Drafted {
         roles: Vec::new(alloc),
+        arguments: Vec::new(alloc),
         files: Vec::new(alloc),
     };
     let roles = folder.roles(notes)?;
@@ -37,7 +37,7 @@ pub fn batch_in<E: Write>(
     Ok(batch)
 }
 
-impl Batch {
+impl Drafted {
     fn add<E: Write>(
         &mut self,
         alloc: Global,
@@ -46,7 +46,9 @@ impl Batch {
         notes: &mut Notes<'_, E>,
     ) -> Result<(), Fault> {
         if let Some(bytes) = folder.draft(role, notes)? {
+            let place = folder.place_of(role)?;
             self.roles.push(String::from_str(alloc, role)?)?;
+            self.arguments.push(format!(in alloc; "{role}:{place}")?)?;
             self.files.push(bytes)?;
         }
         Ok(())
@@ -75,20 +77,6 @@ impl Batch {
         }
         Ok(offers)
     }
-
-    /// The same as arguments of `publish`.
-    pub fn arguments(&self, alloc: Global, folder: Folder<'_>) -> Result<Vec<String>, AllocError> {
-        let mut arguments = Growing::new(alloc);
-        for role in &self.roles {
-            arguments.put(argument_of(alloc, folder, role.as_str()));
-        }
-        arguments.done()
-    }
-}
-
-fn argument_of(alloc: Global, folder: Folder<'_>, role: &str) -> Result<String, AllocError> {
-    let place = folder.place_of(role)?;
-    format!(in alloc; "{role}:{place}")
 }
 
 /// What a folder has to publish. A root that makes a repository forget its timestamp is refused without the next one, since behind it every
@@ -97,7 +85,7 @@ pub fn complete_batch_in<E: Write>(
     alloc: Global,
     folder: Folder<'_>,
     notes: &mut Notes<'_, E>,
-) -> Result<Batch, Fault> {
+) -> Result<Drafted, Fault> {
     let batch = batch_in(alloc, folder, notes)?;
     if batch.roles.is_empty() {
         notes.warn(&folder.path(), &"no draft");
@@ -118,7 +106,7 @@ pub fn complete_batch_in<E: Write>(
 pub fn empty<E: Write>(
     alloc: Global,
     folder: Folder<'_>,
-    batch: &Batch,
+    batch: &Drafted,
     notes: &mut Notes<'_, E>,
 ) -> Result<(), Fault> {
     for (role, bytes) in batch.roles.iter().zip(batch.files.iter()) {
@@ -126,22 +114,23 @@ pub fn empty<E: Write>(
         folder.drop_draft(role.as_str(), notes)?;
     }
     for name in &folder.files(notes)? {
-        remove_file(alloc, folder, "files", name.as_str(), notes)?;
+        remove(alloc, folder, "files", name.as_str(), notes)?;
     }
     for name in &folder.chain_files("layouts", notes)? {
-        remove_file(alloc, folder, "layouts", name.as_str(), notes)?;
+        remove(alloc, folder, "layouts", name.as_str(), notes)?;
     }
     Ok(())
 }
 
-fn remove_file<E: Write>(
+fn remove<E: Write>(
     alloc: Global,
     folder: Folder<'_>,
     inner: &str,
     name: &str,
     notes: &mut Notes<'_, E>,
 ) -> Result<(), Fault> {
-    let place = place_in(alloc, folder, inner, name)?;
+    let path = format!(in alloc; "{inner}/{name}")?;
+    let place = folder.place(path.as_str())?;
     folder.remove(place.as_str(), notes)
 }
 
@@ -151,85 +140,50 @@ pub fn waiting_files<E: Write>(
     folder: Folder<'_>,
     notes: &mut Notes<'_, E>,
 ) -> Result<Vec<Digest>, Fault> {
-    let mut waiting = Waiting {
-        alloc,
-        folder,
-        digests: Vec::new(alloc),
-    };
-    waiting.look(notes)?;
-    let digests = waiting.waiting(notes)?;
-    for digest in &digests {
-        let _bytes = waiting_file(folder, digest, notes)?;
-    }
-    Ok(digests)
-}
-
-/// The bytes of a target file that waits to be put. It is read with its digest in hand: another file is refused.
-pub fn waiting_file<E: Write>(
-    folder: Folder<'_>,
-    digest: &Digest,
-    notes: &mut Notes<'_, E>,
-) -> Result<Vec<u8>, Fault> {
-    match folder.file_of(digest, BLOB_LIMIT, notes)? {
-        Some(bytes) => Ok(bytes),
-        None => {
-            let digits = digest.digits();
-            let digits = str::from_utf8(&digits).unwrap_or("-");
-            notes.warn(
-                &digits,
-                &"its file in the folder is another one than its name says",
-            );
-            Err(Fault::Slip(Slip::File))
+    let listed = listed_files(alloc, folder, notes)?;
+    let mut waiting = Vec::new(alloc);
+    for name in &folder.files(notes)? {
+        if let Some(digest) = Digest::read(name.as_str()) {
+            if listed.contains(&digest) {
+                waiting.push(digest)?;
+            }
         }
     }
+    see_all(folder, &waiting, notes)?;
+    Ok(waiting)
+}
+
+// Each waiting file is the one of its digest.
+fn see_all<E: Write>(
+    folder: Folder<'_>,
+    digests: &[Digest],
+    notes: &mut Notes<'_, E>,
+) -> Result<(), Fault> {
+    for digest in digests {
+        let _bytes = Waiting { folder, digests }.read(digest, notes)?;
+    }
+    Ok(())
 }
 
 // The digests of the target files that drafts list.
-#[derive(Drop)]
-struct Waiting<'a> {
-    alloc: Global,
-    folder: Folder<'a>,
-    digests: Vec<Digest>,
-}
-
-impl Waiting<'_> {
-    fn look<E: Write>(&mut self, notes: &mut Notes<'_, E>) -> Result<(), Fault> {
-        for role in &self.folder.roles(notes)? {
-            if kind_of(role.as_str()) == Kind::Targets {
-                let bytes = self.folder.draft_or_none(role.as_str(), notes)?;
-                let said = read_said(self.alloc, role.as_str(), &bytes)?;
-                self.add(&said.files)?;
-            }
-        }
-        Ok(())
-    }
-
-    fn add(&mut self, files: &[ListedFile]) -> Result<(), AllocError> {
-        for file in files {
-            self.digests.push(file.digest)?;
-        }
-        Ok(())
-    }
-
-    fn waiting<E: Write>(&self, notes: &mut Notes<'_, E>) -> Result<Vec<Digest>, Fault> {
-        let mut waiting = Vec::new(self.alloc);
-        for name in &self.folder.files(notes)? {
-            if let Some(digest) = Digest::read(name.as_str()) {
-                if self.digests.contains(&digest) {
-                    waiting.push(digest)?;
-                }
-            }
-        }
-        Ok(waiting)
-    }
-}
-
-fn place_in(
+fn listed_files<E: Write>(
     alloc: Global,
     folder: Folder<'_>,
-    inner: &str,
-    name: &str,
-) -> Result<String, AllocError> {
-    let path = format!(in alloc; "{inner}/{name}")?;
-    folder.place(path.as_str())
+    notes: &mut Notes<'_, E>,
+) -> Result<Vec<Digest>, Fault> {
+    let mut listed = Vec::new(alloc);
+    for role in &folder.roles(notes)? {
+        if kind_of(role.as_str()) == Kind::Targets {
+            let bytes = folder.draft_or_none(role.as_str(), notes)?;
+            add_digests(&read_said(alloc, role.as_str(), &bytes)?.files, &mut listed)?;
+        }
+    }
+    Ok(listed)
+}
+
+fn add_digests(files: &[ListedFile], listed: &mut Vec<Digest>) -> Result<(), AllocError> {
+    for file in files {
+        listed.push(file.digest)?;
+    }
+    Ok(())
 }

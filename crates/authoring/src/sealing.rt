@@ -4,10 +4,9 @@ use command_support::{Fault, Notes, Slip};
 use drafting::{draft_snapshot, draft_timestamp};
 use drafting_commands::{Before, drafted, terms_of};
 use drafts::{
-    Folder, Said, Vouching, count_of, has_signatures, held_said, kind_of, layout_in, owners_of,
-    target_of_layout, version_in,
+    Folder, Said, TargetsRead, held_said, kind_of, layout_in, target_of_layout, version_in,
 };
-use metadata::{Kind, Moment, SignedFile, read_signed};
+use metadata::{Kind, Moment};
 use overview_rows::lacks_targets;
 use std::alloc::Global;
 use std::io::Write;
@@ -32,8 +31,9 @@ pub fn seal<E: Write>(
     if forgets {
         bring_in(folder, notes)?;
     }
-    see_signatures(alloc, folder, notes)?;
-    see_layouts(alloc, folder, notes)?;
+    let mut targets = TargetsRead::new(alloc, folder);
+    targets.see_signatures("snapshot", notes)?;
+    see_layouts(alloc, folder, &mut targets, notes)?;
     see_targets(folder, notes)?;
     let version = seal_snapshot(rt, folder, asked, forgets, now, notes)?;
     draft_next_timestamp(rt, folder, asked, version, now, notes)
@@ -82,41 +82,34 @@ fn bring_in<E: Write>(folder: Folder<'_>, notes: &mut Notes<'_, E>) -> Result<()
     Ok(())
 }
 
-// Each drafted root and targets metadata has the signatures that its rules ask for.
-fn see_signatures<E: Write>(
+// Each layout on its way has the signatures that its owners' rule asks for.
+fn see_layouts<E: Write>(
     alloc: Global,
     folder: Folder<'_>,
+    targets: &mut TargetsRead<'_>,
     notes: &mut Notes<'_, E>,
 ) -> Result<(), Fault> {
-    for role in &folder.roles(notes)? {
-        let role = role.as_str();
-        if role != "snapshot"
-            && role != "timestamp"
-            && !has_signatures(alloc, folder, role, notes)?
-        {
-            notes.warn(
-                &role,
-                &"too few signatures: a change of it would cost a snapshot and a timestamp",
-            );
-            return Err(Fault::Slip(Slip::Order));
+    for name in &folder.chain_files("layouts", notes)? {
+        if let Some(target) = target_of_layout(alloc, name.as_str())? {
+            let bytes = layout_in(alloc, folder, target.as_str(), notes)?;
+            if let Some(bytes) = bytes {
+                see_owners(name.as_str(), target.as_str(), &bytes, targets, notes)?;
+            }
         }
     }
     Ok(())
 }
 
-// Each layout on its way has the signatures that its owners' rule asks for.
-fn see_layouts<E: Write>(
-    alloc: Global,
-    folder: Folder<'_>,
+fn see_owners<E: Write>(
+    name: &str,
+    target: &str,
+    bytes: &[u8],
+    targets: &mut TargetsRead<'_>,
     notes: &mut Notes<'_, E>,
 ) -> Result<(), Fault> {
-    for name in &folder.chain_files("layouts", notes)? {
-        if let Some(target) = target_of_layout(alloc, name.as_str())? {
-            if !is_layout_signed(alloc, folder, target.as_str(), notes)? {
-                notes.warn(&name.as_str(), &"too few signatures of its owners");
-                return Err(Fault::Slip(Slip::Order));
-            }
-        }
+    if !targets.owners_have_signed(target, bytes, notes)? {
+        notes.warn(&name, &"too few signatures of its owners");
+        return Err(Fault::Slip(Slip::Order));
     }
     Ok(())
 }
@@ -131,39 +124,6 @@ fn see_targets<E: Write>(folder: Folder<'_>, notes: &mut Notes<'_, E>) -> Result
         return Err(Fault::Slip(Slip::Order));
     }
     Ok(())
-}
-
-fn is_layout_signed<E: Write>(
-    alloc: Global,
-    folder: Folder<'_>,
-    target: &str,
-    notes: &mut Notes<'_, E>,
-) -> Result<bool, Fault> {
-    let owners = owners_of(alloc, folder, target, notes)?;
-    match layout_in(alloc, folder, target, notes)? {
-        Some(bytes) => are_signed_by(alloc, &owners, &bytes),
-        None => Ok(true),
-    }
-}
-
-fn are_signed_by(alloc: Global, owners: &[Vouching], bytes: &[u8]) -> Result<bool, Fault> {
-    match read_signed(alloc, bytes) {
-        Ok(file) => have_all_signed(alloc, owners, &file),
-        Err(fault) => Err(Fault::from(fault)),
-    }
-}
-
-fn have_all_signed(
-    alloc: Global,
-    owners: &[Vouching],
-    file: &SignedFile<'_>,
-) -> Result<bool, Fault> {
-    for vouching in owners {
-        if !count_of(alloc, vouching, file)?.is_met() {
-            return Ok(false);
-        }
-    }
-    Ok(true)
 }
 
 // Drafts the next snapshot where one is wanted, and answers the version of the snapshot that the timestamp is to name.

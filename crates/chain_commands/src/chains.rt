@@ -407,10 +407,7 @@ impl Chain<'_> {
     // The bytes of a layout or a link, by the path that it has as a target.
     fn bytes_of<E: Write>(&self, path: &str, notes: &mut Notes<'_, E>) -> Result<Vec<u8>, Fault> {
         let name = chain_name(self.alloc(), path)?;
-        match self.folder.file(name.as_str(), notes)? {
-            Some(bytes) => Ok(bytes),
-            None => Ok(Vec::new(self.alloc())),
-        }
+        self.folder.file_or_none(name.as_str(), notes)
     }
 
     /// Lists these files and refers the target to its layout so. The terms are those of the draft.

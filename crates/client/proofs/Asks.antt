@@ -48,7 +48,7 @@ new-last names name (a ∷ asks) h =
 -- ---- one after the other
 
 module _ {Src : Type 0} (gives : Gives Src) where
-  asked-append : (s t u : Src) (a b : List (Bytes × ℕ)) → Asked gives s a t → Asked gives t b u → Asked gives s (a ++ b) u
+  pub asked-append : (s t u : Src) (a b : List (Bytes × ℕ)) → Asked gives s a t → Asked gives t b u → Asked gives s (a ++ b) u
   asked-append s _ u _ b none k = k
   asked-append s t u _ b (one {t = v} {more = more} g h) k = one g (asked-append v t u more b h k)
 

@@ -17,7 +17,8 @@ use Rattle.client.specs.Session.{Fetches, Updates, max_roots}
 use Rattle.client.specs.Views as views
 use Rattle.client.specs.Views.{Fault}
 use Rattle.client.proofs.FetchAgrees.{fetch_agrees, fetch_denied}
-use Rattle.client.proofs.HonestTakes.{IsWanting, want_agrees}
+use Rattle.client.proofs.HonestTakes.{want_agrees}
+use Rattle.client.specs.Several.{IsWanting}
 use Rattle.client.proofs.Levels.{Level}
 use Rattle.client.specs.steps.Laws.{GrantLaws, NewLaws, RootLaws, StepLaws}
 use Rattle.client.proofs.RootsFollow.{Followed, roots_follow, same_root, trusts_one}

@@ -27,7 +27,8 @@ use Rattle.client.specs.Views as views
 use Rattle.client.specs.Views.{Fault}
 use Rattle.client.specs.Wanted.{Misses, Wanted, blob, role, wanted_blob, wanted_row}
 use Rattle.client.proofs.HonestTakes as takes
-use Rattle.client.proofs.HonestTakes.{Arrives, Comes, EndsAs, IsWanting, arrives, arrives_valid, document_arrives, longer, made, nothing, put_comes, unmade, unmade_wants, want_agrees, wants}
+use Rattle.client.proofs.HonestTakes.{Arrives, Comes, EndsAs, arrives, arrives_valid, document_arrives, longer, made, nothing, put_comes, unmade, unmade_wants, want_agrees, wants}
+use Rattle.client.specs.Several.{IsWanting}
 use Rattle.client.proofs.Levels.{Level, blob_enough, blob_level, blob_new, file, is_blob, not_same, not_served, puts, read, refuses, role_enough, role_level, role_named, role_new, role_room, served, some_text, stores}
 use Rattle.client.specs.steps.Laws.{GrantLaws, NewLaws, StepLaws}
 

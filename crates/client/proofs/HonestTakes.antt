@@ -14,6 +14,7 @@ use Rattle.fetch.specs.declared.FetchFault.TheVariants as fetches
 use Rattle.client.specs.Agreement.{Agrees}
 use Rattle.client.specs.Answering as answering
 use Rattle.client.specs.Answering.{IsAnswer, IsHeldAs, IsHonest}
+use Rattle.client.specs.Several.{IsWant, IsWanting}
 use Rattle.client.specs.Session as session
 use Rattle.client.specs.Session.{IsAccepted, IsUnmade, Makes, Takes}
 use Rattle.client.specs.Views as views
@@ -22,17 +23,6 @@ use Rattle.client.specs.Wanted.{Wanted, document}
 use Rattle.client.specs.steps.Laws.{StepLaws}
 
 -- ---- want
-
--- want of memory, or a fault of the database: of it nothing is said
-abbrev pub IsWant : Fault → Type 0
-IsWant views.Database = Unit {0}
-IsWant views.OutOfMemory = Unit {0}
-IsWant (views.Fetch fault) = fault ≡ fetches.OutOfMemory
-IsWant (views.Denied d) = ⊥
-
-abbrev pub IsWanting : {A : Type 0} → Result A Fault → Type 0
-IsWanting (Ok a) = ⊥
-IsWanting (Err fault) = IsWant fault
 
 pub unmade_wants : (fault : Fault) → IsUnmade fault → IsWant fault
 unmade_wants views.Database h = tt
@@ -68,7 +58,7 @@ EndsAs put C D r (Ok a) = (D ≡ put a) × (r ≡ Ok tt)
 EndsAs put C D r (Err Same) = (D ≡ C) × (r ≡ Ok tt)
 EndsAs put C D r (Err (Denied d)) = (D ≡ C) × (r ≡ Err (views.Denied d))
 
-invert : {A : Type 0} (m : A → Type 0) (out : A → Outcome) (x : Outcome) → Leads m out x → (j : A) × m j × (x ≡ out j)
+pub invert : {A : Type 0} (m : A → Type 0) (out : A → Outcome) (x : Outcome) → Leads m out x → (j : A) × m j × (x ≡ out j)
 invert m out _ (leads j h) = (j, h, refl)
 
 abbrev PairIs : {A : Type 0} → (A → State) → State → Outcome → Judged A → Type 0

@@ -1,14 +1,18 @@
 pub mod Anchors
 pub mod Asks
 pub mod Brings
+pub mod BySeveral
 pub mod ClientAgreeing
 pub mod Composing
 pub mod FetchAgrees
 pub mod FilesRun
 pub mod Found
+pub mod Growing
 pub mod HonestTakes
 pub mod Levels
+pub mod OneBrings
 pub mod OneFile
+pub mod OneServes
 pub mod OwnDenials
 pub mod Refused
 pub mod Replied
@@ -19,4 +23,5 @@ pub mod Runs
 pub mod StampAndSnapshot
 pub mod Standing
 pub mod StateSources
+pub mod Turning
 pub mod WholeCalls

@@ -20,7 +20,8 @@ use Rattle.client.specs.Session as session
 use Rattle.client.specs.Session.{Takes, TakesRoots, max_version}
 use Rattle.client.specs.Views.{Fault}
 use Rattle.client.specs.Wanted.{wanted_root}
-use Rattle.client.proofs.HonestTakes.{Document, IsWanting, arrives, arrives_valid, as_made, document_arrives, no_document}
+use Rattle.client.proofs.HonestTakes.{Document, arrives, arrives_valid, as_made, document_arrives, no_document}
+use Rattle.client.specs.Several.{IsWanting}
 use Rattle.client.specs.steps.Laws.{RootLaws, StepLaws}
 
 -- ---- what a chain says

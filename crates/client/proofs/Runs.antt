@@ -68,12 +68,12 @@ module _ {Src : Type 0} (gives : Gives Src) (now : ℕ) where
   roots-run _ s u C E _ (session.further {n = n} {t = t} {D = D} {r = r} e k h more) =
       runs_then IsTaking now C D E (takes-runs _ s t C D _ (λ b. tt) h) (roots-run n t u D E r more)
 
-  snapshot-runs : (s t : Src) (C D : State) (r : Result (Unit {0}) Fault) → TakesSnapshot gives now s C t D r → RunsOn IsTaking now C D
+  pub snapshot-runs : (s t : Src) (C D : State) (r : Result (Unit {0}) Fault) → TakesSnapshot gives now s C t D r → RunsOn IsTaking now C D
   snapshot-runs s _ C _ _ (session.held e) = stays IsTaking now C
   snapshot-runs s t C D _ (session.due v e h) = takes-runs _ s t C D _ (λ b. tt) h
   snapshot-runs s t C D _ (session.fails v e h) = takes-runs _ s t C D _ (λ b. tt) h
 
-  timestamp-runs : (s t : Src) (C D : State) (r : Result (Unit {0}) Fault) → TakesTimestamp gives now s C t D r → RunsOn IsTaking now C D
+  pub timestamp-runs : (s t : Src) (C D : State) (r : Result (Unit {0}) Fault) → TakesTimestamp gives now s C t D r → RunsOn IsTaking now C D
   timestamp-runs s t C D _ (session.none h) = takes-runs _ s t C D _ (λ b. tt) h
   timestamp-runs s t C D _ (session.fails h) = takes-runs _ s t C D _ (λ b. tt) h
   timestamp-runs s u C E _ (session.then {t = t} {D = D} {r = r} h more) =

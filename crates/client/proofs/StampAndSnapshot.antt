@@ -27,7 +27,8 @@ use Rattle.client.specs.Session.{Takes, TakesSnapshot, TakesTimestamp}
 use Rattle.client.specs.Views as views
 use Rattle.client.specs.Views.{Fault}
 use Rattle.client.specs.Wanted.{wanted_snapshot, wanted_timestamp}
-use Rattle.client.proofs.HonestTakes.{EndsAs, IsWanting, arrives, arrives_valid, as_made, document_arrives, no_document}
+use Rattle.client.proofs.HonestTakes.{EndsAs, arrives, arrives_valid, as_made, document_arrives, no_document}
+use Rattle.client.specs.Several.{IsWanting}
 use Rattle.client.proofs.HonestTakes as takes
 use Rattle.client.specs.steps.Laws.{NewLaws, StepLaws}
 use Rattle.client.proofs.RootsFollow.{held_by}
@@ -109,7 +110,7 @@ older_rows new (m ∷ rows) h = let more = older_rows new rows h.1 in let one = 
     by None k = absurd k
     by (Some entry) k = (k, refl)
 
-some_ap : {A : Type 0} (a b : A) → Some a ≡ Some b → a ≡ b
+pub some_ap : {A : Type 0} (a b : A) → Some a ≡ Some b → a ≡ b
 some_ap a b e = cc
 
 -- how an update goes on behind its roots
@@ -122,7 +123,7 @@ IsCalm (Err fault) = ⊥
 abbrev pub with_both : State → File Timestamp → File Snapshot → State
 with_both D stamp snap = with_trusted D (record D.trusted { timestamp = Some stamp; snapshot = Some snap })
 
-abbrev with_stamp : State → File Timestamp → State
+abbrev pub with_stamp : State → File Timestamp → State
 with_stamp D stamp = with_trusted D (record D.trusted { timestamp = Some stamp })
 
 calm_ok : (r : Result (Unit {0}) Fault) → r ≡ Ok tt → IsCalm r
@@ -176,17 +177,17 @@ module _ (law : NewLaws) (step_law : StepLaws) (shapes : Shapes) (S : State) (su
           arrives_valid step_law now _ _ C D r valid a.0,
         )
 
-    same_stamp : (old : File Timestamp) → IsFileOf timestamp_form old → old.bytes ≡ stamp.bytes → old ≡ stamp
+    pub same_stamp : (old : File Timestamp) → IsFileOf timestamp_form old → old.bytes ≡ stamp.bytes → old ≡ stamp
     same_stamp old read e = file-once shapes timestamp_form timestamp-tells old stamp read has.stamp_read e
 
-    same_snap : (old : File Snapshot) → IsFileOf snapshot_form old → old.bytes ≡ snap.bytes → old ≡ snap
+    pub same_snap : (old : File Snapshot) → IsFileOf snapshot_form old → old.bytes ≡ snap.bytes → old ≡ snap
     same_snap old read e = file-once shapes snapshot_form snapshot-tells old snap read has.snap_read e
 
     module _ (D : State) (valid : IsState D) (known : D.trusted.root ≡ Some root) where
-      stamp_of : (old : File Timestamp) → D.trusted.timestamp ≡ Some old → IsFileOf timestamp_form old
+      pub stamp_of : (old : File Timestamp) → D.trusted.timestamp ≡ Some old → IsFileOf timestamp_form old
       stamp_of old e = (subst (λ (o : Option (File Timestamp)). IfSome o (λ x. IsFileOf timestamp_form x × MeetsTop root root.body.timestamp x)) e (held_by D.trusted root valid.trusted known).timestamp).0
 
-      snap_of : (old : File Snapshot) → D.trusted.snapshot ≡ Some old → IsFileOf snapshot_form old
+      pub snap_of : (old : File Snapshot) → D.trusted.snapshot ≡ Some old → IsFileOf snapshot_form old
       snap_of old e = (subst (λ (o : Option (File Snapshot)). IfSome o (λ x. IsFileOf snapshot_form x × MeetsTop root root.body.snapshot x)) e (held_by D.trusted root valid.trusted known).snapshot).0
 
       -- the server's timestamp, where it is dead, is denied
@@ -198,7 +199,7 @@ module _ (law : NewLaws) (step_law : StepLaws) (shapes : Shapes) (S : State) (su
 
       module _ (lives : now < stamp.body.expires) where
         -- a timestamp that is older is followed by the server's
-        abbrev after : State
+        abbrev pub after : State
         after = with_stamp D stamp
 
         newer : IfSome D.trusted.timestamp (λ old. (old.body.version < stamp.body.version) × (old.body.snapshot.version ≤ stamp.body.snapshot.version)) → offer D.trusted TimestampOffer stamp.bytes now (Ok (record D.trusted { timestamp = Some stamp }))
@@ -211,10 +212,10 @@ module _ (law : NewLaws) (step_law : StepLaws) (shapes : Shapes) (S : State) (su
             (sym (e ∙ ap (λ (x : File Timestamp). Some x) (same_stamp old (stamp_of old e) bytes))) (decide (pass (holds (omega arith)) (decide (same refl))))))))
 
         -- so it is taken, or there is want
-        abbrev Stamped : State → Result Bool Fault → Type 0
+        abbrev pub Stamped : State → Result Bool Fault → Type 0
         Stamped E r = IsWanting r ⊎ ((E ≡ after) × (as_made r ≡ Ok tt) × ((there : Bool) → r ≡ Ok there → there ≡ true))
 
-        stamped : (E : State) (s t : Src) (r : Result Bool Fault) → Is s → IfSome D.trusted.timestamp (IsOlderTimestamp stamp) → Takes from now wanted_timestamp s D t E r → Stamped E r × Is t × IsState E
+        pub stamped : (E : State) (s t : Src) (r : Result Bool Fault) → Is s → IfSome D.trusted.timestamp (IsOlderTimestamp stamp) → Takes from now wanted_timestamp s D t E r → Stamped E r × Is t × IsState E
         stamped E s t r is older h = by D.trusted.timestamp refl older
           where
             new : Ends D E r (Ok (record D.trusted { timestamp = Some stamp })) → Stamped E r
@@ -252,7 +253,7 @@ module _ (law : NewLaws) (step_law : StepLaws) (shapes : Shapes) (S : State) (su
           newer_snap fresh keeps other = law.snapshots after.trusted root now known live stamp refl lives snap has.snap_read has.names has.snap_meets keeps fresh other
 
           -- it is taken, or there is want
-          abbrev Snapped : Src → State → Result (Unit {0}) Fault → Type 0
+          abbrev pub Snapped : Src → State → Result (Unit {0}) Fault → Type 0
           Snapped t E r = IsWanting r ⊎ ((E ≡ with_both D stamp snap) × (r ≡ Ok tt) × Is t)
 
           due_there : (E : State) (v : ℕ) (s t : Src) (r : Result Bool Fault) → v ≡ stamp.body.snapshot.version → Is s → Takes from now (wanted_snapshot v) s after t E r
@@ -284,7 +285,7 @@ module _ (law : NewLaws) (step_law : StepLaws) (shapes : Shapes) (S : State) (su
               (subst (λ (o : Option (File Snapshot)). IfSome o (λ old. NoRollback old.body snap.body × NoDrop old.body snap.body)) (sym e) (older_rows snap.body old.body.meta rows))
               (λ k. other (subst (λ (s : File Snapshot). NamesSnapshot stamp s) (sym (same_snap old (snap_of old e) (some_ap old.bytes snap.bytes (subst (λ (o : Option (File Snapshot)). option_map (λ (old : File Snapshot). old.bytes) o ≡ Some snap.bytes) e k)))) has.names))
 
-          snapped : now < snap.body.expires → IfSome D.trusted.snapshot (IsOlderSnapshot stamp snap) → (E : State) (s t : Src) (r : Result (Unit {0}) Fault) → Is s
+          pub snapped : now < snap.body.expires → IfSome D.trusted.snapshot (IsOlderSnapshot stamp snap) → (E : State) (s t : Src) (r : Result (Unit {0}) Fault) → Is s
               → TakesSnapshot from now s after t E r → Snapped t E r
           snapped fresh older E s t r is h = by D.trusted.snapshot refl older h
             where
@@ -322,10 +323,10 @@ module _ (law : NewLaws) (step_law : StepLaws) (shapes : Shapes) (S : State) (su
 
   -- ---- the whole
 
-  takes_valid : (w : _) (s t : Src) (C D : State) (r : Result Bool Fault) → Is s → IsState C → Takes from now w s C t D r → IsState D
+  pub takes_valid : (w : _) (s t : Src) (C D : State) (r : Result Bool Fault) → Is s → IsState C → Takes from now w s C t D r → IsState D
   takes_valid w s t C D r is valid h = arrives_valid step_law now _ _ C D r valid (arrives from Is S now honest w s t C D r is h).0
 
-  on : (w : _) (s t : Src) (C D : State) (r : Result Bool Fault) → Is s → Takes from now w s C t D r → Is t
+  pub on : (w : _) (s t : Src) (C D : State) (r : Result Bool Fault) → Is s → Takes from now w s C t D r → Is t
   on w s t C D r is h = (arrives from Is S now honest w s t C D r is h).1
 
   snapshot_valid : (s t : Src) (C D : State) (r : Result (Unit {0}) Fault) → Is s → IsState C → TakesSnapshot from now s C t D r → IsState D

@@ -4,6 +4,7 @@ pub mod Asking
 pub mod Behind
 pub mod Changes
 pub mod Session
+pub mod Several
 pub mod Taken
 pub mod Views
 pub mod Wanted

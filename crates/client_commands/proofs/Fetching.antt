@@ -1,5 +1,5 @@
 -- What a fetch over the client's own state does and answers.
-use Rattle.std.proofs.Common.{◌≡◌, ℕ, Vec, Global, None, Result, Ok, Err}
+use Rattle.std.proofs.Common.{◌≡◌, ℕ, Vec, Global, None, Result, Ok, Err, subst}
 use Rattle.std.specs.Prelude.{IfOk}
 use Rattle.metadata.specs.File.{Bytes}
 use Rattle.trust_rules.specs.State.{State}
@@ -23,6 +23,15 @@ module _ (A B : Standing) (path : Bytes) (now : ℕ) (F : State → State → Ty
 
   pub fetched_err : (why : ClientFault) (fault : Fault) → Changes A B (λ C D. F C D × RunsOn IsTaking now C D × Grants (Err why) D) → Fetched path now A (Err fault) B
   fetched_err why fault h = becomes _ _ h (λ C D p. (p.1, λ clean. tt))
+
+  -- the same of a result that is told first
+  pub fetched_as : (r : Result (Vec ℕ Global) ClientFault) (bytes : Vec ℕ Global) → r ≡ Ok bytes → Changes A B (λ C D. F C D × RunsOn IsTaking now C D × Grants r D)
+      → Fetched path now A (Ok bytes) B
+  fetched_as r bytes e h = fetched_ok bytes (subst (λ (q : Result (Vec ℕ Global) ClientFault). Changes A B (λ C D. F C D × RunsOn IsTaking now C D × Grants q D)) e h)
+
+  pub fetched_not : (r : Result (Vec ℕ Global) ClientFault) (why : ClientFault) (fault : Fault) → r ≡ Err why → Changes A B (λ C D. F C D × RunsOn IsTaking now C D × Grants r D)
+      → Fetched path now A (Err fault) B
+  fetched_not r why fault e h = fetched_err why fault (subst (λ (q : Result (Vec ℕ Global) ClientFault). Changes A B (λ C D. F C D × RunsOn IsTaking now C D × Grants q D)) e h)
 
 -- what is answered over the database is granted by the state in it
 pub granted : {Work : Type 0} (path : Bytes) (now : ℕ) (does : Work → Standing → Result (Vec ℕ Global) Fault → Standing → Work → Type 0) (work left : Work) (r : Result (Vec ℕ Global) Fault)

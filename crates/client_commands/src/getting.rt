@@ -4,7 +4,7 @@ ghost use Rattle.client_commands.specs.Clients.{IsGranted};
 
 use crate::fault::told;
 use crate::remote::{Call, Remote};
-use client::fetch_target;
+use client::{ClientFault, fetch_by_each};
 use command_line::{Getting, Server};
 use command_support::{
     Denial, Fault, Notes, OWNER_ALONE, are_one_file, file_fault, moment, print, put_in_place,
@@ -127,13 +127,25 @@ impl Work for Fetching<'_> {
         state: &mut Store<S>,
         notes: &mut Notes<'_, E>,
     ) -> Result<Vec<u8>, Fault> {
+        let alloc = self.rt.alloc();
         let done = {
-            let mut remote = Remote::new(self.call, self.from, notes);
-            fetch_target(self.rt.alloc(), state, &mut remote, self.path, self.now)
+            let mut remote = Remote::joined(self.call, self.from, notes);
+            let turns = remote.turns();
+            let done = fetch_by_each(alloc, state, &mut remote, turns, self.path, self.now);
+            remote.tell_refused(number_of(&done));
+            done
         };
         match done {
             Ok(bytes) => Ok(bytes),
             Err(fault) => { Err(told(&self.path.as_str(), fault, notes)) }
         }
+    }
+}
+
+// The number of the denial in which a fetch ended.
+fn number_of(done: &Result<Vec<u8>, ClientFault>) -> Option<u8> {
+    match done {
+        Err(ClientFault::Denied(denial)) => Some(denial.number()),
+        _ => None,
     }
 }

@@ -17,5 +17,5 @@ pub use client::ClientFault;
 pub use command_support::{Fault, Notes};
 pub use fault::fault_of_client;
 pub use getting::get;
-pub use publishing::{prune_at, publish_at, put_at, put_bytes_at};
+pub use publishing::{prune_at, publish_at, put_at};
 pub use updating::update;

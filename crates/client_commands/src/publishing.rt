@@ -2,46 +2,45 @@
 use crate::asking::Asking;
 use crate::sending::Sending;
 use command_support::{Denial, Fault, MOST_DENIALS, Notes, print, read_at_most};
+use connections::Port;
 use http_fetch::{Method, read_accepted, read_pruned};
 use http_messages::{BATCH_LIMIT, BLOB_LIMIT, stored_body};
 use metadata::digest_of;
 use std::io::Write;
-use subcommands::{InputFile, Offered, batch_of, documents_of, read_all, role_in, tell_argument};
+use subcommands::{Batch, Offer, role_of, tell_argument};
 
-/// Offers the documents to the server, together, and prints how many were accepted and how many were held already, as `publish` over a
-/// database does. The first of the documents are given, and the others are read. Documents that are together longer than a server takes are a
-/// fault of a file, before it is asked. What `publish` over a database warns of is warned of, and why a document was denied is told, as far as
-/// the server answers what it holds.
+/// Has the server put the target files, offers it the documents together, and prints how many were accepted and how many were held already, as
+/// `publish` over a database does. Documents that are together longer than a server takes are a fault of a file, before they are offered. What
+/// `publish` over a database warns of is warned of, and why a document was denied is told, as far as the server answers what it holds.
 pub fn publish_at<O: Write, E: Write>(
     rt: &HostRuntime,
     port: u16,
-    arguments: &[String],
-    given: &[Vec<u8>],
+    batch: Batch<'_>,
     out: &mut O,
     notes: &mut Notes<'_, E>,
 ) -> Result<(), Fault> {
-    let documents = tell_argument(documents_of(rt.alloc(), arguments), arguments, notes)?;
-    let files = read_all(rt, &documents, given, notes)?;
-    let body = batch_body(rt, arguments, &files, notes)?;
-    let batch = batch_of(rt.alloc(), documents, &files)?;
-    let offered = Offered {
-        arguments,
-        batch: &batch,
-    };
-    publish_body(rt, port, offered, &body, out, notes)
+    for digest in batch.files.digests {
+        let bytes = batch.files.read(digest, notes)?;
+        let digits = digest.digits();
+        let name = str::from_utf8(&digits).unwrap_or("-");
+        put_bytes_at(rt, port, name, &bytes, &mut Vec::new(rt.alloc()), notes)?;
+    }
+    let body = batch_body(rt, batch.documents, notes)?;
+    publish_body(rt, port, batch, &body, out, notes)
 }
 
 // Sends what is offered.
 fn publish_body<O: Write, E: Write>(
     rt: &HostRuntime,
     port: u16,
-    offered: Offered<'_>,
+    batch: Batch<'_>,
     body: &[u8],
     out: &mut O,
     notes: &mut Notes<'_, E>,
 ) -> Result<(), Fault> {
+    let (alloc, count) = (rt.alloc(), batch.documents.len());
     let mut asking = Asking { rt, port };
-    let before = asking.before(offered.batch, notes);
+    let before = batch.before(alloc, &mut asking, notes);
     let sending = Sending {
         rt,
         port,
@@ -49,13 +48,15 @@ fn publish_body<O: Write, E: Write>(
         name: "batch",
         body,
     };
-    let sent = believed(sending, offered.batch.len(), sending.send(notes), notes);
-    tell_why(&mut asking, &sent, offered, notes);
-    let reply = tell_argument(sent, offered.arguments, notes)?;
-    let Some(same) = same_of(&reply, offered.batch.len()) else {
+    let sent = believed(sending, count, sending.send(notes), notes);
+    if let Err(Fault::Refused(number, _, Some(index))) = &sent {
+        batch.tell(alloc, &mut asking, *number, *index, notes);
+    }
+    let reply = tell_argument(sent, batch.arguments, notes)?;
+    let Some(same) = same_of(&reply, count) else {
         return Err(sending.unknown(Fault::Network, notes));
     };
-    asking.behind(offered.arguments, offered.batch, before, same, notes);
+    batch.behind(alloc, &mut asking, before, same, &Port(port), notes);
     print(out, &reply, notes)?;
     print(out, b"\n", notes)
 }
@@ -92,35 +93,19 @@ fn same_of(reply: &[u8], documents: usize) -> Option<usize> {
     }
 }
 
-// Tells why a batch was denied, if it was.
-fn tell_why<E: Write>(
-    asking: &mut Asking<'_>,
-    sent: &Result<Vec<u8>, Fault>,
-    offered: Offered<'_>,
-    notes: &mut Notes<'_, E>,
-) {
-    if let Err(Fault::Refused(number, _, Some(index))) = sent {
-        let alloc = asking.rt.alloc();
-        offered.tell(alloc, asking, *number, *index, notes);
-    }
-}
-
-// The documents as the body of a batch: each behind a line with its role and its length. Each argument begins with a role and a colon.
+// The documents as the body of a batch: each behind a line with its role and its length.
 fn batch_body<E: Write>(
     rt: &HostRuntime,
-    arguments: &[String],
-    files: &[InputFile<'_>],
+    documents: &[(Offer, &[u8])],
     notes: &mut Notes<'_, E>,
 ) -> Result<Vec<u8>, Fault> {
     let alloc = rt.alloc();
     let mut body = Vec::new(alloc);
-    for (argument, file) in arguments.iter().zip(files.iter()) {
-        if let Some(role) = role_in(argument.as_str()) {
-            let len = file.bytes.len();
-            let line = format!(in alloc; "{role} {len}\n")?;
-            body.extend_from_slice(line.as_bytes())?;
-            body.extend_from_slice(&file.bytes)?;
-        }
+    for (offer, bytes) in documents {
+        let (role, len) = (role_of(offer), bytes.len());
+        let line = format!(in alloc; "{role} {len}\n")?;
+        body.extend_from_slice(line.as_bytes())?;
+        body.extend_from_slice(bytes)?;
         if (body.len() as u64) > BATCH_LIMIT {
             notes.fault(&"the documents together", &"longer than a server takes");
             return Err(Fault::File);
@@ -146,8 +131,8 @@ pub fn put_at<O: Write, E: Write>(
     put_bytes_at(rt, port, file, &bytes, out, notes)
 }
 
-/// The same of bytes that were read already, at most as many as a file may have. What is told of them has this name.
-pub fn put_bytes_at<O: Write, E: Write>(
+// The same of bytes that were read already, at most as many as a file may have. What is told of them has this name.
+fn put_bytes_at<O: Write, E: Write>(
     rt: &HostRuntime,
     port: u16,
     file: &str,
@@ -165,13 +150,7 @@ pub fn put_bytes_at<O: Write, E: Write>(
         name: name.as_str(),
         body: bytes,
     };
-    let reply = match sending.send(notes) {
-        Ok(reply) => reply,
-        Err(fault) => {
-            tell_denied(&fault, file, notes);
-            return Err(fault);
-        }
-    };
+    let reply = told(sending.send(notes), file, notes)?;
     if reply.as_slice() != stored_body(true) && reply.as_slice() != stored_body(false) {
         return Err(sending.unknown(Fault::Network, notes));
     }
@@ -193,13 +172,7 @@ pub fn prune_at<O: Write, E: Write>(
         name: "prune",
         body: b"",
     };
-    let reply = match sending.send(notes) {
-        Ok(reply) => reply,
-        Err(fault) => {
-            tell_denied(&fault, sending.name, notes);
-            return Err(fault);
-        }
-    };
+    let reply = told(sending.send(notes), sending.name, notes)?;
     if read_pruned(&reply).is_none() {
         return Err(sending.unknown(Fault::Network, notes));
     }
@@ -207,9 +180,14 @@ pub fn prune_at<O: Write, E: Write>(
     print(out, b"\n", notes)
 }
 
-// Tells what a denial is about.
-fn tell_denied<E: Write>(fault: &Fault, name: &str, notes: &mut Notes<'_, E>) {
-    if let Fault::Refused(number, _, _) = fault {
+// What was answered, where a denial is told with what it is about.
+fn told<E: Write>(
+    sent: Result<Vec<u8>, Fault>,
+    name: &str,
+    notes: &mut Notes<'_, E>,
+) -> Result<Vec<u8>, Fault> {
+    if let Err(Fault::Refused(number, _, _)) = &sent {
         notes.denied(&name, *number);
     }
+    sent
 }

@@ -1,6 +1,7 @@
-//! What `update` and `get` fetch files from: a repository that is served at a port of 127.0.0.1, or mirrors of one.
+//! What `update` and `get` fetch files from: a repository that is served at a port of 127.0.0.1, or mirrors of one, each in its turn.
 use crate::server::{Asked, Peer};
 use crate::wire::{Hearing, Wire, connected, host};
+use client::{ClientFault, Sources};
 use command_line::Server;
 use command_support::{Fault, Notes};
 use connections::{FILE_SECONDS, Timer};
@@ -38,17 +39,28 @@ impl<'a> Call<'a> {
         self.rt
     }
 
-    // So many seconds has the next file, if any are left.
-    fn left(&self) -> Option<u64> {
-        match self.timer.left(self.seconds) {
+    // So many seconds has the next file, if any are left up to this second of the call.
+    fn left(&self, until: u64) -> Option<u64> {
+        match self.timer.left(until) {
             Ok(left) => Some(left.as_secs().max(1).min(FILE_SECONDS)),
             Err(_) => None,
         }
     }
+
+    // The second of the call at which the next of so many turns ends: each has the same share of what is left, one second at least.
+    fn share(&self, turns: u64) -> u64 {
+        let left = match self.timer.left(self.seconds) {
+            Ok(left) => left.as_secs(),
+            Err(_) => return self.seconds,
+        };
+        let share = (left / turns.max(1)).max(1);
+        let now = self.seconds.saturating_sub(left);
+        now.saturating_add(share).min(self.seconds)
+    }
 }
 
-/// A repository of which nothing is known, at a port of 127.0.0.1 or at mirrors. Each file is fetched over a connection of its own. One
-/// that cannot be made gives no answer. On a terminal each name is told before it is fetched.
+/// A repository of which nothing is known, at a port of 127.0.0.1 or at mirrors, which are asked in turns. Each file is fetched over a
+/// connection of its own. One that cannot be made gives no answer. On a terminal each name is told before it is fetched.
 #[derive(Drop)]
 pub struct Remote<'a, 'n, 'e, E: Write> {
     call: Call<'a>,
@@ -57,9 +69,32 @@ pub struct Remote<'a, 'n, 'e, E: Write> {
     is_watched: bool,
     bytes: u64,
     lacks_timestamp: bool,
+    has_timestamp: bool,
+    // whether the first turn is that of all mirrors together
+    is_joined: bool,
+    place: usize,
+    until: u64,
+    // whether the last answer of this turn was a file
+    gave: bool,
+    refused: Vec<Refused<'a>>,
+}
+
+// A mirror whose turn ended in a denial after a file that it gave, or in a file over its limit.
+#[derive(Clone, Copy)]
+struct Refused<'a> {
+    url: &'a str,
+    denial: Option<Named>,
+}
+
+// A denial, by its number and its name.
+#[derive(Clone, Copy)]
+struct Named {
+    number: u8,
+    name: &'static str,
 }
 
 impl<'a, 'n, 'e, E: Write> Remote<'a, 'n, 'e, E> {
+    /// The port, or each mirror alone in its turn.
     pub fn new(
         call: Call<'a>,
         server: &'a Server,
@@ -68,16 +103,64 @@ impl<'a, 'n, 'e, E: Write> Remote<'a, 'n, 'e, E> {
         Remote {
             call,
             server,
-            notes,
             is_watched: call.rt.stderr().is_terminal(),
             bytes: 0,
             lacks_timestamp: false,
+            has_timestamp: false,
+            is_joined: false,
+            place: 0,
+            until: call.seconds,
+            gave: false,
+            refused: Vec::new(call.rt.alloc()),
+            notes,
         }
     }
 
-    /// Whether it answered that it has no timestamp.
+    /// The same, and where there are several mirrors a turn before these, in which each file is that of the first mirror that has it.
+    pub fn joined(
+        call: Call<'a>,
+        server: &'a Server,
+        notes: &'n mut Notes<'e, E>,
+    ) -> Remote<'a, 'n, 'e, E> {
+        let mut remote = Remote::new(call, server, notes);
+        remote.is_joined = count_of(server) > 1;
+        remote
+    }
+
+    /// So many turns there are.
+    pub fn turns(&self) -> usize {
+        count_of(self.server).saturating_add(self.is_joined as usize)
+    }
+
+    /// Whether one of them answered that it has no timestamp, and none gave one.
     pub fn lacks_timestamp(&self) -> bool {
-        self.lacks_timestamp
+        self.lacks_timestamp && !self.has_timestamp
+    }
+
+    /// Warns of each mirror whose turn ended in a denial after a file that it gave, or in a file over its limit; of a denial with this number it
+    /// does not, since that is what is told of the call.
+    pub fn tell_refused(&mut self, told: Option<u8>) {
+        for refused in &self.refused {
+            match refused.denial {
+                None => self.notes.warn(&refused.url, &FetchFault::TooLong),
+                Some(denial) if told == Some(denial.number) => {}
+                Some(denial) => self.notes.warn(&refused.url, &denial),
+            }
+        }
+    }
+
+    // The mirror that has this turn alone.
+    fn alone(&self) -> Option<&'a str> {
+        let Server::Mirrors(urls) = self.server else {
+            return None;
+        };
+        let place = if self.is_joined {
+            self.place.checked_sub(1)?
+        } else {
+            self.place
+        };
+        let url = urls.get(place)?;
+        Some(url.as_str())
     }
 
     // The file of this name, from the port.
@@ -141,8 +224,8 @@ impl<'a, 'n, 'e, E: Write> Remote<'a, 'n, 'e, E> {
         asked: Asked<'_>,
     ) -> Result<Option<Vec<u8>>, FetchFault> {
         let call = self.call;
-        let Some(seconds) = call.left() else {
-            self.tell_fault(&asked, &"not asked for, the time of the call is over");
+        let Some(seconds) = call.left(self.until) else {
+            self.tell_fault(&asked, &"not asked for, its time is over");
             return Err(FetchFault::Broken);
         };
         match connected(call.rt, mirror.host, mirror.port, seconds) {
@@ -197,11 +280,7 @@ impl<'a, 'n, 'e, E: Write> Remote<'a, 'n, 'e, E> {
 
     // Tells why there was no answer: always, where nobody else is asked.
     fn tell_fault<N: fmt::Display, F: fmt::Display>(&mut self, name: &N, fault: &F) {
-        let is_alone = match self.server {
-            Server::Port(_) => true,
-            Server::Mirrors(urls) => urls.len() == 1,
-        };
-        if is_alone {
+        if count_of(self.server) == 1 {
             self.notes.fault(name, fault);
         } else {
             self.notes.tell(name, fault);
@@ -223,16 +302,67 @@ impl<E: Write> Source for Remote<'_, '_, '_, E> {
             });
         }
         let server = self.server;
-        let answer = match server {
-            Server::Port(port) => self.ask_port(alloc, *port, name, limit),
-            Server::Mirrors(urls) => self.ask_each(alloc, urls, name, limit),
+        let answer = match (server, self.alone()) {
+            (Server::Port(port), _) => self.ask_port(alloc, *port, name, limit),
+            (Server::Mirrors(_), Some(url)) => {
+                let peer = Peer::Mirror(url);
+                self.ask_mirror(alloc, url, Asked { peer, name, limit })
+            }
+            (Server::Mirrors(urls), None) => self.ask_each(alloc, urls, name, limit),
         };
+        let is_timestamp = name == "metadata/timestamp.json";
+        self.gave = false;
         match &answer {
-            Ok(Some(file)) => self.bytes = self.bytes.saturating_add(file.len() as u64),
-            Ok(None) => self.lacks_timestamp |= name == "metadata/timestamp.json",
+            Ok(Some(file)) => {
+                self.bytes = self.bytes.saturating_add(file.len() as u64);
+                self.has_timestamp |= is_timestamp;
+                self.gave = true;
+            }
+            Ok(None) => self.lacks_timestamp |= is_timestamp,
             Err(_) => {}
         }
         answer
+    }
+}
+
+impl<E: Write> Sources for Remote<'_, '_, '_, E> {
+    // The turn has its share of the time that is left.
+    fn turn(&mut self, place: usize) {
+        let call = self.call;
+        let left = self.turns().saturating_sub(place);
+        self.until = call.share(left as u64);
+        self.place = place;
+        self.gave = false;
+    }
+
+    fn failed(&mut self, _place: usize, fault: &ClientFault) {
+        let Some(url) = self.alone() else {
+            return;
+        };
+        let denial = match fault {
+            ClientFault::Denied(denial) if self.gave => Some(Named {
+                number: denial.number(),
+                name: denial.name(),
+            }),
+            ClientFault::Fetch(FetchFault::TooLong) => None,
+            _ => return,
+        };
+        let _ = self.refused.push(Refused { url, denial });
+    }
+}
+
+// How many are asked.
+fn count_of(server: &Server) -> usize {
+    match server {
+        Server::Port(_) => 1,
+        Server::Mirrors(urls) => urls.len(),
+    }
+}
+
+impl fmt::Display for Named {
+    fn fmt<W: fmt::Write>(&self, f: &mut fmt::Formatter<W>) -> fmt::Result {
+        let Named { number, name } = self;
+        write!(f, "denied {number} {name}")
     }
 }
 

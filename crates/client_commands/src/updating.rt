@@ -2,6 +2,7 @@
 use crate::fault::told;
 use crate::remote::{Call, Remote};
 use crate::server::Named;
+use client::update_by_each;
 use command_line::Server;
 use command_support::{Fault, Notes, moment, print};
 use metadata::Moment;
@@ -61,7 +62,9 @@ impl Work for Updating<'_> {
         let before = Versions::of(alloc, state.held());
         let (done, lacks_timestamp) = {
             let mut remote = Remote::new(self.call, self.from, notes);
-            let done = client::update(alloc, state, &mut remote, self.now);
+            let turns = remote.turns();
+            let done = update_by_each(alloc, state, &mut remote, turns, self.now);
+            remote.tell_refused(None);
             (done, remote.lacks_timestamp())
         };
         match done {

@@ -12,6 +12,7 @@ use Rattle.command_line.specs.declared.tasks.Anchor.{Anchor}
 use Rattle.command_line.specs.declared.tasks.Anchor.TheVariants as anchors
 use Rattle.command_line.specs.declared.tasks.Place.{Place}
 use Rattle.command_line.specs.declared.tasks.Place.TheVariants.{Database, Port}
+use Rattle.command_line.specs.declared.tasks.AttachDraft.{AttachDraft}
 use Rattle.command_line.specs.declared.tasks.Draft.{Draft}
 use Rattle.command_line.specs.declared.tasks.Draft.TheVariants as drafts
 use Rattle.command_line.specs.declared.tasks.Drafting.{Drafting}
@@ -27,7 +28,7 @@ use Rattle.command_line.specs.declared.tasks.Unread.TheVariants as unread
 use Rattle.command_line.specs.declared.tasks.Usage.{Usage}
 use Rattle.command_line.specs.declared.tasks.Usage.TheVariants as usages
 use Rattle.command_line.specs.declared.tasks.Subcommand.{Subcommand}
-use Rattle.command_line.specs.declared.tasks.Subcommand.TheVariants.{Canon, Draft as DraftOf, Export, Get, Init, Key, NewKey, Prune, Publish, PublishIn, Put, Serve, Show, Sign, SignIn, Update}
+use Rattle.command_line.specs.declared.tasks.Subcommand.TheVariants.{Canon, Draft as DraftOf, Export, Get, Init, Key, NewKey, PublicKey, Prune, Publish, PublishIn, Put, Serve, Show, Sign, SignIn, Update}
 
 -- ---- what is found for a subcommand's arguments
 
@@ -92,6 +93,16 @@ HasNumberOr rows id least most other n = (Lacks rows id × (n ≡ other)) ⊎ Ha
 abbrev pub HasParamsOr : List Row → Params → Type 0
 HasParamsOr rows p = HasNumberOr rows (codes "ots") 1 8 8 (width p.ots) × HasNumberOr rows (codes "height") 5 10 10 (height (signing_type p.height))
 
+-- no option of a key of several levels
+abbrev pub LacksLevels : List Row → Type 0
+LacksLevels rows = Lacks rows (codes "levels") × Lacks rows (codes "lower-ots") × Lacks rows (codes "lower-height")
+
+-- the parameters of the trees below in a new key of two levels, those of the top tree where they are left out; and none of a key of one level
+abbrev pub HasLower : List Row → Params → Option Params → Type 0
+HasLower rows top None = HasNumberOr rows (codes "levels") 1 2 1 1 × Lacks rows (codes "lower-ots") × Lacks rows (codes "lower-height")
+HasLower rows top (Some p) = HasNumber rows (codes "levels") 1 2 2 × HasNumberOr rows (codes "lower-ots") 1 8 (width top.ots) (width p.ots)
+    × HasNumberOr rows (codes "lower-height") 5 10 (height (signing_type top.height)) (height (signing_type p.height))
+
 -- ---- drafts
 
 -- no option that targets metadata alone has
@@ -133,6 +144,19 @@ pub record HasLink (rows : List Row) (l : LinkDraft) : Type 0 where
   pub materials : MayHaveTexts rows (codes "materials") most_times l.materials.items
   pub products : MayHaveTexts rows (codes "products") most_times l.products.items
 
+-- a role, a key and a signature of another tool
+abbrev pub HasAttach : List Row → AttachDraft → Type 0
+HasAttach rows a = HasText rows (codes "key") a.key × HasTexts rows (codes "word") 2 (a.role ∷ a.signature ∷ [])
+
+-- what is said of a draft that is made
+abbrev pub LacksTerms : List Row → Type 0
+LacksTerms rows = Lacks rows (codes "expires") × (false ≡ is_used rows (codes "anew"))
+
+-- `--key` stands beside a signature of another tool alone
+abbrev pub LacksKey : List Row → Draft → Type 0
+LacksKey rows (drafts.Attach a) = Unit {0}
+LacksKey rows kind = Lacks rows (codes "key")
+
 -- the kind by its name, with what belongs to it and nothing else
 abbrev pub HasKind : List Row → Text → Draft → Type 0
 HasKind rows kind (drafts.Root rules) = (kind ≡ codes "root") × MayHaveTexts rows (codes "word") most_documents rules.items × LacksTargets rows
@@ -144,10 +168,14 @@ HasKind rows kind (drafts.Link l) = (kind ≡ codes "link") × HasLink rows l ×
 HasKind rows kind drafts.Seal = (kind ≡ codes "seal") × Lacks rows (codes "word") × LacksTargets rows × LacksChain rows
 HasKind rows kind (drafts.Take target files) = (kind ≡ codes "take") × MayHaveText rows (codes "target") target
     × HasTexts rows (codes "word") most_documents files.items × LacksTargets rows × LacksLayout rows × LacksLink rows
+HasKind rows kind (drafts.Message role) = (kind ≡ codes "message") × HasTexts rows (codes "word") 1 (role ∷ []) × LacksTargets rows × LacksChain rows
+    × LacksTerms rows × Lacks rows (codes "db")
+HasKind rows kind (drafts.Attach a) = (kind ≡ codes "attach") × HasAttach rows a × LacksTargets rows × LacksChain rows × LacksTerms rows
 
 abbrev pub HasDraft : List Row → Drafting → Type 0
 HasDraft rows d = MayHaveText rows (codes "db") d.db × HasText rows (codes "in") d.folder × MayHaveText rows (codes "expires") d.expires
     × (d.anew ≡ is_used rows (codes "anew")) × ((kind : Text) × (first_of (codes "kind") rows ≡ Some kind) × HasKind rows kind d.kind)
+    × LacksKey rows d.kind
 
 -- ---- keys
 
@@ -201,7 +229,8 @@ name_of (Export db to) = codes "export"
 name_of (Get g) = codes "get"
 name_of (Init db root) = codes "init"
 name_of (Key seed params) = codes "key"
-name_of (NewKey names params) = codes "key"
+name_of (NewKey names params lower) = codes "key"
+name_of (PublicKey file) = codes "key"
 name_of (Prune place) = codes "prune"
 name_of (Publish place documents) = codes "publish"
 name_of (PublishIn place folder) = codes "publish"
@@ -221,8 +250,12 @@ HasArguments rows (Get g) = HasText rows (codes "db") g.db × HasServer rows g.s
     × MayHaveNumber rows (codes "within") 1 most_seconds g.within
     × HasText rows (codes "out") g.out × HasText rows (codes "path") g.path
 HasArguments rows (Init db root) = HasText rows (codes "db") db × HasText rows (codes "root") root
-HasArguments rows (Key seed params) = HasText rows (codes "seed") seed × HasParams rows params × Lacks rows (codes "new") × Lacks rows (codes "name")
-HasArguments rows (NewKey names params) = HasNames rows names.items × HasParamsOr rows params × Lacks rows (codes "seed")
+HasArguments rows (Key seed params) = HasText rows (codes "seed") seed × HasParams rows params × Lacks rows (codes "new") × Lacks rows (codes "name") × Lacks rows (codes "public")
+    × LacksLevels rows
+HasArguments rows (NewKey names params lower) = HasNames rows names.items × HasParamsOr rows params × HasLower rows params lower × Lacks rows (codes "seed")
+    × Lacks rows (codes "public")
+HasArguments rows (PublicKey file) = HasText rows (codes "public") file × Lacks rows (codes "seed") × Lacks rows (codes "ots") × Lacks rows (codes "height")
+    × Lacks rows (codes "new") × Lacks rows (codes "name") × LacksLevels rows
 HasArguments rows (Prune place) = HasPlace rows place
 HasArguments rows (Publish place documents) = HasPlace rows place × HasTexts rows (codes "document") most_documents documents.items × Lacks rows (codes "in")
 HasArguments rows (PublishIn place folder) = HasPlace rows place × HasText rows (codes "in") folder × Lacks rows (codes "document")

@@ -1,11 +1,12 @@
 //! What the words say of a draft.
 ghost use Rattle.std.specs.Prelude.{IfOk, codes};
 ghost use Rattle.clap.specs.Words.{found_of, rows_of};
-ghost use Rattle.command_line.specs.CommandLine.{HasDraft, HasKind, HasLayout, HasLink, HasTargets, LacksChain, LacksLayout, LacksLink, LacksTargets};
+ghost use Rattle.command_line.specs.CommandLine.{HasDraft, HasKind, HasLayout, HasLink, HasTargets, LacksChain, LacksKey, LacksLayout, LacksLink, LacksTargets};
 
 use crate::given::{
     fault, is_given, is_left_out, refuse, text_of, text_or_none, texts_of, texts_or_none,
 };
+use crate::outside::{attach_of, message_of};
 use crate::tasks::{Draft, Drafting, LayoutDraft, LinkDraft, MOST_TIMES, TargetsDraft, Unread};
 use clap::ArgMatches;
 use limits::MOST_DOCUMENTS;
@@ -18,8 +19,9 @@ pub fn draft_of(alloc: Global, given: &ArgMatches<'_>) -> Result<Drafting, Unrea
     let db = text_or_none(alloc, given, "db")?;
     let folder = text_of(alloc, given, "in")?;
     let expires = text_or_none(alloc, given, "expires")?;
-    let kind = text_of(alloc, given, "kind")?;
-    let kind = kind_of(alloc, given, kind.as_str())?;
+    let name = text_of(alloc, given, "kind")?;
+    let kind = kind_of(alloc, given, name.as_str())?;
+    see_key(alloc, given, &kind, name.as_str())?;
     Ok(Drafting {
         db,
         folder,
@@ -27,6 +29,22 @@ pub fn draft_of(alloc: Global, given: &ArgMatches<'_>) -> Result<Drafting, Unrea
         anew: is_given(given, "anew"),
         kind,
     })
+}
+
+// A key stands beside a signature of another tool alone.
+fn see_key(alloc: Global, given: &ArgMatches<'_>, kind: &Draft, name: &str) -> Result<(), Unread>
+    ensures { IfOk result (λ _. LacksKey (rows_of (found_of given.now)) kind.now) }
+{
+    match kind {
+        Draft::Attach(_) => Ok(()),
+        Draft::Root { .. }
+        | Draft::Targets(_)
+        | Draft::Layout(_)
+        | Draft::Link(_)
+        | Draft::Seal
+        | Draft::Take { .. }
+        | Draft::Message { .. } => refuse(alloc, given, "key", name),
+    }
 }
 
 // The kind of this name.
@@ -40,9 +58,11 @@ fn kind_of(alloc: Global, given: &ArgMatches<'_>, kind: &str) -> Result<Draft, U
         "link" => link_of(alloc, given),
         "seal" => seal_of(alloc, given),
         "take" => take_of(alloc, given),
+        "message" => message_of(alloc, given),
+        "attach" => attach_of(alloc, given),
         _ => Err(fault(
             alloc,
-            "error: a draft is of the kind root, targets, layout, link, seal or take\n\nFor more information, try '--help'.\n",
+            "error: a draft is of the kind root, targets, layout, link, seal, take, message or attach\n\nFor more information, try '--help'.\n",
         )),
     }
 }
@@ -155,7 +175,11 @@ fn told_of_targets(alloc: Global, given: &ArgMatches<'_>) -> Result<TargetsDraft
 }
 
 // What targets metadata alone has stands beside no other kind.
-fn refuse_targets(alloc: Global, given: &ArgMatches<'_>, kind: &str) -> Result<(), Unread>
+pub(crate) fn refuse_targets(
+    alloc: Global,
+    given: &ArgMatches<'_>,
+    kind: &str,
+) -> Result<(), Unread>
     ensures { IfOk result (λ _. LacksTargets (rows_of (found_of given.now))) }
 {
     refuse(alloc, given, "role", kind)?;
@@ -167,7 +191,7 @@ fn refuse_targets(alloc: Global, given: &ArgMatches<'_>, kind: &str) -> Result<(
 }
 
 // What layouts and links have stands beside no other kind.
-fn refuse_chain(alloc: Global, given: &ArgMatches<'_>, kind: &str) -> Result<(), Unread>
+pub(crate) fn refuse_chain(alloc: Global, given: &ArgMatches<'_>, kind: &str) -> Result<(), Unread>
     ensures { IfOk result (λ _. LacksChain (rows_of (found_of given.now))) }
 {
     refuse(alloc, given, "target", kind)?;

@@ -3,7 +3,7 @@ ghost use Rattle.std.specs.Prelude.{◌≡◌, ◌≤◌, IfOk, IsTrue, None, So
 ghost use Rattle.std.specs.Str.Parse.{digits_value, without_leading_plus};
 ghost use Rattle.clap.specs.Words.{all_of, first_of, found_of, rows_of};
 ghost use Rattle.lms.specs.Parameters.{height, signing_type, width};
-ghost use Rattle.command_line.specs.CommandLine.{HasNumber, HasNumberOr, HasParams, HasParamsOr, HasPlace, HasServer, HasText, HasTexts, Lacks, MayHaveNumber, MayHaveText, MayHaveTexts, is_used, most_mirrors};
+ghost use Rattle.command_line.specs.CommandLine.{HasLower, HasNumber, HasNumberOr, HasParams, HasParamsOr, HasPlace, HasServer, HasText, HasTexts, Lacks, LacksLevels, MayHaveNumber, MayHaveText, MayHaveTexts, is_used, most_mirrors};
 ghost use Rattle.command_words.specs.Subcommands.{last_moment, last_port, most_connections, most_days, most_seconds};
 
 use crate::tasks::{
@@ -259,12 +259,21 @@ fn is_absent(given: &ArgMatches<'_>, id: &str) -> bool
     }
 }
 
+// What is wrong with a width, and with a height.
+const WRONG_OTS: &str = "error: '--ots' is 1, 2, 4 or 8\n";
+
+const WRONG_HEIGHT: &str = "error: '--height' is 5 or 10\n";
+
+const WRONG_LOWER_OTS: &str = "error: '--lower-ots' is 1, 2, 4 or 8\n";
+
+const WRONG_LOWER_HEIGHT: &str = "error: '--lower-height' is 5 or 10\n";
+
 /// The parameters of a key pair that are given.
 pub fn params_of(alloc: Global, given: &ArgMatches<'_>) -> Result<Params, Unread>
     ensures { IfOk result (HasParams (rows_of (found_of given.now))) }
 {
-    let ots = ots_of(alloc, given)?;
-    let height = height_of(alloc, given)?;
+    let ots = ots_of(alloc, given, "ots", WRONG_OTS)?;
+    let height = height_of(alloc, given, "height", WRONG_HEIGHT)?;
     Ok(Params { ots, height })
 }
 
@@ -283,7 +292,7 @@ fn ots_or(alloc: Global, given: &ArgMatches<'_>) -> Result<OtsType, Unread>
     if is_left_out(given, "ots") {
         return Ok(OtsType::W8);
     }
-    ots_of(alloc, given)
+    ots_of(alloc, given, "ots", WRONG_OTS)
 }
 
 fn height_or(alloc: Global, given: &ArgMatches<'_>) -> Result<SigningHeight, Unread>
@@ -292,32 +301,102 @@ fn height_or(alloc: Global, given: &ArgMatches<'_>) -> Result<SigningHeight, Unr
     if is_left_out(given, "height") {
         return Ok(SigningHeight::H10);
     }
-    height_of(alloc, given)
+    height_of(alloc, given, "height", WRONG_HEIGHT)
+}
+
+/// The parameters of the trees below in a new key of two levels: those of the top tree where they are not given. `None` of a key of one level.
+pub fn lower_of(
+    alloc: Global,
+    given: &ArgMatches<'_>,
+    top: Params,
+) -> Result<Option<Params>, Unread>
+    ensures { IfOk result (HasLower (rows_of (found_of given.now)) top) }
+{
+    if is_left_out(given, "levels") {
+        refuse_lower(alloc, given)?;
+        return Ok(None);
+    }
+    match number_of(alloc, given, "levels", 1, 2)? {
+        Some(2) => {
+            let ots = lower_ots(alloc, given, top.ots)?;
+            let height = lower_height(alloc, given, top.height)?;
+            Ok(Some(Params { ots, height }))
+        }
+        Some(1) => {
+            refuse_lower(alloc, given)?;
+            Ok(None)
+        }
+        _ => Err(missing(alloc, "levels")),
+    }
+}
+
+// No parameters of trees below.
+fn refuse_lower(alloc: Global, given: &ArgMatches<'_>) -> Result<(), Unread>
+    ensures { IfOk result (λ _. Lacks (rows_of (found_of given.now)) (codes "lower-ots") × Lacks (rows_of (found_of given.now)) (codes "lower-height")) }
+{
+    refuse(alloc, given, "lower-ots", "--levels 1")?;
+    refuse(alloc, given, "lower-height", "--levels 1")
+}
+
+fn lower_ots(alloc: Global, given: &ArgMatches<'_>, top: OtsType) -> Result<OtsType, Unread>
+    ensures { IfOk result (λ t. HasNumberOr (rows_of (found_of given.now)) (codes "lower-ots") 1 8 (width top) (width t)) }
+{
+    if is_left_out(given, "lower-ots") {
+        return Ok(top);
+    }
+    ots_of(alloc, given, "lower-ots", WRONG_LOWER_OTS)
+}
+
+fn lower_height(
+    alloc: Global,
+    given: &ArgMatches<'_>,
+    top: SigningHeight,
+) -> Result<SigningHeight, Unread>
+    ensures { IfOk result (λ h. HasNumberOr (rows_of (found_of given.now)) (codes "lower-height") 5 10 (height (signing_type top)) (height (signing_type h))) }
+{
+    if is_left_out(given, "lower-height") {
+        return Ok(top);
+    }
+    height_of(alloc, given, "lower-height", WRONG_LOWER_HEIGHT)
+}
+
+/// No option of a key of several levels is given.
+pub fn refuse_levels(alloc: Global, given: &ArgMatches<'_>, with: &str) -> Result<(), Unread>
+    ensures { IfOk result (λ _. LacksLevels (rows_of (found_of given.now))) }
+{
+    refuse(alloc, given, "levels", with)?;
+    refuse(alloc, given, "lower-ots", with)?;
+    refuse(alloc, given, "lower-height", with)
 }
 
 // The LM-OTS type of the width that is given.
-fn ots_of(alloc: Global, given: &ArgMatches<'_>) -> Result<OtsType, Unread>
-    ensures { IfOk result (λ t. HasNumber (rows_of (found_of given.now)) (codes "ots") 1 8 (width t)) }
+fn ots_of(alloc: Global, given: &ArgMatches<'_>, id: &str, wrong: &str) -> Result<OtsType, Unread>
+    ensures { IfOk result (λ t. HasNumber (rows_of (found_of given.now)) id.now 1 8 (width t)) }
 {
-    match number_of(alloc, given, "ots", 1, 8)? {
+    match number_of(alloc, given, id, 1, 8)? {
         Some(1) => Ok(OtsType::W1),
         Some(2) => Ok(OtsType::W2),
         Some(4) => Ok(OtsType::W4),
         Some(8) => Ok(OtsType::W8),
-        None => Err(missing(alloc, "ots")),
-        _ => Err(fault(alloc, "error: '--ots' is 1, 2, 4 or 8\n")),
+        None => Err(missing(alloc, id)),
+        _ => Err(fault(alloc, wrong)),
     }
 }
 
 // The height that is given.
-fn height_of(alloc: Global, given: &ArgMatches<'_>) -> Result<SigningHeight, Unread>
-    ensures { IfOk result (λ h. HasNumber (rows_of (found_of given.now)) (codes "height") 5 10 (height (signing_type h))) }
+fn height_of(
+    alloc: Global,
+    given: &ArgMatches<'_>,
+    id: &str,
+    wrong: &str,
+) -> Result<SigningHeight, Unread>
+    ensures { IfOk result (λ h. HasNumber (rows_of (found_of given.now)) id.now 5 10 (height (signing_type h))) }
 {
-    match number_of(alloc, given, "height", 5, 10)? {
+    match number_of(alloc, given, id, 5, 10)? {
         Some(5) => Ok(SigningHeight::H5),
         Some(10) => Ok(SigningHeight::H10),
-        None => Err(missing(alloc, "height")),
-        _ => Err(fault(alloc, "error: '--height' is 5 or 10\n")),
+        None => Err(missing(alloc, id)),
+        _ => Err(fault(alloc, wrong)),
     }
 }
 

@@ -8,6 +8,7 @@ ghost use Rattle.command_line.specs.CommandLine.{AsksForHelp, HasAnchor, HasName
 mod drafts;
 mod given;
 mod help;
+mod outside;
 mod tasks;
 
 use clap::ArgMatches;
@@ -15,22 +16,23 @@ use clap::error::ErrorKind;
 use command_words::release;
 use drafts::draft_of;
 use given::{
-    count_of, due_of, fault, is_given, is_left_out, moment_of, params_of, params_or, place_of,
-    port_of, refuse, refuse_flag, server_of, text_of, text_or_none, texts_of, texts_or_none,
-    within_of,
+    count_of, due_of, fault, is_given, is_left_out, lower_of, moment_of, params_of, params_or,
+    place_of, port_of, refuse, refuse_flag, refuse_levels, server_of, text_of, text_or_none,
+    texts_of, texts_or_none, within_of,
 };
 use limits::MOST_DOCUMENTS;
+use outside::public_key_of;
 use std::alloc::{AllocError, Global};
 use tasks::Unread;
 pub use tasks::{
-    Anchor, Draft, Drafting, FolderSigning, Getting, LayoutDraft, LinkDraft, Place, Server,
-    Serving, Showing, Signing, Subcommand, TargetsDraft, Task, Usage,
+    Anchor, AttachDraft, Draft, Drafting, FolderSigning, Getting, LayoutDraft, LinkDraft, Place,
+    Server, Serving, Showing, Signing, Subcommand, TargetsDraft, Task, Usage,
 };
 
-// Neither a seed nor a new name.
+// Neither a seed nor a new name nor a public key.
 const NO_KEY: &str = concat!(
     "error: the following required arguments were not provided:\n",
-    "  <--seed <S>|--new <NAME>>\n\n",
+    "  <--seed <S>|--new <NAME>|--public <FILE>>\n\n",
     "For more information, try '--help'.\n",
 );
 
@@ -158,11 +160,16 @@ fn init_asked(alloc: Global, given: &ArgMatches<'_>) -> Result<Subcommand, Unrea
 fn key_asked(alloc: Global, given: &ArgMatches<'_>) -> Result<Subcommand, Unread>
     ensures { IfOk result (IsAsked (codes "key") (rows_of (found_of given.now))) }
 {
+    if !is_left_out(given, "public") {
+        return public_key_of(alloc, given);
+    }
+    refuse(alloc, given, "public", "key")?;
     if is_left_out(given, "new") {
         if is_left_out(given, "seed") {
             return Err(fault(alloc, NO_KEY));
         }
         refuse(alloc, given, "name", "--seed <S>")?;
+        refuse_levels(alloc, given, "--seed <S>")?;
         let seed = text_of(alloc, given, "seed")?;
         let params = params_of(alloc, given)?;
         return Ok(Subcommand::Key { seed, params });
@@ -170,7 +177,12 @@ fn key_asked(alloc: Global, given: &ArgMatches<'_>) -> Result<Subcommand, Unread
     refuse(alloc, given, "seed", "--new <NAME>")?;
     let names = names_of(alloc, given)?;
     let params = params_or(alloc, given)?;
-    Ok(Subcommand::NewKey { names, params })
+    let lower = lower_of(alloc, given, params)?;
+    Ok(Subcommand::NewKey {
+        names,
+        params,
+        lower,
+    })
 }
 
 // The names of new keys.

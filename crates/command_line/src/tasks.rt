@@ -91,6 +91,20 @@ pub enum Draft {
         target: Option<String>,
         files: Vec<String>,
     },
+    /// The bytes that are signed of a role's draft.
+    Message {
+        role: String,
+    },
+    /// A signature that another tool made.
+    Attach(AttachDraft),
+}
+
+/// What is told of a signature that another tool made: the role of the draft, the file of the key object, and that of the signature's bytes.
+#[derive(Drop)]
+pub struct AttachDraft {
+    pub role: String,
+    pub key: String,
+    pub signature: String,
 }
 
 /// What is told of a layout: the target that it is for, the rule of its owners, a file of other artifact rules, and its steps as
@@ -206,10 +220,16 @@ pub enum Subcommand {
         seed: String,
         params: Params,
     },
-    /// `key --new NAME [NAME ..] [--ots W] [--height H]`: makes the three files of each key, of width 8 and height 10 where these are not given.
+    /// `key --new NAME [NAME ..] [--ots W] [--height H] [--levels N] [--lower-ots W] [--lower-height H]`: makes the three files of each key, of
+    /// width 8 and height 10 where these are not given; of two levels where there are parameters of the trees below.
     NewKey {
         names: Vec<String>,
         params: Params,
+        lower: Option<Params>,
+    },
+    /// `key --public FILE`: prints the key object of a public key that another tool made.
+    PublicKey {
+        file: String,
     },
     /// `prune --db FILE` or `prune --port P`: removes the documents and target files that the snapshot does not list.
     Prune {

@@ -18,7 +18,7 @@ pub enum Slip {
     Book,
     /// Another command is writing in the folder.
     Busy,
-    /// A file that was sent back is over another signed part.
+    /// A file or a signature that was sent back is over another signed part.
     Different,
     /// What is to be made stands there.
     Exists,
@@ -26,7 +26,7 @@ pub enum Slip {
     File,
     /// What is held does not meet its rules from the root that was given.
     Held,
-    /// No key, or more than one, is called so.
+    /// No key, or more than one, is called so, or bytes are no public key.
     Key,
     /// Nothing to do: no document that the key may sign, or no draft.
     Nothing,

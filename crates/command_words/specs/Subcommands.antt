@@ -130,8 +130,14 @@ init_line = with_rule (stored_line (codes "init")) (operand_rule (codes "root"))
 abbrev pub with_key_pair : App → App
 with_key_pair a = with_rule (with_rule (with_rule a (option_rule (codes "seed"))) ots_rule) height_rule
 
+-- `--levels N`, `--lower-ots W` and `--lower-height H` of a new key of several levels
+abbrev pub with_levels : App → App
+with_levels a = with_rule (with_rule (with_rule a (record (option_rule (codes "levels")) { parser = Some (Unsigned 1 2) }))
+    (record (option_rule (codes "lower-ots")) { parser = Some (Unsigned 1 8) })) (record (option_rule (codes "lower-height")) { parser = Some (Unsigned 5 10) })
+
 abbrev pub key_line : App
-key_line = with_rule (with_rule (with_key_pair (begun_line (codes "key"))) (option_rule (codes "new"))) (operands_rule (codes "name"))
+key_line = with_rule (with_levels (with_rule (with_rule (with_key_pair (begun_line (codes "key"))) (option_rule (codes "new"))) (operands_rule (codes "name"))))
+    (option_rule (codes "public"))
 
 abbrev pub prune_line : App
 prune_line = placed_line (codes "prune")
@@ -186,7 +192,8 @@ abbrev pub with_links : App → App
 with_links a = with_rule (with_rule (with_rule a (option_rule (codes "step"))) (many_rule (codes "materials"))) (many_rule (codes "products"))
 
 abbrev pub draft_line : App
-draft_line = with_rule (with_rule (with_links (with_layouts (with_delegations (with_listings begun_draft_line)))) (operand_rule (codes "kind"))) (operands_rule (codes "word"))
+draft_line = with_rule (with_rule (with_rule (with_links (with_layouts (with_delegations (with_listings begun_draft_line)))) (option_rule (codes "key")))
+    (operand_rule (codes "kind"))) (operands_rule (codes "word"))
 
 abbrev pub needs_subcommand : App → App
 needs_subcommand a = record a { top = record a.top { subcommand_required = true } }

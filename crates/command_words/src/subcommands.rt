@@ -121,15 +121,20 @@ const DRAFT: &[Word<'static>] = &[
     Word::Option("step", "NAME", "The step that a link is of"),
     Word::Many("materials", "FILE", "A file that the step begins with"),
     Word::Many("products", "FILE", "A file that the step leaves"),
+    Word::Option(
+        "key",
+        "K.key",
+        "Of attach the file with the key object of the key that has signed",
+    ),
     Word::Operand(
         "kind",
         "KIND",
-        "root, targets, layout, link, seal (snapshot and timestamp) or take (what another machine sends back)",
+        "root, targets, layout, link, seal (snapshot and timestamp), take (what another machine sends back), message (what is signed) or attach (a signature of another tool)",
     ),
     Word::Operands(
         "word",
         "WORD",
-        "Of root ROLE=RULE, where a rule is [N@]KEY[,KEY..] and a key a file, a name or digits of its ID; of layout STEP=RULE:PRODUCT[,..]; of take files",
+        "Of root ROLE=RULE, where a rule is [N@]KEY[,KEY..] and a key a file, a name or digits of its ID; of layout STEP=RULE:PRODUCT[,..]; of take files; of message ROLE; of attach ROLE and the file of the signature",
     ),
 ];
 
@@ -214,14 +219,40 @@ const KEY: &[Word<'static>] = &[
         "NAME",
         "Another key to make, of the same width and height",
     ),
+    Word::Number(
+        "levels",
+        "N",
+        "The levels of a new key: 1, or 2 for a tree that signs the keys of the trees below it (1 where it is not given)",
+        1,
+        2,
+    ),
+    Word::Number(
+        "lower-ots",
+        "W",
+        "Of 2 levels the width of the trees below: 1, 2, 4 or 8 (that of --ots where it is not given)",
+        1,
+        8,
+    ),
+    Word::Number(
+        "lower-height",
+        "H",
+        "Of 2 levels the height of the trees below: 5 or 10 (that of --height where it is not given)",
+        5,
+        10,
+    ),
+    Word::Option(
+        "public",
+        "FILE",
+        "A public key that another tool made: 56 bytes of LMS or 60 of HSS, of which the key object is printed",
+    ),
 ];
 
-/// `key [--at SECONDS] [--verbose] --seed S --ots W --height H` or `key [--at SECONDS] [--verbose] --new NAME [NAME ..] [--ots W]
-/// [--height H]`
+/// `key [--at SECONDS] [--verbose] --seed S --ots W --height H`, `key [--at SECONDS] [--verbose] --new NAME [NAME ..] [--ots W]
+/// [--height H] [--levels N] [--lower-ots W] [--lower-height H]` or `key [--at SECONDS] [--verbose] --public FILE`
 pub fn key<'a>(alloc: Global) -> Result<Command<'a>, AllocError>
     ensures { Makes key_line result }
 {
-    let about = "Print the public key object of a seed, or make keys";
+    let about = "Print the public key object of a seed or of a public key, or make keys";
     let command = begun(alloc, "key", about, texts::KEY);
     with(alloc, command, KEY)
 }

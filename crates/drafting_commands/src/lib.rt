@@ -4,14 +4,16 @@
 mod drafting_faults;
 mod keys;
 mod listing;
+mod messages;
 mod rooting;
 mod saving;
 mod terms;
 
 pub use command_support::{Fault, Notes};
 pub use drafting_faults::{drafted, usage};
-pub use keys::{Known, RuleRead, items_in, last_segment, rule_of};
+pub use keys::{Known, RuleRead, items_in, key_in_file, last_segment, rule_of};
 pub use listing::{TARGETS_DAYS, addition_of, digest_in, draft_listing};
+pub use messages::{draft_there, print_message};
 pub use rooting::draft_rules;
 pub use saving::{Before, see_unsigned};
 pub use terms::{kept_terms, terms_of};

@@ -358,32 +358,22 @@ pub fn digest_in<E: Write>(
     bytes: &[u8],
     notes: &mut Notes<'_, E>,
 ) -> Result<Addition, Fault> {
-    let length = length_of(bytes)?;
-    let digest = folder.put_file(bytes, notes)?;
-    let path = String::from_str(alloc, path)?;
-    Ok(Addition {
-        path,
-        length,
-        digest,
-    })
+    let addition = addition_of(alloc, path, bytes)?;
+    folder.put_file(bytes, notes)?;
+    Ok(addition)
 }
 
 /// The same, and its bytes go nowhere.
 pub fn addition_of(alloc: Global, path: &str, bytes: &[u8]) -> Result<Addition, Fault> {
-    let length = length_of(bytes)?;
+    let Ok(length) = u32::try_from(bytes.len()) else {
+        return Err(Fault::Denied(Denial::BlobLength, None));
+    };
     let path = String::from_str(alloc, path)?;
     Ok(Addition {
         path,
         length,
         digest: digest_of(bytes),
     })
-}
-
-fn length_of(bytes: &[u8]) -> Result<u32, Fault> {
-    match u32::try_from(bytes.len()) {
-        Ok(length) => Ok(length),
-        Err(_) => Err(Fault::Denied(Denial::BlobLength, None)),
-    }
 }
 
 // More files and folders than these are not looked at: a listing has room for fewer.

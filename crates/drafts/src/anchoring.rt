@@ -1,7 +1,8 @@
 //! Whether what is held in a folder, which somebody else may have given, has its signatures from a root that is trusted.
 use crate::counting::meets_in;
 use crate::said::version_in;
-use crate::vouching::held_rules;
+use crate::targets_read::TargetsRead;
+use crate::vouching::rules_in_roots;
 use command_support::{Fault, Folder, Notes};
 use std::alloc::Global;
 use std::io::Write;
@@ -14,9 +15,10 @@ pub fn is_held_from<E: Write>(
     root: &[u8],
     notes: &mut Notes<'_, E>,
 ) -> Result<bool, Fault> {
+    let mut targets = TargetsRead::of_held(alloc, folder);
     let mut is_held = true;
     for role in &folder.held_roles(notes)? {
-        if let Some(why) = unmet(alloc, folder, role.as_str(), root, notes)? {
+        if let Some(why) = unmet(alloc, folder, &mut targets, role.as_str(), root, notes)? {
             let name = format!(in alloc; "held/{role}.json")?;
             notes.warn(&folder.place(name.as_str())?, &why);
             is_held = false;
@@ -29,6 +31,7 @@ pub fn is_held_from<E: Write>(
 fn unmet<E: Write>(
     alloc: Global,
     folder: Folder<'_>,
+    targets: &mut TargetsRead<'_>,
     role: &str,
     root: &[u8],
     notes: &mut Notes<'_, E>,
@@ -36,7 +39,7 @@ fn unmet<E: Write>(
     let Some(bytes) = folder.held(role, notes)? else {
         return Ok(None);
     };
-    match is_met(alloc, folder, role, root, &bytes, notes) {
+    match is_met(alloc, folder, targets, role, root, &bytes, notes) {
         Ok(false) => Ok(Some("it is not signed by its rules from the root that is given")),
         Ok(true) if role == "root" && is_older(alloc, &bytes, root) => {
             Ok(Some("it is older than the root that is given"))
@@ -50,12 +53,24 @@ fn unmet<E: Write>(
 fn is_met<E: Write>(
     alloc: Global,
     folder: Folder<'_>,
+    targets: &mut TargetsRead<'_>,
     role: &str,
     root: &[u8],
     bytes: &[u8],
     notes: &mut Notes<'_, E>,
 ) -> Result<bool, Fault> {
-    let rules = held_rules(alloc, folder, role, root, notes)?;
+    let rules = match role {
+        "root" => {
+            let roots = [("root.json", Some(root)), ("held/root.json", Some(bytes))];
+            rules_in_roots(alloc, folder, role, &roots, None, notes)?
+        }
+        "targets" | "snapshot" | "timestamp" => {
+            let held = folder.held("root", notes)?;
+            let roots = [("held/root.json", held.as_deref())];
+            rules_in_roots(alloc, folder, role, &roots, None, notes)?
+        }
+        _ => targets.rules(role, notes)?,
+    };
     meets_in(alloc, role, &rules, bytes)
 }
 

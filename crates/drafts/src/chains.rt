@@ -1,6 +1,4 @@
 //! Layouts and links as targets (this project's profile of TUF 1.0, section 4.5, custom).
-use crate::counting::count_of;
-use crate::roles::kind_of;
 use crate::said::{Said, read_said_of};
 use crate::vouching::{Vouching, vouching_of};
 use change_lines::FIRST_DIGITS;
@@ -197,104 +195,6 @@ pub fn layout_said<E: Write>(
         Some(bytes) => Ok(Some(read_said_of(alloc, Kind::Layout, &bytes)?)),
         None => Ok(None),
     }
-}
-
-/// The first target of targets metadata whose layout is on its way and is not finished: its owners have not signed, or a step lacks links.
-pub fn unfinished_layout<E: Write>(
-    alloc: Global,
-    folder: Folder<'_>,
-    said: &Said,
-    notes: &mut Notes<'_, E>,
-) -> Result<Option<String>, Fault> {
-    for file in &said.files {
-        if file.has_layout && is_unfinished(alloc, folder, file.path.as_str(), notes)? {
-            return Ok(Some(String::from_str(alloc, file.path.as_str())?));
-        }
-    }
-    Ok(None)
-}
-
-fn is_unfinished<E: Write>(
-    alloc: Global,
-    folder: Folder<'_>,
-    target: &str,
-    notes: &mut Notes<'_, E>,
-) -> Result<bool, Fault> {
-    let Some(bytes) = layout_in(alloc, folder, target, notes)? else {
-        return Ok(false);
-    };
-    let owners = owners_of(alloc, folder, target, notes)?;
-    if !are_met(alloc, &owners, &bytes)? {
-        return Ok(true);
-    }
-    let layout = read_said_of(alloc, Kind::Layout, &bytes)?;
-    for rule in &layout.rules {
-        let links = links_in(alloc, folder, target, &layout, rule.role.as_str(), notes)?;
-        if links < usize::from(rule.threshold) {
-            return Ok(true);
-        }
-    }
-    Ok(false)
-}
-
-// Whether enough keys of each of these rules have signed the file.
-fn are_met(alloc: Global, rules: &[Vouching], bytes: &[u8]) -> Result<bool, Fault> {
-    let file = read_signed(alloc, bytes)?;
-    for vouching in rules {
-        if !count_of(alloc, vouching, &file)?.is_met() {
-            return Ok(false);
-        }
-    }
-    Ok(true)
-}
-
-/// The rule of the owners of a target's layout, by the targets metadata that refer the target to it: a draft, or else what is held.
-pub fn owners_of<E: Write>(
-    alloc: Global,
-    folder: Folder<'_>,
-    target: &str,
-    notes: &mut Notes<'_, E>,
-) -> Result<Vec<Vouching>, Fault> {
-    let mut owners = Vec::new(alloc);
-    for role in &folder.roles(notes)? {
-        if kind_of(role.as_str()) == Kind::Targets {
-            add_owners(
-                alloc,
-                folder.draft(role.as_str(), notes)?,
-                target,
-                &mut owners,
-            )?;
-        }
-    }
-    if !owners.is_empty() {
-        return Ok(owners);
-    }
-    for role in &folder.held_roles(notes)? {
-        if kind_of(role.as_str()) == Kind::Targets {
-            add_owners(
-                alloc,
-                folder.held(role.as_str(), notes)?,
-                target,
-                &mut owners,
-            )?;
-        }
-    }
-    Ok(owners)
-}
-
-fn add_owners(
-    alloc: Global,
-    bytes: Option<Vec<u8>>,
-    target: &str,
-    owners: &mut Vec<Vouching>,
-) -> Result<(), Fault> {
-    let Some(bytes) = bytes else {
-        return Ok(());
-    };
-    if let Some(found) = reference_of(alloc, &bytes, target)? {
-        owners.push(found.owners)?;
-    }
-    Ok(())
 }
 
 /// The target of a layout, by the name of its file in `layouts`.

@@ -1,13 +1,12 @@
 //! How many keys of a rule have signed.
 use crate::roles::kind_of;
-use crate::vouching::{Vouching, rules_for};
-use command_support::{Fault, Folder, Notes};
+use crate::vouching::Vouching;
+use command_support::Fault;
 use drafting::{Look, look_at};
 use keys_roles::{KeyId, RoleRule, meets, signed_count};
 use metadata::{Document, SignedFile};
 use std::alloc::{AllocError, Global};
 use std::fmt;
-use std::io::Write;
 
 /// How many keys have signed, and how many have to.
 #[derive(Clone, Copy)]
@@ -65,19 +64,8 @@ pub fn has_signed(
     Ok(meets(&rule, &vouching.keys, file.signed, &file.signatures))
 }
 
-/// Whether the draft of a role has the signatures that its rules ask for. Bytes that are no document of the role are denied by the first
-/// check that fails.
-pub fn has_signatures<E: Write>(
-    alloc: Global,
-    folder: Folder<'_>,
-    role: &str,
-    notes: &mut Notes<'_, E>,
-) -> Result<bool, Fault> {
-    let rules = rules_for(alloc, folder, role, notes)?;
-    let bytes = folder.draft_or_none(role, notes)?;
-    meets_in(alloc, role, &rules, &bytes)
-}
-
+/// Whether the bytes meet every one of these rules, and there is one. Bytes that are no document of the role are denied by the first check
+/// that fails.
 pub(crate) fn meets_in(
     alloc: Global,
     role: &str,

@@ -9,18 +9,18 @@ mod entries;
 mod key_files;
 mod roles;
 mod said;
+mod targets_read;
 mod vouching;
 
 pub use anchoring::is_held_from;
 pub use chains::{
     Referred, chain_name, layout_in, layout_name, layout_path, layout_said, link_name, link_path,
-    links_in, listed_otherwise, owners_of, path_of, reference_of, see_link, signed_step,
-    target_of_layout, unfinished_layout,
+    links_in, listed_otherwise, path_of, reference_of, see_link, signed_step, target_of_layout,
 };
 pub use change_lines::{FIRST_DIGITS, Names, key_text};
 pub use changes::{changes_of, signed_in};
 pub use command_support::{Fault, Folder, Notes, Slip};
-pub use counting::{Count, count_of, has_signatures, has_signed};
+pub use counting::{Count, count_of, has_signed};
 pub use drafting::{name_of_key, number_in};
 pub use entries::{signatures_in, without_false_entries};
 pub use key_files::{KEY_FILE_LIMIT, key_in};
@@ -28,4 +28,5 @@ pub use roles::{kind_of, offer_order, sign_order};
 pub use said::{
     ListedFile, Said, SaidRule, held_said, read_said, read_said_of, typed_kind, version_in,
 };
-pub use vouching::{Vouching, rules_for};
+pub use targets_read::{TargetsRead, owners_of, rules_for};
+pub use vouching::Vouching;

@@ -15,14 +15,14 @@ ghost use Rattle.leaf_book.specs.Rows.{HoldsWhole};
 ghost use Rattle.leaf_book.specs.Standing.{CrashLeaves, CrashLeavesEither, LeavesOnly, RestsOn, StaysClean, WasOpen};
 ghost use Rattle.leaf_plans.specs.Views.{book_view, kept_view};
 ghost use Rattle.leaf_book.specs.Views.{id_answer};
-ghost use Rattle.leaf_plans.specs.Planning.{IsPlan};
+ghost use Rattle.leaf_plans.specs.Planning.{HasNoLeaf, IsNextLeaf, IsPlan};
 
 use crate::cells::copied;
 use crate::faults::BookFault;
 use crate::leaf::Leaf;
 use crate::writing::{check_open, put_leaf, put_signer};
 use keys_roles::{Key, KeyId, key_id};
-use leaf_plans::{LeafRow, Plan, Signer, has_params, params_of, plan_for, same_params};
+use leaf_plans::{LeafRow, Plan, Signer, has_params, next_leaf, params_of, plan_for, same_params};
 use lms::{KeyPair, OtsType, Params, Seed, SigningHeight, public_of};
 use sqlite::{Alter, Connection};
 use std::alloc::Global;
@@ -147,6 +147,14 @@ impl<S: Alter> Book<S> {
         ensures { MatchOption result ((params : Params) → IsRegistered self.now.book (id_text key.now) params → ⊥) (λ params. IsRegistered self.now.book (id_text key.now) params) }
     {
         params_of(self.signers.as_slice(), key)
+    }
+
+    /// The leaf that a message gets which has none: the least of the registered key that is not used. `None` where each is used, and where
+    /// the key is not registered. It takes no memory.
+    pub fn next_leaf(&self, key: &KeyId) -> Option<u32>
+        ensures { MatchOption result (HasNoLeaf self.now.book (id_text key.now)) (λ leaf. IsNextLeaf self.now.book (id_text key.now) leaf) }
+    {
+        next_leaf(self.signers.as_slice(), self.leaves.as_slice(), key)
     }
 
     /// The leaf history: each leaf that is kept, with its key and its message. It takes no memory.

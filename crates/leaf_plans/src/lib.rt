@@ -11,4 +11,4 @@ pub use entries::{LeafRow, Signer};
 pub use keys_roles::KeyId;
 pub use lms::{OtsType, Params, SigningHeight};
 pub use parameters::{code_of, height_of, leaves_of, number_of, ots_of, same_params};
-pub use planning::{Plan, has_params, params_of, plan_for};
+pub use planning::{Plan, has_params, leaf_for, next_leaf, params_of, plan_for};

@@ -5,7 +5,7 @@ ghost use Rattle.sqlite_rules.specs.Lists.{Has};
 ghost use Rattle.keys_roles.specs.Views.{id_text};
 ghost use Rattle.leaf_plans.specs.Book.{IsBook, IsLeastUnused, IsRegistered, IsUnused, IsUsed, Keeps, LacksMessage};
 ghost use Rattle.leaf_plans.specs.Views.{book_view, kept_view, signer_view};
-ghost use Rattle.leaf_plans.specs.Planning.{IsPlan};
+ghost use Rattle.leaf_plans.specs.Planning.{HasNoLeaf, IsNextLeaf, IsPlan};
 
 use crate::compared::is_same;
 use crate::entries::{LeafRow, Signer};
@@ -43,8 +43,8 @@ pub fn has_params(signers: &[Signer], params: Params) -> bool
     false
 }
 
-// The leaf of the key that is kept for the message.
-fn leaf_for(leaves: &[LeafRow], key: &KeyId, message: &[u8]) -> Option<u32>
+/// The leaf of the key that is kept for the message.
+pub fn leaf_for(leaves: &[LeafRow], key: &KeyId, message: &[u8]) -> Option<u32>
     ensures { MatchOption result ((leaf : ℕ) → Has (map kept_view leaves.now) (record { key = id_text key.now; leaf = leaf; message = message.now }) → ⊥)
         (λ leaf. Has (map kept_view leaves.now) (record { key = id_text key.now; leaf = leaf; message = message.now })) }
 {
@@ -101,6 +101,16 @@ fn least_unused(leaves: &[LeafRow], key: &KeyId, count: u32) -> Option<u32>
         }
     }
     None
+}
+
+/// The least leaf of a registered key that is not used. `None` where each is used, and where the key is not registered.
+pub fn next_leaf(signers: &[Signer], leaves: &[LeafRow], key: &KeyId) -> Option<u32>
+    ensures { MatchOption result (HasNoLeaf (book_view signers.now leaves.now) (id_text key.now)) (λ leaf. IsNextLeaf (book_view signers.now leaves.now) (id_text key.now) leaf) }
+{
+    match params_of(signers, key) {
+        Some(params) => least_unused(leaves, key, leaves_of(params)),
+        None => None,
+    }
 }
 
 /// What `reserve` is to do.

@@ -1,9 +1,9 @@
 //! What a folder of drafts has.
 use command_support::{Fault, Notes};
 use drafts::{
-    FIRST_DIGITS, Folder, Names, Said, SaidRule, Vouching, changes_of, has_signed, key_text,
-    layout_in, links_in, listed_otherwise, name_of_key, owners_of, read_said, read_said_of,
-    rules_for, sign_order, signed_in, target_of_layout, unfinished_layout, version_in,
+    FIRST_DIGITS, Folder, Names, Said, SaidRule, TargetsRead, Vouching, changes_of, has_signed,
+    key_text, layout_in, links_in, listed_otherwise, name_of_key, read_said, read_said_of,
+    sign_order, signed_in, target_of_layout, version_in,
 };
 use keys_roles::KeyId;
 use metadata::{Kind, Moment, SignedFile, read_signed};
@@ -25,6 +25,7 @@ pub fn drafts_in<E: Write>(
     let mut looking = Looking {
         alloc,
         folder,
+        targets: TargetsRead::new(alloc, folder),
         db,
         are_met: true,
         is_sealed: false,
@@ -59,6 +60,7 @@ pub fn lacks_targets<E: Write>(
 struct Looking<'a> {
     alloc: Global,
     folder: Folder<'a>,
+    targets: TargetsRead<'a>,
     db: Option<&'a str>,
     are_met: bool,
     is_sealed: bool,
@@ -127,8 +129,8 @@ impl Looking<'_> {
             None => 0,
         };
         let changes = changes_of(self.alloc, held.as_deref(), &bytes, notes.are_told())?;
-        let rules = rules_for(self.alloc, self.folder, role, notes)?;
-        self.is_waiting = unfinished_layout(self.alloc, self.folder, &said, notes)?.is_some();
+        let rules = self.targets.rules(role, notes)?;
+        self.is_waiting = self.targets.unfinished_layout(&said, notes)?.is_some();
         let rules = self.signers_in(&rules, &bytes)?;
         self.put_draft(role, version, changes, &said, rules)
     }
@@ -186,7 +188,7 @@ impl Looking<'_> {
         target: &str,
         notes: &mut Notes<'_, E>,
     ) -> Result<(), Fault> {
-        let owners = owners_of(self.alloc, self.folder, target, notes)?;
+        let owners = self.targets.owners(target, notes)?;
         let Some(bytes) = layout_in(self.alloc, self.folder, target, notes)? else {
             return Ok(());
         };

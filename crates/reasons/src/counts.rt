@@ -44,16 +44,12 @@ fn counted_by(
 
 // The root's rule for a role of its own.
 fn root_rule<'a>(root: &'a Root, role: &str) -> Option<&'a RoleRule> {
-    if role == "root" {
-        Some(&root.root)
-    } else if role == "targets" {
-        Some(&root.targets)
-    } else if role == "snapshot" {
-        Some(&root.snapshot)
-    } else if role == "timestamp" {
-        Some(&root.timestamp)
-    } else {
-        None
+    match role {
+        "root" => Some(&root.root),
+        "targets" => Some(&root.targets),
+        "snapshot" => Some(&root.snapshot),
+        "timestamp" => Some(&root.timestamp),
+        _ => None,
     }
 }
 

@@ -90,13 +90,10 @@ fn reason_of<H: HeldFiles>(
 
 // The kind of a role's documents.
 fn kind_of(role: &str) -> Kind {
-    if role == "root" {
-        Kind::Root
-    } else if role == "timestamp" {
-        Kind::Timestamp
-    } else if role == "snapshot" {
-        Kind::Snapshot
-    } else {
-        Kind::Targets
+    match role {
+        "root" => Kind::Root,
+        "timestamp" => Kind::Timestamp,
+        "snapshot" => Kind::Snapshot,
+        _ => Kind::Targets,
     }
 }

@@ -1,5 +1,5 @@
 //! What stands at a place of a batch: what was offered before it, and what is held.
-use crate::held::HeldFiles;
+use crate::held::{HeldFiles, file_of};
 use crate::path::find;
 use canonical_json::{ReadFault, Value, member, read};
 use judging::keeps_roles;
@@ -129,7 +129,7 @@ pub(crate) fn held_root<H: HeldFiles>(
         return Ok(None);
     };
     let name = format!(in alloc; "{version}.root.json")?;
-    Ok(held.file(alloc, name.as_str()))
+    Ok(file_of(alloc, held, name.as_str()))
 }
 
 /// The document of the role and the version.
@@ -147,7 +147,7 @@ pub(crate) fn file_at<H: HeldFiles>(
         return Ok(None);
     }
     let name = format!(in alloc; "{version}.{role}.json")?;
-    Ok(held.file(alloc, name.as_str()))
+    Ok(file_of(alloc, held, name.as_str()))
 }
 
 /// The version of the snapshot that the timestamp names, if there is a timestamp.
@@ -163,7 +163,7 @@ pub(crate) fn named_at<H: HeldFiles>(
     if !standing.keeps_held {
         return None;
     }
-    let bytes = held.file(alloc, "timestamp.json")?;
+    let bytes = file_of(alloc, held, "timestamp.json")?;
     number(&bytes, &names)
 }
 

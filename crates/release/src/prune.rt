@@ -23,20 +23,9 @@ pub fn prune<O: Write, E: Write>(
     notes: &mut Notes<'_, E>,
 ) -> Result<(), Fault> {
     match place {
-        Place::Database(db) => prune_in(rt, db, at, out, notes),
+        Place::Database(db) => prune_now(rt, db, moment(rt, at)?, out, notes),
         Place::Port(port) => prune_at(rt, *port, out, notes),
     }
-}
-
-fn prune_in<O: Write, E: Write>(
-    rt: &HostRuntime,
-    db: &str,
-    at: Option<u64>,
-    out: &mut O,
-    notes: &mut Notes<'_, E>,
-) -> Result<(), Fault> {
-    let now = moment(rt, at)?;
-    prune_now(rt, db, now, out, notes)
 }
 
 fn prune_now<O: Write, E: Write>(

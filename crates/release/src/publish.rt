@@ -5,8 +5,8 @@ ghost use Rattle.store.specs.Views.{command_view, reply_view};
 ghost use Rattle.repository_work.specs.Works.{Ends, EndsBy};
 
 use crate::printing::print_line;
-use authoring::{Batch, complete_batch_in, empty, waiting_file, waiting_files};
-use client_commands::{publish_at, put_bytes_at};
+use authoring::{Drafted, complete_batch_in, empty, waiting_files};
+use client_commands::publish_at;
 use command_line::Place;
 use command_support::{Fault, Notes, moment};
 use drafts::Folder;
@@ -17,10 +17,7 @@ use sqlite::Alter;
 use std::alloc::Global;
 use std::io::Write;
 use store::{Command, Digest, Reply, Store};
-use subcommands::{
-    FORGOTTEN, Forgetting, Holding, NOT_TAKEN, Offer, Offered, batch_of, documents_of, forgets,
-    read_all, tell_argument,
-};
+use subcommands::{Batch, Holding, Waiting, batch_of, documents_of, read_all, tell_argument};
 
 /// Offers the documents to the repository in the database file or at the port, and prints how many were accepted and how many were
 /// held already. Each argument is a role's name, a colon and a file.
@@ -32,10 +29,21 @@ pub fn publish<O: Write, E: Write>(
     out: &mut O,
     notes: &mut Notes<'_, E>,
 ) -> Result<(), Fault> {
-    match place {
-        Place::Database(db) => publish_in(rt, db, arguments, at, out, notes),
-        Place::Port(port) => publish_at(rt, *port, arguments, &[], out, notes),
+    if let Place::Database(_) = place {
+        let _now = moment(rt, at)?;
     }
+    let documents = tell_argument(documents_of(rt.alloc(), arguments), arguments, notes)?;
+    let files = read_all(rt, &documents, notes)?;
+    let documents = batch_of(rt.alloc(), documents, &files)?;
+    let batch = Batch {
+        files: Waiting {
+            folder: Folder::new(rt, "."),
+            digests: &[],
+        },
+        arguments,
+        documents: &documents,
+    };
+    hand_over(rt, place, at, batch, out, notes)
 }
 
 /// Puts the target files that wait in a folder of drafts, offers its documents together, and empties it after that. A repository in a database
@@ -49,107 +57,53 @@ pub fn publish_in_folder<O: Write, E: Write>(
     out: &mut O,
     notes: &mut Notes<'_, E>,
 ) -> Result<(), Fault> {
-    let now = moment(rt, at)?;
+    let _now = moment(rt, at)?;
     let folder = Folder::new(rt, folder);
     let _lock = folder.lock(notes)?;
-    let batch = complete_batch_in(rt.alloc(), folder, notes)?;
-    let waiting = waiting_files(rt.alloc(), folder, notes)?;
+    let drafted = complete_batch_in(rt.alloc(), folder, notes)?;
+    let digests = waiting_files(rt.alloc(), folder, notes)?;
     folder.make_inner("held", notes)?;
-    let drafted = Drafted {
+    let files = Waiting {
         folder,
-        waiting: &waiting,
-        batch: &batch,
+        digests: &digests,
     };
-    if let Err(fault) = drafted.publish(rt, place, now, out, notes) {
-        tell_unsealed(&fault, folder, &batch, notes);
+    if let Err(fault) = publish_drafted(rt, place, at, files, &drafted, out, notes) {
+        tell_unsealed(&fault, folder, &drafted, notes);
         return Err(fault);
     }
-    empty(rt.alloc(), folder, &batch, notes)
+    empty(rt.alloc(), folder, &drafted, notes)
 }
 
-// What a folder has to publish: the digests of the target files that wait, and the documents.
-#[derive(Clone, Copy)]
-struct Drafted<'a> {
-    folder: Folder<'a>,
-    waiting: &'a [Digest],
-    batch: &'a Batch,
-}
-
-impl Drafted<'_> {
-    fn publish<O: Write, E: Write>(
-        &self,
-        rt: &HostRuntime,
-        place: &Place,
-        now: Moment,
-        out: &mut O,
-        notes: &mut Notes<'_, E>,
-    ) -> Result<(), Fault> {
-        let arguments = self.batch.arguments(rt.alloc(), self.folder)?;
-        match place {
-            Place::Database(db) => self.publish_to(rt, db, &arguments, now, out, notes),
-            Place::Port(port) => {
-                self.put_at(rt, *port, notes)?;
-                publish_at(rt, *port, &arguments, &self.batch.files, out, notes)
-            }
-        }
-    }
-
-    // To the repository in the database file.
-    fn publish_to<O: Write, E: Write>(
-        &self,
-        rt: &HostRuntime,
-        db: &str,
-        arguments: &[String],
-        now: Moment,
-        out: &mut O,
-        notes: &mut Notes<'_, E>,
-    ) -> Result<(), Fault> {
-        let batch = self.batch.offers(rt.alloc())?;
-        let mut publishing = Publishing {
-            folder: self.folder,
-            waiting: self.waiting,
-            offering: Offering {
-                alloc: rt.alloc(),
-                db,
-                arguments,
-                batch: &batch,
-                now,
-            },
-        };
-        let reply = worked(rt, db, &mut publishing, notes)?;
-        print_accepted(reply, arguments, out, notes)
-    }
-
-    // Puts the waiting files by the server at the port.
-    fn put_at<E: Write>(
-        &self,
-        rt: &HostRuntime,
-        port: u16,
-        notes: &mut Notes<'_, E>,
-    ) -> Result<(), Fault> {
-        for digest in self.waiting {
-            let bytes = waiting_file(self.folder, digest, notes)?;
-            let digits = digest.digits();
-            let name = str::from_utf8(&digits).unwrap_or("-");
-            let mut unheard = Vec::new(rt.alloc());
-            put_bytes_at(rt, port, name, &bytes, &mut unheard, notes)?;
-        }
-        Ok(())
-    }
+fn publish_drafted<'d, O: Write, E: Write>(
+    rt: &HostRuntime,
+    place: &Place,
+    at: Option<u64>,
+    files: Waiting<'d>,
+    drafted: &'d Drafted,
+    out: &mut O,
+    notes: &mut Notes<'_, E>,
+) -> Result<(), Fault> {
+    let documents = drafted.offers(rt.alloc())?;
+    let batch = Batch {
+        files,
+        arguments: &drafted.arguments,
+        documents: &documents,
+    };
+    hand_over(rt, place, at, batch, out, notes)
 }
 
 // Tells what is to be done where a batch was denied and the folder was not sealed.
 fn tell_unsealed<E: Write>(
     fault: &Fault,
     folder: Folder<'_>,
-    batch: &Batch,
+    drafted: &Drafted,
     notes: &mut Notes<'_, E>,
 ) {
     let is_denied = match fault {
         Fault::Denied(_, _) | Fault::Refused(_, _, _) => true,
         _ => false,
     };
-    if is_denied && batch.is_unsealed() {
+    if is_denied && drafted.is_unsealed() {
         notes.fault(
             &folder.path(),
             &"it has no draft of a timestamp: seal first, by 'release draft --in DIR seal', and sign what that drafts",
@@ -157,37 +111,53 @@ fn tell_unsealed<E: Write>(
     }
 }
 
-fn publish_in<O: Write, E: Write>(
+// Puts the target files and offers the documents.
+fn hand_over<O: Write, E: Write>(
     rt: &HostRuntime,
-    db: &str,
-    arguments: &[String],
+    place: &Place,
     at: Option<u64>,
+    batch: Batch<'_>,
     out: &mut O,
     notes: &mut Notes<'_, E>,
 ) -> Result<(), Fault> {
-    let now = moment(rt, at)?;
-    let documents = tell_argument(documents_of(rt.alloc(), arguments), arguments, notes)?;
-    let files = read_all(rt, &documents, &[], notes)?;
-    let batch = batch_of(rt.alloc(), documents, &files)?;
-    offer(rt, db, arguments, &batch, now, out, notes)
+    match place {
+        Place::Port(port) => publish_at(rt, *port, batch, out, notes),
+        Place::Database(db) => {
+            let now = moment(rt, at)?;
+            if batch.files.digests.is_empty() {
+                return offer(rt, db, batch, now, out, notes);
+            }
+            let alloc = rt.alloc();
+            let mut publishing = Publishing {
+                folder: batch.files.folder,
+                waiting: batch.files.digests,
+                offering: Offering {
+                    alloc,
+                    db,
+                    batch,
+                    now,
+                },
+            };
+            let reply = worked(rt, db, &mut publishing, notes)?;
+            print_accepted(reply, batch.arguments, out, notes)
+        }
+    }
 }
 
 // Offers a batch, and prints how many documents were accepted and how many were held already.
 fn offer<O: Write, E: Write>(
     rt: &HostRuntime,
     db: &str,
-    arguments: &[String],
-    batch: &[(Offer, &[u8])],
+    batch: Batch<'_>,
     now: Moment,
     out: &mut O,
     notes: &mut Notes<'_, E>,
 ) -> Result<(), Fault>
-    ensures { Ends (command_view (Command.Batch batch.entry)) now (λ reply. (accepted same : ℕ) × (reply ≡ BatchDone accepted same)) result }
+    ensures { Ends (command_view (Command.Batch batch.entry.documents)) now (λ reply. (accepted same : ℕ) × (reply ≡ BatchDone accepted same)) result }
 {
     let mut offering = Offering {
         alloc: rt.alloc(),
         db,
-        arguments,
         batch,
         now,
     };
@@ -195,7 +165,7 @@ fn offer<O: Write, E: Write>(
         Ok(reply) => reply,
         Err(fault) => return Err(fault),
     };
-    print_accepted(reply, arguments, out, notes)
+    print_accepted(reply, batch.arguments, out, notes)
 }
 
 // Prints how many documents were accepted and how many were held already, or tells which one was denied.
@@ -213,11 +183,6 @@ fn print_accepted<O: Write, E: Write>(
     }
 }
 
-// The timestamp that is held.
-fn timestamp_of<S: Alter>(repository: &Store<S>) -> Option<&[u8]> {
-    repository.held().metadata_file("timestamp.json")
-}
-
 // What a repository holds, as what is told asks for it.
 fn holding<S: Alter>(repository: &Store<S>) -> Holding<'_> {
     Holding {
@@ -230,8 +195,7 @@ fn holding<S: Alter>(repository: &Store<S>) -> Holding<'_> {
 struct Offering<'a> {
     alloc: Global,
     db: &'a str,
-    arguments: &'a [String],
-    batch: &'a [(Offer, &'a [u8])],
+    batch: Batch<'a>,
     now: Moment,
 }
 
@@ -242,37 +206,26 @@ impl Work for Offering<'_> {
 
     type Done = Reply;
 
-    ghost does = { λ offering A r B _. MakesOne (command_view (Batch offering.batch)) offering.now A r B };
+    ghost does = { λ offering A r B _. MakesOne (command_view (Batch offering.batch.documents)) offering.now A r B };
 
     fn work<S: Alter, E: Write>(
         &mut self,
         repository: &mut Store<S>,
         notes: &mut Notes<'_, E>,
     ) -> Result<Reply, Fault> {
-        let had_timestamp = timestamp_of(repository).is_some();
-        let forgetting = self.forgetting(repository, had_timestamp, notes);
-        match repository.apply(Command::Batch(self.batch), self.now) {
+        let (alloc, batch) = (self.alloc, self.batch);
+        let before = batch.before(alloc, &mut holding(repository), notes);
+        match repository.apply(Command::Batch(batch.documents), self.now) {
             Ok(reply) => {
-                if let Reply::Batch { same, .. } = &reply {
-                    if let Some(forgetting) = &forgetting {
-                        forgetting.warn(self.alloc, &self.db, notes);
+                let held = &mut holding(repository);
+                match &reply {
+                    Reply::Batch { same, .. } => {
+                        batch.behind(alloc, held, before, *same, &self.db, notes);
                     }
-                    if 0 < *same {
-                        self.warn_of_timestamp(repository, notes);
+                    Reply::Denied(denial, Some(index)) => {
+                        batch.tell(alloc, held, denial.number(), *index, notes);
                     }
-                }
-                if let Reply::Denied(denial, Some(index)) = &reply {
-                    let number = denial.number();
-                    self.offered().tell(
-                        self.alloc,
-                        &mut holding(repository),
-                        number,
-                        *index,
-                        notes,
-                    );
-                }
-                if had_timestamp && timestamp_of(repository).is_none() {
-                    notes.warn(&self.db, &FORGOTTEN);
+                    _ => {}
                 }
                 Ok(reply)
             }
@@ -284,8 +237,7 @@ impl Work for Offering<'_> {
     }
 }
 
-// What is done over the repository of a folder that is published: the waiting files are put, one after the other, and then the batch is
-// offered.
+// What is done over the repository where target files wait: they are put, one after the other, and then the batch is offered.
 #[derive(Clone, Copy)]
 struct Publishing<'a> {
     folder: Folder<'a>,
@@ -301,8 +253,12 @@ impl Work for Publishing<'_> {
         repository: &mut Store<S>,
         notes: &mut Notes<'_, E>,
     ) -> Result<Reply, Fault> {
+        let files = Waiting {
+            folder: self.folder,
+            digests: self.waiting,
+        };
         for digest in self.waiting {
-            let bytes = waiting_file(self.folder, digest, notes)?;
+            let bytes = files.read(digest, notes)?;
             self.offering.put(*digest, &bytes, repository, notes)?;
         }
         self.offering.work(repository, notes)
@@ -332,70 +288,6 @@ impl Offering<'_> {
                 notes.fault(&self.db, &fault);
                 Err(fault_of_store(fault))
             }
-        }
-    }
-
-    fn offered(&self) -> Offered<'_> {
-        Offered {
-            arguments: self.arguments,
-            batch: self.batch,
-        }
-    }
-
-    // What is known of a batch that makes the repository forget its timestamp, before it is offered.
-    fn forgetting<S: Alter, E: Write>(
-        &self,
-        repository: &Store<S>,
-        had_timestamp: bool,
-        notes: &Notes<'_, E>,
-    ) -> Option<Forgetting> {
-        if !had_timestamp || !self.will_forget(repository) {
-            return None;
-        }
-        Some(Forgetting::of(self.alloc, &mut holding(repository), notes))
-    }
-
-    // Whether the last root of the batch makes the repository forget its timestamp, and none is offered behind it.
-    fn will_forget<S: Alter>(&self, repository: &Store<S>) -> bool {
-        let mut last = None;
-        for (offer, bytes) in self.batch {
-            match offer {
-                Offer::Root => last = Some(*bytes),
-                Offer::Timestamp => last = None,
-                _ => {}
-            }
-        }
-        match (last, self.trusted_root(repository)) {
-            (Some(root), Some(held)) => forgets(self.alloc, held, root).unwrap_or(false),
-            _ => false,
-        }
-    }
-
-    fn trusted_root<'r, S: Alter>(&self, repository: &'r Store<S>) -> Option<&'r [u8]> {
-        let version = repository.root_version()?;
-        let name = format!(in self.alloc; "{version}.root.json").ok()?;
-        repository.held().metadata_file(name.as_str())
-    }
-
-    // Warns where the last timestamp of the batch is another one than that which is held: one of its version was held, so it counts as the
-    // same, and was not taken. No other document counts as the same where its bytes are others.
-    fn warn_of_timestamp<S: Alter, E: Write>(
-        &self,
-        repository: &Store<S>,
-        notes: &mut Notes<'_, E>,
-    ) {
-        let mut last = None;
-        for (argument, (offer, bytes)) in self.arguments.iter().zip(self.batch.iter()) {
-            if let Offer::Timestamp = offer {
-                last = Some((argument, *bytes));
-            }
-        }
-        let Some((argument, bytes)) = last else {
-            return;
-        };
-        match timestamp_of(repository) {
-            Some(held) if held != bytes => notes.warn(&argument.as_str(), &NOT_TAKEN),
-            _ => {}
         }
     }
 }

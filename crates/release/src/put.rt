@@ -25,22 +25,13 @@ pub fn put<O: Write, E: Write>(
     notes: &mut Notes<'_, E>,
 ) -> Result<(), Fault> {
     match place {
-        Place::Database(db) => put_in(rt, db, file, at, out, notes),
+        Place::Database(db) => {
+            let now = moment(rt, at)?;
+            let bytes = read_at_most(rt, file, BLOB_LIMIT, notes)?;
+            put_now(rt, db, file, &bytes, now, out, notes)
+        }
         Place::Port(port) => put_at(rt, *port, file, out, notes),
     }
-}
-
-fn put_in<O: Write, E: Write>(
-    rt: &HostRuntime,
-    db: &str,
-    file: &str,
-    at: Option<u64>,
-    out: &mut O,
-    notes: &mut Notes<'_, E>,
-) -> Result<(), Fault> {
-    let now = moment(rt, at)?;
-    let bytes = read_at_most(rt, file, BLOB_LIMIT, notes)?;
-    put_now(rt, db, file, &bytes, now, out, notes)
 }
 
 fn put_now<O: Write, E: Write>(

@@ -15,7 +15,7 @@ use command_line::{FolderSigning, Showing, Subcommand, Task, task};
 use command_support::{Fault, Notes, moment, print, read};
 use exporting::export;
 use loose_json::canon;
-use signing_commands::{leaves_of, make_keys, print_key, sign, sign_in};
+use signing_commands::{NewKey, leaves_of, make_keys, print_key, print_public_key, sign, sign_in};
 use std::io::Write;
 
 /// Does what the words ask for. What it prints goes to `out`, why it was not done to `err`, and the exit status is
@@ -90,7 +90,15 @@ fn perform_task<O: Write, E: Write>(
         Subcommand::Get(getting) => get(rt, getting, at, out, notes),
         Subcommand::Init { db, root } => init(rt, db, root, at, out, notes),
         Subcommand::Key { seed, params } => print_key(rt, seed, *params, at, out, notes),
-        Subcommand::NewKey { names, params } => make_keys(rt, names, *params, at, out, notes),
+        Subcommand::NewKey {
+            names,
+            params,
+            lower,
+        } => {
+            let (params, lower) = (*params, *lower);
+            make_keys(rt, names, NewKey { params, lower }, at, out, notes)
+        }
+        Subcommand::PublicKey { file } => print_public_key(rt, file, at, out, notes),
         Subcommand::Prune { place } => prune(rt, place, at, out, notes),
         Subcommand::Publish { place, documents } => publish(rt, place, documents, at, out, notes),
         Subcommand::PublishIn { place, folder } => {

@@ -1,17 +1,26 @@
-//! Runs of a client over the source of the case.
+//! Runs of a client over the sources of the case.
 use crate::replies::{bytes_text, denial_text, text_of};
 use crate::session::Session;
 use crate::source::{Asked, Mirror, fetch_text};
-use client::{ClientFault, FetchFault, fetch_target, update};
+use client::{ClientFault, FetchFault, fetch_by_each, fetch_target, update, update_by_each};
 use machine::TargetPath;
-use script_words::{File, LineFault};
+use script_words::{File, LineFault, number_of};
 use std::alloc::Global;
 
-// What a client is to do.
+// What a client is to do: from the first source, or from so many in turn.
 #[derive(Drop)]
 enum Wish {
     Update,
+    UpdateByEach(usize),
     Target(TargetPath),
+    TargetByEach(usize, TargetPath),
+}
+
+impl Wish {
+    // Whether the names are told that were asked for. Of several sources they are not: a run that is made once more may ask each anew.
+    fn tells_names(&self) -> bool {
+        matches!(self, Wish::Update | Wish::Target(_))
+    }
 }
 
 // What a run asked for, and how it ended: with the bytes of a target, or without any.
@@ -99,15 +108,28 @@ fn is_kept(first: &[Asked], again: &[Asked]) -> bool {
 }
 
 impl Session<'_> {
-    /// `update`: brings the client up to date.
-    pub fn update(&mut self) -> Result<String, LineFault> {
-        self.run(&Wish::Update)
+    /// `update`: brings the client up to date; `update each COUNT`: by each of so many sources in turn.
+    pub fn update(&mut self, text: &str) -> Result<String, LineFault> {
+        match text.strip_prefix("each ") {
+            Some(count) => self.run(&Wish::UpdateByEach(number_of(count)? as usize)),
+            None => self.run(&Wish::Update),
+        }
     }
 
-    /// `fetch PATH`: fetches a target.
+    /// `fetch PATH`: fetches a target; `fetch each COUNT PATH`: by each of so many sources in turn.
     pub fn fetch(&mut self, text: &str) -> Result<String, LineFault> {
+        let Some(rest) = text.strip_prefix("each ") else {
+            let path = self.path_of(text)?;
+            return self.run(&Wish::Target(path));
+        };
+        let (count, path) = rest.split_once(' ').unwrap_or((rest, ""));
+        let path = self.path_of(path)?;
+        self.run(&Wish::TargetByEach(number_of(count)? as usize, path))
+    }
+
+    fn path_of(&self, text: &str) -> Result<TargetPath, LineFault> {
         match TargetPath::read(self.alloc, text)? {
-            Some(path) => self.run(&Wish::Target(path)),
+            Some(path) => Ok(path),
             None => Err(LineFault::NotUnderstood),
         }
     }
@@ -117,16 +139,27 @@ impl Session<'_> {
         let alloc = self.alloc;
         let first = self.run_once(wish)?;
         if !first.wants_memory() {
-            return first.text(alloc, &self.files);
+            return self.told(wish, &first);
         }
         self.refusals = self.refusals.saturating_add(1);
         let again = self.run_once(wish)?;
+        if !wish.tells_names() {
+            return self.told(wish, &again);
+        }
         if !is_kept(&first.asked, &again.asked) {
             return text_of(alloc, "what was taken is asked for again");
         }
         let mut text = lines_without(alloc, &first.asked, &again.asked)?;
         text.push_str(again.text(alloc, &self.files)?.as_str())?;
         Ok(text)
+    }
+
+    fn told(&self, wish: &Wish, run: &Run) -> Result<String, LineFault> {
+        if wish.tells_names() {
+            run.text(self.alloc, &self.files)
+        } else {
+            end_text(self.alloc, &self.files, &run.end)
+        }
     }
 
     fn run_once(&mut self, wish: &Wish) -> Result<Run, LineFault> {
@@ -140,6 +173,7 @@ impl Session<'_> {
             return Err(LineFault::NotUnderstood);
         };
         let mut source = Mirror {
+            place: 0,
             routes: &self.routes,
             server,
             now,
@@ -149,19 +183,34 @@ impl Session<'_> {
             is_said: false,
         };
         let end = match wish {
-            Wish::Update => match update(alloc, store, &mut source, now) {
-                Ok(()) => Ok(None),
-                Err(fault) => Err(fault),
-            },
-            Wish::Target(path) => match fetch_target(alloc, store, &mut source, path, now) {
-                Ok(bytes) => Ok(Some(bytes)),
-                Err(fault) => Err(fault),
-            },
+            Wish::Update => none_of(update(alloc, store, &mut source, now)),
+            Wish::UpdateByEach(count) => {
+                none_of(update_by_each(alloc, store, &mut source, *count, now))
+            }
+            Wish::Target(path) => some_of(fetch_target(alloc, store, &mut source, path, now)),
+            Wish::TargetByEach(count, path) => {
+                let count = *count;
+                some_of(fetch_by_each(alloc, store, &mut source, count, path, now))
+            }
         };
         Ok(Run {
             asked: source.asked,
             end,
             is_said: source.is_said,
         })
+    }
+}
+
+fn none_of(end: Result<(), ClientFault>) -> Result<Option<Vec<u8>>, ClientFault> {
+    match end {
+        Ok(()) => Ok(None),
+        Err(fault) => Err(fault),
+    }
+}
+
+fn some_of(end: Result<Vec<u8>, ClientFault>) -> Result<Option<Vec<u8>>, ClientFault> {
+    match end {
+        Ok(bytes) => Ok(Some(bytes)),
+        Err(fault) => Err(fault),
     }
 }

@@ -156,7 +156,7 @@ fn answer_line(session: &mut Session<'_>, line: &str) -> Result<String, LineFaul
     let (word, rest) = line.split_once(' ').unwrap_or((line, ""));
     match word {
         "client" => over_client(session, rest),
-        "update" => session.update(),
+        "update" => session.update(rest),
         "fetch" => session.fetch(rest),
         "agree" => session.agree(rest),
         "case" => {
@@ -206,7 +206,8 @@ fn set(session: &mut Session<'_>, word: &str, rest: &str) -> Result<String, Line
     let done = match word {
         "now" => session.set_now(rest),
         "file" => session.name_file(rest),
-        "source" => session.answer_for(rest),
+        "source" => session.answer_for(0, rest),
+        "mirror" => session.answer_at(rest),
         _ => Err(LineFault::NotUnderstood),
     };
     done?;

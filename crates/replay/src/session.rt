@@ -82,7 +82,7 @@ impl Session<'_> {
         Ok(())
     }
 
-    /// Forgets the client's database, and what its source answers.
+    /// Forgets the client's database, and what its sources answer.
     pub fn forget_client(&mut self) {
         *self.client = Base::None;
         self.answers.clear();
@@ -102,8 +102,14 @@ impl Session<'_> {
         Ok(())
     }
 
-    /// `NAME = ANSWER`: what the source answers for a name with escapes, or for `*`, any other.
-    pub fn answer_for(&mut self, text: &str) -> Result<(), LineFault> {
+    /// `PLACE NAME = ANSWER`: what the source at this place answers for a name.
+    pub fn answer_at(&mut self, text: &str) -> Result<(), LineFault> {
+        let (place, rest) = text.split_once(' ').unwrap_or((text, ""));
+        self.answer_for(number_of(place)? as usize, rest)
+    }
+
+    /// `NAME = ANSWER`: what the source at this place answers for a name with escapes, or for `*`, any other.
+    pub fn answer_for(&mut self, place: usize, text: &str) -> Result<(), LineFault> {
         let Some((name, answer)) = text.split_once(" = ") else {
             return Err(LineFault::NotUnderstood);
         };
@@ -112,10 +118,10 @@ impl Session<'_> {
             return Err(LineFault::NotUnderstood);
         };
         let said = said_by(&self.files, answer)?;
-        self.answers.retain(|held| held.name.as_str() != name);
+        self.answers.retain(|held| !held.is_of(place, name));
         if let Some(said) = said {
             let name = String::from_str(self.alloc, name)?;
-            self.answers.push(Answer { name, said })?;
+            self.answers.push(Answer { place, name, said })?;
         }
         Ok(())
     }

@@ -1,8 +1,8 @@
-//! A client's source: what the server of the case would answer, but for the names whose answers a script says.
+//! A client's sources: each answers what the server of the case would, but for the names whose answers a script says.
 use crate::replies::{bytes_text, head_and_body, text_of};
 use crate::requests::{NO_MEMORY, response};
 use case_databases::Store;
-use client::{FetchFault, Source};
+use client::{ClientFault, FetchFault, Source, Sources};
 use http_serve::Routes;
 use metadata::Moment;
 use script_words::{File, LineFault, find};
@@ -18,11 +18,19 @@ pub enum Said {
     Bytes(Vec<u8>),
 }
 
-/// What is answered for a name.
+/// What one of the sources answers for a name.
 #[derive(Drop)]
 pub struct Answer {
+    pub place: usize,
     pub name: String,
     pub said: Said,
+}
+
+impl Answer {
+    /// Whether it is what the source at this place answers for the name.
+    pub fn is_of(&self, place: usize, name: &str) -> bool {
+        self.place == place && self.name.as_str() == name
+    }
 }
 
 /// A name that was asked for, and the line that tells it with its limit and its answer.
@@ -57,9 +65,10 @@ pub fn fetch_text(fault: FetchFault) -> &'static str {
     }
 }
 
-/// The source, and what it was asked for.
+/// The sources, of which the one at a place is asked, and what they were asked for.
 #[derive(Drop)]
 pub struct Mirror<'a> {
+    pub place: usize,
     pub routes: &'a Routes,
     pub server: &'a mut Store<MemStore>,
     pub now: Moment,
@@ -86,6 +95,14 @@ impl Source for Mirror<'_> {
     }
 }
 
+impl Sources for Mirror<'_> {
+    fn turn(&mut self, place: usize) {
+        self.place = place;
+    }
+
+    fn failed(&mut self, _place: usize, _fault: &ClientFault) {}
+}
+
 impl Mirror<'_> {
     fn keep(&mut self, asked: Result<Asked, LineFault>) -> Result<(), LineFault> {
         self.asked.push(asked?)?;
@@ -93,7 +110,7 @@ impl Mirror<'_> {
     }
 
     fn answer(&mut self, alloc: Global, name: &str) -> Result<Option<Vec<u8>>, FetchFault> {
-        match said_of(self.answers, name) {
+        match said_of(self.answers, self.place, name) {
             Some(Said::Nothing) => Ok(None),
             Some(Said::Broken) => Err(FetchFault::Broken),
             Some(Said::Refused) => {
@@ -123,14 +140,14 @@ impl Mirror<'_> {
     }
 }
 
-// What is said of the name, or else of any.
-fn said_of<'a>(answers: &'a [Answer], name: &str) -> Option<&'a Said> {
+// What is said of the name, or else of any, where the source at this place is asked.
+fn said_of<'a>(answers: &'a [Answer], place: usize, name: &str) -> Option<&'a Said> {
     let mut other = None;
     for answer in answers {
-        if answer.name.as_str() == name {
+        if answer.is_of(place, name) {
             return Some(&answer.said);
         }
-        if answer.name.as_str() == "*" {
+        if answer.is_of(place, "*") {
             other = Some(&answer.said);
         }
     }

@@ -1,5 +1,5 @@
 -- What a crash inside a signing leaves.
-use Rattle.std.proofs.Common.{◌≡◌, ◌⊎◌, ℕ, List, Result, Ok, Err, inl, inr, refl, subst}
+use Rattle.std.proofs.Common.{◌⊎◌, ℕ, List, Result, Ok, Err, inl, inr, refl, subst}
 use Rattle.sqlite_trees.specs.Tree.{Trees}
 use Rattle.lms.specs.declared.Params.{Params}
 use Rattle.lms.specs.declared.Seed.{Seed}

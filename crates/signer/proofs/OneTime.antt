@@ -1,5 +1,5 @@
 -- Each signing is some events of the book, so what never happens twice there does not here.
-use Rattle.std.proofs.Common.{◌≡◌, ◌⊎◌, ◌∷◌, [], ◌++◌, ℕ, List, Result, Ok, Err, inl, inr, refl, sym, ap, subst, ◌∙◌}
+use Rattle.std.proofs.Common.{◌≡◌, ◌∷◌, [], ◌++◌, ℕ, List, Result, Ok, Err, inl, inr, refl, sym, ap, subst, ◌∙◌}
 use Rattle.sqlite_rules.specs.Lists.{Has}
 use Rattle.lms.specs.declared.Params.{Params}
 use Rattle.lms.specs.declared.Seed.{Seed}
@@ -9,9 +9,15 @@ use Rattle.leaf_book.specs.Runs as history
 use Rattle.leaf_book.specs.Runs.{Entered, IsByEntered, NeverTwice, Signed, World}
 use Rattle.leaf_book.specs.declared.faults.BookFault.{BookFault}
 use Rattle.leaf_book.specs.declared.faults.BookFault.TheVariants.{LeavesSpent, UnknownKey, Damaged, OtherTree, Database, OutOfMemory}
-use Rattle.signer.specs.Files.{IsBegunFile, IsUnsignedFile, SignsFile}
+use Rattle.lms.specs.Keys.{Pair}
+use Rattle.signer.specs.Levels.{IsBegunBelow, IsUnsignedBelow, SignsBelow, public_by}
+use Rattle.lms.specs.HssKeys.{HssPair}
+use Rattle.signer.specs.Below.{below_of, top_of}
+use Rattle.signer.specs.BelowOnce.{IsBegunFileBelow, IsBegunIn, IsUnsignedFileBelow}
+use Rattle.signer.proofs.BelowOnce.{unsigned_begun, unsigned_in_begun}
+use Rattle.signer.specs.Files.{IsBegunFile, IsUnsignedFile}
 use Rattle.signer.specs.Messages.{IsBegun, IsUnsigned, Signs}
-use Rattle.signer.specs.OneTime.{AreOneTime, Event, Happens, Runs, Work, begun, crash, crash_in_register, crash_in_sign, crash_in_sign_file, register, reopen, sign, sign_file}
+use Rattle.signer.specs.OneTime.{AreOneTime, Event, Happens, Runs, Work, begun, with_both, crash, crash_in_register, crash_in_sign, crash_in_sign_below, crash_in_sign_file, crash_in_sign_file_below, register, reopen, sign, sign_below, sign_file, sign_file_below}
 use Rattle.signer.specs.declared.faults.SignFileFault.{SignFileFault}
 use Rattle.signer.specs.declared.faults.SignFileFault.TheVariants as files
 
@@ -78,6 +84,20 @@ unsigned_comes u b d seed params message UnknownKey same it = absurd it
 unsigned_comes u b d seed params message Database same it = begun_comes u b d seed params message same it
 unsigned_comes u b d seed params message OutOfMemory same it = begun_comes u b d seed params message same it
 
+-- what was signed is begun
+signs_begun : (b c : Book) (seed : Seed) (params : Params) (message signature : List ℕ) → Signs b seed params message signature c → IsBegun b seed params message c
+signs_begun b c seed params message signature s = inr (s.registered, s.registers, inr (s.leaf, s.reserves))
+
+begun_below_comes : (u : World) (b d : Book) (top below : Pair) (message : List ℕ) → u.book ≡ b → IsBegunBelow b top below message d → Comes u d
+begun_below_comes u b d top below message same (inl it) = begun_comes u b d top.seed top.params (public_by below) same it
+begun_below_comes u b d top below message same (inr (c, first, s, it)) =
+    comes_then u c d (begun_comes u b c top.seed top.params (public_by below) same (signs_begun b c top.seed top.params (public_by below) first s))
+    (λ v here. begun_comes v c d below.seed below.params message here it)
+
+unsigned_below_comes : (u : World) (b d : Book) (top : Pair) (q : ℕ) (below : Pair) (message : List ℕ) (fault : BookFault) → u.book ≡ b
+    → IsUnsignedBelow b top q below message fault d → Comes u d
+unsigned_below_comes u b d top q below message fault same it = begun_below_comes u b d top below message same (unsigned_begun b d top q below message fault it)
+
 begun_file_comes : (u : World) (b d : Book) (seed : Seed) (params : Params) (file : List ℕ) → u.book ≡ b → IsBegunFile b seed params file d → Comes u d
 begun_file_comes u b d seed params file same (inl is) = stays_comes u b d same is
 begun_file_comes u b d seed params file same (inr (entries, message, f, it)) = begun_comes u b d seed params message same it
@@ -86,6 +106,19 @@ unsigned_file_comes : (u : World) (b d : Book) (seed : Seed) (params : Params) (
 unsigned_file_comes u b d seed params file (files.Denied denial) same it = stays_comes u b d same it.1
 unsigned_file_comes u b d seed params file (files.Book fault) same (entries, message, f, it) = unsigned_comes u b d seed params message fault same it
 unsigned_file_comes u b d seed params file files.OutOfMemory same it = begun_file_comes u b d seed params file same it
+
+begun_in_comes : (u : World) (b d : Book) (p : HssPair) (message : List ℕ) → u.book ≡ b → IsBegunIn b p message d → Comes u d
+begun_in_comes u b d p message same (inl is) = stays_comes u b d same is
+begun_in_comes u b d p message same (inr (q, at, it)) = begun_below_comes u b d (top_of p) (below_of p q) message same it
+
+begun_file_below_comes : (u : World) (b d : Book) (p : HssPair) (file : List ℕ) → u.book ≡ b → IsBegunFileBelow b p file d → Comes u d
+begun_file_below_comes u b d p file same (inl is) = stays_comes u b d same is
+begun_file_below_comes u b d p file same (inr (entries, message, f, it)) = begun_in_comes u b d p message same it
+
+unsigned_file_below_comes : (u : World) (b d : Book) (p : HssPair) (file : List ℕ) (fault : SignFileFault) → u.book ≡ b → IsUnsignedFileBelow b p file fault d → Comes u d
+unsigned_file_below_comes u b d p file (files.Denied denial) same it = stays_comes u b d same it.1
+unsigned_file_below_comes u b d p file (files.Book fault) same (entries, message, f, it) = begun_in_comes u b d p message same (unsigned_in_begun b d p message fault it)
+unsigned_file_below_comes u b d p file files.OutOfMemory same it = begun_file_below_comes u b d p file same it
 
 -- ---- one event
 
@@ -142,6 +175,16 @@ made_follows v w u seed params message signature is s made =
       },
     )
 
+-- the signature of the key, and then that of the message
+both_follow : (v w : Work) (u : World) (top : Pair) (q : ℕ) (below : Pair) (message signature : List ℕ) → Matches v u
+    → (s : SignsBelow v.book top q below message signature w.book) → w.made ≡ with_both v.book top q below message signature w.book s v.made → Follows u w
+both_follow v w u top q below message signature is s made =
+    let first : Signed = record { leaf = s.signs_key.leaf; seed = top.seed; bytes = s.first } in
+    let between : Work = record { book = s.between; made = first ∷ v.made } in
+    let one = made_follows v between u top.seed top.params (public_by below) s.first is s.signs_key refl in
+    let two = made_follows between w one.0 below.seed below.params message s.last one.2 s.signs_message made in
+    (two.0, (one.1.0 ++ two.1.0, then u one.0 two.0 one.1.0 two.1.0 one.1.1 two.1.1), two.2)
+
 -- the same book with its entries in another order
 reopens_follows : (v w : Work) (u : World) → Matches v u → Happens v reopen w → Follows u w
 reopens_follows v w u is (same, right, made) = (
@@ -156,10 +199,18 @@ happens_follows v w u (sign seed params message) is (inl (signature, s, made)) =
 happens_follows v w u (sign seed params message) is (inr ((fault, it), made)) = quiet v w u is (unsigned_comes u v.book w.book seed params message fault is.book it) made
 happens_follows v w u (sign_file seed params file) is (inl (out, s, made)) = made_follows v w u seed params s.message s.signature is s.signs made
 happens_follows v w u (sign_file seed params file) is (inr ((fault, it), made)) = quiet v w u is (unsigned_file_comes u v.book w.book seed params file fault is.book it) made
+happens_follows v w u (sign_below top q below message) is (inl (signature, s, made)) = both_follow v w u top q below message signature is s made
+happens_follows v w u (sign_below top q below message) is (inr ((fault, it), made)) =
+    quiet v w u is (unsigned_below_comes u v.book w.book top q below message fault is.book it) made
+happens_follows v w u (sign_file_below p file) is (inl (out, s, made)) = both_follow v w u (top_of p) s.q (below_of p s.q) s.message s.signature is s.signs made
+happens_follows v w u (sign_file_below p file) is (inr ((fault, it), made)) = quiet v w u is (unsigned_file_below_comes u v.book w.book p file fault is.book it) made
 happens_follows v w u (crash_in_register seed params) is (inl same, made) = quiet v w u is (stays_comes u v.book w.book is.book same) made
 happens_follows v w u (crash_in_register seed params) is (inr (r, does), made) = quiet v w u is (registers_comes u v.book w.book seed params r is.book does) made
 happens_follows v w u (crash_in_sign seed params message) is (it, made) = quiet v w u is (begun_comes u v.book w.book seed params message is.book it) made
 happens_follows v w u (crash_in_sign_file seed params file) is (it, made) = quiet v w u is (begun_file_comes u v.book w.book seed params file is.book it) made
+happens_follows v w u (crash_in_sign_below top below message) is (it, made) =
+    quiet v w u is (begun_below_comes u v.book w.book top below message is.book it) made
+happens_follows v w u (crash_in_sign_file_below p file) is (it, made) = quiet v w u is (begun_file_below_comes u v.book w.book p file is.book it) made
 happens_follows v w u crash is (same, made) = quiet v w u is (stays_comes u v.book w.book is.book same) made
 happens_follows v w u reopen is it = reopens_follows v w u is it
 

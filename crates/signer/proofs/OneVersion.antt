@@ -40,7 +40,7 @@ leaves_of : (b c : Book) → c ≡ b → c.leaves ≡ b.leaves
 leaves_of b c same = ap (λ (d : Book). d.leaves) same
 
 -- a registration leaves the leaf history
-registers_leaves : (b c : Book) (seed : Seed) (params : Params) (r : Result (List ℕ) BookFault) → Registers b seed params r c → c.leaves ≡ b.leaves
+pub registers_leaves : (b c : Book) (seed : Seed) (params : Params) (r : Result (List ℕ) BookFault) → Registers b seed params r c → c.leaves ≡ b.leaves
 registers_leaves b c seed params (Ok key) (id, lacks, inl held) = leaves_of b c held.1
 registers_leaves b c seed params (Ok key) (id, lacks, inr new) = ap (λ (d : Book). d.leaves) new.1
 registers_leaves b c seed params (Err Damaged) r = leaves_of b c r.1
@@ -151,7 +151,7 @@ runs_safe b d (e ∷ es) none (c, first, rest) = runs_safe c d es (happens_safe 
 
 -- ---- why none is signed
 
-ill : (file : List ℕ) (fault : ShapeFault) → OneValue → IsEnvelopeFault file fault → (entries : List Signature) (message : List ℕ) → IsSignedBy file entries message → ⊥
+pub ill : (file : List ℕ) (fault : ShapeFault) → OneValue → IsEnvelopeFault file fault → (entries : List Signature) (message : List ℕ) → IsSignedBy file entries message → ⊥
 ill file shapes.TooLong one h entries message f = absurd (omega (arith, h, f.2.file.short))
 ill file shapes.NotCanonical one h entries message f = h.1 f.2.value f.2.file.canonical
 ill file shapes.WrongShape one (v, is, none) entries message f =

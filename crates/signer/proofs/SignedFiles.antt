@@ -19,6 +19,7 @@ use Rattle.path_patterns.specs.Grammar.{IsHex}
 use Rattle.keys_roles.specs.Plain.{Signature}
 use Rattle.document_parts.specs.Parts.{AreSignatureDigits}
 use Rattle.metadata.specs.Shape.{IsSignedBy}
+use Rattle.denials.specs.declared.denial.Denial.{Denial}
 use Rattle.denials.specs.declared.denial.Denial.TheVariants as denials
 use Rattle.leaf_plans.specs.Book.{Book, key_of}
 use Rattle.leaf_book.specs.declared.faults.BookFault.{BookFault}
@@ -27,7 +28,7 @@ use Rattle.signer.specs.Faults.{of_book}
 use Rattle.signer.specs.Messages.{IsUnsigned, Signs}
 use Rattle.signer.specs.declared.faults.SignFileFault.{SignFileFault}
 use Rattle.signer.specs.declared.faults.SignFileFault.TheVariants.{Denied, OutOfMemory}
-use Rattle.signer.specs.Files.{IsUnsignedFile, SignsFile, file_text, items_of, others, with_signature}
+use Rattle.signer.specs.Files.{IsDenialOf, IsUnsignedFile, SignsFile, file_text, items_of, others, with_signature}
 use Rattle.signer.specs.steps.Texts.{entries_text, entry_text, parts_text}
 use Rattle.signer.proofs.Plain.{encoded_hex, encoded_length}
 use Rattle.signer.proofs.Spelled.{IsPlainEntry, parts_are}
@@ -43,7 +44,7 @@ signature_is seed params message signature v =
     (record { randomizer_len = v.randomizer_len; elements_count = v.elements_count; elements_len = v.elements_len; path_count = v.path_count; path_len = v.path_len; spelled = v.spelled; leaf = v.leaf })
     (_, refl)
 
-most : (ots : OtsType) (height : SigningHeight) → 2 * signature_len ots (signing_type height) ≤ 18648
+pub most : (ots : OtsType) (height : SigningHeight) → 2 * signature_len ots (signing_type height) ≤ 18648
 most W1 H5 = omega arith
 most W1 H10 = omega arith
 most W2 H5 = omega arith
@@ -77,14 +78,14 @@ text_is file entries message key signature f id bytes =
     ap (parts_text (others key entries) key (encode_lower signature)) f.3
     ∙ parts_are (others key entries) key (encode_lower signature) f.0 (plain_entries (others key entries) kept) id.1 (encoded_hex signature bytes)
 
-pub is_signed : (file : List ℕ) (entries : List Signature) (message key signature out : List ℕ) (ots : OtsType) (height : SigningHeight)
-    → IsSignedBy file entries message → IsHex 64 key → AllByRecursion (λ b. b < 256) signature → length signature ≡ signature_len ots (signing_type height)
+pub is_signed : (file : List ℕ) (entries : List Signature) (message key signature out : List ℕ)
+    → IsSignedBy file entries message → IsHex 64 key → AllByRecursion (λ b. b < 256) signature → AreSignatureDigits (encode_lower signature)
     → length (others key entries) < 16 → out ≡ parts_text (others key entries) key (encode_lower signature) message → length out ≤ file_limit
     → IsSignedBy out (with_signature key signature entries) message
-is_signed file entries message key signature out ots height f id bytes long few is short =
+is_signed file entries message key signature out f id bytes digits few is short =
     let new : Signature = record { keyid = key; sig = encode_lower signature } in
     let kept = all_others IsEntryText key entries (entries_in file entries message f) in
-    let all = all_more IsEntryText (others key entries) new kept (record { keyid = id; sig = digits_are ots height signature bytes long }) in
+    let all = all_more IsEntryText (others key entries) new kept (record { keyid = id; sig = digits }) in
     let old = subst IsAllowed f.2.envelope.members f.2.file.canonical.allowed in
     let count = length_more (others key entries) new in (
       f.0,
@@ -139,25 +140,35 @@ Judged key entries message count fault =
     ⊎ ((fault ≡ Denied denials.TooLong) × (length (others key entries) < most_signatures)
     × ((signature : List ℕ) → length signature ≡ count → file_limit < length (parts_text (others key entries) key (encode_lower signature) message))))
 
+-- a file is denied, or there was no memory
+abbrev pub IsDeniedOr : List ℕ → ℕ → List ℕ → SignFileFault → Type 0
+IsDeniedOr key count file fault = (fault ≡ OutOfMemory) ⊎ ((denial : Denial) × (fault ≡ Denied denial) × IsDenialOf key count file denial)
+
+pub denied_by : (file : List ℕ) (entries : List Signature) (message key : List ℕ) (count : ℕ) (fault : SignFileFault)
+    → IsSignedBy file entries message → IsHex 64 key → Judged key entries message count fault → IsDeniedOr key count file fault
+denied_by file entries message key count fault f id (inl is) = inl is
+denied_by file entries message key count fault f id (inr (inl many)) = inr (denials.WrongShape, many.0, inr (entries, f.0, f.1, f.2, many.1))
+denied_by file entries message key count fault f id (inr (inr long)) = inr (
+  denials.TooLong,
+  long.0,
+  inr (
+    entries,
+    f.0,
+    f.1,
+    f.2,
+    long.1,
+    (λ signature are. subst (λ (text : List ℕ). file_limit < length text) (text_is file entries message key signature f id are.1) (long.2 signature are.0)),
+  ),
+)
+
 judged_by_key : (b : Book) (seed : Seed) (params : Params) (file : List ℕ) (entries : List Signature) (message : List ℕ) (fault : SignFileFault)
     → IsSignedBy file entries message → IsHex 64 (key_of seed params) → Judged (key_of seed params) entries message (signature_len params.ots (signing_type params.height)) fault
     → IsUnsignedFile b seed params file fault b
-judged_by_key b seed params file entries message fault f id (inl is) = subst (λ (e : SignFileFault). IsUnsignedFile b seed params file e b) (sym is) (inl refl)
-judged_by_key b seed params file entries message fault f id (inr (inl many)) =
-    subst (λ (e : SignFileFault). IsUnsignedFile b seed params file e b) (sym many.0) (inr (entries, f.0, f.1, f.2, many.1), refl)
-judged_by_key b seed params file entries message fault f id (inr (inr long)) =
-    subst (λ (e : SignFileFault). IsUnsignedFile b seed params file e b) (sym long.0) (
-      inr (
-        entries,
-        f.0,
-        f.1,
-        f.2,
-        long.1,
-        (λ signature are.
-            subst (λ (text : List ℕ). file_limit < length text) (text_is file entries message (key_of seed params) signature f id are.1) (long.2 signature are.0)),
-      ),
-      refl,
-    )
+judged_by_key b seed params file entries message fault f id how =
+    elim (denied_by file entries message (key_of seed params) (signature_len params.ots (signing_type params.height)) fault f id how) [
+      | inl is ↦ subst (λ (e : SignFileFault). IsUnsignedFile b seed params file e b) (sym is) (inl refl)
+      | inr denied ↦ subst (λ (e : SignFileFault). IsUnsignedFile b seed params file e b) (sym denied.1) (denied.2, refl)
+    ]
 
 pub judged : (b : Book) (seed : Seed) (params : Params) (file : List ℕ) (entries : List Signature) (message key : List ℕ) (count : ℕ) (fault : SignFileFault)
     → IsSignedBy file entries message → key ≡ key_of seed params → IsHex 64 key → count ≡ signature_len params.ots (signing_type params.height)
@@ -197,7 +208,7 @@ signs_file b seed params file entries message id key signature out count after f
     let long = signature_is seed params message signature v in
     let here = subst (λ (k : List ℕ). Fits k entries message count) (first ∙ sym same) fits in
     let short = subst (λ (text : List ℕ). length text ≤ file_limit) (sym is) (here.1 signature (long ∙ sym so)) in
-    let made = is_signed file entries message key signature out params.ots params.height f hex bytes long here.0 is short in
+    let made = is_signed file entries message key signature out f hex bytes (digits_are params.ots params.height signature bytes long) here.0 is short in
     record {
       entries = entries;
       message = message;

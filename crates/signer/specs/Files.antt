@@ -54,17 +54,21 @@ HasNoRoom key entries = most_signatures ≤ length (others key entries)
 abbrev pub WouldBeLong : List ℕ → ℕ → List Signature → Json → Type 0
 WouldBeLong key count entries part = (signature : List ℕ) → AreBytes count signature → file_limit < length (file_text (with_signature key signature entries) part)
 
--- The first check that fails: those of the envelope, then the number of entries with the new one, then the length with it.
-abbrev pub IsSigningDenial : Seed → Params → List ℕ → Denial → Type 0
-IsSigningDenial seed params file denials.TooLong =
+-- The first check that fails: those of the envelope, then the number of entries with a new one of this key, then the length with it, which
+-- has so many bytes.
+abbrev pub IsDenialOf : List ℕ → ℕ → List ℕ → Denial → Type 0
+IsDenialOf key count file denials.TooLong =
     IsEnvelopeFault file TooLong
     ⊎ ((entries : List Signature) × (part : Json) × (type_name : List ℕ) × IsSignedFile file entries part type_name
-    × (length (others (key_of seed params) entries) < most_signatures) × WouldBeLong (key_of seed params) (signature_len params.ots (signing_type params.height)) entries part)
-IsSigningDenial seed params file denials.NotCanonical = IsEnvelopeFault file NotCanonical
-IsSigningDenial seed params file denials.WrongShape =
+    × (length (others key entries) < most_signatures) × WouldBeLong key count entries part)
+IsDenialOf key count file denials.NotCanonical = IsEnvelopeFault file NotCanonical
+IsDenialOf key count file denials.WrongShape =
     IsEnvelopeFault file WrongShape
-    ⊎ ((entries : List Signature) × (part : Json) × (type_name : List ℕ) × IsSignedFile file entries part type_name × HasNoRoom (key_of seed params) entries)
-IsSigningDenial seed params file denial = ⊥
+    ⊎ ((entries : List Signature) × (part : Json) × (type_name : List ℕ) × IsSignedFile file entries part type_name × HasNoRoom key entries)
+IsDenialOf key count file denial = ⊥
+
+abbrev pub IsSigningDenial : Seed → Params → List ℕ → Denial → Type 0
+IsSigningDenial seed params file denial = IsDenialOf (key_of seed params) (signature_len params.ots (signing_type params.height)) file denial
 
 -- as far as the signing of a file may have come: nothing was done, or that of its signed part has begun
 abbrev pub IsBegunFile : Book → Seed → Params → List ℕ → Book → Type 0

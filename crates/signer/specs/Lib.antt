@@ -1,10 +1,15 @@
 pub mod Seeds
 pub mod Faults
 pub mod Messages
+pub mod Levels
 pub mod Files
 pub mod Versions
+pub mod Below
 pub mod Once
+pub mod BelowOnce
+pub mod BelowRuns
 pub mod Leaves
 pub mod OneTime
 pub mod Joining
 pub mod steps
+pub mod Attaching

@@ -120,7 +120,7 @@ pub(crate) fn id_of(alloc: Global, pair: &KeyPair) -> KeyId
 }
 
 // Whether the file with a signature of so many bytes more would be within the limits.
-fn judge_result(
+pub(crate) fn judge_result(
     alloc: Global,
     file: &SignedFile<'_>,
     id: &KeyId,

@@ -8,6 +8,7 @@ ghost use Rattle.lms.specs.Verifies.{Verifies};
 ghost use Rattle.keys_roles.specs.Views.{id_text};
 ghost use Rattle.leaf_plans.specs.Book.{IsBook, key_of};
 ghost use Rattle.leaf_book.specs.Rows.{HoldsWhole, IsRecorded};
+ghost use Rattle.leaf_book.specs.Standing.{StaysClean};
 ghost use Rattle.signer.specs.Messages.{CrashLeavesOf, IsBegun, IsUnsigned, Signs};
 
 use keys_roles::KeyId;
@@ -38,6 +39,7 @@ pub fn sign_message<S: Alter>(
     ensures rows { HasCleanDisk (state S.Store book.new.conn) → IsTrue (state S.Store book.new.conn).is_open → IsRecorded (state S.Store book.new.conn) book.new.book }
     ensures kept { HasCleanDisk (state S.Store book.new.conn) → OnOk result (IsTrue (state S.Store book.new.conn).is_open
         × ((trees : Trees) → (state S.Store book.new.conn).may_leave trees → HoldsWhole trees book.new.book)) }
+    ensures clean { StaysClean (state S.Store book.old.conn) (state S.Store book.new.conn) }
     ensures crash { CrashLeavesOf (state S.Store book.old.conn) (state S.Store book.new.conn) (IsBegun book.old.book pair.now.seed pair.now.params message.now) }
 {
     let id = match book.register_pair(pair) {

@@ -29,7 +29,7 @@ pub(crate) fn rival_of<S: Alter>(
 }
 
 // The same among entries of a leaf history.
-fn rival_among(
+pub(crate) fn rival_among(
     alloc: Global,
     leaves: &[LeafRow],
     key: &KeyId,

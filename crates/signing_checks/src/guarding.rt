@@ -1,27 +1,31 @@
 //! The guard of a book: each signature of the key that stands in the folder is by a leaf that the book keeps for what it is over. A book
 //! that was copied back, or a second one of the seed, is found so before it spends a leaf a second time.
+use crate::spent::Spent;
 use command_support::{Fault, Notes, Slip};
 use drafts::Folder;
-use keys_roles::{Key, KeyId, KeyTable, RoleRule, key_id, meets};
+use keys_roles::{Key, KeyId, KeyTable, RoleRule, key_id, meets, top_key};
 use metadata::{SignedFile, read_signed};
-use signer::{Book, keeps, leaf_of};
+use signer::Book;
 use sqlite::Alter;
 use std::alloc::{AllocError, Global};
 use std::io::Write;
 
-/// The key that is to sign: its id, and the rule that it meets alone, by which an entry of it counts.
+/// The key that is to sign: its id, the id of its top tree as a key of its own, under which a book has it, and the rule that it meets alone, by
+/// which an entry of it counts.
 #[derive(Drop)]
 pub struct Signer {
+    key: Key,
     id: KeyId,
+    top: KeyId,
     rule: RoleRule,
     keys: KeyTable,
 }
 
 impl Signer {
-    /// The key of this public half.
-    pub fn new(alloc: Global, public: [u8; 56]) -> Result<Signer, AllocError> {
-        let key = Key::Lms(public);
+    /// The signer by this key.
+    pub fn new(alloc: Global, key: Key) -> Result<Signer, AllocError> {
         let id = key_id(alloc, &key)?;
+        let top = key_id(alloc, &Key::Lms(*top_key(&key)))?;
         let mut keyids = Vec::new(alloc);
         keyids.push(id)?;
         let mut entries = Vec::new(alloc);
@@ -31,7 +35,9 @@ impl Signer {
             threshold: 1,
         };
         Ok(Signer {
+            key,
             id,
+            top,
             rule,
             keys: KeyTable { entries },
         })
@@ -42,9 +48,57 @@ impl Signer {
         &self.id
     }
 
+    /// The id of its top tree, under which a book has it: of a key of one level its own.
+    pub fn top(&self) -> &KeyId {
+        &self.top
+    }
+
+    /// What a signature of it is by.
+    pub fn spent_in(
+        &self,
+        alloc: Global,
+        file: &SignedFile<'_>,
+    ) -> Result<Option<Spent>, AllocError> {
+        for entry in &file.signatures {
+            if entry.keyid == self.id {
+                return Spent::of(alloc, &self.key, entry.sig.as_str());
+            }
+        }
+        Ok(None)
+    }
+
     /// Whether the key has signed the file. An entry of its id that does not verify is no signature of it: anybody can write one.
     pub fn has_signed(&self, file: &SignedFile<'_>) -> bool {
         meets(&self.rule, &self.keys, file.signed, &file.signatures)
+    }
+}
+
+// The folders of which each has files with signatures, in the order in which they are looked at.
+const FOLDERS: [&str; 5] = ["held", "", "layouts", "links", "spent"];
+
+/// A file at its place in the folder, whether it was read, and the leaves and the signed part of the key's signature, which the book knew.
+#[derive(Drop)]
+pub struct Seen {
+    place: String,
+    is_read: bool,
+    kept: Option<(Spent, Vec<u8>)>,
+}
+
+impl Seen {
+    fn new(place: String) -> Seen {
+        Seen {
+            place,
+            is_read: false,
+            kept: None,
+        }
+    }
+
+    /// The file at this place was written, and is read again.
+    pub fn written(&mut self, place: &str) {
+        if self.place.as_str() == place {
+            self.is_read = false;
+            self.kept = None;
+        }
     }
 }
 
@@ -58,89 +112,92 @@ pub struct Guard<'a> {
 }
 
 impl Guard<'_> {
-    // The book knows each signature of the key in the folder: in what is held, the drafts, layouts, links, and what was taken off.
+    // The book knows each signature of the key in the folder: in what is held, the drafts, layouts, links, and what was taken off. A file that
+    // was seen is not read again, as long as the book knows what it has of the key.
     pub fn see<S: Alter, E: Write>(
         &self,
+        seen: &mut Vec<Vec<Seen>>,
         book: &Book<S>,
         notes: &mut Notes<'_, E>,
     ) -> Result<(), Fault> {
-        self.see_held(book, notes)?;
-        self.see_drafts(book, notes)?;
-        for inner in ["layouts", "links", "spent"] {
-            self.see_inner(book, inner, notes)?;
+        for (index, inner) in FOLDERS.iter().enumerate() {
+            if seen.len() <= index {
+                seen.push(self.files_in(inner, notes)?)?;
+            }
+            if let Some(files) = seen.get_mut(index) {
+                self.see_each(files, book, notes)?;
+            }
         }
         Ok(())
     }
 
-    fn see_held<S: Alter, E: Write>(
+    // The files with signatures in a folder in it, or in itself.
+    fn files_in<E: Write>(
         &self,
-        book: &Book<S>,
-        notes: &mut Notes<'_, E>,
-    ) -> Result<(), Fault> {
-        for role in &self.folder.held_roles(notes)? {
-            let place = format!(in self.alloc; "held/{role}.json")?;
-            self.see_file(book, place.as_str(), notes)?;
-        }
-        Ok(())
-    }
-
-    fn see_drafts<S: Alter, E: Write>(
-        &self,
-        book: &Book<S>,
-        notes: &mut Notes<'_, E>,
-    ) -> Result<(), Fault> {
-        for role in &self.folder.roles(notes)? {
-            let place = format!(in self.alloc; "{role}.json")?;
-            self.see_file(book, place.as_str(), notes)?;
-        }
-        Ok(())
-    }
-
-    fn see_inner<S: Alter, E: Write>(
-        &self,
-        book: &Book<S>,
         inner: &str,
         notes: &mut Notes<'_, E>,
+    ) -> Result<Vec<Seen>, Fault> {
+        let names = match inner {
+            "held" => self.folder.held_roles(notes)?,
+            "" => self.folder.roles(notes)?,
+            _ => self.folder.chain_files(inner, notes)?,
+        };
+        let mut files = Vec::new(self.alloc);
+        for name in &names {
+            let place = match inner {
+                "held" => format!(in self.alloc; "held/{name}.json")?,
+                "" => format!(in self.alloc; "{name}.json")?,
+                _ => format!(in self.alloc; "{inner}/{name}")?,
+            };
+            files.push(Seen::new(place))?;
+        }
+        Ok(files)
+    }
+
+    fn see_each<S: Alter, E: Write>(
+        &self,
+        files: &mut Vec<Seen>,
+        book: &Book<S>,
+        notes: &mut Notes<'_, E>,
     ) -> Result<(), Fault> {
-        for name in &self.folder.chain_files(inner, notes)? {
-            let place = format!(in self.alloc; "{inner}/{name}")?;
-            self.see_file(book, place.as_str(), notes)?;
+        for file in files {
+            let is_known = match &file.kept {
+                Some((spent, signed)) => spent.is_kept(book, &self.signer.top, signed),
+                None => file.is_read,
+            };
+            if !is_known {
+                file.kept = self.see_file(book, file.place.as_str(), notes)?;
+                file.is_read = true;
+            }
         }
         Ok(())
     }
 
-    // The book knows the key's signature of the file at this place in the folder, if it has signed it.
+    // The book knows the key's signature of the file at this place in the folder, if it has signed it: its leaves, and the signed part.
     fn see_file<S: Alter, E: Write>(
         &self,
         book: &Book<S>,
         place: &str,
         notes: &mut Notes<'_, E>,
-    ) -> Result<(), Fault> {
+    ) -> Result<Option<(Spent, Vec<u8>)>, Fault> {
         let Some(bytes) = self.folder.file(place, notes)? else {
-            return Ok(());
+            return Ok(None);
         };
         let file = match read_signed(self.alloc, &bytes) {
             Ok(file) => file,
             Err(fault) => return Err(self.folder.fault_of(place, Fault::from(fault), notes)),
         };
-        let Some(leaf) = self.leaf_in(&file) else {
-            return Ok(());
+        let Some(spent) = self.signer.spent_in(self.alloc, &file)? else {
+            return Ok(None);
         };
-        if keeps(book, &self.signer.id, leaf, file.signed) || !self.signer.has_signed(&file) {
-            return Ok(());
+        if spent.is_kept(book, &self.signer.top, file.signed) {
+            return Ok(Some((spent, Vec::from_slice(self.alloc, file.signed)?)));
         }
-        self.tell(book, place, leaf, notes)?;
+        if !self.signer.has_signed(&file) {
+            return Ok(None);
+        }
+        self.tell(book, place, &spent, notes)?;
         Err(Fault::Slip(Slip::Book))
-    }
-
-    // The leaf of the key's entry in the file, if there is one.
-    fn leaf_in(&self, file: &SignedFile<'_>) -> Option<u32> {
-        for entry in &file.signatures {
-            if entry.keyid == self.signer.id {
-                return leaf_of(entry.sig.as_str());
-            }
-        }
-        None
     }
 
     // Tells of a leaf that the book does not keep for what it signs, and what is to be done.
@@ -148,10 +205,11 @@ impl Guard<'_> {
         &self,
         book: &Book<S>,
         place: &str,
-        leaf: u32,
+        spent: &Spent,
         notes: &mut Notes<'_, E>,
     ) -> Result<(), Fault> {
-        if is_used(book, &self.signer.id, leaf) {
+        let leaf = spent.number();
+        if spent.is_used(book, &self.signer.top) {
             let told = format!(in self.alloc;
                 "leaf {leaf} has signed {place}, and another document in this book: anybody may sign by it, so replace the key by a new root"
             )?;
@@ -164,14 +222,4 @@ impl Guard<'_> {
         notes.warn(&self.name, &told);
         Ok(())
     }
-}
-
-// Whether the book keeps the leaf of the key for any message.
-fn is_used<S: Alter>(book: &Book<S>, id: &KeyId, leaf: u32) -> bool {
-    for kept in book.kept() {
-        if kept.key == *id && kept.leaf == leaf {
-            return true;
-        }
-    }
-    false
 }

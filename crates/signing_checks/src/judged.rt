@@ -1,12 +1,11 @@
 //! What is looked at before a leaf is spent on a draft, in this order; the first that fails is the answer.
-use crate::guarding::{Guard, Signer};
+use crate::guarding::{Guard, Seen, Signer};
 use command_support::{Denial, Fault, Notes, Slip};
 use drafts::{
-    Folder, Said, Vouching, has_signatures, held_said, kind_of, listed_otherwise, owners_of,
-    read_said, read_said_of, rules_for, see_link, unfinished_layout,
+    Folder, Said, TargetsRead, held_said, kind_of, listed_otherwise, read_said, read_said_of,
+    see_link,
 };
 use judging::{Refusal, follows};
-use keys_roles::KeyId;
 use metadata::{Kind, Moment};
 use reasons::place_of;
 use signer::Book;
@@ -14,21 +13,81 @@ use sqlite::Alter;
 use std::alloc::{AllocError, Global};
 use std::io::Write;
 
-/// By what a draft is judged: the folder, the key with its name, and the moment.
-#[derive(Clone, Copy)]
+/// By what a draft is judged: the folder, the key with its name, and the moment. The folder is read once, and again where it may have changed
+/// otherwise than by the signatures of which it is told.
+#[derive(Drop)]
 pub struct Judged<'a> {
     pub alloc: Global,
     pub folder: Folder<'a>,
     pub signer: &'a Signer,
     pub name: &'a str,
-    pub now: Moment,
+    now: Moment,
+    targets: TargetsRead<'a>,
+    seen: Vec<Vec<Seen>>,
 }
 
-impl Judged<'_> {
+impl<'a> Judged<'a> {
+    pub fn new(
+        alloc: Global,
+        folder: Folder<'a>,
+        signer: &'a Signer,
+        name: &'a str,
+        now: Moment,
+    ) -> Judged<'a> {
+        Judged {
+            alloc,
+            folder,
+            signer,
+            name,
+            now,
+            targets: TargetsRead::new(alloc, folder),
+            seen: Vec::new(alloc),
+        }
+    }
+
+    /// The folder is read again: another command may have written in it.
+    pub fn forget(&mut self) {
+        self.targets = TargetsRead::new(self.alloc, self.folder);
+        self.seen = Vec::new(self.alloc);
+    }
+
+    /// The file at this place in the folder is read again: it was signed.
+    pub fn written(&mut self, place: &str) {
+        self.targets.written(place);
+        for files in &mut self.seen {
+            for file in files {
+                file.written(place);
+            }
+        }
+    }
+
+    /// Whether a rule of a role has the key.
+    pub fn has_rule<E: Write>(
+        &mut self,
+        role: &str,
+        notes: &mut Notes<'_, E>,
+    ) -> Result<bool, Fault> {
+        self.targets.have_key(role, self.signer.id(), notes)
+    }
+
+    /// Whether the owners of a target's layout have the key.
+    pub fn is_owner<E: Write>(
+        &mut self,
+        target: &str,
+        notes: &mut Notes<'_, E>,
+    ) -> Result<bool, Fault> {
+        let owners = self.targets.owners(target, notes)?;
+        Ok(
+            owners
+                .iter()
+                .any(|vouching| vouching.rule.keyids.contains(self.signer.id())),
+        )
+    }
+
     /// Judges the draft of a role: its shape; whether a rule has the key for it; whether the book knows each signature of the key that stands
     /// in the folder; what is held, whose version it follows; its expiry; the signatures of what it is over; and the files that it lists.
     pub fn judge<S: Alter, E: Write>(
-        &self,
+        &mut self,
         book: &Book<S>,
         role: &str,
         bytes: &[u8],
@@ -52,7 +111,7 @@ impl Judged<'_> {
     }
 
     fn judge_said<S: Alter, E: Write>(
-        &self,
+        &mut self,
         book: &Book<S>,
         role: &str,
         bytes: &[u8],
@@ -68,7 +127,7 @@ impl Judged<'_> {
 
     /// Judges a layout: its shape; whether its owners' rule has the key; whether the book knows each signature of the key; and its expiry.
     pub fn judge_layout<S: Alter, E: Write>(
-        &self,
+        &mut self,
         book: &Book<S>,
         target: &str,
         bytes: &[u8],
@@ -89,7 +148,7 @@ impl Judged<'_> {
 
     /// Judges a link: its shape, and whether the book knows each signature of the key.
     pub fn judge_link<S: Alter, E: Write>(
-        &self,
+        &mut self,
         book: &Book<S>,
         name: &str,
         bytes: &[u8],
@@ -103,9 +162,12 @@ impl Judged<'_> {
     }
 
     // The owners of a target's layout have the key.
-    fn see_owners<E: Write>(&self, target: &str, notes: &mut Notes<'_, E>) -> Result<(), Fault> {
-        let owners = owners_of(self.alloc, self.folder, target, notes)?;
-        if have_key(&owners, self.signer.id()) {
+    fn see_owners<E: Write>(
+        &mut self,
+        target: &str,
+        notes: &mut Notes<'_, E>,
+    ) -> Result<(), Fault> {
+        if self.is_owner(target, notes)? {
             return Ok(());
         }
         notes.warn(&target, &"its layout's owners do not have this key");
@@ -126,7 +188,7 @@ impl Judged<'_> {
     }
 
     fn see_said<E: Write>(
-        &self,
+        &mut self,
         role: &str,
         held: Option<&Said>,
         said: &Said,
@@ -159,9 +221,8 @@ impl Judged<'_> {
     }
 
     // A rule has the key for the role's document.
-    fn see_rule<E: Write>(&self, role: &str, notes: &mut Notes<'_, E>) -> Result<(), Fault> {
-        let rules = rules_for(self.alloc, self.folder, role, notes)?;
-        if have_key(&rules, self.signer.id()) {
+    fn see_rule<E: Write>(&mut self, role: &str, notes: &mut Notes<'_, E>) -> Result<(), Fault> {
+        if self.has_rule(role, notes)? {
             return Ok(());
         }
         notes.warn(&role, &"no rule has this key for it");
@@ -170,7 +231,7 @@ impl Judged<'_> {
 
     // The book knows each signature of the key that stands in the folder.
     fn see_book<S: Alter, E: Write>(
-        &self,
+        &mut self,
         book: &Book<S>,
         notes: &mut Notes<'_, E>,
     ) -> Result<(), Fault> {
@@ -180,31 +241,24 @@ impl Judged<'_> {
             signer: self.signer,
             name: self.name,
         };
-        guard.see(book, notes)
+        guard.see(&mut self.seen, book, notes)
     }
 
     // A snapshot or timestamp is over documents that have their signatures.
-    fn see_order<E: Write>(&self, role: &str, notes: &mut Notes<'_, E>) -> Result<(), Fault> {
+    fn see_order<E: Write>(&mut self, role: &str, notes: &mut Notes<'_, E>) -> Result<(), Fault> {
         if role != "snapshot" && role != "timestamp" {
             return Ok(());
         }
-        for under in &self.folder.roles(notes)? {
-            let under = under.as_str();
-            let is_under = under != "timestamp" && !(role == "snapshot" && under == "snapshot");
-            if is_under && !has_signatures(self.alloc, self.folder, under, notes)? {
-                notes.warn(
-                    &under,
-                    &"too few signatures: a change of it would cost a snapshot and a timestamp",
-                );
-                return Err(Fault::Slip(Slip::Order));
-            }
-        }
-        Ok(())
+        self.targets.see_signatures(role, notes)
     }
 
     // Targets metadata list layouts and links as they stand, so these are signed first.
-    fn see_layouts<E: Write>(&self, said: &Said, notes: &mut Notes<'_, E>) -> Result<(), Fault> {
-        let Some(target) = unfinished_layout(self.alloc, self.folder, said, notes)? else {
+    fn see_layouts<E: Write>(
+        &mut self,
+        said: &Said,
+        notes: &mut Notes<'_, E>,
+    ) -> Result<(), Fault> {
+        let Some(target) = self.targets.unfinished_layout(said, notes)? else {
             return Ok(());
         };
         notes.warn(
@@ -245,14 +299,4 @@ impl Judged<'_> {
         );
         Err(Fault::Slip(Slip::File))
     }
-}
-
-/// Whether one of the rules has the key.
-pub fn have_key(rules: &[Vouching], id: &KeyId) -> bool {
-    for vouching in rules {
-        if vouching.rule.keyids.contains(id) {
-            return true;
-        }
-    }
-    false
 }

@@ -3,7 +3,8 @@
 
 mod guarding;
 mod judged;
+mod spent;
 
 pub use command_support::{Fault, Notes};
 pub use guarding::Signer;
-pub use judged::{Judged, have_key};
+pub use judged::Judged;

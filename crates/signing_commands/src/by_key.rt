@@ -1,19 +1,18 @@
 //! `sign --key`: signs drafts by a key that is kept in three files.
 use crate::books::{BookAt, BookWork, has_bytes, worked_over};
-use crate::files::{KeyFiles, book_place};
+use crate::files::{KeyFiles, book_place, leaves_in};
 use crate::finding::names_of_keys;
-use crate::one::{Judging, Knowing, SigningOne, What};
+use crate::one::{Judging, Knowing, One, SigningOne, What};
+use crate::pairs::Pair;
 use command_line::FolderSigning;
-use command_support::{Fault, Notes, Slip, moment, print};
+use command_support::{Fault, FolderLock, Notes, Slip, moment, print};
 use drafts::{
     Folder, Vouching, changes_of, is_held_from, owners_of, rules_for, sign_order, target_of_layout,
     version_in,
 };
-use lms::KeyPair;
-use metadata::{Moment, SignedFile, read_signed};
+use metadata::{Moment, read_signed};
 use plain_text::plain;
-use signer::leaf_of;
-use signing_checks::{Judged, Signer, have_key};
+use signing_checks::{Judged, Signer};
 use std::alloc::{AllocError, Global};
 use std::io::{IsTerminal, Write};
 
@@ -136,23 +135,24 @@ fn signed_by<'a, O: Write, E: Write>(
 ) -> Result<Signed, Fault> {
     let files = KeyFiles::read(rt, key, notes)?;
     let book = book_place(rt, key)?;
-    let signer = Signer::new(rt.alloc(), files.half.public)?;
+    let signer = Signer::new(rt.alloc(), files.half.key)?;
     let at = BookAt {
         place: book.as_str(),
         name: key,
         known: true,
     };
+    let folder = Folder::new(rt, asked.folder.as_str());
     let mut signing = Signing {
         rt,
         asked,
-        key,
-        folder: Folder::new(rt, asked.folder.as_str()),
+        folder,
         files: &files,
-        signer: &signer,
         at,
-        now,
+        judged: Judged::new(rt.alloc(), folder, &signer, key, now),
         signed: Signed::default(),
         is_judged: false,
+        pair: None,
+        most: 0,
     };
     signing.sign_all(out, notes)?;
     Ok(signing.signed)
@@ -169,18 +169,19 @@ fn unasked(rt: &HostRuntime) -> Fault {
 }
 
 // A signing that is under way, and how many documents are signed.
-#[derive(Clone, Copy)]
+#[derive(Drop)]
 struct Signing<'a> {
     rt: &'a HostRuntime,
     asked: &'a FolderSigning,
-    key: &'a str,
     folder: Folder<'a>,
     files: &'a KeyFiles,
-    signer: &'a Signer,
     at: BookAt<'a>,
-    now: Moment,
+    judged: Judged<'a>,
     signed: Signed,
     is_judged: bool,
+    // once its tree is hashed, and how many leaves the key has
+    pair: Option<Pair>,
+    most: u32,
 }
 
 impl Signing<'_> {
@@ -189,46 +190,44 @@ impl Signing<'_> {
     }
 
     // The book is asked, and the first document is judged, before the tree is hashed, which may take seconds. Where there is no document,
-    // nothing is hashed.
+    // nothing is hashed. Where nobody is asked, no other command writes in the folder until all is signed, so it is read once.
     fn sign_all<O: Write, E: Write>(
         &mut self,
         out: &mut O,
         notes: &mut Notes<'_, E>,
     ) -> Result<(), Fault> {
-        let id = self.signer.id();
-        if !self.over_book(&mut Knowing { id }, notes)? {
-            return Err(self.unknown(notes));
-        }
+        let half = &self.files.half;
+        let Some(lower) = over_book(self.rt, self.at, &mut Knowing { half }, notes)? else {
+            return Err(unknown(self.at, notes));
+        };
         let roles = self.roles(notes)?;
-        self.sign_each(None, &roles, out, notes)?;
+        self.sign_each(&roles, out, notes)?;
         if !self.is_judged {
             return Ok(());
         }
-        let pair = self.files.pair(self.rt, notes)?;
-        self.sign_each(Some(&pair), &roles, out, notes)
-    }
-
-    // Does what is to be done over the key's book, which has to be there and to have the key.
-    fn over_book<W: BookWork, E: Write>(
-        &self,
-        work: &mut W,
-        notes: &mut Notes<'_, E>,
-    ) -> Result<W::Done, Fault> {
-        match worked_over(self.rt, self.at, work, notes) {
-            Err(Fault::UnknownKey) => Err(self.unknown(notes)),
-            done => done,
+        self.pair = Some(self.files.pair(self.rt, lower, notes)?);
+        self.most = leaves_in(half.params);
+        if let Some(lower) = lower {
+            self.most = self.most.saturating_mul(leaves_in(lower));
         }
+        let _lock = if self.asked.yes {
+            Some(self.locked(notes)?)
+        } else {
+            None
+        };
+        self.sign_each(&roles, out, notes)
     }
 
-    fn unknown<E: Write>(&self, notes: &mut Notes<'_, E>) -> Fault {
-        notes.warn(&self.key, &"its book does not have the key");
-        Fault::Slip(Slip::Book)
+    // No other command writes in the folder, which is read again.
+    fn locked<E: Write>(&mut self, notes: &mut Notes<'_, E>) -> Result<FolderLock, Fault> {
+        let lock = self.folder.lock(notes)?;
+        self.judged.forget();
+        Ok(lock)
     }
 
     // Signs the documents of these roles, and layouts and links, in their order. Without a key pair the first of them is judged alone.
     fn sign_each<O: Write, E: Write>(
         &mut self,
-        pair: Option<&KeyPair>,
         roles: &[String],
         out: &mut O,
         notes: &mut Notes<'_, E>,
@@ -236,12 +235,14 @@ impl Signing<'_> {
         for order in 0..5u8 {
             for role in roles {
                 if sign_order(role.as_str()) == order {
-                    self.sign_one(pair, What::Draft(role.as_str()), out, notes)?;
+                    let place = format!(in self.alloc(); "{role}.json")?;
+                    let (what, place) = (What::Draft(role.as_str()), place.as_str());
+                    self.sign_one(One { what, place }, out, notes)?;
                 }
             }
             if order == 0 {
-                self.sign_layouts(pair, out, notes)?;
-                self.sign_links(pair, out, notes)?;
+                self.sign_layouts(out, notes)?;
+                self.sign_links(out, notes)?;
             }
         }
         Ok(())
@@ -250,14 +251,13 @@ impl Signing<'_> {
     // Signs the layouts that are named, or whose owners have the key and that lack its signature.
     fn sign_layouts<O: Write, E: Write>(
         &mut self,
-        pair: Option<&KeyPair>,
         out: &mut O,
         notes: &mut Notes<'_, E>,
     ) -> Result<(), Fault> {
         for name in &self.folder.chain_files("layouts", notes)? {
             let name = name.as_str();
             if let Some(target) = target_of_layout(self.alloc(), name)? {
-                self.sign_layout(pair, name, target.as_str(), out, notes)?;
+                self.sign_layout(name, target.as_str(), out, notes)?;
             }
         }
         Ok(())
@@ -266,7 +266,6 @@ impl Signing<'_> {
     // Signs the layout of a target, if it is wanted.
     fn sign_layout<O: Write, E: Write>(
         &mut self,
-        pair: Option<&KeyPair>,
         name: &str,
         target: &str,
         out: &mut O,
@@ -277,11 +276,12 @@ impl Signing<'_> {
         if !self.is_layout_wanted(name, target, place, notes)? {
             return Ok(());
         }
-        self.sign_one(pair, What::Layout { target, place }, out, notes)
+        let what = What::Layout(target);
+        self.sign_one(One { what, place }, out, notes)
     }
 
     fn is_layout_wanted<E: Write>(
-        &self,
+        &mut self,
         name: &str,
         target: &str,
         place: &str,
@@ -291,19 +291,17 @@ impl Signing<'_> {
             return Ok(self.is_asked(name));
         }
         let bytes = self.folder.file_or_none(place, notes)?;
-        let owners = owners_of(self.alloc(), self.folder, target, notes)?;
-        Ok(have_key(&owners, self.signer.id()) && !self.has_signed(&bytes)?)
+        Ok(self.judged.is_owner(target, notes)? && !self.has_signed(&bytes)?)
     }
 
     // Signs the links that are named, or all that have no signature: a link has one.
     fn sign_links<O: Write, E: Write>(
         &mut self,
-        pair: Option<&KeyPair>,
         out: &mut O,
         notes: &mut Notes<'_, E>,
     ) -> Result<(), Fault> {
         for name in &self.folder.chain_files("links", notes)? {
-            self.sign_link(pair, name.as_str(), out, notes)?;
+            self.sign_link(name.as_str(), out, notes)?;
         }
         Ok(())
     }
@@ -311,7 +309,6 @@ impl Signing<'_> {
     // Signs a link, if it is wanted.
     fn sign_link<O: Write, E: Write>(
         &mut self,
-        pair: Option<&KeyPair>,
         name: &str,
         out: &mut O,
         notes: &mut Notes<'_, E>,
@@ -323,17 +320,8 @@ impl Signing<'_> {
         if !is_wanted || !is_unsigned(self.alloc(), &bytes)? {
             return Ok(());
         }
-        self.sign_one(pair, What::Link { name, place }, out, notes)
-    }
-
-    fn judged(&self) -> Judged<'_> {
-        Judged {
-            alloc: self.alloc(),
-            folder: self.folder,
-            signer: self.signer,
-            name: self.key,
-            now: self.now,
-        }
+        let what = What::Link(name);
+        self.sign_one(One { what, place }, out, notes)
     }
 
     // Whether a document is named, with its ending or without.
@@ -350,17 +338,17 @@ impl Signing<'_> {
     // Whether the key has signed the file.
     fn has_signed(&self, bytes: &[u8]) -> Result<bool, Fault> {
         match read_signed(self.alloc(), bytes) {
-            Ok(file) => Ok(self.signer.has_signed(&file)),
+            Ok(file) => Ok(self.judged.signer.has_signed(&file)),
             Err(fault) => Err(Fault::from(fault)),
         }
     }
 
     // The roles of the documents to sign: those that are named, or of all drafts those that the key may sign and has not signed.
-    fn roles<E: Write>(&self, notes: &mut Notes<'_, E>) -> Result<Vec<String>, Fault> {
+    fn roles<E: Write>(&mut self, notes: &mut Notes<'_, E>) -> Result<Vec<String>, Fault> {
         let mut roles = Vec::new(self.alloc());
-        let named = &self.asked.documents;
+        let asked = self.asked;
         for role in &self.folder.roles(notes)? {
-            let is_wanted = if named.is_empty() {
+            let is_wanted = if asked.documents.is_empty() {
                 self.may_sign(role.as_str(), notes)?
             } else {
                 self.is_asked(role.as_str())
@@ -373,9 +361,8 @@ impl Signing<'_> {
     }
 
     // Whether a rule of the role has the key, and the key has not signed the draft.
-    fn may_sign<E: Write>(&self, role: &str, notes: &mut Notes<'_, E>) -> Result<bool, Fault> {
-        let rules = rules_for(self.alloc(), self.folder, role, notes)?;
-        if !have_key(&rules, self.signer.id()) {
+    fn may_sign<E: Write>(&mut self, role: &str, notes: &mut Notes<'_, E>) -> Result<bool, Fault> {
+        if !self.judged.has_rule(role, notes)? {
             return Ok(false);
         }
         let bytes = self.folder.draft_or_none(role, notes)?;
@@ -384,133 +371,138 @@ impl Signing<'_> {
 
     // Signs one document, if the operator agrees. The book is opened for it and closed before the document is put in its place, so that the
     // book's file alone has the leaf then. While a question stands it is not open; what is answered to is looked at again after the answer,
-    // and from then on no other command writes in the folder until it is signed.
+    // and from then on no other command writes in the folder until it is signed. The document itself is read again in any case.
     fn sign_one<O: Write, E: Write>(
         &mut self,
-        pair: Option<&KeyPair>,
-        what: What<'_>,
+        one: One<'_>,
         out: &mut O,
         notes: &mut Notes<'_, E>,
     ) -> Result<(), Fault> {
-        let Some(pair) = pair else {
-            return self.judge_first(what, notes);
-        };
-        let bytes = what.bytes(self.folder, notes)?;
-        if !self.asked.yes && !self.is_agreed(what, &bytes, notes)? {
+        if self.pair.is_none() {
+            return self.judge_first(one, notes);
+        }
+        let bytes = self.folder.file_or_none(one.place, notes)?;
+        if self.asked.yes {
+            self.judged.written(one.place);
+            return self.sign_bytes(one, &bytes, out, notes);
+        }
+        self.judged.forget();
+        if !self.is_agreed(one, &bytes, notes)? {
             self.signed.declined = self.signed.declined.saturating_add(1);
             return Ok(());
         }
-        let _lock = self.folder.lock(notes)?;
-        let latest = what.bytes(self.folder, notes)?;
+        let _lock = self.locked(notes)?;
+        let latest = self.folder.file_or_none(one.place, notes)?;
         if !have_one_part(self.alloc(), &bytes, &latest)? {
-            notes.warn(&what.name(), &"it has changed since it was shown");
+            notes.warn(&one.name(), &"it has changed since it was shown");
             return Err(Fault::Slip(Slip::Different));
         }
-        self.sign_bytes(pair, what, &latest, out, notes)
+        self.sign_bytes(one, &latest, out, notes)
     }
 
     // Judges a document, if it is the first one.
     fn judge_first<E: Write>(
         &mut self,
-        what: What<'_>,
+        one: One<'_>,
         notes: &mut Notes<'_, E>,
     ) -> Result<(), Fault> {
         if self.is_judged {
             return Ok(());
         }
         self.is_judged = true;
-        let bytes = what.bytes(self.folder, notes)?;
-        self.judge(what, &bytes, notes)
+        let bytes = self.folder.file_or_none(one.place, notes)?;
+        self.judge(one, &bytes, notes)
     }
 
     fn judge<E: Write>(
-        &self,
-        what: What<'_>,
+        &mut self,
+        one: One<'_>,
         bytes: &[u8],
         notes: &mut Notes<'_, E>,
     ) -> Result<(), Fault> {
         let mut judging = Judging {
-            judged: self.judged(),
-            what,
+            judged: &mut self.judged,
+            one,
             bytes,
         };
-        self.over_book(&mut judging, notes)
+        over_book(self.rt, self.at, &mut judging, notes)
     }
 
     // Signs one document, and tells by which leaf.
     fn sign_bytes<O: Write, E: Write>(
         &mut self,
-        pair: &KeyPair,
-        what: What<'_>,
+        one: One<'_>,
         bytes: &[u8],
         out: &mut O,
         notes: &mut Notes<'_, E>,
     ) -> Result<(), Fault> {
-        let mut one = SigningOne {
+        let Some(pair) = &mut self.pair else {
+            return Ok(());
+        };
+        let mut signing = SigningOne {
             judging: Judging {
-                judged: self.judged(),
-                what,
+                judged: &mut self.judged,
+                one,
                 bytes,
             },
             pair,
             again: self.asked.again,
+            is_watched: self.rt.stderr().is_terminal(),
         };
-        let signed = self.over_book(&mut one, notes)?;
-        what.put(self.folder, &signed, notes)?;
+        let signed = over_book(self.rt, self.at, &mut signing, notes)?;
+        self.folder.put_named(one.place, &signed, notes)?;
+        self.judged.written(one.place);
         self.signed.done = self.signed.done.saturating_add(1);
-        self.tell(what.name(), &signed, out, notes)
+        self.tell(one.name(), &signed, out, notes)
     }
 
     // Whether the operator agrees, by the answer `y` to the question, which stands after what the document changes. It is judged first.
     fn is_agreed<E: Write>(
-        &self,
-        what: What<'_>,
+        &mut self,
+        one: One<'_>,
         bytes: &[u8],
         notes: &mut Notes<'_, E>,
     ) -> Result<bool, Fault> {
-        self.judge(what, bytes, notes)?;
-        self.ask(what, bytes, notes)?;
+        self.judge(one, bytes, notes)?;
+        self.ask(one, bytes, notes)?;
         Ok(is_yes(self.rt))
     }
 
     // What is signed, the rules that it has to meet, and the question.
     fn ask<E: Write>(
         &self,
-        what: What<'_>,
+        one: One<'_>,
         bytes: &[u8],
         notes: &mut Notes<'_, E>,
     ) -> Result<(), Fault> {
-        let held = match what {
+        let held = match one.what {
             What::Draft(role) => self.folder.held(role, notes)?,
-            What::Layout { .. } | What::Link { .. } => None,
+            What::Layout(_) | What::Link(_) => None,
         };
         for change in &changes_of(self.alloc(), held.as_deref(), bytes, notes.are_told())? {
             notes.progress(change);
         }
-        self.tell_rules(what, notes)?;
-        let question = self.question(what, bytes)?;
+        self.tell_rules(one.what, notes)?;
+        let question = self.question(one, bytes)?;
         notes.progress(&question);
         Ok(())
     }
 
-    fn question(&self, what: What<'_>, bytes: &[u8]) -> Result<String, Fault> {
-        match what {
-            What::Draft(role) => {
-                let version = version_in(self.alloc(), role, bytes)?;
-                Ok(format!(in self.alloc(); "sign {role} {version}? [y/N]")?)
-            }
-            What::Layout { place, .. } | What::Link { place, .. } => {
-                Ok(format!(in self.alloc(); "sign {place}? [y/N]")?)
-            }
+    fn question(&self, one: One<'_>, bytes: &[u8]) -> Result<String, Fault> {
+        let (alloc, name) = (self.alloc(), one.name());
+        if let What::Draft(role) = one.what {
+            let version = version_in(alloc, role, bytes)?;
+            return Ok(format!(in alloc; "sign {role} {version}? [y/N]")?);
         }
+        Ok(format!(in alloc; "sign {name}? [y/N]")?)
     }
 
     // The rules that what is signed has to meet. A link has none here.
     fn tell_rules<E: Write>(&self, what: What<'_>, notes: &mut Notes<'_, E>) -> Result<(), Fault> {
         let rules = match what {
             What::Draft(role) => rules_for(self.alloc(), self.folder, role, notes)?,
-            What::Layout { target, .. } => owners_of(self.alloc(), self.folder, target, notes)?,
-            What::Link { .. } => Vec::new(self.alloc()),
+            What::Layout(target) => owners_of(self.alloc(), self.folder, target, notes)?,
+            What::Link(_) => Vec::new(self.alloc()),
         };
         for vouching in &rules {
             let line = rule_line(self.alloc(), vouching, rules.len())?;
@@ -527,18 +519,40 @@ impl Signing<'_> {
         out: &mut O,
         notes: &mut Notes<'_, E>,
     ) -> Result<(), Fault> {
-        let leaf = match read_signed(self.alloc(), signed) {
-            Ok(file) => last_leaf(&file),
+        let spent = match read_signed(self.alloc(), signed) {
+            Ok(file) => self.judged.signer.spent_in(self.alloc(), &file)?,
             Err(fault) => return Err(Fault::from(fault)),
         };
-        let count = self.files.half.leaves();
+        let leaf = match spent {
+            Some(spent) => spent.number(),
+            None => 0,
+        };
+        let count = self.most;
         let role = plain(self.alloc(), role)?;
         let text = format!(in self.alloc(); "signed {role} with leaf {leaf} of {count}\n")?;
         if (u64::from(leaf) + 1) * 4 >= u64::from(count) * 3 {
-            notes.warn(&self.key, &"a quarter of its leaves or fewer are left");
+            notes.warn(&self.at.name, &"a quarter of its leaves or fewer are left");
         }
         print(out, text.as_bytes(), notes)
     }
+}
+
+// Does what is to be done over the key's book, which has to be there and to have the key.
+fn over_book<W: BookWork, E: Write>(
+    rt: &HostRuntime,
+    at: BookAt<'_>,
+    work: &mut W,
+    notes: &mut Notes<'_, E>,
+) -> Result<W::Done, Fault> {
+    match worked_over(rt, at, work, notes) {
+        Err(Fault::UnknownKey) => Err(unknown(at, notes)),
+        done => done,
+    }
+}
+
+fn unknown<E: Write>(at: BookAt<'_>, notes: &mut Notes<'_, E>) -> Fault {
+    notes.warn(&at.name, &"its book does not have the key");
+    Fault::Slip(Slip::Book)
 }
 
 // A rule in a line: how many of which keys. Where there are several each says whose it is.
@@ -571,14 +585,6 @@ fn is_unsigned(alloc: Global, bytes: &[u8]) -> Result<bool, Fault> {
     match read_signed(alloc, bytes) {
         Ok(file) => Ok(file.signatures.is_empty()),
         Err(fault) => Err(Fault::from(fault)),
-    }
-}
-
-// The leaf of the last entry.
-fn last_leaf(file: &SignedFile<'_>) -> u32 {
-    match file.signatures.last() {
-        Some(entry) => leaf_of(entry.sig.as_str()).unwrap_or(0),
-        None => 0,
     }
 }
 

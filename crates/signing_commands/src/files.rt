@@ -1,14 +1,15 @@
 //! A key as three files: `NAME.seed`, `NAME.key` with its public object, and `NAME.book`.
 use crate::books::{BookAt, BookWork, book_fault, has_bytes, worked_over};
 use crate::documents::tell_of_tree;
+use crate::pairs::Pair;
 use crate::seeds::seed_at;
 use command_support::{
     FOR_ALL, Fault, Notes, OWNER_ALONE, Slip, file_fault, moment, print, read_at_most,
 };
 use drafts::{KEY_FILE_LIMIT, key_in};
-use keys_roles::{Key, KeyId, key_id, key_object};
-use lms::{KeyPair, OtsType, Params, SigningHeight, public_of};
-use signer::{Book, Seed};
+use keys_roles::{Key, KeyId, key_id, key_object, top_key};
+use lms::{HssKeyPair, Levels, OtsType, Params, SigningHeight, public_of};
+use signer::{Book, Seed, sign_message};
 use sqlite::Alter;
 use std::alloc::{AllocError, Global};
 use std::fs::{self, File};
@@ -16,12 +17,14 @@ use std::io::{self, Write};
 use std::os::unix::fs::OpenOptionsExt;
 use std::random::RandomSource;
 
-/// The public half of a key, as `NAME.key` has it: its parameters and its id.
+/// The public half of a key, as `NAME.key` has it: the key with its id, and its tree, or its top tree, with its parameters and its id as a key
+/// of its own, under which the book has it.
 #[derive(Clone, Copy)]
 pub struct PublicHalf {
-    pub public: [u8; 56],
-    pub params: Params,
+    pub key: Key,
     pub id: KeyId,
+    pub params: Params,
+    pub top: KeyId,
 }
 
 impl PublicHalf {
@@ -33,24 +36,47 @@ impl PublicHalf {
     ) -> Result<PublicHalf, Fault> {
         let place = format!(in rt.alloc(); "{name}.key")?;
         let bytes = read_at_most(rt, place.as_str(), KEY_FILE_LIMIT, notes)?;
-        let Some(Key::Lms(public)) = key_in(rt.alloc(), &bytes)? else {
-            notes.fault(&place, &"no key object of the scheme lms-sha256");
+        let Some(key) = key_in(rt.alloc(), &bytes)? else {
+            notes.fault(&place, &"no key object");
             return Err(Fault::File);
         };
-        let Some(params) = params_of(&public) else {
+        let params = if has_known_levels(&key) {
+            params_of(top_key(&key))
+        } else {
+            None
+        };
+        let Some(params) = params else {
             notes.fault(&place, &"no parameters that are signed by");
             return Err(Fault::File);
         };
-        let id = key_id(rt.alloc(), &Key::Lms(public))?;
-        Ok(PublicHalf { public, params, id })
+        let alloc = rt.alloc();
+        Ok(PublicHalf {
+            key,
+            id: key_id(alloc, &key)?,
+            params,
+            top: key_id(alloc, &Key::Lms(*top_key(&key)))?,
+        })
     }
 
-    /// How many signatures the key can make.
-    pub fn leaves(&self) -> u32 {
-        match self.params.height {
-            SigningHeight::H5 => 32,
-            SigningHeight::H10 => 1024,
-        }
+    /// Whether it is of two levels.
+    pub fn has_two_levels(&self) -> bool {
+        matches!(self.key, Key::Hss(_))
+    }
+}
+
+// Whether it is a key of one level or of two.
+fn has_known_levels(key: &Key) -> bool {
+    match key {
+        Key::Lms(_) => true,
+        Key::Hss(public) => public[..4] == [0, 0, 0, 2],
+    }
+}
+
+/// How many leaves a tree has.
+pub fn leaves_in(params: Params) -> u32 {
+    match params.height {
+        SigningHeight::H5 => 32,
+        SigningHeight::H10 => 1024,
     }
 }
 
@@ -74,15 +100,16 @@ impl KeyFiles {
         Ok(KeyFiles { seed, half })
     }
 
-    /// The key pair. A seed of another key is a fault of a file.
+    /// The key pair; of two levels with the parameters of the trees below. A seed of another key is a fault of a file.
     pub fn pair<E: Write>(
         &self,
         rt: &HostRuntime,
+        lower: Option<Params>,
         notes: &mut Notes<'_, E>,
-    ) -> Result<KeyPair, Fault> {
+    ) -> Result<Pair, Fault> {
         tell_of_tree(rt, self.half.params, notes);
-        let pair = KeyPair::new(rt.alloc(), &self.seed, self.half.params)?;
-        if pair.public() != self.half.public {
+        let pair = Pair::new(rt.alloc(), &self.seed, self.half.params, lower)?;
+        if pair.top().public() != *top_key(&self.half.key) {
             notes.warn(&"the seed", &"it is of another key than the public half");
             return Err(Fault::File);
         }
@@ -112,12 +139,19 @@ fn params_of(public: &[u8; 56]) -> Option<Params> {
     Some(Params { ots, height })
 }
 
+/// Of which kind new keys are: the parameters of the tree, and of the trees below in a key of two levels.
+#[derive(Clone, Copy)]
+pub struct NewKey {
+    pub params: Params,
+    pub lower: Option<Params>,
+}
+
 /// Makes the three files of each key, seed and book for their owner alone, and prints the keys' ids, a line each. Where one of them stands
 /// nothing is made.
 pub fn make_keys<O: Write, E: Write>(
     rt: &HostRuntime,
     names: &[String],
-    params: Params,
+    kind: NewKey,
     at: Option<u64>,
     out: &mut O,
     notes: &mut Notes<'_, E>,
@@ -128,7 +162,7 @@ pub fn make_keys<O: Write, E: Write>(
         see_once(&names[..place], name, notes)?;
     }
     for name in names {
-        make_key(rt, name.as_str(), params, out, notes)?;
+        make_key(rt, name.as_str(), kind, out, notes)?;
     }
     Ok(())
 }
@@ -162,7 +196,7 @@ fn see_free<E: Write>(rt: &HostRuntime, name: &str, notes: &mut Notes<'_, E>) ->
 fn make_key<O: Write, E: Write>(
     rt: &HostRuntime,
     name: &str,
-    params: Params,
+    kind: NewKey,
     out: &mut O,
     notes: &mut Notes<'_, E>,
 ) -> Result<(), Fault> {
@@ -170,14 +204,7 @@ fn make_key<O: Write, E: Write>(
     let seed = format!(in alloc; "{name}.seed")?;
     let key = format!(in alloc; "{name}.key")?;
     let book = book_place(rt, name)?;
-    let id = made_at(
-        rt,
-        seed.as_str(),
-        key.as_str(),
-        book.as_str(),
-        params,
-        notes,
-    )?;
+    let id = made_at(rt, seed.as_str(), key.as_str(), book.as_str(), kind, notes)?;
     let mut line = metadata::Digest::new(id.0).text(alloc)?;
     line.push('\n')?;
     print(out, line.as_bytes(), notes)
@@ -189,11 +216,11 @@ fn made_at<E: Write>(
     seed: &str,
     key: &str,
     book: &str,
-    params: Params,
+    kind: NewKey,
     notes: &mut Notes<'_, E>,
 ) -> Result<KeyId, Fault> {
     let seed = new_seed(rt, seed, notes)?;
-    registered(rt, &seed, key, book, params, notes)
+    registered(rt, &seed, key, book, kind, notes)
 }
 
 // Makes the book and the public half of a seed's key.
@@ -202,20 +229,22 @@ fn registered<E: Write>(
     seed: &Seed,
     key: &str,
     book: &str,
-    params: Params,
+    kind: NewKey,
     notes: &mut Notes<'_, E>,
 ) -> Result<KeyId, Fault> {
-    tell_of_tree(rt, params, notes);
+    tell_of_tree(rt, kind.params, notes);
     let at = BookAt {
         place: book,
         name: "the book",
         known: false,
     };
-    let id = worked_over(rt, at, &mut Registering { seed, params }, notes)?;
-    let mut object = key_object(rt.alloc(), &Key::Lms(public_of(seed, params)))?;
+    let alloc = rt.alloc();
+    let mut registering = Registering { alloc, seed, kind };
+    let public = worked_over(rt, at, &mut registering, notes)?;
+    let mut object = key_object(alloc, &public)?;
     object.push(b'\n')?;
     made(rt, key, &object, FOR_ALL, notes)?;
-    Ok(id)
+    Ok(key_id(alloc, &public)?)
 }
 
 // Whether anything stands there.
@@ -267,25 +296,48 @@ fn written(rt: &HostRuntime, place: &str, bytes: &[u8], mode: u32) -> io::Result
     file.sync_all()
 }
 
-// Registers a key in a book.
+// Registers a key in a book; one of two levels with its first tree below, for which leaf 0 of the top tree is kept.
 #[derive(Clone, Copy)]
 struct Registering<'a> {
+    alloc: Global,
     seed: &'a Seed,
-    params: Params,
+    kind: NewKey,
 }
 
 impl BookWork for Registering<'_> {
-    type Done = KeyId;
+    type Done = Key;
 
     fn work<S: Alter, E: Write>(
         &mut self,
         book: &mut Book<S>,
         _is_new: bool,
         _notes: &mut Notes<'_, E>,
-    ) -> Result<KeyId, Fault> {
-        match book.register(self.seed, self.params) {
-            Ok(id) => Ok(id),
-            Err(fault) => Err(book_fault(fault)),
-        }
+    ) -> Result<Key, Fault> {
+        let top = self.kind.params;
+        let Some(bottom) = self.kind.lower else {
+            return match book.register(self.seed, top) {
+                Ok(_) => Ok(Key::Lms(public_of(self.seed, top))),
+                Err(fault) => Err(book_fault(fault)),
+            };
+        };
+        let pair = HssKeyPair::new(self.alloc, self.seed, Levels { top, bottom })?;
+        keep_first_tree(self.alloc, book, &pair)?;
+        Ok(Key::Hss(pair.public()))
+    }
+}
+
+// Registers the top tree of a pair, keeps its leaf 0 for the first tree below, and registers that.
+fn keep_first_tree<S: Alter>(
+    alloc: Global,
+    book: &mut Book<S>,
+    pair: &HssKeyPair,
+) -> Result<(), Fault> {
+    let below = pair.below(alloc, 0)?;
+    if let Err(fault) = sign_message(alloc, book, pair.top(), &below.public()) {
+        return Err(book_fault(fault));
+    }
+    match book.register_pair(&below) {
+        Ok(_) => Ok(()),
+        Err(fault) => Err(book_fault(fault)),
     }
 }

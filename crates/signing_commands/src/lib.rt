@@ -10,12 +10,15 @@ mod finding;
 mod key;
 mod leaves;
 mod one;
+mod outside;
+mod pairs;
 mod seeds;
 
 pub use by_key::{Anchor, Anchoring, sign_in};
 pub use command_support::{Fault, Notes};
 pub use documents::sign;
-pub use files::make_keys;
+pub use files::{NewKey, make_keys};
 pub use key::print_key;
 pub use leaves::leaves_of;
 pub use lms::Params;
+pub use outside::print_public_key;

@@ -1,103 +1,89 @@
 //! One document of a folder, which is judged and signed over the book of a key.
 use crate::books::{BookWork, book_fault, tell_of_other_tree};
+use crate::files::{PublicHalf, leaves_in};
+use crate::pairs::Pair;
 use command_support::{Fault, Notes, Slip};
-use drafts::Folder;
 use keys_roles::KeyId;
-use lms::KeyPair;
-use signer::{Book, BookFault, SignFileFault, SignOnceFault, sign_file_once, sign_file_with};
+use lms::Params;
+use metadata::read_signed;
+use signer::{Book, BookFault, SignFileFault, SignOnceFault, lower_params};
 use signing_checks::Judged;
 use sqlite::Alter;
 use std::io::Write;
 
-/// What is signed of a folder.
+/// What is signed of a folder: a draft of a role, the layout of a target, or a link by its name.
 #[derive(Clone, Copy)]
 pub enum What<'a> {
-    /// The draft of a role.
     Draft(&'a str),
-    /// The layout of a target, at a place in the folder.
-    Layout { target: &'a str, place: &'a str },
-    /// A link, by its name, at a place in the folder.
-    Link { name: &'a str, place: &'a str },
+    Layout(&'a str),
+    Link(&'a str),
 }
 
-impl<'a> What<'a> {
+/// What is signed, and its place in the folder.
+#[derive(Clone, Copy)]
+pub struct One<'a> {
+    pub what: What<'a>,
+    pub place: &'a str,
+}
+
+impl<'a> One<'a> {
     /// What it is called: its role, or its place.
     pub fn name(&self) -> &'a str {
-        match *self {
+        match self.what {
             What::Draft(role) => role,
-            What::Layout { place, .. } | What::Link { place, .. } => place,
-        }
-    }
-
-    /// Its bytes. That it is there is for the caller to see to: else it is an empty file, which is no document.
-    pub fn bytes<E: Write>(
-        &self,
-        folder: Folder<'_>,
-        notes: &mut Notes<'_, E>,
-    ) -> Result<Vec<u8>, Fault> {
-        match *self {
-            What::Draft(role) => folder.draft_or_none(role, notes),
-            What::Layout { place, .. } | What::Link { place, .. } => {
-                folder.file_or_none(place, notes)
-            }
-        }
-    }
-
-    /// Writes it in its place.
-    pub fn put<E: Write>(
-        &self,
-        folder: Folder<'_>,
-        bytes: &[u8],
-        notes: &mut Notes<'_, E>,
-    ) -> Result<(), Fault> {
-        match *self {
-            What::Draft(role) => folder.put_draft(role, bytes, notes),
-            What::Layout { place, .. } | What::Link { place, .. } => {
-                folder.put_named(place, bytes, notes)
-            }
+            What::Layout(_) | What::Link(_) => self.place,
         }
     }
 
     fn judge<S: Alter, E: Write>(
         &self,
-        judged: &Judged<'_>,
+        judged: &mut Judged<'_>,
         book: &Book<S>,
         bytes: &[u8],
         notes: &mut Notes<'_, E>,
     ) -> Result<(), Fault> {
-        match *self {
+        match self.what {
             What::Draft(role) => judged.judge(book, role, bytes, notes),
-            What::Layout { target, .. } => judged.judge_layout(book, target, bytes, notes),
-            What::Link { name, .. } => judged.judge_link(book, name, bytes, notes),
+            What::Layout(target) => judged.judge_layout(book, target, bytes, notes),
+            What::Link(name) => judged.judge_link(book, name, bytes, notes),
         }
     }
 }
 
-/// Whether the book has a key.
+/// Whether the book has a key, and of one of two levels the parameters of the trees below, which the book says.
 #[derive(Clone, Copy)]
 pub struct Knowing<'a> {
-    pub id: &'a KeyId,
+    pub half: &'a PublicHalf,
 }
 
 impl BookWork for Knowing<'_> {
-    type Done = bool;
+    type Done = Option<Option<Params>>;
 
     fn work<S: Alter, E: Write>(
         &mut self,
         book: &mut Book<S>,
         _is_new: bool,
         _notes: &mut Notes<'_, E>,
-    ) -> Result<bool, Fault> {
-        Ok(book.registered(self.id).is_some())
+    ) -> Result<Option<Option<Params>>, Fault> {
+        if book.registered(&self.half.top).is_none() {
+            return Ok(None);
+        }
+        if !self.half.has_two_levels() {
+            return Ok(Some(None));
+        }
+        match lower_params(book, &self.half.top) {
+            Some(lower) => Ok(Some(Some(lower))),
+            None => Ok(None),
+        }
     }
 }
 
 /// Judges a document over the book.
-#[derive(Clone, Copy)]
-pub struct Judging<'j, 'w, 'b> {
-    pub judged: Judged<'j>,
-    pub what: What<'w>,
-    pub bytes: &'b [u8],
+#[derive(Drop)]
+pub struct Judging<'m, 'j, 'o> {
+    pub judged: &'m mut Judged<'j>,
+    pub one: One<'o>,
+    pub bytes: &'o [u8],
 }
 
 impl BookWork for Judging<'_, '_, '_> {
@@ -109,16 +95,18 @@ impl BookWork for Judging<'_, '_, '_> {
         _is_new: bool,
         notes: &mut Notes<'_, E>,
     ) -> Result<(), Fault> {
-        self.what.judge(&self.judged, book, self.bytes, notes)
+        self.one.judge(self.judged, book, self.bytes, notes)
     }
 }
 
 /// Judges a document and signs it, by the book that has the key; and whether another document of its kind and version may be signed.
-#[derive(Clone, Copy)]
-pub struct SigningOne<'j, 'w, 'b, 'p> {
-    pub judging: Judging<'j, 'w, 'b>,
-    pub pair: &'p KeyPair,
+#[derive(Drop)]
+pub struct SigningOne<'m, 'j, 'o, 'p> {
+    pub judging: Judging<'m, 'j, 'o>,
+    pub pair: &'p mut Pair,
     pub again: bool,
+    /// Whether somebody sees on a terminal what takes a while.
+    pub is_watched: bool,
 }
 
 impl BookWork for SigningOne<'_, '_, '_, '_> {
@@ -130,37 +118,56 @@ impl BookWork for SigningOne<'_, '_, '_, '_> {
         _is_new: bool,
         notes: &mut Notes<'_, E>,
     ) -> Result<Vec<u8>, Fault> {
-        let judging = &self.judging;
-        judging
-            .what
-            .judge(&judging.judged, book, judging.bytes, notes)?;
-        if book.registered(self.judging.judged.signer.id()).is_none() {
+        self.judging.work(book, false, notes)?;
+        if book.registered(self.judging.judged.signer.top()).is_none() {
             return Err(Fault::UnknownKey);
         }
+        self.tell_tree(book, notes);
         self.signed(book, notes)
     }
 }
 
 impl SigningOne<'_, '_, '_, '_> {
+    // Tells on a terminal where a key of two levels begins a new tree.
+    fn tell_tree<S: Alter, E: Write>(&self, book: &Book<S>, notes: &mut Notes<'_, E>) {
+        let judged = &self.judging.judged;
+        let Ok(file) = read_signed(judged.alloc, self.judging.bytes) else {
+            return;
+        };
+        let Some((q, lower)) = self.pair.tree_of(judged.alloc, book, file.signed) else {
+            return;
+        };
+        if self.is_watched && !is_used(book, judged.signer.top(), q) {
+            let most = leaves_in(self.pair.top().params());
+            let each = leaves_in(lower);
+            let line = format!(in judged.alloc;
+                "a new tree, number {q} of {most}: hashing its {each} leaves"
+            );
+            if let Ok(line) = line {
+                notes.progress(&line);
+            }
+        }
+    }
+
     // The document with the key's signature.
     fn signed<S: Alter, E: Write>(
-        &self,
+        &mut self,
         book: &mut Book<S>,
         notes: &mut Notes<'_, E>,
     ) -> Result<Vec<u8>, Fault> {
         let alloc = self.judging.judged.alloc;
-        let bytes = self.judging.bytes;
+        let (one, bytes) = (self.judging.one, self.judging.bytes);
         if self.again {
-            return match sign_file_with(alloc, book, self.pair, bytes) {
+            return match self.pair.sign(alloc, book, bytes) {
                 Ok(signed) => Ok(signed),
                 Err(fault) => Err(self.fault_of(fault, book, notes)),
             };
         }
-        match sign_file_once(alloc, book, self.pair, bytes) {
+        match self.pair.sign_once(alloc, book, bytes) {
             Ok(signed) => Ok(signed),
             Err(SignOnceFault::Other(_)) => {
                 notes.warn(
-                    &self.judging.what.name(),
+                    &one.name(),
                     &"the key has signed another document of this kind and version; --again goes on",
                 );
                 Err(Fault::Slip(Slip::Other))
@@ -179,7 +186,8 @@ impl SigningOne<'_, '_, '_, '_> {
             SignFileFault::Denied(denial) => Fault::Denied(denial, None),
             SignFileFault::Book(BookFault::OtherTree) => {
                 let judged = &self.judging.judged;
-                let tree = (self.pair.seed(), self.pair.params(), judged.signer.id());
+                let top = self.pair.top();
+                let tree = (top.seed(), top.params(), judged.signer.top());
                 match tell_of_other_tree(judged.alloc, judged.name, book, tree, notes) {
                     Ok(_) => Fault::Slip(Slip::Book),
                     Err(fault) => fault,
@@ -189,4 +197,11 @@ impl SigningOne<'_, '_, '_, '_> {
             SignFileFault::OutOfMemory => Fault::Memory,
         }
     }
+}
+
+// Whether the book keeps the leaf of a key for anything.
+fn is_used<S: Alter>(book: &Book<S>, key: &KeyId, leaf: u32) -> bool {
+    book.kept()
+        .iter()
+        .any(|kept| kept.key == *key && kept.leaf == leaf)
 }

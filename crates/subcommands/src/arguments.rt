@@ -61,12 +61,6 @@ pub fn batch_of<'a>(
     Ok(batch)
 }
 
-/// The text before the first colon of an argument, where a role's name stands; none where it has no colon.
-pub fn role_in(argument: &str) -> Option<&str> {
-    let (role, _) = argument.split_once(':')?;
-    Some(role)
-}
-
 // What is told of an argument without a role.
 const NO_ROLE: &str = "no role stands before a colon: write ROLE:FILE, as root:root.json";
 
@@ -92,7 +86,7 @@ pub fn tell_argument<T: Drop, E: Write>(
 
 fn tell_denied<E: Write>(arguments: &[String], index: usize, number: u8, notes: &mut Notes<'_, E>) {
     match arguments.get(index) {
-        Some(argument) if role_in(argument.as_str()).is_none() => {
+        Some(argument) if argument.as_str().split_once(':').is_none() => {
             notes.fault(&argument.as_str(), &NO_ROLE);
         }
         Some(argument) => notes.denied(&argument.as_str(), number),

@@ -3,16 +3,18 @@
 #![tactic(auto)]
 
 mod arguments;
+mod batch;
 mod files;
 mod forgetting;
 mod standing;
 mod why;
 
-pub use arguments::{batch_of, documents_of, role_in, tell_argument};
+pub use arguments::{batch_of, documents_of, tell_argument};
+pub use batch::{Batch, Waiting, role_of};
 pub use command_support::{Denial, Fault, Notes};
 pub use files::{InputFile, read_all};
-pub use forgetting::{FORGOTTEN, Forgetting, NOT_TAKEN, forgets, root_version_of};
+pub use forgetting::{forgets, root_of_version};
 pub use reasons::HeldFiles;
 pub use repository_work::{BatchRefusal, Offer, Store, Work, worked, would_take};
 pub use standing::{FirstExpiry, Versions, tell_standing};
-pub use why::{Holding, Offered, tell_first_root};
+pub use why::{Holding, tell_first_root};

@@ -2,6 +2,7 @@ mod FirstLine
 mod Hexes
 mod Leaves
 mod Levels
+mod Making
 mod Parts
 mod Ruled
 mod RulesWord

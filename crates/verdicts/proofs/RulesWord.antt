@@ -2,7 +2,7 @@
 use Rattle.std.proofs.Common.{◌≡◌, ℕ, List, [], ◌∷◌, ap, get_or, codes, arith}
 use Rattle.hex.specs.Hex.{IsBytes}
 use Rattle.verdicts.specs.declared.case.Case.{Case}
-use Rattle.verdicts.specs.declared.case.Case.TheVariants.{Json, Lms, Hss, Key, Sign, Calendar, Document, Asked, Match, Rules}
+use Rattle.verdicts.specs.declared.case.Case.TheVariants.{Json, Lms, Hss, Key, Sign, HssMade, Calendar, Document, Asked, Match, Rules}
 use Rattle.verdicts.specs.Case.{IsCase}
 use Rattle.verdicts.specs.RuleCase.{IsRuleText, RuleCase, rule_case_view}
 use Rattle.verdicts.specs.Words.{hex_word}
@@ -21,6 +21,7 @@ no_rules word bad (Lms public signature message) is = let e = ap start is.0 in o
 no_rules word bad (Hss public signature message) is = let e = ap start is.0 in omega (arith, e)
 no_rules word bad (Key key) is = let e = ap start is.0 in omega (arith, e)
 no_rules word bad (Sign seed params leaf message) is = let e = ap start is.0 in omega (arith, e)
+no_rules word bad (HssMade seed levels leaf message) is = let e = ap start is.0 in omega (arith, e)
 no_rules word bad (Calendar text) is = let e = ap start is.0 in omega (arith, e)
 no_rules word bad (Document kind bytes) is = let e = ap start is.0 in omega (arith, e)
 no_rules word bad (Asked text) is = let e = ap start is.0 in omega (arith, e)

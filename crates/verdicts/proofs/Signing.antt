@@ -1,7 +1,7 @@
 -- The words of a line that begins with `sign`.
 use Rattle.std.proofs.Common.{◌≡◌, ◌⊎◌, ℕ, ◌≤◌, ◌<◌, refl, ap, inl, inr, List, [], ◌∷◌, length, map, get_or, slice_index_or, Bor, codes, arith}
 use Rattle.verdicts.specs.declared.case.Case.{Case}
-use Rattle.verdicts.specs.declared.case.Case.TheVariants.{Json, Lms, Hss, Key, Sign, Calendar, Document, Asked, Match, Rules}
+use Rattle.verdicts.specs.declared.case.Case.TheVariants.{Json, Lms, Hss, Key, Sign, HssMade, Calendar, Document, Asked, Match, Rules}
 use Rattle.verdicts.specs.declared.case.CaseFault.{CaseFault}
 use Rattle.verdicts.specs.declared.case.CaseFault.TheVariants.{NotUnderstood, OutOfMemory}
 use Rattle.verdicts.specs.Case.{IsCase, IsCaseFault}
@@ -33,6 +33,7 @@ no_message a b i s q m bad (Json part) is = let e = ap length is.0 in omega (ari
 no_message a b i s q m bad (Lms public signature message) is = let e = ap length is.0 in omega (arith, e)
 no_message a b i s q m bad (Hss public signature message) is = let e = ap length is.0 in omega (arith, e)
 no_message a b i s q m bad (Key key) is = let e = ap length is.0 in omega (arith, e)
+no_message a b i s q m bad (HssMade seed levels leaf message) is = let e = ap length is.0 in omega (arith, e)
 no_message a b i s q m bad (Calendar text) is = let e = ap length is.0 in omega (arith, e)
 no_message a b i s q m bad (Document kind bytes) is = let e = ap length is.0 in omega (arith, e)
 no_message a b i s q m bad (Asked text) is = let e = ap length is.0 in omega (arith, e)

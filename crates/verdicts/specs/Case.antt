@@ -7,7 +7,7 @@ use Rattle.keys_roles.specs.Keys.{public_bytes, public_len}
 use Rattle.keys_roles.specs.Views.{key_view}
 use Rattle.metadata.specs.Shape.{kind_name}
 use Rattle.verdicts.specs.declared.case.Case.{Case}
-use Rattle.verdicts.specs.declared.case.Case.TheVariants.{Json, Lms, Hss, Key, Sign, Calendar, Document, Asked, Match, Rules}
+use Rattle.verdicts.specs.declared.case.Case.TheVariants.{Json, Lms, Hss, Key, Sign, HssMade, Calendar, Document, Asked, Match, Rules}
 use Rattle.verdicts.specs.declared.case.CaseFault.{CaseFault}
 use Rattle.verdicts.specs.declared.case.CaseFault.TheVariants.{NotUnderstood, OutOfMemory}
 use Rattle.verdicts.specs.RuleCase.{rule_case_view, IsRuleText}
@@ -40,6 +40,10 @@ IsCase words (Key key) =
 IsCase words (Sign seed params leaf message) =
     (words ≡ codes "sign" ∷ ots_word params.ots ∷ height_word params.height ∷ hex_word seed.identifier
     ∷ hex_word seed.secret ∷ decimal leaf ∷ hex_word message.items ∷ [])
+    × IsBytesOf 16 seed.identifier × IsBytesOf 32 seed.secret × (leaf < 2 ^ 32) × IsBytes message.items
+IsCase words (HssMade seed levels leaf message) =
+    (words ≡ codes "hss_made" ∷ ots_word levels.top.ots ∷ height_word levels.top.height ∷ ots_word levels.bottom.ots
+    ∷ height_word levels.bottom.height ∷ hex_word seed.identifier ∷ hex_word seed.secret ∷ decimal leaf ∷ hex_word message.items ∷ [])
     × IsBytesOf 16 seed.identifier × IsBytesOf 32 seed.secret × (leaf < 2 ^ 32) × IsBytes message.items
 IsCase words (Calendar text) = (words ≡ codes "calendar" ∷ hex_word (string_bytes text) ∷ []) × IsText (string_bytes text)
 IsCase words (Document kind bytes) = (words ≡ codes "document" ∷ kind_name kind ∷ hex_word bytes.items ∷ []) × IsBytes bytes.items

@@ -1,5 +1,6 @@
 -- What a case comes to, and how that is printed.
-use Rattle.std.specs.Prelude.{◌≡◌, ◌<◌, ◌≤◌, ℕ, List, ◌++◌, codes, decimal, string_bytes, Option}
+use Rattle.std.specs.Prelude.{◌≡◌, ◌<◌, ◌≤◌, ℕ, List, ◌++◌, codes, decimal, length, string_bytes, Option}
+use Rattle.sha2.specs.Sha256.{sha256}
 use Rattle.hex.specs.Hex.{encode_lower}
 use Rattle.artifact_rules.specs.Rules.{RulesHold, RulesForbid, RulesRequire}
 use Rattle.canonical_json.specs.Json.{Json}
@@ -8,12 +9,14 @@ use Rattle.canonical_json.specs.Faults.{IsReadFault}
 use Rattle.canonical_json.specs.declared.ReadFault.TheVariants as read_faults
 use Rattle.lms.specs.declared.OtsType.{OtsType}
 use Rattle.lms.specs.declared.LmsType.{LmsType}
+use Rattle.lms.specs.declared.Levels.{Levels}
 use Rattle.lms.specs.declared.Params.{Params}
 use Rattle.lms.specs.declared.Seed.{Seed}
 use Rattle.lms.specs.Keys.{public_of, signature_of, leaf_count}
 use Rattle.lms.specs.Parts.{IsKeyOf, IsSignatureOf}
 use Rattle.lms.specs.Verifies.{Verifies, hash_count}
 use Rattle.lms.specs.Hss.{VerifiesHss}
+use Rattle.lms.specs.HssKeys.{hss_public_of, hss_signature_of, message_count_of}
 use Rattle.keys_roles.specs.Keys.{id_of}
 use Rattle.keys_roles.specs.Views.{key_view}
 use Rattle.keys_roles.specs.declared.Key.{Key}
@@ -30,7 +33,7 @@ use Rattle.verdicts.specs.declared.case.Case.TheVariants as cases
 use Rattle.verdicts.specs.declared.case.Covering.{Covering}
 use Rattle.verdicts.specs.declared.case.Covering.TheVariants.{Segmented, Flat, Prefix}
 use Rattle.verdicts.specs.declared.verdict.Verdict.{Verdict}
-use Rattle.verdicts.specs.declared.verdict.Verdict.TheVariants.{Canonical, NotCanonical, TooDeep, IntegerRange, Valid, Invalid, Verified, Refused, KeyId, Signed, LeafRange, Moment, NoMoment, Document, NoDocument, AsksFor, Covered, NotCovered, IllFormed, Holds, Disallowed, Required, NoRule}
+use Rattle.verdicts.specs.declared.verdict.Verdict.TheVariants.{Canonical, NotCanonical, TooDeep, IntegerRange, Valid, Invalid, Verified, Refused, KeyId, Signed, Made, LeafRange, Moment, NoMoment, Document, NoDocument, AsksFor, Covered, NotCovered, IllFormed, Holds, Disallowed, Required, NoRule}
 use Rattle.verdicts.specs.Case.{IsCase, words_of}
 use Rattle.verdicts.specs.RuleCase.{RuleCase, rule_case_view, AreJudged, IsFirstNoRule}
 use Rattle.verdicts.specs.Words.{hex_word, digest_word}
@@ -76,6 +79,15 @@ IsSigning seed params leaf message (Signed public signature) =
     × (string_bytes signature ≡ encode_lower (signature_of seed params leaf message))
 IsSigning seed params leaf message LeafRange = leaf_count params ≤ leaf
 IsSigning seed params leaf message verdict = ⊥
+
+-- the public key of the seed with two levels, and the length and the SHA-256 of its signature of the message with this lowest leaf, or that there
+-- is no such leaf
+abbrev pub IsMaking : Seed → Levels → ℕ → List ℕ → Verdict → Type 0
+IsMaking seed levels leaf message (Made public len digest) =
+    (leaf < message_count_of levels) × (string_bytes public ≡ encode_lower (hss_public_of seed levels))
+    × (len ≡ length (hss_signature_of seed levels leaf message)) × (string_bytes digest ≡ encode_lower (sha256 (hss_signature_of seed levels leaf message)))
+IsMaking seed levels leaf message LeafRange = message_count_of levels ≤ leaf
+IsMaking seed levels leaf message verdict = ⊥
 
 -- the moment that the text is as a date and time, or that it is none
 abbrev pub IsDating : List ℕ → Verdict → Type 0
@@ -129,6 +141,7 @@ IsVerdict (cases.Lms public signature message) verdict = IsVerifying public.item
 IsVerdict (cases.Hss public signature message) verdict = IsVerifyingHss public.items signature.items message.items verdict
 IsVerdict (cases.Key key) verdict = IsIdentifying key verdict
 IsVerdict (cases.Sign seed params leaf message) verdict = IsSigning seed params leaf message.items verdict
+IsVerdict (cases.HssMade seed levels leaf message) verdict = IsMaking seed levels leaf message.items verdict
 IsVerdict (cases.Calendar text) verdict = IsDating (string_bytes text) verdict
 IsVerdict (cases.Document kind bytes) verdict = IsShaping kind bytes.items verdict
 IsVerdict (cases.Asked text) verdict = IsAsking (string_bytes text) verdict
@@ -152,6 +165,7 @@ text_of Verified = codes "valid"
 text_of Refused = codes "invalid"
 text_of (KeyId digits) = string_bytes digits
 text_of (Signed public signature) = string_bytes public ++ (codes " " ++ string_bytes signature)
+text_of (Made public len digest) = string_bytes public ++ (codes " " ++ (decimal len ++ (codes " " ++ string_bytes digest)))
 text_of LeafRange = codes "leaf_range"
 text_of (Moment seconds) = decimal seconds
 text_of NoMoment = codes "ill"

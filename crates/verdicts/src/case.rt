@@ -8,7 +8,7 @@ use crate::words::{
 };
 use hex::FromHexError;
 use keys_roles::Key;
-use lms::{Params, Seed};
+use lms::{Levels, Params, Seed};
 use metadata::{Kind, ShapeFault};
 use std::alloc::{AllocError, AllocFailed, Global};
 
@@ -35,6 +35,14 @@ pub enum Case {
     Sign {
         seed: Seed,
         params: Params,
+        leaf: u32,
+        message: Vec<u8>,
+    },
+    /// `hss_made W HEIGHT W HEIGHT I SEED G MESSAGE`: which key of two levels has this seed, and which signature of the message makes its
+    /// leaf G?
+    HssMade {
+        seed: Seed,
+        levels: Levels,
         leaf: u32,
         message: Vec<u8>,
     },
@@ -145,6 +153,8 @@ impl Case {
             key_case(alloc, parts)
         } else if *kind == b"sign".as_slice() {
             sign_case(alloc, parts)
+        } else if *kind == b"hss_made".as_slice() {
+            hss_made_case(alloc, parts)
         } else if *kind == b"calendar".as_slice() {
             calendar_case(alloc, parts)
         } else if *kind == b"document".as_slice() {
@@ -239,6 +249,44 @@ fn sign_case(alloc: Global, parts: &[&[u8]]) -> Result<Case, CaseFault>
     Ok(Case::Sign {
         seed,
         params,
+        leaf: leaf_of(alloc, leaf)?,
+        message: bytes_of(alloc, message)?,
+    })
+}
+
+// The same for `hss_made`.
+fn hss_made_case(alloc: Global, parts: &[&[u8]]) -> Result<Case, CaseFault>
+    ensures case { IfOk result (IsCase (codes "hss_made" ∷ map (λ w. w.now) parts.now)) }
+    ensures fault { IfErr result (IsCaseFault (codes "hss_made" ∷ map (λ w. w.now) parts.now)) }
+{
+    let [
+        top_ots,
+        top_height,
+        bottom_ots,
+        bottom_height,
+        identifier,
+        secret,
+        leaf,
+        message,
+    ] = parts
+    else {
+        return Err(CaseFault::NotUnderstood);
+    };
+    let top = Params {
+        ots: ots_of(top_ots)?,
+        height: height_of(top_height)?,
+    };
+    let bottom = Params {
+        ots: ots_of(bottom_ots)?,
+        height: height_of(bottom_height)?,
+    };
+    let seed = Seed {
+        identifier: array_of(alloc, identifier)?,
+        secret: array_of(alloc, secret)?,
+    };
+    Ok(Case::HssMade {
+        seed,
+        levels: Levels { top, bottom },
         leaf: leaf_of(alloc, leaf)?,
         message: bytes_of(alloc, message)?,
     })

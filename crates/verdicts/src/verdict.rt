@@ -1,7 +1,7 @@
 ghost use Rattle.std.specs.Prelude.{◌≡◌, IfOk, IfErr, MatchOption, string_bytes};
 ghost use Rattle.metadata.specs.File.{fault_number};
 ghost use Rattle.verdicts.specs.Case.{words_of, IsCaseFault};
-ghost use Rattle.verdicts.specs.Verdict.{IsReading, IsVerifying, IsVerifyingHss, IsIdentifying, IsSigning, IsDating, IsShaping, IsAsking, IsVerdict, IsAnswer};
+ghost use Rattle.verdicts.specs.Verdict.{IsReading, IsVerifying, IsVerifyingHss, IsIdentifying, IsSigning, IsMaking, IsDating, IsShaping, IsAsking, IsVerdict, IsAnswer};
 ghost use Rattle.verdicts.specs.Words.{hex_word};
 
 use crate::case::{Case, CaseFault};
@@ -9,8 +9,10 @@ use crate::covering::matching;
 use crate::ruling::ruling;
 use canonical_json::ReadFault;
 use keys_roles::{Key, key_id};
-use lms::{Params, Seed, SignFault, Steps, public_of, sign, verify_counted, verify_hss};
-use metadata::{Kind, ShapeFault, read_date_time, read_document};
+use lms::{
+    HssKeyPair, Levels, Params, Seed, SignFault, Steps, public_of, sign, verify_counted, verify_hss,
+};
+use metadata::{Kind, ShapeFault, digest_of, read_date_time, read_document};
 use path_patterns::read_asked;
 use std::alloc::{AllocError, Global};
 use std::fmt;
@@ -33,7 +35,16 @@ pub enum Verdict {
     /// The id of a key, in hex digits.
     KeyId(String),
     /// A public key and a signature, in hex digits.
-    Signed { public: String, signature: String },
+    Signed {
+        public: String,
+        signature: String,
+    },
+    /// A public key in hex digits, the length of a signature, and its SHA-256 in hex digits.
+    Made {
+        public: String,
+        length: usize,
+        digest: String,
+    },
     /// The tree has no such leaf.
     LeafRange,
     /// A date and time, in seconds since 1970-01-01T00:00:00Z.
@@ -44,7 +55,10 @@ pub enum Verdict {
     /// The first check of the document that fails.
     NoDocument(ShapeFault),
     /// The path in hex digits, and the digest in hex digits. Where there is nothing to write, it is a dash.
-    AsksFor { path: String, digest: String },
+    AsksFor {
+        path: String,
+        digest: String,
+    },
     Covered,
     NotCovered,
     /// One of the texts is no pattern, no prefix or no path.
@@ -52,9 +66,15 @@ pub enum Verdict {
     /// No artifact rule fails.
     Holds,
     /// The first rule that fails, by its place, is a DISALLOW that matches this path.
-    Disallowed { rule: usize, path: String },
+    Disallowed {
+        rule: usize,
+        path: String,
+    },
     /// It is a REQUIRE of this path.
-    Required { rule: usize, path: String },
+    Required {
+        rule: usize,
+        path: String,
+    },
     /// The words of this place are no rule.
     NoRule(usize),
 }
@@ -77,6 +97,11 @@ impl fmt::Display for Verdict {
             Verdict::Refused => f.write_str("invalid"),
             Verdict::KeyId(digits) => f.write_str(digits),
             Verdict::Signed { public, signature } => write!(f, "{public} {signature}"),
+            Verdict::Made {
+                public,
+                length,
+                digest,
+            } => write!(f, "{public} {length} {digest}"),
             Verdict::LeafRange => f.write_str("leaf_range"),
             Verdict::Moment(seconds) => write!(f, "{seconds}"),
             Verdict::NoMoment => f.write_str("ill"),
@@ -140,6 +165,12 @@ pub fn judge(alloc: Global, case: &Case) -> Result<Verdict, AllocError>
             leaf,
             message,
         } => signing(alloc, seed, *params, *leaf, message),
+        Case::HssMade {
+            seed,
+            levels,
+            leaf,
+            message,
+        } => making(alloc, seed, *levels, *leaf, message),
         Case::Calendar(text) => Ok(dating(text)),
         Case::Document { kind, bytes } => shaping(alloc, *kind, bytes),
         Case::Asked(text) => asking(alloc, text),
@@ -222,6 +253,29 @@ fn signing(
     Ok(Verdict::Signed {
         public: hex::encode(alloc, &public_of(seed, params))?,
         signature: hex::encode(alloc, &signature)?,
+    })
+}
+
+// The public key of the seed with two levels, and how long its signature of the message with this lowest leaf is, with its SHA-256.
+fn making(
+    alloc: Global,
+    seed: &Seed,
+    levels: Levels,
+    leaf: u32,
+    message: &[u8],
+) -> Result<Verdict, AllocError>
+    ensures { IfOk result (IsMaking seed.now levels leaf message.now) }
+{
+    let pair = HssKeyPair::new(alloc, seed, levels)?;
+    let signature = match pair.sign(alloc, leaf, message) {
+        Ok(signature) => signature,
+        Err(SignFault::LeafRange) => return Ok(Verdict::LeafRange),
+        Err(SignFault::OutOfMemory) => return Err(AllocError),
+    };
+    Ok(Verdict::Made {
+        public: hex::encode(alloc, &pair.public())?,
+        length: signature.len(),
+        digest: hex::encode(alloc, &digest_of(&signature).0)?,
     })
 }
 

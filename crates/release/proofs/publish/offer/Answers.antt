@@ -12,9 +12,9 @@ IsDone reply = (accepted same : ℕ) × (reply ≡ BatchDone accepted same)
 
 pub returns-in-Err : goal.returns-in-Err
 returns-in-Err g c =
-    unmade (command_view (Batch c.args.batch)) c.args.now IsDone c.in-Err.fault (answered (command_view (Batch c.args.batch)) c.args.now _ _ _ _ (λ A B q v d. d) c.in-Err.ensures)
+    unmade (command_view (Batch c.args.batch.documents)) c.args.now IsDone c.in-Err.fault (answered (command_view (Batch c.args.batch.documents)) c.args.now _ _ _ _ (λ A B q v d. d) c.in-Err.ensures)
 
 pub returns : goal.returns
 returns g c =
-    ended (command_view (Batch c.args.batch)) c.args.now IsDone (λ t S T q x. x) c.in-Ok.reply
-    (answered (command_view (Batch c.args.batch)) c.args.now _ _ _ _ (λ A B q v d. d) c.in-Ok.ensures) c.print_accepted.result c.print_accepted.ensures
+    ended (command_view (Batch c.args.batch.documents)) c.args.now IsDone (λ t S T q x. x) c.in-Ok.reply
+    (answered (command_view (Batch c.args.batch.documents)) c.args.now _ _ _ _ (λ A B q v d. d) c.in-Ok.ensures) c.print_accepted.result c.print_accepted.ensures

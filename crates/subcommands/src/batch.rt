@@ -1,0 +1,91 @@
+//! What is published together.
+use command_support::{Fault, Folder, Notes, Slip};
+use limits::BLOB_LIMIT;
+use metadata::Digest;
+use reasons::{HeldFiles, reason};
+use repository_work::Offer;
+use std::alloc::{AllocError, Global};
+use std::io::Write;
+
+/// What is published: the target files that are put first, and the documents that are offered together behind them, in order. Each document
+/// has its argument, ROLE:FILE, by which it is told.
+#[derive(Clone, Copy)]
+pub struct Batch<'a> {
+    pub files: Waiting<'a>,
+    pub arguments: &'a [String],
+    pub documents: &'a [(Offer, &'a [u8])],
+}
+
+/// The target files that wait to be put in a folder of drafts, by their digests.
+#[derive(Clone, Copy)]
+pub struct Waiting<'a> {
+    pub folder: Folder<'a>,
+    pub digests: &'a [Digest],
+}
+
+impl Waiting<'_> {
+    /// The bytes of one of them. It is read with its digest in hand: another file is refused.
+    pub fn read<E: Write>(
+        &self,
+        digest: &Digest,
+        notes: &mut Notes<'_, E>,
+    ) -> Result<Vec<u8>, Fault> {
+        if let Some(bytes) = self.folder.file_of(digest, BLOB_LIMIT, notes)? {
+            return Ok(bytes);
+        }
+        let digits = digest.digits();
+        let digits = str::from_utf8(&digits).unwrap_or("-");
+        notes.warn(
+            &digits,
+            &"its file in the folder is another one than its name says",
+        );
+        Err(Fault::Slip(Slip::File))
+    }
+}
+
+/// The role whose document is offered.
+pub fn role_of(offer: &Offer) -> &str {
+    match offer {
+        Offer::Root => "root",
+        Offer::Timestamp => "timestamp",
+        Offer::Snapshot => "snapshot",
+        Offer::Targets(role) => role.as_str(),
+    }
+}
+
+impl Batch<'_> {
+    /// Tells why the document at the index was denied, or the batch, by the number of the denial: its member, the keys that have signed,
+    /// or what is missing. Where facts are not told, nothing is asked for.
+    pub fn tell<H: HeldFiles, E: Write>(
+        &self,
+        alloc: Global,
+        held: &mut H,
+        number: u8,
+        index: usize,
+        notes: &mut Notes<'_, E>,
+    ) {
+        if !notes.are_told() {
+            return;
+        }
+        if let Ok(Some(found)) = self.reason(alloc, held, number, index) {
+            match self.arguments.get(index) {
+                Some(argument) => notes.tell(&argument.as_str(), &found),
+                None => notes.tell(&"the documents together", &found),
+            }
+        }
+    }
+
+    fn reason<H: HeldFiles>(
+        &self,
+        alloc: Global,
+        held: &mut H,
+        number: u8,
+        index: usize,
+    ) -> Result<Option<String>, AllocError> {
+        let mut documents = Vec::new(alloc);
+        for (offer, bytes) in self.documents {
+            documents.push((role_of(offer), *bytes))?;
+        }
+        reason(alloc, held, &documents, number, index)
+    }
+}
