@@ -110,8 +110,8 @@ pub fn signatures_verify()
         → Verifies (public_bytes lms ots identifier secret) message (signature_bytes lms ots identifier secret q message) }
 {}
 
-/// The same of the hierarchical scheme: what a key of up to eight levels signs with any of its lowest leaves verifies under its public
-/// key. The call does nothing.
+/// The law that what a key of the hierarchical scheme signs with any of its lowest leaves verifies under its public key, at one to eight
+/// levels. The call does nothing.
 pub fn hss_signatures_verify()
     ensures { (params : Params) (below : List Params) (identifier secret : List ℕ) (g : ℕ) (message : List ℕ)
         → length identifier ≡ 16 → length below < 8 → g < message_count params below

@@ -8,8 +8,8 @@ ghost use Rattle.lms.specs.declared.LmsType.{LmsType};
 use crate::{LmsType, OtsType, SigningHeight};
 
 impl OtsType {
-    /// The type with this number in keys and signatures.
-    pub(crate) fn from_code(code: u32) -> Option<OtsType>
+    /// The type with this number in keys and signatures, `None` where it is another number than 1 to 4.
+    pub fn from_code(code: u32) -> Option<OtsType>
         ensures { MatchOption result ((ots : OtsType) → code ≢ ots_code ots) (λ ots. code ≡ ots_code ots) }
     {
         match code {
@@ -83,8 +83,8 @@ impl OtsType {
 }
 
 impl LmsType {
-    /// The type with this number in keys and signatures.
-    pub(crate) fn from_code(code: u32) -> Option<LmsType>
+    /// The type with this number in keys and signatures, `None` where it is another number than 5 to 9.
+    pub fn from_code(code: u32) -> Option<LmsType>
         ensures { MatchOption result ((lms : LmsType) → code ≢ lms_code lms) (λ lms. code ≡ lms_code lms) }
     {
         match code {

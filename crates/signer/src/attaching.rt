@@ -1,8 +1,5 @@
 //! Signatures that another tool made: bytes as a public key, and a file that a signature is attached to (TUF 1.0, section 4.2).
-ghost use Rattle.std.specs.Prelude.{◌≡◌, ◌≢◌, ◌↔◌, ◌++◌, ◌+◌, ◌≤◌, ◌<◌, ◌^◌, List, ℕ, length, IfErr, IfOk, IsTrue, MatchOption};
-ghost use Rattle.lms.specs.declared.LmsType.{LmsType};
-ghost use Rattle.lms.specs.declared.OtsType.{OtsType};
-ghost use Rattle.lms.specs.Parameters.{lms_code, ots_code};
+ghost use Rattle.std.specs.Prelude.{◌≡◌, ◌↔◌, ◌++◌, ◌+◌, ◌≤◌, ◌<◌, ◌^◌, List, ℕ, length, IfErr, IfOk, IsTrue, MatchOption};
 ghost use Rattle.lms.specs.Text.{u32};
 ghost use Rattle.keys_roles.specs.Plain as plain;
 ghost use Rattle.keys_roles.specs.Plain.{hss};
@@ -121,7 +118,7 @@ fn has_types(public: &[u8; 56]) -> bool
 {
     let (lms, rest) = word(public);
     let (ots, _) = word(rest);
-    tree_type(lms).is_some() && one_time_type(ots).is_some()
+    LmsType::from_code(lms).is_some() && OtsType::from_code(ots).is_some()
 }
 
 // The number that the bytes begin with, and the rest.
@@ -143,33 +140,6 @@ fn front(bytes: &[u8]) -> (&[u8; 4], &[u8])
     ensures len { length result.1.now + 4 ≡ length bytes.now }
 {
     bytes.split_first_chunk::<4>().unwrap()
-}
-
-// The LMS type with this number.
-fn tree_type(code: u32) -> Option<LmsType>
-    ensures { MatchOption result ((lms : LmsType) → code ≢ lms_code lms) (λ lms. code ≡ lms_code lms) }
-{
-    match code {
-        5 => Some(LmsType::H5),
-        6 => Some(LmsType::H10),
-        7 => Some(LmsType::H15),
-        8 => Some(LmsType::H20),
-        9 => Some(LmsType::H25),
-        _ => None,
-    }
-}
-
-// The LM-OTS type with this number.
-fn one_time_type(code: u32) -> Option<OtsType>
-    ensures { MatchOption result ((ots : OtsType) → code ≢ ots_code ots) (λ ots. code ≡ ots_code ots) }
-{
-    match code {
-        1 => Some(OtsType::W1),
-        2 => Some(OtsType::W2),
-        3 => Some(OtsType::W4),
-        4 => Some(OtsType::W8),
-        _ => None,
-    }
 }
 
 /// The file with this signature of the key, in canonical JSON: the key's entry stands last, and an older one of the key is taken out. The
