@@ -7,7 +7,7 @@ use Rattle.store.specs.Standing.{Standing}
 use Rattle.client.specs.Changes.{Changes}
 use Rattle.client.specs.Session as session
 use Rattle.client.specs.Session.{Ends, Fetches}
-use Rattle.client.specs.Several.{InTurn, Turns, ends, goes, over, together}
+use Rattle.client.specs.Several.{InTurn, Told, Turns, ends, goes, over, together}
 use Rattle.client.specs.Views.{Fault}
 use Rattle.client.proofs.Composing.{becomes, follows, rests}
 
@@ -23,9 +23,9 @@ trusts_less P Q f gives now path names s t C D _ (session.ends (session.fails g 
 trusts_less P Q f gives now path names s u C E r (session.further {t = t} {D = D} g m e l h more) = session.further g m e l h (trusts_less P Q f gives now path _ t u D E r more)
 trusts_less P Q f gives now path names s _ C _ _ (session.ends (session.unanswered k)) = session.ends (session.unanswered k)
 
-module _ {Src A : Type 0} (turns : Turns Src) (Call : Src → State → Src → State → Result A Fault → Type 0) (IsEnd : Result A Fault → Type 0) where
+module _ {Src A : Type 0} (turns tells : Turns Src) (Call : Src → State → Src → State → Result A Fault → Type 0) (IsEnd : Result A Fault → Type 0) where
   abbrev Turn : ℕ → ℕ → Result A Fault → Src → State → Src → State → Result A Fault → Type 0
-  Turn = InTurn turns Call IsEnd
+  Turn = InTurn turns tells Call IsEnd
 
   -- the last of the turns
   pub turn_ends : (X Y : Standing) (s t u : Src) (so_far r : Result A Fault) (count place : ℕ) → place < count → turns s place t → IsEnd r
@@ -35,13 +35,13 @@ module _ {Src A : Type 0} (turns : Turns Src) (Call : Src → State → Src → 
       becomes _ _ h (λ C D call. subst (λ n. Turn place n so_far s C u D r) left (ends turn call end))
 
   -- one that goes on
-  pub turn_goes : (X Y Z : Standing) (s t u w v : Src) (so_far r both q : Result A Fault) (count place : ℕ) → place < count → turns s place t → (IsEnd r → ⊥) → both ≡ together so_far r
+  pub turn_goes : (X Y Z : Standing) (s t u w v : Src) (so_far r both q : Result A Fault) (count place : ℕ) → place < count → turns s place t → (IsEnd r → ⊥) → Told tells place r u w → both ≡ together so_far r
       → Changes X Y (λ C D. Call t C u D r) → Changes Y Z (λ C D. Turn (place + 1) (count - (place + 1)) both w C v D q) → Changes X Z (λ C D. Turn place (count - place) so_far s C v D q)
-  turn_goes X Y Z s t u w v so_far r both q count place below turn not same h rest =
+  turn_goes X Y Z s t u w v so_far r both q count place below turn not told same h rest =
       let left : suc (count - (place + 1)) ≡ count - place = omega (arith, below) in
       let next : place + 1 ≡ suc place = omega arith in
       follows _ _ _ h rest (λ C D F call more. subst (λ n. Turn place n so_far s C v F q) left
-      (goes turn call not (subst (λ p. Turn p (count - (place + 1)) (together so_far r) w D v F q) next (subst (λ b. Turn (place + 1) (count - (place + 1)) b w D v F q) same more))))
+      (goes turn call not told (subst (λ p. Turn p (count - (place + 1)) (together so_far r) w D v F q) next (subst (λ b. Turn (place + 1) (count - (place + 1)) b w D v F q) same more))))
 
   -- all are over
   pub turns_over : (X : Standing) (s : Src) (so_far : Result A Fault) (count place : ℕ) → count ≤ place → Changes X X (λ C D. Turn place (count - place) so_far s C s D so_far)

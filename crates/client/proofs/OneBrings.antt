@@ -363,11 +363,11 @@ updates_go : StepLaws → {Src : Type 0} (gives : Gives Src) (now : ℕ) (s t : 
 updates_go step gives now s t C D r valid h = run_goes step now C D valid (update-runs gives now s t C D r h)
 
 pub one_brings : RootLaws → NewLaws → StepLaws → Shapes → OneBrings
-one_brings roots_law news step shapes Src gives turns count now s t C E r valid h S place inside honest sure coherent behind still =
-    by (find turns (Updates gives now) IsWanting (λ C D. Goes C.trusted D.trusted) (λ C. goes_self C.trusted) (λ C D E. goes_on C.trusted D.trusted E.trusted) (updates_go step gives now)
+one_brings roots_law news step shapes Src gives turns tells count now s t C E r valid h S place inside honest sure coherent behind still =
+    by (find turns tells (Updates gives now) IsWanting (λ C D. Goes C.trusted D.trusted) (λ C. goes_self C.trusted) (λ C D E. goes_on C.trusted D.trusted E.trusted) (updates_go step gives now)
     place 0 count _ r s t C E (omega arith) (omega (arith, inside)) valid h)
   where
-    by : IsWanting r ⊎ Turned turns (Updates gives now) IsWanting (λ C D. Goes C.trusted D.trusted) (λ C. goes_self C.trusted) (λ C D E. goes_on C.trusted D.trusted E.trusted) (updates_go step gives now) place C E
+    by : IsWanting r ⊎ Turned turns tells (Updates gives now) IsWanting (λ C D. Goes C.trusted D.trusted) (λ C. goes_self C.trusted) (λ C D E. goes_on C.trusted D.trusted E.trusted) (updates_go step gives now) place C E
         → IsWanting r ⊎ (IsLevel E S ⊎ (DeniesEach S now × DeniesEach E now))
     by (inl want) = inl want
     by (inr w) = inr (brought roots_law news step shapes gives turns now S sure coherent place honest C E behind still w.first w.last w.end w.valid w.later_valid w.up w.later w.goes_on

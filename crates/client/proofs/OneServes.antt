@@ -180,22 +180,22 @@ neither (Ok a) r h k b e = h a refl
 neither (Err fault) (Ok a) h k b e = k a refl
 neither (Err fault) (Err more) h k b e = cc
 
-module _ (trusted : Type 0) (trust : trusted) {Src : Type 0} (from : Gives Src) (turns : Turns Src) (now : ℕ) (path : Bytes) where
-  pub granted_end : (place n : ℕ) (so_far q : Result Bytes Fault) (s v : Src) (C E : State) → IsNoFile so_far → InTurn turns (Fetches trusted from now path []) IsLast place n so_far s C v E q → (b : Bytes) → q ≡ Ok b
+module _ (trusted : Type 0) (trust : trusted) {Src : Type 0} (from : Gives Src) (turns tells : Turns Src) (now : ℕ) (path : Bytes) where
+  pub granted_end : (place n : ℕ) (so_far q : Result Bytes Fault) (s v : Src) (C E : State) → IsNoFile so_far → InTurn turns tells (Fetches trusted from now path []) IsLast place n so_far s C v E q → (b : Bytes) → q ≡ Ok b
       → grants E path None now (Ok b)
   granted_end place _ so_far _ s _ C _ empty over b e = absurd (empty b e)
   granted_end place _ so_far q s v C E empty (ends {t = t} turn call end) b e = fetch-granted trusted from now trust path [] t v C E q b call e
-  granted_end place _ so_far q s v C E empty (goes {n = n} {r = r} {v = w} {D = D} turn call not more) b e =
+  granted_end place _ so_far q s v C E empty (goes {n = n} {r = r} {v = w} {D = D} turn call not told more) b e =
       granted_end (suc place) n (together so_far r) q w v D E (neither so_far r empty (not_last r not)) more b e
 
 -- the same of all turns, with what the code answers
 no_file : IsNoFile (Err (views.Fetch fetches.Broken))
 no_file b e = cc
 
-pub granted_by_each : (trusted : Type 0) {Src : Type 0} (from : Gives Src) (turns : Turns Src) (now count : ℕ) (path : Bytes) (s v : Src) (C E : State) (r : Result (Vec ℕ Global) ClientFault)
-    → FetchesByEach trusted from turns now path count s C v E (fetched r) → trusted → IfOk r (λ b. grants E path None now (Ok b.items))
-granted_by_each trusted from turns now count path s v C E (Ok b) h sure = granted_end trusted sure from turns now path 0 count _ (Ok b.items) s v C E no_file h b.items refl
-granted_by_each trusted from turns now count path s v C E (Err fault) h sure = tt
+pub granted_by_each : (trusted : Type 0) {Src : Type 0} (from : Gives Src) (turns tells : Turns Src) (now count : ℕ) (path : Bytes) (s v : Src) (C E : State) (r : Result (Vec ℕ Global) ClientFault)
+    → FetchesByEach trusted from turns tells now path count s C v E (fetched r) → trusted → IfOk r (λ b. grants E path None now (Ok b.items))
+granted_by_each trusted from turns tells now count path s v C E (Ok b) h sure = granted_end trusted sure from turns tells now path 0 count _ (Ok b.items) s v C E no_file h b.items refl
+granted_by_each trusted from turns tells now count path s v C E (Err fault) h sure = tt
 
 -- ---- the law
 
@@ -215,14 +215,14 @@ ok_is a b e = cc
 ok_err : (a : Bytes) (d : orders.Denial) → ◌≡◌ {A = Judged Bytes} (Ok a) (Err (orders.Denied d)) → ⊥
 ok_err a d e = cc
 
-module _ (news : NewLaws) (grant : GrantLaws) (step : StepLaws) (shapes : Shapes) (trusted : Type 0) (trust : trusted) {Src : Type 0} (from : Gives Src) (turns : Turns Src) (count now : ℕ) (path : Bytes) (is_path : IsTargetPath path)
-    (s t : Src) (C E : State) (r : Result Bytes Fault) (valid : IsState C) (h : FetchesByEach trusted from turns now path count s C t E r)
+module _ (news : NewLaws) (grant : GrantLaws) (step : StepLaws) (shapes : Shapes) (trusted : Type 0) (trust : trusted) {Src : Type 0} (from : Gives Src) (turns tells : Turns Src) (count now : ℕ) (path : Bytes) (is_path : IsTargetPath path)
+    (s t : Src) (C E : State) (r : Result Bytes Fault) (valid : IsState C) (h : FetchesByEach trusted from turns tells now path count s C t E r)
     (S : State) (place : ℕ) (inside : place < count) (honest : IsHonestAt from turns place S now) (sure : IsState S) (coherent : IsCoherent S.trusted) (level : IsLevel C S) (still : Behind E S now) where
   each : (s t : Src) (C D : State) (q : Result Bytes Fault) → IsState C → Fetches trusted from now path [] s C t D q → Stays C D × IsState D
   each s t C D q valid k = fetch_stays step from now trusted path [] s t C D q valid k
 
   whole : Stays C E × IsState E
-  whole = keeps turns (Fetches trusted from now path []) IsLast Stays stays_self stays_on each 0 count _ r s t C E valid h
+  whole = keeps turns tells (Fetches trusted from now path []) IsLast Stays stays_self stays_on each 0 count _ r s t C E valid h
 
   same_roots : E.trusted.roots ≡ S.trusted.roots
   same_roots = whole.0.roots ∙ level.roots
@@ -258,7 +258,7 @@ module _ (news : NewLaws) (grant : GrantLaws) (step : StepLaws) (shapes : Shapes
   -- what is answered both grant
   both : (b : Bytes) → r ≡ Ok b → grants S path None now (Ok b) × grants E path None now (Ok b)
   both b e =
-      let g = granted_end trusted trust from turns now path 0 count _ r s t C E (λ c k. cc) h b e in
+      let g = granted_end trusted trust from turns tells now path 0 count _ r s t C E (λ c k. cc) h b e in
       (grant.same E S path None now (Ok b) (part_of E whole.0 (stays_self E)) tt g, g)
 
   bytes : (q : Result Bytes Fault) → r ≡ q → IfOk q (λ b. grants S path None now (Ok b) × grants E path None now (Ok b))
@@ -317,9 +317,9 @@ module _ (news : NewLaws) (grant : GrantLaws) (step : StepLaws) (shapes : Shapes
     last_is (Err fault) e end = inl end
 
     served : IsWanting r ⊎ (r ≡ Ok b)
-    served = by (find turns (Fetches trusted from now path []) IsLast Stays stays_self stays_on each place 0 count _ r s t C E (omega arith) (omega (arith, inside)) valid h)
+    served = by (find turns tells (Fetches trusted from now path []) IsLast Stays stays_self stays_on each place 0 count _ r s t C E (omega arith) (omega (arith, inside)) valid h)
       where
-        by : IsLast r ⊎ Turned turns (Fetches trusted from now path []) IsLast Stays stays_self stays_on each place C E → IsWanting r ⊎ (r ≡ Ok b)
+        by : IsLast r ⊎ Turned turns tells (Fetches trusted from now path []) IsLast Stays stays_self stays_on each place C E → IsWanting r ⊎ (r ≡ Ok b)
         by (inl end) = last_is r refl end
         by (inr w) = absurd (not_refused w.last w.end
             (fetch_agrees news grant step shapes S sure coherent path is_path now trusted trust from (From from turns place S now) (is_honest from turns place S now honest) [] w.begun w.left w.first w.last w.end
@@ -329,5 +329,5 @@ module _ (news : NewLaws) (grant : GrantLaws) (step : StepLaws) (shapes : Shapes
   is_served = record { bytes = bytes r refl; all = served }
 
 pub one_serves : NewLaws → GrantLaws → StepLaws → Shapes → OneServes
-one_serves news grant step shapes trusted Src from turns count now path s t C E r trust valid is_path h S place inside honest sure coherent level still =
-    is_served news grant step shapes trusted trust from turns count now path is_path s t C E r valid h S place inside honest sure coherent level still
+one_serves news grant step shapes trusted Src from turns tells count now path s t C E r trust valid is_path h S place inside honest sure coherent level still =
+    is_served news grant step shapes trusted trust from turns tells count now path is_path s t C E r valid h S place inside honest sure coherent level still

@@ -1,5 +1,5 @@
--- Calls over several sources in turn: what a call of one of them begins at, and what comes behind it.
-use Rattle.std.proofs.Common.{◌≡◌, ◌⊎◌, inl, inr, ℕ, suc, ◌+◌, ◌<◌, ◌≤◌, List, [], ◌∷◌, ◌++◌, Result, subst, arith}
+-- Calls over several sources in turn: what a call of one of them begins at, and what comes after it.
+use Rattle.std.proofs.Common.{◌≡◌, ◌⊎◌, inl, inr, ℕ, suc, ◌+◌, ◌<◌, ◌≤◌, List, [], ◌∷◌, ◌++◌, Result, Ok, Err, refl, subst, arith}
 use Rattle.std.proofs.lemmas.Bool.{cases_lt}
 use Rattle.metadata.specs.File.{Bytes}
 use Rattle.trust_rules.specs.State.{IsState, State}
@@ -7,7 +7,7 @@ use Rattle.fetch.specs.Source.{Asked, Gives, none, one}
 use Rattle.client.specs.Answering.{IsHonest}
 use Rattle.client.specs.Asking.{AsksAtMost}
 use Rattle.client.specs.Several as asks
-use Rattle.client.specs.Several.{AsksInTurn, InTurn, IsHonestAt, Turns, ends, goes, over, together}
+use Rattle.client.specs.Several.{AsksInTurn, InTurn, IsHonestAt, Told, Turns, ends, goes, over, together}
 use Rattle.client.specs.Views.{Fault}
 use Rattle.client.specs.Taken.{IsTaking, RunsOn}
 use Rattle.client.proofs.Asks.{asked-append}
@@ -41,13 +41,13 @@ module _ {Src : Type 0} (gives : Gives Src) (turns : Turns Src) (place : ℕ) (S
 
 -- ---- one of the calls
 
-module _ {Src A : Type 0} (turns : Turns Src) (Call : Src → State → Src → State → Result A Fault → Type 0) (IsEnd : Result A Fault → Type 0) (Keeps : State → State → Type 0)
+module _ {Src A : Type 0} (turns tells : Turns Src) (Call : Src → State → Src → State → Result A Fault → Type 0) (IsEnd : Result A Fault → Type 0) (Keeps : State → State → Type 0)
     (self : (C : State) → Keeps C C) (on : (C D E : State) → Keeps C D → Keeps D E → Keeps C E)
     (each : (s t : Src) (C D : State) (r : Result A Fault) → IsState C → Call s C t D r → Keeps C D × IsState D) where
-  pub keeps : (place n : ℕ) (so_far q : Result A Fault) (s v : Src) (C E : State) → IsState C → InTurn turns Call IsEnd place n so_far s C v E q → Keeps C E × IsState E
+  pub keeps : (place n : ℕ) (so_far q : Result A Fault) (s v : Src) (C E : State) → IsState C → InTurn turns tells Call IsEnd place n so_far s C v E q → Keeps C E × IsState E
   keeps place _ so_far _ s _ C _ valid over = (self C, valid)
   keeps place _ so_far q s v C E valid (ends {t = t} turn call end) = each t v C E q valid call
-  keeps place _ so_far q s v C E valid (goes {n = n} {r = r} {t = t} {u = u} {v = w} {D = D} turn call not more) =
+  keeps place _ so_far q s v C E valid (goes {n = n} {r = r} {t = t} {u = u} {v = w} {D = D} turn call not told more) =
       let one = each t u C D r valid call in
       let rest = keeps (suc place) n (together so_far r) q w v D E one.1 more in
       (on C D E one.0 rest.0, rest.1)
@@ -69,11 +69,11 @@ module _ {Src A : Type 0} (turns : Turns Src) (Call : Src → State → Src → 
     pub later_valid : IsState E
 
   -- it is there, unless one before it was
-  pub find : (here place n : ℕ) (so_far q : Result A Fault) (s v : Src) (C E : State) → place ≤ here → here < place + n → IsState C → InTurn turns Call IsEnd place n so_far s C v E q
+  pub find : (here place n : ℕ) (so_far q : Result A Fault) (s v : Src) (C E : State) → place ≤ here → here < place + n → IsState C → InTurn turns tells Call IsEnd place n so_far s C v E q
       → IsEnd q ⊎ Turned here C E
   find here place _ so_far _ s _ C _ low high valid over = absurd (omega (arith, low, high))
   find here place _ so_far q s v C E low high valid (ends turn call end) = inl end
-  find here place _ so_far q s v C E low high valid (goes {n = n} {r = r} {t = t} {u = u} {v = w} {D = D} turn call not more) =
+  find here place _ so_far q s v C E low high valid (goes {n = n} {r = r} {t = t} {u = u} {v = w} {D = D} turn call not told more) =
       by (λ below good. find here (suc place) n (together so_far r) q w v D E (omega (arith, below)) (omega (arith, high)) good more) (cases_lt place here)
     where
       one : Keeps C D × IsState D
@@ -119,19 +119,23 @@ module _ {Src A : Type 0} (turns : Turns Src) (Call : Src → State → Src → 
           })
 
 -- what is asked for in its turns
-module _ {Src A : Type 0} (gives : Gives Src) (turns : Turns Src) (Call : Src → State → Src → State → Result A Fault → Type 0) (IsEnd : Result A Fault → Type 0) (most : ℕ)
+module _ {Src A : Type 0} (gives : Gives Src) (turns tells : Turns Src) (Call : Src → State → Src → State → Result A Fault → Type 0) (IsEnd : Result A Fault → Type 0) (most : ℕ)
     (each : (s t : Src) (C D : State) (r : Result A Fault) → Call s C t D r → AsksAtMost gives most s t) where
-  pub turns-ask : (place n : ℕ) (so_far q : Result A Fault) (s v : Src) (C E : State) → InTurn turns Call IsEnd place n so_far s C v E q → AsksInTurn gives turns most place n s v
+  after : {place : ℕ} {u v : Src} (r : Result A Fault) → Told tells place r u v → (v ≡ u) ⊎ tells u place v
+  after (Ok a) same = inl same
+  after (Err fault) told = inr told
+
+  pub turns-ask : (place n : ℕ) (so_far q : Result A Fault) (s v : Src) (C E : State) → InTurn turns tells Call IsEnd place n so_far s C v E q → AsksInTurn gives turns tells most place n s v
   turns-ask place _ so_far _ s _ C _ over = asks.done
-  turns-ask place _ so_far q s v C E (ends {t = t} turn call end) = asks.one {v = v} turn (each t v C E q call) asks.done
-  turns-ask place _ so_far q s v C E (goes {n = n} {r = r} {t = t} {u = u} {v = w} {D = D} turn call not more) =
-      asks.one turn (each t u C D r call) (turns-ask (suc place) n (together so_far r) q w v D E more)
+  turns-ask place _ so_far q s v C E (ends {t = t} turn call end) = asks.one {v = v} turn (each t v C E q call) (inl refl) asks.done
+  turns-ask place _ so_far q s v C E (goes {n = n} {r = r} {t = t} {u = u} {v = w} {D = D} turn call not told more) =
+      asks.one turn (each t u C D r call) (after r told) (turns-ask (suc place) n (together so_far r) q w v D E more)
 
 -- and the run that they come to
-module _ {Src A : Type 0} (turns : Turns Src) (Call : Src → State → Src → State → Result A Fault → Type 0) (IsEnd : Result A Fault → Type 0) (now : ℕ)
+module _ {Src A : Type 0} (turns tells : Turns Src) (Call : Src → State → Src → State → Result A Fault → Type 0) (IsEnd : Result A Fault → Type 0) (now : ℕ)
     (each : (s t : Src) (C D : State) (r : Result A Fault) → Call s C t D r → RunsOn IsTaking now C D) where
-  pub turns-run : (place n : ℕ) (so_far q : Result A Fault) (s v : Src) (C E : State) → InTurn turns Call IsEnd place n so_far s C v E q → RunsOn IsTaking now C E
+  pub turns-run : (place n : ℕ) (so_far q : Result A Fault) (s v : Src) (C E : State) → InTurn turns tells Call IsEnd place n so_far s C v E q → RunsOn IsTaking now C E
   turns-run place _ so_far _ s _ C _ over = stays IsTaking now C
   turns-run place _ so_far q s v C E (ends {t = t} turn call end) = each t v C E q call
-  turns-run place _ so_far q s v C E (goes {n = n} {r = r} {t = t} {u = u} {v = w} {D = D} turn call not more) =
+  turns-run place _ so_far q s v C E (goes {n = n} {r = r} {t = t} {u = u} {v = w} {D = D} turn call not told more) =
       runs_then IsTaking now C D E (each t u C D r call) (turns-run (suc place) n (together so_far r) q w v D E more)

@@ -13,7 +13,8 @@ use Rattle.client.specs.Behind.{Behind}
 use Rattle.client.specs.Session.{Fetches, Updates}
 use Rattle.client.specs.Views.{Fault, Denied, Fetch, Database, OutOfMemory}
 
--- several sources of which one is asked: those that were, a place, and those that are left, of which the one at that place is asked from then on
+-- several sources of which one is asked: those that were, a place, and those that are left. Where a turn begins, the one at that place is asked
+-- from then on; where it ended in a fault, the sources were told so.
 abbrev pub Turns : Type 0 → Type 1
 Turns Src = Src → ℕ → Src → Type 0
 
@@ -49,27 +50,32 @@ together (Ok a) r = Ok a
 together (Err fault) (Ok a) = Ok a
 together (Err fault) (Err more) = Err (worse fault more)
 
--- A call over each of so many sources, from this place on, after those that ended so. Whatever an end is that is not the last, the next is
--- asked. What becomes of the sources between two turns is not said: the next turn may begin at any.
-module _ {Src A : Type 0} (turns : Turns Src) (Call : Src → State → Src → State → Result A Fault → Type 0) (IsEnd : Result A Fault → Type 0) where
+-- what becomes of the sources between two turns: a fault is told, and after a good end they are left as they are
+abbrev pub Told : {Src A : Type 0} → Turns Src → ℕ → Result A Fault → Src → Src → Type 0
+Told tells place (Ok a) s t = t ≡ s
+Told tells place (Err fault) s t = tells s place t
+
+-- A call over each of so many sources, from this place on, after those that ended so. Whatever an end is that is not the last, it is told, and
+-- the next is asked.
+module _ {Src A : Type 0} (turns tells : Turns Src) (Call : Src → State → Src → State → Result A Fault → Type 0) (IsEnd : Result A Fault → Type 0) where
   pub data InTurn : ℕ → ℕ → Result A Fault → Src → State → Src → State → Result A Fault → Type 0 where
     over : {place : ℕ} {so_far : Result A Fault} {s : Src} {C : State} → InTurn place 0 so_far s C s C so_far
     ends : {place n : ℕ} {so_far r : Result A Fault} {s t u : Src} {C D : State} → turns s place t → Call t C u D r → IsEnd r → InTurn place (suc n) so_far s C u D r
     goes : {place n : ℕ} {so_far r q : Result A Fault} {s t u v w : Src} {C D E : State} → turns s place t → Call t C u D r → (IsEnd r → ⊥)
-        → InTurn (suc place) n (together so_far r) v D w E q → InTurn place (suc n) so_far s C w E q
+        → Told tells place r u v → InTurn (suc place) n (together so_far r) v D w E q → InTurn place (suc n) so_far s C w E q
 
--- at most so many turns from this place on, in each of which at most so many names were asked for
-pub data AsksInTurn {Src : Type 0} (gives : Gives Src) (turns : Turns Src) (most : ℕ) : ℕ → ℕ → Src → Src → Type 0 where
-  done : {place n : ℕ} {s : Src} → AsksInTurn gives turns most place n s s
-  one : {place n : ℕ} {s t u v w : Src} → turns s place t → AsksAtMost gives most t u → AsksInTurn gives turns most (suc place) n v w
-      → AsksInTurn gives turns most place (suc n) s w
+-- at most so many turns from this place on, in each of which at most so many names were asked for, and none between two of them
+pub data AsksInTurn {Src : Type 0} (gives : Gives Src) (turns tells : Turns Src) (most : ℕ) : ℕ → ℕ → Src → Src → Type 0 where
+  done : {place n : ℕ} {s : Src} → AsksInTurn gives turns tells most place n s s
+  one : {place n : ℕ} {s t u v w : Src} → turns s place t → AsksAtMost gives most t u → (v ≡ u) ⊎ tells u place v
+      → AsksInTurn gives turns tells most (suc place) n v w → AsksInTurn gives turns tells most place (suc n) s w
 
 -- an update by each of so many, and a fetch by each until one ends in the bytes
-abbrev pub UpdatesByEach : {Src : Type 0} → Gives Src → Turns Src → ℕ → ℕ → Src → State → Src → State → Result (Unit {0}) Fault → Type 0
-UpdatesByEach gives turns now count = InTurn turns (Updates gives now) IsWanting 0 count (Err (Fetch fetches.Broken))
+abbrev pub UpdatesByEach : {Src : Type 0} → Gives Src → Turns Src → Turns Src → ℕ → ℕ → Src → State → Src → State → Result (Unit {0}) Fault → Type 0
+UpdatesByEach gives turns tells now count = InTurn turns tells (Updates gives now) IsWanting 0 count (Err (Fetch fetches.Broken))
 
-abbrev pub FetchesByEach : Type 0 → {Src : Type 0} → Gives Src → Turns Src → ℕ → Bytes → ℕ → Src → State → Src → State → Result Bytes Fault → Type 0
-FetchesByEach trusted gives turns now path count = InTurn turns (Fetches trusted gives now path []) IsLast 0 count (Err (Fetch fetches.Broken))
+abbrev pub FetchesByEach : Type 0 → {Src : Type 0} → Gives Src → Turns Src → Turns Src → ℕ → Bytes → ℕ → Src → State → Src → State → Result Bytes Fault → Type 0
+FetchesByEach trusted gives turns tells now path count = InTurn turns tells (Fetches trusted gives now path []) IsLast 0 count (Err (Fetch fetches.Broken))
 
 -- the source at this place is honest: whenever its turn begins, and whatever it was asked since, it answers as a server of this state
 abbrev pub IsHonestAt : {Src : Type 0} → Gives Src → Turns Src → ℕ → State → ℕ → Type 0
@@ -105,9 +111,9 @@ IsServedBy gives turns now path count C E r = (S : State) (place : ℕ) → plac
 
 -- the theorem, of definitions alone, for sources of any kind: one honest source is enough
 abbrev pub OneBrings : Type 1
-OneBrings = (Src : Type 0) (gives : Gives Src) (turns : Turns Src) (count now : ℕ) (s t : Src) (C E : State) (r : Result (Unit {0}) Fault)
-    → IsState C → UpdatesByEach gives turns now count s C t E r → IsBroughtBy gives turns now count C E r
+OneBrings = (Src : Type 0) (gives : Gives Src) (turns tells : Turns Src) (count now : ℕ) (s t : Src) (C E : State) (r : Result (Unit {0}) Fault)
+    → IsState C → UpdatesByEach gives turns tells now count s C t E r → IsBroughtBy gives turns now count C E r
 
 abbrev pub OneServes : Type 1
-OneServes = (trusted : Type 0) (Src : Type 0) (gives : Gives Src) (turns : Turns Src) (count now : ℕ) (path : Bytes) (s t : Src) (C E : State) (r : Result Bytes Fault)
-    → trusted → IsState C → IsTargetPath path → FetchesByEach trusted gives turns now path count s C t E r → IsServedBy gives turns now path count C E r
+OneServes = (trusted : Type 0) (Src : Type 0) (gives : Gives Src) (turns tells : Turns Src) (count now : ℕ) (path : Bytes) (s t : Src) (C E : State) (r : Result Bytes Fault)
+    → trusted → IsState C → IsTargetPath path → FetchesByEach trusted gives turns tells now path count s C t E r → IsServedBy gives turns now path count C E r

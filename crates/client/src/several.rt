@@ -4,7 +4,7 @@ ghost use Rattle.sqlite.specs.Held.{state};
 ghost use Rattle.trust_rules.specs.Grants.{grants};
 ghost use Rattle.store.specs.Standing.{IsClean, seen};
 ghost use Rattle.client.specs.Changes.{Changes};
-ghost use Rattle.client.specs.Several.{AsksInTurn, FetchesByEach, IsBroughtBy, IsServedBy, IsWant, IsWanting, UpdatesByEach, denial_or, together, worse};
+ghost use Rattle.client.specs.Several.{AsksInTurn, FetchesByEach, IsBroughtBy, IsServedBy, IsWant, IsWanting, Told, UpdatesByEach, denial_or, together, worse};
 ghost use Rattle.client.specs.Taken.{IsTaking, RunsOn};
 ghost use Rattle.client.specs.Views.{ended, fault_view, fetched};
 
@@ -24,14 +24,17 @@ pub trait Sources: Source {
     /// The sources that were, a place, the sources that are left: whether the one at this place is asked from then on. Without a value
     /// of its own this claims nothing.
     ghost turns: { Self → ℕ → Self → Type 0 } = { λ _ _ _. ⊤ };
+    /// The sources that were, a place, the sources that are left: what telling them of a fault at this place changes. It asks none of
+    /// them for a name, unless this says so.
+    ghost tells: { Self → ℕ → Self → Type 0 } = { λ _ _ _. ⊤ };
 
     /// From now on the one at this place is asked, whatever was asked before.
     fn turn(&mut self, place: usize)
         ensures { turns self.old place self.new };
 
-    /// The turn of the one at this place has ended in this fault, and the next is asked. Whoever relies on it can tell. Nothing is
-    /// supposed of what this changes.
-    fn failed(&mut self, place: usize, fault: &ClientFault);
+    /// The turn of the one at this place has ended in this fault, and the next is asked. Whoever relies on it can tell.
+    fn failed(&mut self, place: usize, fault: &ClientFault)
+        ensures { tells self.old place self.new };
 }
 
 /// `update` by each of so many sources in turn, into one state. What one of them gives that the state refuses, or that is too long, or
@@ -49,9 +52,9 @@ pub fn update_by_each<S: Alter, F: Sources>(
     now: Moment,
 ) -> Result<(), ClientFault>
     ensures brings { Changes (seen store.old.kept (state S.Store store.old.conn)) (seen store.new.kept (state S.Store store.new.conn))
-        (λ C D. UpdatesByEach F.gives F.turns now count sources.old C sources.new D (ended (λ u. u) result)
+        (λ C D. UpdatesByEach F.gives F.turns F.tells now count sources.old C sources.new D (ended (λ u. u) result)
         × IsBroughtBy F.gives F.turns now count C D (ended (λ u. u) result) × RunsOn IsTaking now C D) }
-    ensures asks { AsksInTurn F.gives F.turns 66 0 count sources.old sources.new }
+    ensures asks { AsksInTurn F.gives F.turns F.tells 66 0 count sources.old sources.new }
 {
     stands(store);
     laws();
@@ -69,7 +72,7 @@ fn updates<S: Alter, F: Sources>(
     now: Moment,
 ) -> Result<(), ClientFault>
     ensures { Changes (seen store.old.kept (state S.Store store.old.conn)) (seen store.new.kept (state S.Store store.new.conn))
-        (λ C D. UpdatesByEach F.gives F.turns now count sources.old C sources.new D (ended (λ u. u) result)) }
+        (λ C D. UpdatesByEach F.gives F.turns F.tells now count sources.old C sources.new D (ended (λ u. u) result)) }
 {
     let mut so_far = Err(ClientFault::Fetch(FetchFault::Broken));
     for place in 0..count {
@@ -85,7 +88,9 @@ fn updates<S: Alter, F: Sources>(
 }
 
 // Tells the sources where an update ended in a fault.
-fn tell<F: Sources>(sources: &mut F, place: usize, end: &Result<(), ClientFault>) {
+fn tell<F: Sources>(sources: &mut F, place: usize, end: &Result<(), ClientFault>)
+    ensures { Told F.tells place (ended (λ u. u) end.now) sources.old sources.new }
+{
     match end {
         Ok(()) => {}
         Err(fault) => sources.failed(place, fault),
@@ -171,11 +176,11 @@ pub fn fetch_by_each<S: Alter, F: Sources>(
     now: Moment,
 ) -> Result<Vec<u8>, ClientFault>
     ensures serves { Changes (seen store.old.kept (state S.Store store.old.conn)) (seen store.new.kept (state S.Store store.new.conn))
-        (λ C D. FetchesByEach (IsClean (seen store.new.kept (state S.Store store.new.conn))) F.gives F.turns now path.now count sources.old C sources.new D (fetched result)
+        (λ C D. FetchesByEach (IsClean (seen store.new.kept (state S.Store store.new.conn))) F.gives F.turns F.tells now path.now count sources.old C sources.new D (fetched result)
         × RunsOn IsTaking now C D
         × (IsClean (seen store.new.kept (state S.Store store.new.conn)) → IfOk result (λ b. grants D path.now None now (Ok b.items))
         × IsServedBy F.gives F.turns now path.now count C D (fetched result))) }
-    ensures asks { AsksInTurn F.gives F.turns 194 0 count sources.old sources.new }
+    ensures asks { AsksInTurn F.gives F.turns F.tells 194 0 count sources.old sources.new }
 {
     stands(store);
     let _text = path.as_str();
@@ -195,7 +200,7 @@ fn fetches<S: Alter, F: Sources>(
     now: Moment,
 ) -> Result<Vec<u8>, ClientFault>
     ensures { Changes (seen store.old.kept (state S.Store store.old.conn)) (seen store.new.kept (state S.Store store.new.conn))
-        (λ C D. FetchesByEach (IsClean (seen store.new.kept (state S.Store store.new.conn))) F.gives F.turns now path.now count sources.old C sources.new D (fetched result)) }
+        (λ C D. FetchesByEach (IsClean (seen store.new.kept (state S.Store store.new.conn))) F.gives F.turns F.tells now path.now count sources.old C sources.new D (fetched result)) }
 {
     let mut so_far = ClientFault::Fetch(FetchFault::Broken);
     for at in 0..count {

@@ -13,6 +13,6 @@ use Rattle.client.proofs.several.fetches.Given as goal
 abbrev pub invariant-loop-at : goal.invariant-loop-at
 invariant-loop-at g l = (B : Standing) (u : _) (r : Result Bytes Fault)
     → Changes (seen l.store.kept (state g.S.Store l.store.conn)) B
-    (λ C D. InTurn g.F.Sources.turns (Fetches (IsClean B) g.F.Source.gives l.now l.path []) IsLast l.at (l.count - l.at) (Err (fault_view l.so_far)) l.sources C u D r)
+    (λ C D. InTurn g.F.Sources.turns g.F.Sources.tells (Fetches (IsClean B) g.F.Source.gives l.now l.path []) IsLast l.at (l.count - l.at) (Err (fault_view l.so_far)) l.sources C u D r)
     → Changes (seen l.initial.store.kept (state g.S.Store l.initial.store.conn)) B
-    (λ C D. InTurn g.F.Sources.turns (Fetches (IsClean B) g.F.Source.gives l.now l.path []) IsLast 0 l.count (Err (Fetch fetches.Broken)) l.initial.sources C u D r)
+    (λ C D. InTurn g.F.Sources.turns g.F.Sources.tells (Fetches (IsClean B) g.F.Source.gives l.now l.path []) IsLast 0 l.count (Err (Fetch fetches.Broken)) l.initial.sources C u D r)

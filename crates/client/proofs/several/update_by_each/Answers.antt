@@ -13,12 +13,12 @@ returns-clause-brings g c =
     let shapes : Shapes = record { document = c.one_document.ensures; none = c.one_shape.ensures.none; one = c.one_shape.ensures.one } in
     becomes_at _ _ c.updates.ensures (λ C D at h. (
       h,
-      one_brings c.laws.ensures.roots c.laws.ensures.news c.laws.ensures.steps shapes _ g.F.Source.gives g.F.Sources.turns c.args.count c.args.now _ _ C D _ at.state.valid h,
-      turns-run g.F.Sources.turns (Updates g.F.Source.gives c.args.now) IsWanting c.args.now (update-runs g.F.Source.gives c.args.now) 0 c.args.count _ _ _ _ C D h,
+      one_brings c.laws.ensures.roots c.laws.ensures.news c.laws.ensures.steps shapes _ g.F.Source.gives g.F.Sources.turns g.F.Sources.tells c.args.count c.args.now _ _ C D _ at.state.valid h,
+      turns-run g.F.Sources.turns g.F.Sources.tells (Updates g.F.Source.gives c.args.now) IsWanting c.args.now (update-runs g.F.Source.gives c.args.now) 0 c.args.count _ _ _ _ C D h,
     ))
 
 pub returns-clause-asks : goal.returns-clause-asks
 returns-clause-asks g c =
     let (S, at) = c.stands.ensures.somewhere in
     let (T, to, h) = c.updates.ensures.moves S at in
-    turns-ask g.F.Source.gives g.F.Sources.turns (Updates g.F.Source.gives c.args.now) IsWanting 66 (update-asks g.F.Source.gives c.args.now) 0 c.args.count _ _ _ _ S T h
+    turns-ask g.F.Source.gives g.F.Sources.turns g.F.Sources.tells (Updates g.F.Source.gives c.args.now) IsWanting 66 (update-asks g.F.Source.gives c.args.now) 0 c.args.count _ _ _ _ S T h

@@ -12,6 +12,6 @@ use Rattle.client.proofs.several.updates.Given as goal
 abbrev pub invariant-loop-place : goal.invariant-loop-place
 invariant-loop-place g l = (B : Standing) (u : _) (r : Result (Unit {0}) Fault)
     → Changes (seen l.store.kept (state g.S.Store l.store.conn)) B
-    (λ C D. InTurn g.F.Sources.turns (Updates g.F.Source.gives l.now) IsWanting l.place (l.count - l.place) (ended (λ u. u) l.so_far) l.sources C u D r)
+    (λ C D. InTurn g.F.Sources.turns g.F.Sources.tells (Updates g.F.Source.gives l.now) IsWanting l.place (l.count - l.place) (ended (λ u. u) l.so_far) l.sources C u D r)
     → Changes (seen l.initial.store.kept (state g.S.Store l.initial.store.conn)) B
-    (λ C D. InTurn g.F.Sources.turns (Updates g.F.Source.gives l.now) IsWanting 0 l.count (Err (Fetch fetches.Broken)) l.initial.sources C u D r)
+    (λ C D. InTurn g.F.Sources.turns g.F.Sources.tells (Updates g.F.Source.gives l.now) IsWanting 0 l.count (Err (Fetch fetches.Broken)) l.initial.sources C u D r)
