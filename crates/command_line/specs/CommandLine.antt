@@ -91,7 +91,7 @@ HasNumberOr rows id least most other n = (Lacks rows id × (n ≡ other)) ⊎ Ha
 
 -- the width and the height of a new key, 8 and 10 where they are left out
 abbrev pub HasParamsOr : List Row → Params → Type 0
-HasParamsOr rows p = HasNumberOr rows (codes "ots") 1 8 8 (width p.ots) × HasNumberOr rows (codes "height") 5 10 10 (height (signing_type p.height))
+HasParamsOr rows p = HasNumberOr rows (codes "ots") 1 8 4 (width p.ots) × HasNumberOr rows (codes "height") 5 10 10 (height (signing_type p.height))
 
 -- no option of a key of several levels
 abbrev pub LacksLevels : List Row → Type 0

@@ -277,7 +277,7 @@ pub fn params_of(alloc: Global, given: &ArgMatches<'_>) -> Result<Params, Unread
     Ok(Params { ots, height })
 }
 
-/// The parameters of a new key: width 8 and height 10 where they are not given.
+/// The parameters of a new key: width 4 and height 10 where they are not given.
 pub fn params_or(alloc: Global, given: &ArgMatches<'_>) -> Result<Params, Unread>
     ensures { IfOk result (HasParamsOr (rows_of (found_of given.now))) }
 {
@@ -287,10 +287,10 @@ pub fn params_or(alloc: Global, given: &ArgMatches<'_>) -> Result<Params, Unread
 }
 
 fn ots_or(alloc: Global, given: &ArgMatches<'_>) -> Result<OtsType, Unread>
-    ensures { IfOk result (λ t. HasNumberOr (rows_of (found_of given.now)) (codes "ots") 1 8 8 (width t)) }
+    ensures { IfOk result (λ t. HasNumberOr (rows_of (found_of given.now)) (codes "ots") 1 8 4 (width t)) }
 {
     if is_left_out(given, "ots") {
-        return Ok(OtsType::W8);
+        return Ok(OtsType::W4);
     }
     ots_of(alloc, given, "ots", WRONG_OTS)
 }

@@ -221,7 +221,7 @@ pub enum Subcommand {
         params: Params,
     },
     /// `key --new NAME [NAME ..] [--ots W] [--height H] [--levels N] [--lower-ots W] [--lower-height H]`: makes the three files of each key, of
-    /// width 8 and height 10 where these are not given; of two levels where there are parameters of the trees below.
+    /// width 4 and height 10 where these are not given; of two levels where there are parameters of the trees below.
     NewKey {
         names: Vec<String>,
         params: Params,

@@ -60,7 +60,7 @@ pub(crate) const SEED: Word<'static> = Word::Option(
 pub(crate) const OTS: Word<'static> = Word::Number(
     "ots",
     "W",
-    "The width of the one-time signatures: 1, 2, 4 or 8 (of a new key 8 where it is not given)",
+    "The width of the one-time signatures: 1, 2, 4 or 8 (of a new key 4 where it is not given)",
     1,
     8,
 );

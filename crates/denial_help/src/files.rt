@@ -5,7 +5,7 @@ const TOO_LONG: &str = concat!(
     "The file has over 262,144 bytes, the most of a metadata file, a layout or a link. List fewer targets\n",
     "in one document: delegate some paths to another role, as by\n",
     "'release draft --in d targets --delegate NAME=KEY:PATTERN', and list them there. Signatures are\n",
-    "shortest at width 8, which 'release key --new NAME' takes, and fewer keys that sign make a file\n",
+    "shortest at width 8 ('release key --new NAME --ots 8'), and fewer keys that sign make a file\n",
     "shorter, too.\n",
 );
 
