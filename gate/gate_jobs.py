@@ -29,7 +29,3 @@ def environment():
         found["RT_JOBS"] = str(processors())
     return found
 
-
-def side_by_side():
-    """How many crates are proved at a time, of one processor each, where 'rt ci' does not see to it."""
-    return max(1, min(processors(), int(free_gigabytes() - LARGE / 2) // (2 * EACH)))

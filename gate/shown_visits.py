@@ -49,8 +49,10 @@ def visits_of(roles):
 
 
 def lines_of(program, db, moment):
-    """What is shown of the target at the moment, without its first line."""
-    lines = said(program, "show", "--at", str(moment), "--db", db, "x.txt")[1]
+    """What is shown of the target at the moment, without its first line. What denies it is the status and the last line of errors, too."""
+    status, lines, errors = said(program, "show", "--at", str(moment), "--db", db, "x.txt")
+    if status != 1 or not lines or f"  {errors[-1]}" != lines[-1]:
+        sys.exit(f"show at {moment}: status {status}, {errors}")
     return lines[lines.index("target x.txt") + 1:] if "target x.txt" in lines else lines
 
 

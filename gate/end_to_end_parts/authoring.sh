@@ -260,10 +260,20 @@ it_is_shown() {
     is_told '  granted, 8 bytes'
     a_chain_is_shown
     visits_are_those_of_a_search
-    "$release" show --at $now --db repository.db --html page.html tools/none >"$folder/out"
+    ends_with 1 'denied 35 NotFound' show --at $now --db repository.db --html page.html tools/none
     is_told '  denied 35 NotFound'
+    what_is_read_is_not_made
     checks=$((checks + 3))
     it_is_a_page
+}
+
+# A database whose name is mistyped: a command that only reads makes none.
+what_is_read_is_not_made() {
+    ends_with 3 'fault database' show --at $now --db typo.db
+    ends_with 3 'fault database' show --at $now --in d --db typo.db
+    ends_with 3 'fault database' draft --at $now --in d --db typo.db seal
+    grep -q '^release: typo.db: ' "$folder/err" || fail "not told of the database: $(cat "$folder/err")"
+    [ ! -e typo.db ] || fail "a database was made by reading it"
 }
 
 # The page that stands alone, as a browser shows it.

@@ -1,7 +1,7 @@
 //! `show`: what a database holds, and what a folder of drafts has.
 use crate::publishing::batch_in;
 use command_line::Showing;
-use command_support::{Fault, Notes, moment, print};
+use command_support::{Fault, Notes, moment, print, see_database};
 use drafts::Folder;
 use keys_roles::KeyId;
 use metadata::Moment;
@@ -23,6 +23,9 @@ pub fn show<O: Write, E: Write>(
     notes: &mut Notes<'_, E>,
 ) -> Result<(), Fault> {
     let now = moment(rt, at)?;
+    if let Some(db) = &asked.db {
+        see_database(rt, db, notes)?;
+    }
     match (&asked.folder, &asked.db) {
         (Some(folder), None) => {
             let folder = Folder::new(rt, folder);

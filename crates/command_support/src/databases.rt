@@ -64,6 +64,26 @@ pub fn connected<E: Write>(
     }
 }
 
+/// The database stands there, or a log with changes that `connected` tells of: a command that only reads makes none.
+pub fn see_database<E: Write>(
+    rt: &HostRuntime,
+    db: &str,
+    notes: &mut Notes<'_, E>,
+) -> Result<(), Fault>
+    ensures { IfErr result (λ fault. status_of fault ≡ 3) }
+{
+    match fs::metadata(rt, db) {
+        Ok(_) => Ok(()),
+        Err(error) => {
+            if is_log_alone(rt, db)? {
+                return Ok(());
+            }
+            notes.fault(&db, &error);
+            Err(Fault::Database)
+        }
+    }
+}
+
 // On a terminal tells that a large database is opened, how large it is, and in about how long.
 fn tell_size<E: Write>(
     rt: &HostRuntime,

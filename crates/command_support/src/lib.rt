@@ -12,7 +12,7 @@ mod notes;
 mod on_disk;
 
 pub use command_line::Usage;
-pub use databases::connected;
+pub use databases::{connected, see_database};
 pub use denials::Denial;
 pub use fault::{Fault, Slip, file_fault};
 pub use files::{names_of, print, read, read_at_most, read_regular};

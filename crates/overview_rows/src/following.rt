@@ -1,5 +1,5 @@
 //! What a folder of drafts follows: the documents that a database holds.
-use command_support::{Denial, Fault, Notes};
+use command_support::{Denial, Fault, Notes, see_database};
 use drafts::{Folder, kind_of, read_said, version_in};
 use metadata::{Kind, Moment, read_signed};
 use path_patterns::metadata_name;
@@ -17,6 +17,7 @@ pub fn follow<E: Write>(
     now: Moment,
     notes: &mut Notes<'_, E>,
 ) -> Result<(), Fault> {
+    see_database(rt, db, notes)?;
     let mut following = Following {
         alloc: rt.alloc(),
         folder,

@@ -3,7 +3,7 @@
 use crate::tree::Looking;
 use crate::visits::look_for;
 use command_line::Showing;
-use command_support::{Fault, Notes, OWNER_ALONE, file_fault, print, put_in_place};
+use command_support::{Denial, Fault, Notes, OWNER_ALONE, file_fault, print, put_in_place};
 use keys_roles::KeyId;
 use metadata::Moment;
 use overviews::{Overview, as_bars, as_columns, as_json, as_page};
@@ -16,7 +16,8 @@ use std::io::{IsTerminal, Write};
 const DUE: u64 = 7;
 
 /// Shows what a database holds, as columns, on a terminal with bars, or as JSON; and where a file is given, writes a page. Where something
-/// expires within the days that are given, or a key has a quarter of its leaves or fewer left, that is the answer.
+/// expires within the days that are given, or a key has a quarter of its leaves or fewer left, that is the answer; before it what denies
+/// the target that is asked for.
 pub fn show_standing<O: Write, E: Write>(
     rt: &HostRuntime,
     db: &str,
@@ -29,17 +30,22 @@ pub fn show_standing<O: Write, E: Write>(
     let mut looking = Looked {
         looking: Looking::new(rt.alloc(), now, asked.due.unwrap_or(DUE), leaves),
         asked,
+        denial: None,
     };
     worked(rt, db, &mut looking, notes)?;
     show_all(rt, asked, &looking.looking.shown, out, notes)?;
+    if let Some(denial) = looking.denial {
+        return Err(Fault::Denied(denial, None));
+    }
     end(&looking.looking.shown, asked)
 }
 
-// What is looked at over the repository: all that it holds, and a target, if one is asked for.
+// What is looked at over the repository: all that it holds, and a target, if one is asked for, with what denies it.
 #[derive(Drop)]
 struct Looked<'a> {
     looking: Looking<'a>,
     asked: &'a Showing,
+    denial: Option<Denial>,
 }
 
 impl Work for Looked<'_> {
@@ -52,13 +58,14 @@ impl Work for Looked<'_> {
     ) -> Result<(), Fault> {
         self.looking.look(repository)?;
         if let Some(path) = self.asked.paths.first() {
-            let row = look_for(
+            let (row, denial) = look_for(
                 self.looking.alloc,
                 repository,
                 path.as_str(),
                 self.looking.now,
             )?;
             self.looking.shown.path = Some(row);
+            self.denial = denial;
         }
         Ok(())
     }
@@ -105,7 +112,7 @@ pub fn put<E: Write>(
     }
 }
 
-// What the command answers: that something is due, or what denies the target.
+// What the command answers: that something is due.
 fn end(shown: &Overview, asked: &Showing) -> Result<(), Fault> {
     if asked.due.is_some() && is_due(shown) {
         return Err(Fault::Due);

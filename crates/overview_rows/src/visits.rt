@@ -9,14 +9,14 @@ use repository_work::{Command, Reply, Search, SearchDenial, Store, search_of};
 use sqlite::Alter;
 use std::alloc::{AllocError, Global};
 
-/// What becomes of a target of this path at the moment. A path that is none is denied. Where a check before the search fails, no role is
-/// visited.
+/// What becomes of a target of this path at the moment, and what denies it, if anything does. A path that is none is denied. Where a check
+/// before the search fails, no role is visited.
 pub fn look_for<S: Alter>(
     alloc: Global,
     repository: &mut Store<S>,
     path: &str,
     now: Moment,
-) -> Result<PathRow, Fault> {
+) -> Result<(PathRow, Option<Denial>), Fault> {
     let Some(target) = TargetPath::read(alloc, path)? else {
         return Err(Fault::Denied(Denial::BadPath, None));
     };
@@ -34,15 +34,16 @@ pub fn look_for<S: Alter>(
     if let Some(layout) = &layout {
         seeing.look_at_steps(repository, layout)?;
     }
-    let end = end_of(alloc, repository, path, now);
-    Ok(row_of(alloc, path, seeing, end)?)
+    let end = end_of(alloc, repository, path, now)?;
+    let denial = end.denial;
+    Ok((row_of(alloc, path, seeing, end)?, denial))
 }
 
 fn row_of(
     alloc: Global,
     path: &str,
     seeing: Seeing,
-    end: Result<(String, bool), AllocError>,
+    end: End,
 ) -> Result<PathRow, AllocError> {
     let Seeing {
         visits,
@@ -50,7 +51,6 @@ fn row_of(
         steps,
         ..
     } = seeing;
-    let (end, is_granted) = end?;
     let path = String::from_str(alloc, path)?;
     let found = found.done()?;
     let steps = steps.done()?;
@@ -59,9 +59,17 @@ fn row_of(
         visits,
         found,
         steps,
-        end,
-        is_granted,
+        end: end.text,
+        is_granted: end.is_granted,
     })
+}
+
+// How a request of the target ends: as it is told, whether the target is granted, and what denies it.
+#[derive(Drop)]
+struct End {
+    text: String,
+    is_granted: bool,
+    denial: Option<Denial>,
 }
 
 // How a request of the target ends: the repository is asked.
@@ -70,18 +78,24 @@ fn end_of<S: Alter>(
     repository: &mut Store<S>,
     path: &str,
     now: Moment,
-) -> Result<(String, bool), AllocError> {
-    match repository.apply(Command::Target(path, None), now) {
+) -> Result<End, AllocError> {
+    let (text, is_granted, denial) = match repository.apply(Command::Target(path, None), now) {
         Ok(Reply::Bytes(bytes)) => {
             let count = bytes.len();
-            Ok((format!(in alloc; "granted, {count} bytes")?, true))
+            (format!(in alloc; "granted, {count} bytes")?, true, None)
         }
         Ok(Reply::Denied(denial, _)) => {
             let (number, name) = (denial.number(), denial.name());
-            Ok((format!(in alloc; "denied {number} {name}")?, false))
+            let text = format!(in alloc; "denied {number} {name}")?;
+            (text, false, Some(denial))
         }
-        _ => Ok((String::from_str(alloc, "not answered")?, false)),
-    }
+        _ => (String::from_str(alloc, "not answered")?, false, None),
+    };
+    Ok(End {
+        text,
+        is_granted,
+        denial,
+    })
 }
 
 // The paths of a target's layout and of its links.

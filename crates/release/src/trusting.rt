@@ -1,14 +1,13 @@
 //! The root by which what a folder of drafts holds is judged before it is signed over: from a file, or from a repository.
 use client_commands::root_at;
 use command_line::Anchor as From;
-use command_support::{FILE_LIMIT, Fault, Notes, moment, read_at_most};
+use command_support::{FILE_LIMIT, Fault, Notes, moment, read_at_most, see_database};
 use drafts::{Folder, version_in};
 use metadata::Moment;
 use repository_work::{Work, worked};
 use signing_commands::{Anchor, Anchoring};
 use sqlite::Alter;
 use std::alloc::Global;
-use std::fs;
 use std::io::Write;
 use store::{Command, Reply, Store};
 
@@ -95,21 +94,6 @@ fn root_in_file<E: Write>(
                 notes.denied(&file, denial.number());
             }
             Err(fault)
-        }
-    }
-}
-
-// The database is there: none is made to be asked.
-fn see_database<E: Write>(
-    rt: &HostRuntime,
-    db: &str,
-    notes: &mut Notes<'_, E>,
-) -> Result<(), Fault> {
-    match fs::metadata(rt, db) {
-        Ok(_) => Ok(()),
-        Err(error) => {
-            notes.fault(&db, &error);
-            Err(Fault::Database)
         }
     }
 }
