@@ -89,13 +89,29 @@ fn is_used(leaves: &[LeafRow], key: &KeyId, leaf: u32) -> bool
     false
 }
 
-// The least leaf of the key below `count` that is not used.
+// So many leaves of the key are used, from the first on. Where rows stand in the order in which leaves are given out, these are all of them.
+fn used_in_order(leaves: &[LeafRow], key: &KeyId) -> u32
+    ensures { (n : ℕ) → n < result → (message : List ℕ) × Has (map kept_view leaves.now) (record { key = id_text key.now; leaf = n; message = message }) }
+{
+    let mut next: u32 = 0;
+    let mut rest = leaves;
+    'leaves: while let Some((kept, later)) = rest.split_first() {
+        if is_of(kept, key, next) {
+            next = next.saturating_add(1);
+        }
+        rest = later;
+    }
+    next
+}
+
+// The least leaf of the key below `count` that is not used. It goes over the rows twice where they stand in order.
 fn least_unused(leaves: &[LeafRow], key: &KeyId, count: u32) -> Option<u32>
     ensures { MatchOption result ((n : ℕ) → n < count → (message : List ℕ) × Has (map kept_view leaves.now) (record { key = id_text key.now; leaf = n; message = message }))
         (λ leaf. (leaf < count) × ((message : List ℕ) → Has (map kept_view leaves.now) (record { key = id_text key.now; leaf = leaf; message = message }) → ⊥)
         × ((n : ℕ) → n < leaf → (message : List ℕ) × Has (map kept_view leaves.now) (record { key = id_text key.now; leaf = n; message = message }))) }
 {
-    'numbers: for leaf in 0..count {
+    let begun = used_in_order(leaves, key);
+    'numbers: for leaf in begun..count {
         if !is_used(leaves, key, leaf) {
             return Some(leaf);
         }
