@@ -89,8 +89,12 @@ the_drafts_chapter() {
     grep -e '^begun$' -e '^{' -e '^ready$' "$folder/drafts/out" >"$folder/drafts/said"
     {
         printf 'begun\nready\n{"accepted":3,"same":1}\n{"accepted":1,"same":0}\n{"accepted":4,"same":0}\n{"accepted":3,"same":0}\n'
+        printf '{"accepted":3,"same":0}\nbegun\n{"accepted":3,"same":0}\n'
     } >"$folder/drafts/wanted"
     same "what the chapter 'drafts' prints" "$folder/drafts/wanted" "$folder/drafts/said"
+    tail -n 1 "$folder/drafts/out" >"$folder/drafts/last"
+    echo '  granted, 25 bytes' >"$folder/drafts/granted"
+    same "how the chapter 'drafts' ends" "$folder/drafts/granted" "$folder/drafts/last"
 }
 
 # A ceremony for a root: what each person does, on one machine here.
