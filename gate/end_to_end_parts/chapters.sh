@@ -134,6 +134,24 @@ the_outside_chapter() {
     checks=$((checks + 1))
 }
 
+# Two machines, which are two folders here, each with a key of its own for the timestamp, and a third key that is used next.
+the_machines_chapter() {
+    local machines=$folder/machines
+    mkdir "$machines"
+    chapter machines "$machines" OPERATING.md
+    grep -E '^(begun|signed|\{)' "$machines/out" >"$machines/said"
+    {
+        printf 'signed root with leaf 0 of 32\nbegun\nsigned targets with leaf 0 of 32\n'
+        printf 'signed snapshot with leaf 0 of 32\nsigned timestamp with leaf 1 of 32\n{"accepted":3,"same":0}\n'
+        printf 'signed timestamp with leaf 0 of 32\n{"accepted":1,"same":0}\n'
+        printf 'signed root with leaf 1 of 32\nsigned snapshot with leaf 2 of 32\nsigned timestamp with leaf 3 of 32\n{"accepted":3,"same":0}\n'
+    } >"$machines/wanted"
+    same "what the chapter 'machines' prints" "$machines/wanted" "$machines/said"
+    [ "$(grep -cE '^(snapshot|timestamp) .* 1 of 2  (near 30  far 31|far 31  near 30)  together 61 of 64$' "$machines/out")" = 2 ] ||
+        fail "the leaves of two machines: $(cat "$machines/out")"
+    checks=$((checks + 1))
+}
+
 # A client over a mirror of plain files.
 the_client_chapter() {
     mkdir "$folder/clients"

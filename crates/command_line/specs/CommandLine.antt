@@ -16,6 +16,8 @@ use Rattle.command_line.specs.declared.tasks.AttachDraft.{AttachDraft}
 use Rattle.command_line.specs.declared.tasks.Draft.{Draft}
 use Rattle.command_line.specs.declared.tasks.Draft.TheVariants as drafts
 use Rattle.command_line.specs.declared.tasks.Drafting.{Drafting}
+use Rattle.command_line.specs.declared.tasks.Keys.{Keys}
+use Rattle.command_line.specs.declared.tasks.Keys.TheVariants as keys
 use Rattle.command_line.specs.declared.tasks.LayoutDraft.{LayoutDraft}
 use Rattle.command_line.specs.declared.tasks.LinkDraft.{LinkDraft}
 use Rattle.command_line.specs.declared.tasks.Server.{Server}
@@ -184,6 +186,11 @@ abbrev pub LacksPair : List Row → Type 0
 LacksPair rows = Lacks rows (codes "book") × Lacks rows (codes "seed") × Lacks rows (codes "ots") × Lacks rows (codes "height")
     × (false ≡ is_used rows (codes "known"))
 
+-- the keys that sign in a folder: each of several, or one of a list, and not both
+abbrev pub HasKeys : List Row → Keys → Type 0
+HasKeys rows (keys.Each names) = HasTexts rows (codes "key") most_documents names.items × Lacks rows (codes "any")
+HasKeys rows (keys.Any list) = HasText rows (codes "any") list × Lacks rows (codes "key")
+
 -- where the root is from by which what is held is judged: at most one of the three is given
 abbrev pub HasAnchor : List Row → Option Anchor → Type 0
 HasAnchor rows None = Lacks rows (codes "db") × Lacks rows (codes "port") × Lacks rows (codes "anchor")
@@ -264,8 +271,9 @@ HasArguments rows (Serve s) = HasText rows (codes "db") s.db × HasNumber rows (
     × MayHaveNumber rows (codes "count") 1 most_connections s.count × (s.read_only ≡ is_used rows (codes "read-only"))
 HasArguments rows (Show s) = HasShowing rows s
 HasArguments rows (Sign s) = HasText rows (codes "book") s.book × HasText rows (codes "seed") s.seed × HasParams rows s.params
-    × (s.known ≡ is_used rows (codes "known")) × HasTexts rows (codes "file") 1 (s.file ∷ []) × Lacks rows (codes "key") × LacksFolder rows
-HasArguments rows (SignIn s) = HasTexts rows (codes "key") most_documents s.keys.items
+    × (s.known ≡ is_used rows (codes "known")) × HasTexts rows (codes "file") 1 (s.file ∷ []) × Lacks rows (codes "key") × Lacks rows (codes "any")
+    × LacksFolder rows
+HasArguments rows (SignIn s) = HasKeys rows s.keys
     × HasText rows (codes "in") s.folder × HasAnchor rows s.anchor × (s.strict ≡ is_used rows (codes "strict")) × (IsTrue s.strict → IsSome s.anchor)
     × MayHaveTexts rows (codes "file") most_documents s.documents.items × (s.yes ≡ is_used rows (codes "yes")) × (s.again ≡ is_used rows (codes "again"))
     × LacksPair rows

@@ -3,7 +3,7 @@
 
 ghost use Rattle.std.specs.Prelude.{◌≡◌, ◌⊎◌, ◌∷◌, [], Err, IfOk, codes, map, string_bytes};
 ghost use Rattle.clap.specs.Words.{found_of, kind_of, rows_of, subcommand_rows_of};
-ghost use Rattle.command_line.specs.CommandLine.{AsksForHelp, HasAnchor, HasNames, HasShowing, HasTexts, IsAsked, IsTask, IsTaskOf, Lacks, LacksFolder, LacksPair, Says};
+ghost use Rattle.command_line.specs.CommandLine.{AsksForHelp, HasAnchor, HasKeys, HasNames, HasShowing, HasTexts, IsAsked, IsTask, IsTaskOf, Lacks, LacksFolder, LacksPair, Says};
 
 mod drafts;
 mod given;
@@ -25,8 +25,8 @@ use outside::public_key_of;
 use std::alloc::{AllocError, Global};
 use tasks::Unread;
 pub use tasks::{
-    Anchor, AttachDraft, Draft, Drafting, FolderSigning, Getting, LayoutDraft, LinkDraft, Place,
-    Server, Serving, Showing, Signing, Subcommand, TargetsDraft, Task, Usage,
+    Anchor, AttachDraft, Draft, Drafting, FolderSigning, Getting, Keys, LayoutDraft, LinkDraft,
+    Place, Server, Serving, Showing, Signing, Subcommand, TargetsDraft, Task, Usage,
 };
 
 // Neither a seed nor a new name nor a public key.
@@ -48,6 +48,9 @@ const NO_ANCHOR: &str = concat!(
     "error: the argument '--strict' wants '--db <FILE>', '--port <P>' or '--anchor <ROOT>'\n\n",
     "For more information, try '--help'.\n",
 );
+
+// The keys of which one signs, as a fault has them.
+const ANY: &str = "--any <NAME[,NAME..]>";
 
 /// The task that the words ask for, the program's own name first: the subcommand, its options and operands, each one
 /// that has to be there, and numbers within their range. Other words are answered with the fault text of `clap`, and help only
@@ -278,6 +281,9 @@ fn showing_of(alloc: Global, given: &ArgMatches<'_>) -> Result<Showing, Unread>
 fn sign_asked(alloc: Global, given: &ArgMatches<'_>) -> Result<Subcommand, Unread>
     ensures { IfOk result (IsAsked (codes "sign") (rows_of (found_of given.now))) }
 {
+    if !is_left_out(given, "any") {
+        return sign_in(alloc, given);
+    }
     if is_left_out(given, "key") {
         sign_by_book(alloc, given)
     } else {
@@ -287,7 +293,8 @@ fn sign_asked(alloc: Global, given: &ArgMatches<'_>) -> Result<Subcommand, Unrea
 
 // Of `sign` by a book and a seed there is one document.
 fn sign_by_book(alloc: Global, given: &ArgMatches<'_>) -> Result<Subcommand, Unread>
-    requires { Lacks (rows_of (found_of given.now)) (codes "key") }
+    requires key { Lacks (rows_of (found_of given.now)) (codes "key") }
+    requires any { Lacks (rows_of (found_of given.now)) (codes "any") }
     ensures { IfOk result (IsAsked (codes "sign") (rows_of (found_of given.now))) }
 {
     refuse_folder(alloc, given)?;
@@ -333,7 +340,7 @@ fn sign_in(alloc: Global, given: &ArgMatches<'_>) -> Result<Subcommand, Unread>
     ensures { IfOk result (IsAsked (codes "sign") (rows_of (found_of given.now))) }
 {
     refuse_pair(alloc, given)?;
-    let keys = texts_of(alloc, given, "key", MOST_DOCUMENTS)?;
+    let keys = keys_of(alloc, given)?;
     let folder = text_of(alloc, given, "in")?;
     let anchor = anchor_of(alloc, given)?;
     let strict = is_given(given, "strict");
@@ -350,6 +357,19 @@ fn sign_in(alloc: Global, given: &ArgMatches<'_>) -> Result<Subcommand, Unread>
         yes: is_given(given, "yes"),
         again: is_given(given, "again"),
     }))
+}
+
+// The keys that sign: those of `--key`, or one of a list.
+fn keys_of(alloc: Global, given: &ArgMatches<'_>) -> Result<Keys, Unread>
+    ensures { IfOk result (HasKeys (rows_of (found_of given.now))) }
+{
+    if is_left_out(given, "any") {
+        let names = texts_of(alloc, given, "key", MOST_DOCUMENTS)?;
+        return Ok(Keys::Each(names));
+    }
+    refuse(alloc, given, "key", ANY)?;
+    let list = text_of(alloc, given, "any")?;
+    Ok(Keys::Any(list))
 }
 
 // Where the root is from by which what is held is judged, if one is given.
@@ -373,15 +393,20 @@ fn anchor_of(alloc: Global, given: &ArgMatches<'_>) -> Result<Option<Anchor>, Un
     }
 }
 
-// Beside keys by their names stands no book and no seed.
+// Next to keys by their names stands no book and no seed.
 fn refuse_pair(alloc: Global, given: &ArgMatches<'_>) -> Result<(), Unread>
     ensures { IfOk result (λ _. LacksPair (rows_of (found_of given.now))) }
 {
-    refuse(alloc, given, "book", "--key <NAME>")?;
-    refuse(alloc, given, "seed", "--key <NAME>")?;
-    refuse(alloc, given, "ots", "--key <NAME>")?;
-    refuse(alloc, given, "height", "--key <NAME>")?;
-    refuse_flag(alloc, given, "known", "--key <NAME>")
+    let with = if is_left_out(given, "any") {
+        "--key <NAME>"
+    } else {
+        ANY
+    };
+    refuse(alloc, given, "book", with)?;
+    refuse(alloc, given, "seed", with)?;
+    refuse(alloc, given, "ots", with)?;
+    refuse(alloc, given, "height", with)?;
+    refuse_flag(alloc, given, "known", with)
 }
 
 fn update_asked(alloc: Global, given: &ArgMatches<'_>) -> Result<Subcommand, Unread>

@@ -154,11 +154,20 @@ pub struct Signing {
     pub file: String,
 }
 
+/// The keys that sign in a folder of drafts, by the names of their files.
+#[derive(Drop)]
+pub enum Keys {
+    /// Each of them, one after the other.
+    Each(Vec<String>),
+    /// One of them for each document: a list with commas between.
+    Any(String),
+}
+
 /// What is signed in a folder of drafts: by which keys, judged by which root, whether nothing is signed over what does not meet its rules,
 /// which documents, without a question, and also another document of a kind and version.
 #[derive(Drop)]
 pub struct FolderSigning {
-    pub keys: Vec<String>,
+    pub keys: Keys,
     pub folder: String,
     pub anchor: Option<Anchor>,
     pub strict: bool,
@@ -259,10 +268,10 @@ pub enum Subcommand {
     /// `sign --book B --seed S --ots W --height H [--known] DOC`: signs a file with a leaf that the book keeps for it, and where it is said
     /// so, only by a book and a key that are known.
     Sign(Signing),
-    /// `sign --key NAME .. --in DIR [--db FILE | --port P | --anchor ROOT] [--strict] [DOC ..] [--yes] [--again]`: signs drafts by each key,
-    /// those that are named or all that the key may sign, without being asked where it is said so, and where it is said so also another
-    /// document of a kind and version that the key has signed. What is held is judged by the root that is given, and where it is said so
-    /// nothing is signed over what does not meet its rules.
+    /// `sign (--key NAME .. | --any NAME[,NAME..]) --in DIR [--db FILE | --port P | --anchor ROOT] [--strict] [DOC ..] [--yes] [--again]`:
+    /// signs drafts by each key, or each by one key of a list, those that are named or all that the key may sign, without being asked where it
+    /// is said so, and where it is said so also another document of a kind and version that the key has signed. What is held is judged by the
+    /// root that is given, and where it is said so nothing is signed over what does not meet its rules.
     SignIn(FolderSigning),
     /// `update --db FILE (--port P | --mirror URL ..) [--within SECONDS]`: brings a client's own state up to date.
     Update {

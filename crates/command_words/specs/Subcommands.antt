@@ -158,7 +158,7 @@ shown_line = with_rule (with_rule (with_rule (begun_line (codes "show")) (option
 abbrev pub show_line : App
 show_line = with_rule (with_rule (with_rule (with_rule shown_line (many_rule (codes "key"))) (flag_rule (codes "json"))) (option_rule (codes "html"))) (operands_rule (codes "path"))
 
--- `sign` by a book and a seed, and by the three files of each key over a folder of drafts
+-- `sign` by a book and a seed, and by the three files of each key, or of one of several, over a folder of drafts
 abbrev pub by_book_line : App
 by_book_line = with_rule (with_key_pair (with_rule (begun_line (codes "sign")) (option_rule (codes "book")))) (flag_rule (codes "known"))
 
@@ -167,8 +167,8 @@ abbrev pub with_anchor : App → App
 with_anchor a = with_rule (with_rule (with_rule (with_rule a (option_rule (codes "db"))) port_option_rule) (option_rule (codes "anchor"))) (flag_rule (codes "strict"))
 
 abbrev pub sign_line : App
-sign_line = with_rule (with_rule (with_rule (with_anchor (with_rule (with_rule by_book_line (many_rule (codes "key"))) (option_rule (codes "in"))))
-    (flag_rule (codes "yes"))) (flag_rule (codes "again"))) (operands_rule (codes "file"))
+sign_line = with_rule (with_rule (with_rule (with_anchor (with_rule (with_rule (with_rule by_book_line (many_rule (codes "key"))) (option_rule (codes "any")))
+    (option_rule (codes "in")))) (flag_rule (codes "yes"))) (flag_rule (codes "again"))) (operands_rule (codes "file"))
 
 abbrev pub update_line : App
 update_line = client_line (codes "update")

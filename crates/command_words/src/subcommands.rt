@@ -381,6 +381,11 @@ const SIGN: &[Word<'static>] = &[
         "NAME",
         "A key: NAME of NAME.seed, NAME.key and NAME.book, in place of --seed and --book. Of several each signs in turn",
     ),
+    Word::Option(
+        "any",
+        "NAME[,NAME..]",
+        "Keys as those of --key, and in its place: each document is signed by one of them, the first that has leaves left",
+    ),
     DRAFTS_IN,
     Word::Option(
         "db",
@@ -415,8 +420,8 @@ const SIGN: &[Word<'static>] = &[
     ),
 ];
 
-/// `sign [--at SECONDS] [--verbose] --book B --seed S --ots W --height H [--known] DOC` or `sign [--at SECONDS] [--verbose] --key K .. --in
-/// DIR [--db FILE | --port P | --anchor ROOT] [--strict] [DOC ..] [--yes] [--again]`
+/// `sign [--at SECONDS] [--verbose] --book B --seed S --ots W --height H [--known] DOC` or `sign [--at SECONDS] [--verbose] (--key K .. | --any
+/// K[,K..]) --in DIR [--db FILE | --port P | --anchor ROOT] [--strict] [DOC ..] [--yes] [--again]`
 pub fn sign<'a>(alloc: Global) -> Result<Command<'a>, AllocError>
     ensures { Makes sign_line result }
 {

@@ -16,8 +16,8 @@ use std::io::{IsTerminal, Write};
 const DUE: u64 = 7;
 
 /// Shows what a database holds, as columns, on a terminal with bars, or as JSON; and where a file is given, writes a page. Where something
-/// expires within the days that are given, or a key has a quarter of its leaves or fewer left, that is the answer; before it what denies
-/// the target that is asked for.
+/// expires within the days that are given, or the leaves of a key, or of all keys of which any one meets a rule, are a quarter or fewer, that is
+/// the answer; before it what denies the target that is asked for.
 pub fn show_standing<O: Write, E: Write>(
     rt: &HostRuntime,
     db: &str,
@@ -122,7 +122,7 @@ fn end(shown: &Overview, asked: &Showing) -> Result<(), Fault> {
 
 fn is_due(shown: &Overview) -> bool {
     for row in &shown.rows {
-        if shown.is_due(row) || row.keys.iter().any(|key| key.is_low()) {
+        if shown.is_due(row) || row.is_low() {
             return true;
         }
     }

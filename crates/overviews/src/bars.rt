@@ -1,7 +1,7 @@
 //! Bars and colour, as a terminal gets them.
 use crate::chain::draw_steps;
 use crate::columns::{say_part, say_path};
-use crate::rows::{KeyRow, Overview, Row};
+use crate::rows::{KeyRow, Leaves, Overview, Row};
 use crate::writing::{GREEN, PLAIN, RED, Text, in_order};
 use std::alloc::{AllocError, Global};
 
@@ -50,8 +50,15 @@ fn say_row(text: &mut Text, shown: &Overview, row: &Row) {
     say_bar(text, parts_of_days(days), shown.is_due(row));
     let (threshold, count) = (row.threshold, row.keys.len());
     text.formed(format!(in text.alloc; "  {threshold} of {count}"));
+    let together = row.together();
     for key in &row.keys {
-        say_leaves(text, key);
+        say_leaves(text, key, together.is_none());
+    }
+    if let Some(leaves) = together {
+        text.say("  together ");
+        say_bar(text, parts_of_leaves(leaves), leaves.are_few());
+        text.say(" ");
+        text.number(leaves.left);
     }
     say_part(text, &row.covers);
     say_part(text, &row.facts);
@@ -71,12 +78,17 @@ fn say_expiry(text: &mut Text, shown: &Overview, row: &Row) {
     text.say("\n");
 }
 
-fn say_leaves(text: &mut Text, key: &KeyRow) {
+// Few leaves of a key are red where they are not counted together with those of others.
+fn say_leaves(text: &mut Text, key: &KeyRow, is_alone: bool) {
     text.say("  ");
     text.say(key.name.as_str());
     if let Some(left) = key.left {
         text.say(" ");
-        say_bar(text, parts_of_leaves(left, key.most), key.is_low());
+        say_bar(
+            text,
+            parts_of_leaves(key.leaves(left)),
+            is_alone && key.is_low(),
+        );
         text.say(" ");
         text.number(u64::from(left));
     }
@@ -106,9 +118,9 @@ pub(crate) fn parts_of_days(days: u64) -> u64 {
 }
 
 /// How much of a bar the leaves are that are left.
-pub(crate) fn parts_of_leaves(left: u32, most: u32) -> u64 {
-    if most == 0 {
+pub(crate) fn parts_of_leaves(leaves: Leaves) -> u64 {
+    if leaves.most == 0 {
         return 0;
     }
-    u64::from(left).saturating_mul(PARTS) / u64::from(most)
+    leaves.left.saturating_mul(PARTS) / leaves.most
 }

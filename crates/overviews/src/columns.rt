@@ -1,11 +1,11 @@
 //! Plain columns, as a pipe gets them.
 use crate::chain::say_steps;
-use crate::rows::{KeyRow, Overview, PathRow, Row};
+use crate::rows::{KeyRow, Leaves, Overview, PathRow, Row};
 use crate::writing::Text;
 use std::alloc::{AllocError, Global};
 
-/// The rows as columns: role, version, days left, rule, keys with their leaves, what is delegated to it and what else is said of it; behind
-/// them what becomes of the target that is asked for.
+/// The rows as columns: role, version, days left, rule, keys with their leaves, and those of several together where any one of them meets the
+/// rule, what is delegated to it and what else is said of it; behind them what becomes of the target that is asked for.
 pub fn as_columns(alloc: Global, shown: &Overview) -> Result<Vec<u8>, AllocError> {
     let mut text = Text::new(alloc);
     for row in &shown.rows {
@@ -26,8 +26,12 @@ fn say_row(text: &mut Text, shown: &Overview, row: &Row) {
     text.formed(format!(in text.alloc;
         "{role:<width$} {version:>6} {days:>6} days  {threshold} of {count}"
     ));
+    let together = row.together();
     for key in &row.keys {
-        say_key(text, key);
+        say_key(text, key, together.is_none());
+    }
+    if let Some(leaves) = together {
+        say_together(text, leaves);
     }
     say_part(text, &row.covers);
     say_part(text, &row.facts);
@@ -43,16 +47,27 @@ pub(crate) fn say_part(text: &mut Text, part: &str) {
     text.say(part);
 }
 
-/// The name of a key with its leaves, and a mark where few are left.
-pub(crate) fn say_key(text: &mut Text, key: &KeyRow) {
+// The name of a key with its leaves, and a mark where few are left that are not counted together with those of others.
+fn say_key(text: &mut Text, key: &KeyRow, is_alone: bool) {
     text.say("  ");
     text.say(key.name.as_str());
     if let Some(left) = key.left {
         text.say(" ");
         text.number(u64::from(left));
-        if key.is_low() {
+        if is_alone && key.is_low() {
             text.say(" !");
         }
+    }
+}
+
+// The leaves of several keys together, and a mark where few are left.
+fn say_together(text: &mut Text, leaves: Leaves) {
+    text.say("  together ");
+    text.number(leaves.left);
+    text.say(" of ");
+    text.number(leaves.most);
+    if leaves.are_few() {
+        text.say(" !");
     }
 }
 

@@ -44,6 +44,13 @@ fn say_row(text: &mut Text, shown: &Overview, row: &Row) {
     text.quoted(row.role.as_str());
     text.say(",\"threshold\":");
     text.number(u64::from(row.threshold));
+    if let Some(leaves) = row.together() {
+        text.say(",\"together\":{\"left\":");
+        text.number(leaves.left);
+        text.say(",\"most\":");
+        text.number(leaves.most);
+        text.say("}");
+    }
     text.say(",\"version\":");
     text.number(u64::from(row.version));
     text.say("}")

@@ -1,7 +1,7 @@
 //! A page that stands alone: no script, nothing that is fetched.
 use crate::bars::{expiries, parts_of_days, parts_of_leaves};
 use crate::chain::page_steps;
-use crate::rows::{KeyRow, Overview, PathRow, Row};
+use crate::rows::{KeyRow, Leaves, Overview, PathRow, Row};
 use crate::writing::{Text, in_order};
 use std::alloc::{AllocError, Global};
 
@@ -61,8 +61,12 @@ fn say_row(text: &mut Text, shown: &Overview, row: &Row) {
     text.say(" of ");
     text.number(row.keys.len() as u64);
     text.say("</td><td>");
+    let together = row.together();
     for key in &row.keys {
-        say_key(text, key);
+        say_key(text, key, together.is_none());
+    }
+    if let Some(leaves) = together {
+        say_together(text, leaves);
     }
     text.say("</td><td>");
     text.escaped(row.covers.as_str());
@@ -85,15 +89,27 @@ fn say_bar(text: &mut Text, parts: u64, is_due: bool) {
     text.say("px\"></i></span>");
 }
 
-fn say_key(text: &mut Text, key: &KeyRow) {
+// Few leaves of a key are red where they are not counted together with those of others.
+fn say_key(text: &mut Text, key: &KeyRow, is_alone: bool) {
     text.say("<div>");
     if let Some(left) = key.left {
-        say_bar(text, parts_of_leaves(left, key.most), key.is_low());
+        say_bar(
+            text,
+            parts_of_leaves(key.leaves(left)),
+            is_alone && key.is_low(),
+        );
         text.number(u64::from(left));
         text.say(" ");
     }
     text.escaped(key.name.as_str());
     text.say("</div>");
+}
+
+fn say_together(text: &mut Text, leaves: Leaves) {
+    text.say("<div>");
+    say_bar(text, parts_of_leaves(leaves), leaves.are_few());
+    text.number(leaves.left);
+    text.say(" together</div>");
 }
 
 fn say_expiry(text: &mut Text, shown: &Overview, row: &Row) {

@@ -57,12 +57,63 @@ impl Overview {
     }
 }
 
+/// The leaves of a key, or of several: how many are left, and of how many.
+#[derive(Clone, Copy)]
+pub(crate) struct Leaves {
+    pub left: u64,
+    pub most: u64,
+}
+
+impl Leaves {
+    /// Whether a quarter of them or fewer are left.
+    pub(crate) fn are_few(&self) -> bool {
+        self.left.saturating_mul(4) <= self.most
+    }
+}
+
 impl KeyRow {
+    /// Its leaves, of which so many are left.
+    pub(crate) fn leaves(&self, left: u32) -> Leaves {
+        Leaves {
+            left: u64::from(left),
+            most: u64::from(self.most),
+        }
+    }
+
     /// Whether a quarter of its leaves or fewer are left.
     pub fn is_low(&self) -> bool {
         match self.left {
-            Some(left) => u64::from(left).saturating_mul(4) <= u64::from(self.most),
+            Some(left) => self.leaves(left).are_few(),
             None => false,
+        }
+    }
+}
+
+impl Row {
+    /// Where any one key meets the rule, the leaves of all whose books were looked at: so many documents can be signed. `None` where that was
+    /// less than two.
+    pub(crate) fn together(&self) -> Option<Leaves> {
+        let mut count = 0u32;
+        let mut leaves = Leaves { left: 0, most: 0 };
+        for key in &self.keys {
+            if let Some(left) = key.left {
+                count = count.saturating_add(1);
+                leaves.left = leaves.left.saturating_add(u64::from(left));
+                leaves.most = leaves.most.saturating_add(u64::from(key.most));
+            }
+        }
+        if self.threshold == 1 && count > 1 {
+            Some(leaves)
+        } else {
+            None
+        }
+    }
+
+    /// Whether leaves are few: of all its keys, where any one of them meets the rule, else of one of them.
+    pub fn is_low(&self) -> bool {
+        match self.together() {
+            Some(leaves) => leaves.are_few(),
+            None => self.keys.iter().any(|key| key.is_low()),
         }
     }
 }

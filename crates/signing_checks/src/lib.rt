@@ -8,3 +8,4 @@ mod spent;
 pub use command_support::{Fault, Notes};
 pub use guarding::Signer;
 pub use judged::Judged;
+pub use spent::params_of;

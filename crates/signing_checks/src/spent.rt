@@ -1,5 +1,7 @@
 //! The one-time keys that a signature is by, and whether a book keeps them for what they sign.
 use keys_roles::{Key, KeyId, key_id, top_key};
+use leaf_plans::{leaves_of, number_of};
+use lms::{LmsType, OtsType, Params, SigningHeight};
 use signer::{Book, keeps, leaf_of};
 use sqlite::Alter;
 use std::alloc::{AllocError, Global};
@@ -58,7 +60,7 @@ impl Spent {
         match &self.below {
             None => self.leaf,
             Some(below) => {
-                let each = leaves_below(top_key(&below.key)).unwrap_or(0);
+                let each = params_of(top_key(&below.key)).map_or(0, |params| leaves_of(params));
                 self.leaf.saturating_mul(each).saturating_add(below.leaf)
             }
         }
@@ -93,7 +95,7 @@ fn parts_of(key: &Key, sig: &str) -> Option<(u32, u32, Key)> {
         return None;
     }
     let leaf = leaf_of(sig.get(8..)?)?;
-    let from = signature_len(top_key(key))?
+    let from = signature_len(params_of(top_key(key))?)
         .saturating_mul(2)
         .saturating_add(8);
     let to = from.saturating_add(112);
@@ -111,32 +113,31 @@ fn key_in(digits: &str) -> Option<Key> {
     }
 }
 
-// How many bytes the signatures of a tree of these types have (RFC 8554, sections 4.1, 5.1 and 5.4).
-fn signature_len(public: &[u8; 56]) -> Option<usize> {
-    let height = match &public[..4] {
-        [0, 0, 0, 5] => 5,
-        [0, 0, 0, 6] => 10,
-        _ => return None,
+/// The parameters that a public key says by its two types (RFC 8554, section 5.3), where a tree of them is signed by.
+pub fn params_of(public: &[u8; 56]) -> Option<Params> {
+    let (lms, rest) = public.split_first_chunk::<4>()?;
+    let (ots, _) = rest.split_first_chunk::<4>()?;
+    let height = match LmsType::from_code(u32::from_be_bytes(*lms))? {
+        LmsType::H5 => SigningHeight::H5,
+        LmsType::H10 => SigningHeight::H10,
+        LmsType::H15 | LmsType::H20 | LmsType::H25 => return None,
     };
-    let chains = match &public[4..8] {
-        [0, 0, 0, 1] => 265,
-        [0, 0, 0, 2] => 133,
-        [0, 0, 0, 3] => 67,
-        [0, 0, 0, 4] => 34,
-        _ => return None,
-    };
-    Some(12 + 32 * (chains + 1) + 32 * height)
+    let ots = OtsType::from_code(u32::from_be_bytes(*ots))?;
+    Some(Params { ots, height })
 }
 
-// How many leaves the tree of a public key has, where it is one that this tool signs by.
-fn leaves_below(public: &[u8; 56]) -> Option<u32> {
-    match &public[..4] {
-        [0, 0, 0, 5] => Some(32),
-        [0, 0, 0, 6] => Some(1024),
-        _ => None,
-    }
+// How many bytes the signatures of a tree have (RFC 8554, sections 4.1, 5.1 and 5.4).
+fn signature_len(params: Params) -> usize {
+    let chains = match params.ots {
+        OtsType::W1 => 265,
+        OtsType::W2 => 133,
+        OtsType::W4 => 67,
+        OtsType::W8 => 34,
+    };
+    12 + 32 * (chains + 1) + 32 * number_of(params.height) as usize
 }
 
+// Whether the book keeps the leaf of a key for anything.
 fn is_used<S: Alter>(book: &Book<S>, id: &KeyId, leaf: u32) -> bool {
     for kept in book.kept() {
         if kept.key == *id && kept.leaf == leaf {

@@ -8,8 +8,10 @@ use command_support::{
 };
 use drafts::{KEY_FILE_LIMIT, key_in};
 use keys_roles::{Key, KeyId, key_id, key_object, top_key};
-use lms::{HssKeyPair, Levels, OtsType, Params, SigningHeight, public_of};
+use leaf_plans::leaves_of;
+use lms::{HssKeyPair, Levels, Params, public_of};
 use signer::{Book, Seed, sign_message};
+use signing_checks::params_of;
 use sqlite::Alter;
 use std::alloc::{AllocError, Global};
 use std::fs::{self, File};
@@ -72,11 +74,12 @@ fn has_known_levels(key: &Key) -> bool {
     }
 }
 
-/// How many leaves a tree has.
-pub fn leaves_in(params: Params) -> u32 {
-    match params.height {
-        SigningHeight::H5 => 32,
-        SigningHeight::H10 => 1024,
+/// How many documents a key signs: so many as its tree has leaves, of two levels as all trees below have.
+pub fn leaf_count(params: Params, lower: Option<Params>) -> u32 {
+    let most = leaves_of(params);
+    match lower {
+        Some(lower) => most.saturating_mul(leaves_of(lower)),
+        None => most,
     }
 }
 
@@ -120,23 +123,6 @@ impl KeyFiles {
 /// Where the book of a key stands.
 pub fn book_place(rt: &HostRuntime, name: &str) -> Result<String, AllocError> {
     format!(in rt.alloc(); "{name}.book")
-}
-
-// The parameters that a public key says, its type of tree and of one-time signatures (RFC 8554, section 5.3), where a signer has them.
-fn params_of(public: &[u8; 56]) -> Option<Params> {
-    let height = match &public[..4] {
-        [0, 0, 0, 5] => SigningHeight::H5,
-        [0, 0, 0, 6] => SigningHeight::H10,
-        _ => return None,
-    };
-    let ots = match &public[4..8] {
-        [0, 0, 0, 1] => OtsType::W1,
-        [0, 0, 0, 2] => OtsType::W2,
-        [0, 0, 0, 3] => OtsType::W4,
-        [0, 0, 0, 4] => OtsType::W8,
-        _ => return None,
-    };
-    Some(Params { ots, height })
 }
 
 /// Of which kind new keys are: the parameters of the tree, and of the trees below in a key of two levels.

@@ -23,6 +23,19 @@ pub fn names_of_keys<E: Write>(
     Ok(names)
 }
 
+/// The same of a list with commas between.
+pub fn names_in_list<E: Write>(
+    rt: &HostRuntime,
+    list: &str,
+    notes: &mut Notes<'_, E>,
+) -> Result<Vec<String>, Fault> {
+    let mut names = Vec::new(rt.alloc());
+    for word in list.split(',') {
+        names.push(name_of(rt, word, notes)?)?;
+    }
+    Ok(names)
+}
+
 fn name_of<E: Write>(
     rt: &HostRuntime,
     word: &str,

@@ -1,9 +1,11 @@
 //! How many leaves keys have left.
 use crate::books::{BookAt, BookWork, has_bytes, tell_of_other_tree, worked_over};
-use crate::files::{PublicHalf, book_place, leaves_in};
+use crate::files::{PublicHalf, book_place, leaf_count};
 use crate::seeds::seed_at;
 use command_support::{Fault, Notes, Slip};
 use keys_roles::{Key, KeyId, key_id};
+use leaf_plans::leaves_of as leaves_in;
+use lms::Params;
 use signer::{Book, Seed, lower_params};
 use sqlite::Alter;
 use std::alloc::Global;
@@ -90,45 +92,66 @@ impl BookWork for Counting<'_> {
                 return Err(Fault::Slip(Slip::Book));
             }
         }
-        let most = leaves_in(self.half.params);
         if !self.half.has_two_levels() {
-            return Ok((count_of(book, id), most));
+            return used_in(self.alloc, book, self.half, None);
         }
         let Some(lower) = lower_params(book, id) else {
             notes.warn(&self.name, &"its book does not have the key");
             return Err(Fault::Slip(Slip::Book));
         };
-        let each = leaves_in(lower);
-        Ok((
-            used_below(self.alloc, book, id, each)?,
-            most.saturating_mul(each),
-        ))
+        used_in(self.alloc, book, self.half, Some(lower))
     }
 }
 
-// The public key that a leaf of a top tree is kept for, if it is one.
-fn public_in(message: &[u8]) -> Option<&[u8; 56]> {
-    message.as_array::<56>()
-}
-
-// How many leaves of the trees below are kept. A leaf of the top tree that is kept for no tree has none to give.
-fn used_below<S: Alter>(
+/// How many leaves of a key its book keeps, and how many there are; of two levels, whose trees below have these parameters, over all trees. A
+/// leaf of a top tree that is kept for no tree has none to give.
+pub fn used_in<S: Alter>(
     alloc: Global,
     book: &Book<S>,
-    top: &KeyId,
-    each: u32,
-) -> Result<u32, Fault> {
+    half: &PublicHalf,
+    lower: Option<Params>,
+) -> Result<(u32, u32), Fault> {
+    let each = match lower {
+        Some(lower) => leaves_in(lower),
+        None => 0,
+    };
     let mut used = 0u32;
+    for tree in &trees_of(alloc, book, half)? {
+        let here = match tree {
+            Some(key) => count_of(book, key),
+            None => each,
+        };
+        used = used.saturating_add(here);
+    }
+    Ok((used, leaf_count(half.params, lower)))
+}
+
+/// The trees by which a key signs documents, as the ids of their keys: its own tree, or of two levels each that a leaf of the top tree is kept
+/// for, and `None` of a leaf that is kept for something else.
+pub fn trees_of<S: Alter>(
+    alloc: Global,
+    book: &Book<S>,
+    half: &PublicHalf,
+) -> Result<Vec<Option<KeyId>>, Fault> {
+    let mut trees = Vec::new(alloc);
+    if !half.has_two_levels() {
+        trees.push(Some(half.top))?;
+        return Ok(trees);
+    }
     for kept in book.kept() {
-        if kept.key == *top {
-            let here = match public_in(&kept.message) {
-                Some(public) => count_of(book, &key_id(alloc, &Key::Lms(*public))?),
-                None => each,
-            };
-            used = used.saturating_add(here);
+        if kept.key == half.top {
+            trees.push(tree_in(alloc, &kept.message)?)?;
         }
     }
-    Ok(used)
+    Ok(trees)
+}
+
+// The id of the public key that a leaf of a top tree is kept for, if it is one.
+fn tree_in(alloc: Global, message: &[u8]) -> Result<Option<KeyId>, Fault> {
+    match message.as_array::<56>() {
+        Some(public) => Ok(Some(key_id(alloc, &Key::Lms(*public))?)),
+        None => Ok(None),
+    }
 }
 
 fn count_of<S: Alter>(book: &Book<S>, id: &KeyId) -> u32 {

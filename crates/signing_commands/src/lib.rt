@@ -4,6 +4,7 @@
 
 mod books;
 mod by_key;
+mod choosing;
 mod documents;
 mod files;
 mod finding;
@@ -12,7 +13,10 @@ mod leaves;
 mod one;
 mod outside;
 mod pairs;
+mod ready;
 mod seeds;
+mod signing;
+mod turn;
 
 pub use by_key::{Anchor, Anchoring, sign_in};
 pub use command_support::{Fault, Notes};

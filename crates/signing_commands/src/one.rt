@@ -1,9 +1,9 @@
 //! One document of a folder, which is judged and signed over the book of a key.
 use crate::books::{BookWork, book_fault, tell_of_other_tree};
-use crate::files::{PublicHalf, leaves_in};
+use crate::files::PublicHalf;
 use crate::pairs::Pair;
 use command_support::{Fault, Notes, Slip};
-use keys_roles::KeyId;
+use leaf_plans::leaves_of;
 use lms::Params;
 use metadata::read_signed;
 use signer::{Book, BookFault, SignFileFault, SignOnceFault, lower_params};
@@ -128,7 +128,7 @@ impl BookWork for SigningOne<'_, '_, '_, '_> {
 }
 
 impl SigningOne<'_, '_, '_, '_> {
-    // Tells on a terminal where a key of two levels begins a new tree.
+    // Tells on a terminal where a key of two levels begins a new tree: its leaf of the top tree is the next one.
     fn tell_tree<S: Alter, E: Write>(&self, book: &Book<S>, notes: &mut Notes<'_, E>) {
         let judged = &self.judging.judged;
         let Ok(file) = read_signed(judged.alloc, self.judging.bytes) else {
@@ -137,9 +137,9 @@ impl SigningOne<'_, '_, '_, '_> {
         let Some((q, lower)) = self.pair.tree_of(judged.alloc, book, file.signed) else {
             return;
         };
-        if self.is_watched && !is_used(book, judged.signer.top(), q) {
-            let most = leaves_in(self.pair.top().params());
-            let each = leaves_in(lower);
+        if self.is_watched && book.next_leaf(judged.signer.top()) == Some(q) {
+            let most = leaves_of(self.pair.top().params());
+            let each = leaves_of(lower);
             let line = format!(in judged.alloc;
                 "a new tree, number {q} of {most}: hashing its {each} leaves"
             );
@@ -197,11 +197,4 @@ impl SigningOne<'_, '_, '_, '_> {
             SignFileFault::OutOfMemory => Fault::Memory,
         }
     }
-}
-
-// Whether the book keeps the leaf of a key for anything.
-fn is_used<S: Alter>(book: &Book<S>, key: &KeyId, leaf: u32) -> bool {
-    book.kept()
-        .iter()
-        .any(|kept| kept.key == *key && kept.leaf == leaf)
 }
