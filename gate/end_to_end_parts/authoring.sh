@@ -314,6 +314,11 @@ slips_cost_no_leaf() {
     slips file sign --at $now --key targets --in d --yes --again
     slips different draft --at $now --in d take t/held/targets.json
     ends_with 1 'denied 36 BadPath' draft --at $now --db repository.db --in d targets --add ./tree
+    mkdir ill && echo ill >'ill/a+b' && echo ill >'ill/c~d' && echo fine >ill/fine
+    ends_with 1 'denied 36 BadPath' draft --at $now --in d targets --add ill
+    [ "$(grep -c '^warning: ill/[ac].[bd]: no target path' "$folder/err")" = 2 ] || fail "not all bad names are told: $(cat "$folder/err")"
+    slips path draft --at $now --in d targets --anew --remove nothing.txt
+    grep -qx 'warning: nothing.txt: not listed, or named twice' "$folder/err" || fail "not told of what is not listed: $(cat "$folder/err")"
     says 'TERM' draft --at $now --db repository.db --in d targets --expires soon --anew
     says 'ROLE=RULE' draft --at $now --db repository.db --in d root targets
     says 'cannot be used' draft --at $now --in d seal --add hello.txt

@@ -5,8 +5,8 @@ use crate::saving::Before;
 use crate::terms::terms_of;
 use chain_drafting::{Delegated, DelegationChanges, draft_delegations};
 use command_line::{Drafting, TargetsDraft};
-use command_support::{Denial, Fault, Notes, file_fault, names_of, read_at_most};
-use drafting::{Addition, Rule, TargetsChanges, Terms, draft_targets};
+use command_support::{Denial, Fault, Notes, Slip, file_fault, names_of, read_at_most};
+use drafting::{Addition, DraftFault, Rule, TargetsChanges, Terms, draft_targets};
 use drafts::Folder;
 use limits::BLOB_LIMIT;
 use metadata::{Kind, Moment, RoleName, TargetPath, digest_of};
@@ -81,6 +81,7 @@ impl Next<'_> {
             folder: self.folder,
             is_watched: self.rt.stderr().is_terminal(),
             added: Vec::new(self.rt.alloc()),
+            refused: None,
         };
         adding.add_all(&self.told.add, notes)?;
         let draft = self.listing(&adding.added, notes)?;
@@ -98,8 +99,10 @@ impl Next<'_> {
             remove: &self.told.remove,
         };
         let (held, begun) = (self.before.held(), self.before.begun());
-        let draft = draft_targets(self.rt.alloc(), held, begun, self.terms, &listed);
-        drafted(self.rt.alloc(), draft, self.role, notes)
+        match draft_targets(self.rt.alloc(), held, begun, self.terms, &listed) {
+            Err(DraftFault::Unlisted(at)) => Err(unlisted(&self.told.remove, at, notes)),
+            draft => drafted(self.rt.alloc(), draft, self.role, notes),
+        }
     }
 
     // Puts the draft with the changes of its delegations.
@@ -131,6 +134,14 @@ impl Next<'_> {
         let next = draft_delegations(self.rt.alloc(), held, Some(draft), self.terms, &changes);
         drafted(self.rt.alloc(), next, self.role, notes)
     }
+}
+
+// The path at this place is to be removed and is not listed.
+fn unlisted<E: Write>(paths: &[String], at: usize, notes: &mut Notes<'_, E>) -> Fault {
+    if let Some(path) = paths.get(at) {
+        notes.warn(path, &"not listed, or named twice");
+    }
+    Fault::Slip(Slip::Path)
 }
 
 // The role whose targets metadata is drafted.
@@ -209,13 +220,14 @@ fn lent<'a>(
     Ok(delegations)
 }
 
-// Files that are added to a listing. On a terminal each is told as it is.
+// Files that are added to a listing. On a terminal each is told as it is. Each that cannot be listed is told of, and the first is the answer.
 #[derive(Drop)]
 struct Adding<'a, 'b> {
     rt: &'a HostRuntime,
     folder: Folder<'b>,
     is_watched: bool,
     added: Vec<Addition>,
+    refused: Option<Denial>,
 }
 
 impl Adding<'_, '_> {
@@ -232,7 +244,10 @@ impl Adding<'_, '_> {
             };
             self.add(path, file, notes)?;
         }
-        Ok(())
+        match self.refused {
+            Some(denial) => Err(Fault::Denied(denial, None)),
+            None => Ok(()),
+        }
     }
 
     // Adds a file, or what a folder has, folders in it too.
@@ -307,12 +322,16 @@ impl Adding<'_, '_> {
         let alloc = self.rt.alloc();
         if TargetPath::read(alloc, path)?.is_none() {
             notes.warn(&path, &"no target path; PATH=FILE gives a file another one");
-            return Err(Fault::Denied(Denial::BadPath, None));
+            self.refuse(Denial::BadPath);
+            return Ok(());
         }
         let bytes = read_at_most(self.rt, file, BLOB_LIMIT, notes)?;
         if bytes.len() > BLOB_LIMIT {
             notes.warn(&file, &"longer than 1,048,576 bytes");
-            return Err(Fault::Denied(Denial::BlobLength, None));
+            self.refuse(Denial::BlobLength);
+        }
+        if self.refused.is_some() {
+            return Ok(());
         }
         let addition = digest_in(alloc, self.folder, path, &bytes, notes)?;
         self.added.push(addition)?;
@@ -321,6 +340,13 @@ impl Adding<'_, '_> {
             notes.progress(&Added { path, count });
         }
         Ok(())
+    }
+
+    // A file cannot be listed. What comes after it is looked at, and not put into the folder.
+    fn refuse(&mut self, denial: Denial) {
+        if self.refused.is_none() {
+            self.refused = Some(denial);
+        }
     }
 }
 
