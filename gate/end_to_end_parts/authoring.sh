@@ -148,6 +148,7 @@ an_index_goes_on() {
     signs timestamp
     wants 0 '{"accepted":1,"same":0}\n' '' publish --at $now --db repository.db --in d
     ends_with 1 due show --at $now --db repository.db --due 7
+    grep -qx 'release: timestamp: it expires in 7 days' "$folder/err" || fail "not told what is due: $(cat "$folder/err")"
     "$release" show --at $now --db repository.db --due 6 >"$folder/out"
     grep -q '^timestamp *3 *7 days' "$folder/out" || fail "no row of the timestamp: $(cat "$folder/out")"
     the_timestamps_key_changes

@@ -9,7 +9,7 @@ use metadata::Moment;
 use overviews::{Overview, as_bars, as_columns, as_json, as_page};
 use repository_work::{Store, Work, worked};
 use sqlite::Alter;
-use std::alloc::AllocError;
+use std::alloc::{AllocError, Global};
 use std::io::{IsTerminal, Write};
 
 // What expires within so many days is shown as due, where it is not said otherwise.
@@ -37,7 +37,10 @@ pub fn show_standing<O: Write, E: Write>(
     if let Some(denial) = looking.denial {
         return Err(Fault::Denied(denial, None));
     }
-    end(&looking.looking.shown, asked)
+    if asked.due.is_none() {
+        return Ok(());
+    }
+    end(rt.alloc(), &looking.looking.shown, notes)
 }
 
 // What is looked at over the repository: all that it holds, and a target, if one is asked for, with what denies it.
@@ -112,19 +115,24 @@ pub fn put<E: Write>(
     }
 }
 
-// What the command answers: that something is due.
-fn end(shown: &Overview, asked: &Showing) -> Result<(), Fault> {
-    if asked.due.is_some() && is_due(shown) {
-        return Err(Fault::Due);
-    }
-    Ok(())
-}
-
-fn is_due(shown: &Overview) -> bool {
+// Whether something is due is what the command answers. Each document that is due is told, with why.
+fn end<E: Write>(
+    alloc: Global,
+    shown: &Overview,
+    notes: &mut Notes<'_, E>,
+) -> Result<(), Fault> {
+    let mut is_due = false;
     for row in &shown.rows {
-        if shown.is_due(row) || row.is_low() {
-            return true;
+        if shown.is_due(row) {
+            is_due = true;
+            let days = shown.days(row);
+            let told = format!(in alloc; "it expires in {days} days")?;
+            notes.fault(&row.role, &told);
+        }
+        if row.is_low() {
+            is_due = true;
+            notes.fault(&row.role, &"its keys have few leaves left");
         }
     }
-    false
+    if is_due { Err(Fault::Due) } else { Ok(()) }
 }
