@@ -9,8 +9,8 @@ use command_support::{
 use drafts::{KEY_FILE_LIMIT, key_in};
 use keys_roles::{Key, KeyId, key_id, key_object, top_key};
 use leaf_plans::leaves_of;
-use lms::{HssKeyPair, Levels, Params, public_of};
-use signer::{Book, Seed, sign_message};
+use lms::{HssKeyPair, KeyPair, Levels, Params};
+use signer::{Book, Seed, read_seed, sign_message};
 use signing_checks::params_of;
 use sqlite::Alter;
 use std::alloc::{AllocError, Global};
@@ -133,7 +133,7 @@ pub struct NewKey {
 }
 
 /// Makes the three files of each key, seed and book for their owner alone, and prints the keys' ids, a line each. Where one of them stands
-/// nothing is made.
+/// nothing is made. Trees are hashed before the files of their key are made, so a call that is ended meanwhile leaves none of it.
 pub fn make_keys<O: Write, E: Write>(
     rt: &HostRuntime,
     names: &[String],
@@ -196,7 +196,7 @@ fn make_key<O: Write, E: Write>(
     print(out, line.as_bytes(), notes)
 }
 
-// Makes the three files, and answers the key's id.
+// Makes the three files, and answers the key's id. All that takes long is done before the first of them stands.
 fn made_at<E: Write>(
     rt: &HostRuntime,
     seed: &str,
@@ -205,28 +205,22 @@ fn made_at<E: Write>(
     kind: NewKey,
     notes: &mut Notes<'_, E>,
 ) -> Result<KeyId, Fault> {
-    let seed = new_seed(rt, seed, notes)?;
-    registered(rt, &seed, key, book, kind, notes)
-}
-
-// Makes the book and the public half of a seed's key.
-fn registered<E: Write>(
-    rt: &HostRuntime,
-    seed: &Seed,
-    key: &str,
-    book: &str,
-    kind: NewKey,
-    notes: &mut Notes<'_, E>,
-) -> Result<KeyId, Fault> {
+    let alloc = rt.alloc();
+    let text = new_seed(rt, seed, notes)?;
+    let Some(new) = read_seed(text.as_bytes()) else {
+        return Err(Fault::File);
+    };
     tell_of_tree(rt, kind.params, notes);
+    let pair = NewPair::new(alloc, &new, kind)?;
+    made(rt, seed, text.as_bytes(), OWNER_ALONE, notes)?;
     let at = BookAt {
         place: book,
         name: "the book",
         known: false,
     };
-    let alloc = rt.alloc();
-    let mut registering = Registering { alloc, seed, kind };
-    let public = worked_over(rt, at, &mut registering, notes)?;
+    let mut registering = Registering { alloc, pair: &pair };
+    worked_over(rt, at, &mut registering, notes)?;
+    let public = pair.public();
     let mut object = key_object(alloc, &public)?;
     object.push(b'\n')?;
     made(rt, key, &object, FOR_ALL, notes)?;
@@ -238,12 +232,12 @@ fn stands(rt: &HostRuntime, place: &str) -> bool {
     fs::symlink_metadata(rt, place).is_ok()
 }
 
-// A new seed, in its file: 48 bytes of the system's randomness as hex digits.
+// A new seed as its file has it: 48 bytes of the system's randomness as hex digits.
 fn new_seed<E: Write>(
     rt: &HostRuntime,
     place: &str,
     notes: &mut Notes<'_, E>,
-) -> Result<Seed, Fault> {
+) -> Result<String, Fault> {
     let mut bytes = [0; 48];
     if let Err(error) = rt.fill_bytes(&mut bytes) {
         notes.fault(&place, &error);
@@ -251,8 +245,7 @@ fn new_seed<E: Write>(
     }
     let mut text = hex::encode(rt.alloc(), &bytes)?;
     text.push('\n')?;
-    made(rt, place, text.as_bytes(), OWNER_ALONE, notes)?;
-    seed_at(rt, place, notes)
+    Ok(text)
 }
 
 // Makes a file where none stands.
@@ -282,47 +275,73 @@ fn written(rt: &HostRuntime, place: &str, bytes: &[u8], mode: u32) -> io::Result
     file.sync_all()
 }
 
+// A new key whose trees are hashed; of two levels with its first tree below.
+#[derive(Drop)]
+enum NewPair {
+    One(KeyPair),
+    Two(HssKeyPair, KeyPair),
+}
+
+impl NewPair {
+    fn new(alloc: Global, seed: &Seed, kind: NewKey) -> Result<NewPair, AllocError> {
+        let top = kind.params;
+        let Some(bottom) = kind.lower else {
+            return Ok(NewPair::One(KeyPair::new(alloc, seed, top)?));
+        };
+        let pair = HssKeyPair::new(alloc, seed, Levels { top, bottom })?;
+        let below = pair.below(alloc, 0)?;
+        Ok(NewPair::Two(pair, below))
+    }
+
+    fn public(&self) -> Key {
+        match self {
+            NewPair::One(pair) => Key::Lms(pair.public()),
+            NewPair::Two(pair, _) => Key::Hss(pair.public()),
+        }
+    }
+}
+
 // Registers a key in a book; one of two levels with its first tree below, for which leaf 0 of the top tree is kept.
 #[derive(Clone, Copy)]
 struct Registering<'a> {
     alloc: Global,
-    seed: &'a Seed,
-    kind: NewKey,
+    pair: &'a NewPair,
 }
 
 impl BookWork for Registering<'_> {
-    type Done = Key;
+    type Done = ();
 
     fn work<S: Alter, E: Write>(
         &mut self,
         book: &mut Book<S>,
         _is_new: bool,
         _notes: &mut Notes<'_, E>,
-    ) -> Result<Key, Fault> {
-        let top = self.kind.params;
-        let Some(bottom) = self.kind.lower else {
-            return match book.register(self.seed, top) {
-                Ok(_) => Ok(Key::Lms(public_of(self.seed, top))),
-                Err(fault) => Err(book_fault(fault)),
-            };
-        };
-        let pair = HssKeyPair::new(self.alloc, self.seed, Levels { top, bottom })?;
-        keep_first_tree(self.alloc, book, &pair)?;
-        Ok(Key::Hss(pair.public()))
+    ) -> Result<(), Fault> {
+        match self.pair {
+            NewPair::One(pair) => register(book, pair),
+            NewPair::Two(pair, below) => {
+                keep_first_tree(self.alloc, book, pair.top(), below)?;
+                register(book, below)
+            }
+        }
     }
 }
 
-// Registers the top tree of a pair, keeps its leaf 0 for the first tree below, and registers that.
+fn register<S: Alter>(book: &mut Book<S>, pair: &KeyPair) -> Result<(), Fault> {
+    match book.register_pair(pair) {
+        Ok(_) => Ok(()),
+        Err(fault) => Err(book_fault(fault)),
+    }
+}
+
+// Registers the top tree of a pair, and keeps its leaf 0 for the first tree below.
 fn keep_first_tree<S: Alter>(
     alloc: Global,
     book: &mut Book<S>,
-    pair: &HssKeyPair,
+    top: &KeyPair,
+    below: &KeyPair,
 ) -> Result<(), Fault> {
-    let below = pair.below(alloc, 0)?;
-    if let Err(fault) = sign_message(alloc, book, pair.top(), &below.public()) {
-        return Err(book_fault(fault));
-    }
-    match book.register_pair(&below) {
+    match sign_message(alloc, book, top, &below.public()) {
         Ok(_) => Ok(()),
         Err(fault) => Err(book_fault(fault)),
     }
