@@ -38,6 +38,7 @@ slips_of_the_hand() {
     a_server_that_holds_the_database
     folders_that_are_held_by_a_root
     several_hands_at_one_folder
+    a_key_that_is_ended_while_it_is_made
     digests_that_begin_alike
     a_term_that_no_option_says
     cd "$here"
@@ -122,6 +123,14 @@ PYTHON
 }
 
 # Two people sign in one folder at once, and neither signature is lost; and a command that writes waits for another one, and goes where it does not end.
+# Ended while its leaves are hashed, 'key --new' leaves no file, and the next call makes the key.
+a_key_that_is_ended_while_it_is_made() {
+    timeout -s INT 0.2 "$release" key --at $now --new ended --ots 8 >"$folder/out" 2>"$folder/err" || true
+    [ -z "$(ls | grep '^ended' || true)" ] || fail "a key that was ended left $(ls)"
+    "$release" key --at $now --new ended --height 5 >"$folder/out"
+    checks=$((checks + 2))
+}
+
 several_hands_at_one_folder() {
     local name
     mkdir several
