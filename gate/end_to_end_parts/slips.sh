@@ -122,7 +122,6 @@ PYTHON
     says "'anchor' cannot be used with '--book <B>'" sign --book b --seed s --ots 4 --height 5 --anchor a c
 }
 
-# Two people sign in one folder at once, and neither signature is lost; and a command that writes waits for another one, and goes where it does not end.
 # Ended while its leaves are hashed, 'key --new' leaves no file, and the next call makes the key.
 a_key_that_is_ended_while_it_is_made() {
     timeout -s INT 0.2 "$release" key --at $now --new ended --ots 8 >"$folder/out" 2>"$folder/err" || true
@@ -131,6 +130,7 @@ a_key_that_is_ended_while_it_is_made() {
     checks=$((checks + 2))
 }
 
+# Two people sign in one folder at once, and neither signature is lost; and a command that writes waits for another one, and goes where it does not end.
 several_hands_at_one_folder() {
     local name
     mkdir several
