@@ -83,7 +83,7 @@ the_first_that_has_it() {
     long=$url
     fresh
     updates 0 'updated\n' '' --mirror "$long"
-    gets 3 '' "warning: $long: longer than its limit\nfault network\n" --mirror "$long"
+    gets 3 '' 'fault network\n' --mirror "$long"
     gets 1 '' "warning: $long: longer than its limit\ndenied 37 BlobMissing\n" --mirror "$long" --mirror "$lacking"
     gets 1 '' "warning: $long: longer than its limit\ndenied 37 BlobMissing\n" --mirror "$lacking" --mirror "$long"
     gets 1 '' 'denied 37 BlobMissing\n' --mirror "$lacking"

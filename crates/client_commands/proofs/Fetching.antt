@@ -4,7 +4,7 @@ use Rattle.std.specs.Prelude.{IfOk}
 use Rattle.metadata.specs.File.{Bytes}
 use Rattle.trust_rules.specs.State.{State}
 use Rattle.trust_rules.specs.Grants.{grants}
-use Rattle.store.specs.Standing.{IsClean, Standing, StandsAt}
+use Rattle.store.specs.Standing.{IsClean, Standing}
 use Rattle.client.proofs.Composing.{becomes}
 use Rattle.client.specs.Changes.{Changes}
 use Rattle.client.specs.Taken.{IsTaking, RunsOn}

@@ -1,4 +1,4 @@
-//! What the server at a port of 127.0.0.1 is asked beside a batch. A question that gets no answer costs its warning, and nothing else.
+//! What the server at a port of 127.0.0.1 is asked besides a batch. A question that gets no answer costs its warning, and nothing else.
 use crate::wire::{Wire, connected, host};
 use command_support::{FILE_LIMIT, Fault, Notes};
 use connections::Port;

@@ -137,9 +137,12 @@ impl<'a, 'n, 'e, E: Write> Remote<'a, 'n, 'e, E> {
         self.lacks_timestamp && !self.has_timestamp
     }
 
-    /// Warns of each mirror whose turn ended in a denial after a file that it gave, or in a file over its limit; of a denial with this number it
-    /// does not, since that is what is told of the call.
+    /// Warns of each of several mirrors whose turn ended in a denial after a file that it gave, or in a file over its limit; of a denial with
+    /// this number it does not, since that is what is told of the call. With one alone the end of the call tells it.
     pub fn tell_refused(&mut self, told: Option<u8>) {
+        if count_of(self.server) == 1 {
+            return;
+        }
         for refused in &self.refused {
             match refused.denial {
                 None => self.notes.warn(&refused.url, &FetchFault::TooLong),
