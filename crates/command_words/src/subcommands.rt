@@ -41,7 +41,7 @@ const PORT_OR_MIRROR: Word<'static> = Word::Number(
 const MIRROR: Word<'static> = Word::Many(
     "mirror",
     "URL",
-    "A mirror, http://HOST[:PORT][/PREFIX], in place of --port. Of several each file is taken from the first that has it",
+    "A mirror, http://HOST[:PORT][/PREFIX], in place of --port. Of several each is asked in its turn until one brings what is wanted",
 );
 
 const WITHIN: Word<'static> = Word::Number(
