@@ -29,7 +29,7 @@ const PORT_OR_DB: Word<'static> = Word::Number(
     65535,
 );
 
-// `--port P` and `--mirror URL ..`, each in place of the other, and `--within SECONDS` of a client.
+// `--port P` and `--mirror URL ..`, each in place of the other, `--within SECONDS` and `--json` of a client.
 const PORT_OR_MIRROR: Word<'static> = Word::Number(
     "port",
     "P",
@@ -50,6 +50,11 @@ const WITHIN: Word<'static> = Word::Number(
     "Give up after so many seconds in all, 600 where it is not given",
     1,
     86400,
+);
+
+const JSON: Word<'static> = Word::Flag(
+    "json",
+    "Print what came of it as one line of JSON, in place of the word",
 );
 
 // The arguments of `canon`.
@@ -172,6 +177,7 @@ const GET: &[Word<'static>] = &[
     PORT_OR_MIRROR,
     MIRROR,
     WITHIN,
+    JSON,
     Word::Required(
         "out",
         "OUT",
@@ -180,7 +186,7 @@ const GET: &[Word<'static>] = &[
     Word::Operand("path", "PATH", "The path of the target"),
 ];
 
-/// `get [--at SECONDS] [--verbose] --db FILE (--port P | --mirror URL ..) [--within SECONDS] --out OUT PATH`
+/// `get [--at SECONDS] [--verbose] --db FILE (--port P | --mirror URL ..) [--within SECONDS] [--json] --out OUT PATH`
 pub fn get<'a>(alloc: Global) -> Result<Command<'a>, AllocError>
     ensures { Makes get_line result }
 {
@@ -430,13 +436,13 @@ pub fn sign<'a>(alloc: Global) -> Result<Command<'a>, AllocError>
     with(alloc, command, SIGN)
 }
 
-/// `update [--at SECONDS] [--verbose] --db FILE (--port P | --mirror URL ..) [--within SECONDS]`
+/// `update [--at SECONDS] [--verbose] --db FILE (--port P | --mirror URL ..) [--within SECONDS] [--json]`
 pub fn update<'a>(alloc: Global) -> Result<Command<'a>, AllocError>
     ensures { Makes update_line result }
 {
     let about = "Bring the trusted metadata up to date, as a client";
     let command = begun(alloc, "update", about, texts::UPDATE);
-    with(alloc, command, &[DB, PORT_OR_MIRROR, MIRROR, WITHIN])
+    with(alloc, command, &[DB, PORT_OR_MIRROR, MIRROR, WITHIN, JSON])
 }
 
 // A subcommand, which takes a moment, and may tell more. Behind its help stands a text.
