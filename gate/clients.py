@@ -10,6 +10,7 @@ import concurrent.futures
 import functools
 import hashlib
 import http.server
+import json
 import os
 import pty
 import re
@@ -282,6 +283,24 @@ def half_mirrors(clients):
     want(read(out) == read(f"{EXAMPLE}/hello.txt"), "half mirrors: the file that is written")
 
 
+def turns_as_json(clients):
+    """What each source did is told as canonical JSON: the liar, the one that has nothing, and the one that is honest."""
+    db = clients.begun(())
+    mirrors, urls, places = by_mirrors(clients, [("other", TIMESTAMP), ("withhold",), ("honest",)])
+    words = [clients.release, "update", *AT, "--db", db, "--json", *places]
+    found = subprocess.run(words, capture_output=True, text=True, timeout=400)
+    for mirror in mirrors:
+        mirror.asked()
+    told = json.loads(found.stdout)
+    want(json.dumps(told, sort_keys=True, separators=(",", ":")) + "\n" == found.stdout, f"as JSON: {found.stdout!r} is not canonical")
+    held = {"root": 1, "snapshot": 1, "targets": 1, "timestamp": 1}
+    turns = [{"denied": {"name": "TimestampThreshold", "number": 12}}, {"files": 0}, {"files": 2}]
+    wanted = {"after": held, "answer": "updated", "before": {**held, "snapshot": None, "targets": None, "timestamp": None}, "changed": True,
+              "first": {"expires": 4102444800, "role": "snapshot"}, "mirrors": [{**turn, "source": url} for turn, url in zip(turns, urls)],
+              "now": int(AT[1]), "source": urls[2]}
+    want((found.returncode, told) == (0, wanted), f"as JSON: {told} in place of {wanted}")
+
+
 def an_old_mirror(clients):
     """A mirror that is behind, with documents that are live still, before and after one that has the newest."""
     room = tempfile.mkdtemp(dir=clients.room)
@@ -400,7 +419,7 @@ def main(words):
     cases += [functools.partial(gets, clients, *case) for case in GETS]
     cases += [functools.partial(case, clients) for case in (an_old_timestamp, a_server_of_files, on_a_terminal, a_large_database,
                                                             a_folder_is_listed, a_call_has_its_deadline)]
-    cases += [functools.partial(case, clients) for case in (only_liars, half_mirrors, an_old_mirror)]
+    cases += [functools.partial(case, clients) for case in (only_liars, half_mirrors, turns_as_json, an_old_mirror)]
     cases += [functools.partial(an_honest_mirror_updates, clients, liar, told, order) for liar, told in LIARS for order in orders(liar)]
     cases += [functools.partial(an_honest_mirror_serves, clients, liar, told, order) for liar, told in TARGET_LIARS for order in orders(liar)]
     failed = 0

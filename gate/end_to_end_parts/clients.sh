@@ -92,3 +92,37 @@ what_a_client_tells() {
         get -v --at=$at --db "$db" --port "$port" --out "$folder/out.txt" hello.txt
     served_one
 }
+
+# versions ROOT SNAPSHOT TARGETS TIMESTAMP: the versions as '--json' has them.
+versions() {
+    printf '{"root":%s,"snapshot":%s,"targets":%s,"timestamp":%s}' "$@"
+}
+
+# What a client brought, or why its sources brought nothing, as JSON. Of any other end nothing is printed.
+what_a_client_brings_as_json() {
+    local db=$folder/json.db digest none held end
+    digest=$(sha256sum <"$example/hello.txt" | cut -c 1-64)
+    none=$(versions 1 null null null) held=$(versions 1 1 1 1)
+    wants 0 'begun\n' '' init --at=$at --db "$db" "$example/root.json"
+    serve --count 5
+    end="\"now\":$at,\"source\":\"port $port\"}\n"
+    wants 0 "{\"after\":$held,\"answer\":\"updated\",\"before\":$none,\"changed\":true,\"first\":{\"expires\":$(first_expiry),\"role\":\"snapshot\"},$(
+        )\"mirrors\":[{\"files\":2,\"source\":\"port $port\"}],$end" '' update --json --at=$at --db "$db" --port "$port"
+    wants 0 "{\"answer\":\"written\",\"length\":32,\"mirrors\":[{\"files\":2,\"source\":\"port $port\"}],\"now\":$at,\"path\":\"hello.txt\",$(
+        )\"sha256\":\"$digest\",\"source\":\"port $port\"}\n" '' \
+        get --json --at=$at --db "$db" --port "$port" --out "$folder/out.txt" hello.txt
+    served_one
+    end="\"now\":$at,\"source\":null}\n"
+    wants 3 "{\"after\":$held,\"answer\":\"fault network\",\"before\":$held,\"changed\":false,$(
+        )\"first\":{\"expires\":$(first_expiry),\"role\":\"targets\"},\"mirrors\":[{\"fault\":\"no answer that can be read\",\"source\":\"port $port\"}],$end" \
+        'fault network\n' update --json --at=$at --db "$db" --port "$port"
+    wants 0 "{\"answer\":\"written\",\"length\":32,\"mirrors\":[{\"files\":0,\"source\":\"port $port\"}],\"now\":$at,\"path\":\"hello.txt\",$(
+        )\"sha256\":\"$digest\",\"source\":null}\n" '' \
+        get --json --at=$at --db "$db" --port "$port" --out "$folder/out.txt" hello.txt
+    wants 1 "{\"answer\":\"denied 35 NotFound\",\"length\":null,\"mirrors\":[{\"denied\":{\"name\":\"NotFound\",\"number\":35},\"source\":\"port $port\"}],$(
+        )\"now\":$at,\"path\":\"other.txt\",\"sha256\":null,\"source\":null}\n" 'denied 35 NotFound\n' \
+        get --json --at=$at --db "$db" --port "$port" --out "$folder/out.txt" other.txt
+    wants 1 '' 'denied 36 BadPath\n' get --json --at=$at --db "$db" --port "$port" --out "$folder/out.txt" /hello.txt
+    wants 3 '' 'fault database\n' update --json --at=$at --db "$folder/ill.db" --port "$port"
+    wants 3 '' 'fault file\n' get --json --at=$at --db "$db" --port "$port" --out "$folder/none/out" hello.txt
+}

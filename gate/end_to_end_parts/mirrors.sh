@@ -59,6 +59,7 @@ mirrors_are_asked_in_order() {
     mirror_of honest
     whole=$url honest=$asked
     the_first_that_has_it
+    turns_as_json
     mirrors_that_are_none
     answers_together
     hosts_and_redirections
@@ -88,6 +89,35 @@ the_first_that_has_it() {
     gets 1 '' "warning: $long: longer than its limit\ndenied 37 BlobMissing\n" --mirror "$lacking" --mirror "$long"
     gets 1 '' 'denied 37 BlobMissing\n' --mirror "$lacking"
     gets 0 'written\n' "$long: $hello: longer than its limit\n$whole: $hello: 32 bytes\n" -v --mirror "$long" --mirror "$whole"
+}
+
+# As JSON it is told of each source how its turn ended, and who gave what was wanted, also where nobody did. The turn of all together is
+# nobody's.
+turns_as_json() {
+    local dead lying lacking long none before after end
+    dead=http://127.0.0.1:$(free_port)
+    mirror_of file metadata/2.root.json "$example/hello.txt"
+    lying=$url
+    mirror_of withhold "$hello"
+    lacking=$url
+    mirror_of long "$hello"
+    long=$url
+    before=$(versions 1 null null null) after=$(versions 1 1 1 1)
+    fresh
+    none="{\"fault\":\"no answer that can be read\",\"source\":\"$dead\"}"
+    end="{\"denied\":{\"name\":\"NotCanonical\",\"number\":2},\"source\":\"$lying\"}"
+    updates 1 "{\"after\":$before,\"answer\":\"denied 2 NotCanonical\",\"before\":$before,\"changed\":false,\"first\":{\"expires\":$(first_expiry),\"role\":\"root\"},$(
+        )\"mirrors\":[$end,$none],\"now\":$at,\"source\":null}\n" "warning: $lying: denied 2 NotCanonical\ndenied 2 NotCanonical\n" \
+        --json --mirror "$lying" --mirror "$dead"
+    updates 0 "{\"after\":$after,\"answer\":\"updated\",\"before\":$before,\"changed\":true,\"first\":{\"expires\":$(first_expiry),\"role\":\"snapshot\"},$(
+        )\"mirrors\":[$none,$end,{\"files\":2,\"source\":\"$whole\"},{\"files\":1,\"source\":\"$long\"}],\"now\":$at,\"source\":\"$whole\"}\n" \
+        "warning: $lying: denied 2 NotCanonical\n" --json --mirror "$dead" --mirror "$lying" --mirror "$whole" --mirror "$long"
+    end="{\"denied\":{\"name\":\"BlobMissing\",\"number\":37},\"source\":\"$lacking\"}"
+    gets 1 "{\"answer\":\"denied 37 BlobMissing\",\"length\":null,\"mirrors\":[{\"fault\":\"longer than its limit\",\"source\":\"$long\"},$end],\"now\":$at,$(
+        )\"path\":\"hello.txt\",\"sha256\":null,\"source\":null}\n" "warning: $long: longer than its limit\ndenied 37 BlobMissing\n" \
+        --json --mirror "$long" --mirror "$lacking"
+    gets 0 "{\"answer\":\"written\",\"length\":32,\"mirrors\":[],\"now\":$at,\"path\":\"hello.txt\",\"sha256\":\"${hello:8:64}\",\"source\":\"$whole\"}\n" \
+        '' --json --mirror "$long" --mirror "$whole"
 }
 
 # A mirror that is not there, and one that gives no answer, are passed over; where there is no other, the network failed.

@@ -3,7 +3,9 @@ ghost use Rattle.std.specs.Prelude.{IfOk};
 ghost use Rattle.client_commands.specs.Clients.{IsGranted};
 
 use crate::fault::told;
-use crate::remote::{Call, Remote};
+use crate::remote::{Call, Remote, tell_wrongs};
+use crate::report::{Got, get_as_json, is_answer};
+use crate::turns::Turn;
 use client::{ClientFault, fetch_by_each};
 use command_line::{Getting, Server};
 use command_support::{
@@ -17,7 +19,8 @@ use std::io::Write;
 use subcommands::{Store, Work, worked};
 
 /// Fetches what the client's own state misses for the target, and writes the target's file where that state grants it. Prints
-/// `written`. The file that is written may not be the client's own database or its log, by whatever name.
+/// `written`, or what it got as JSON, then also where it was denied or the network failed. The file that is written may not be the client's
+/// own database or its log, by whatever name.
 pub fn get<O: Write, E: Write>(
     rt: &HostRuntime,
     asked: &Getting,
@@ -25,48 +28,52 @@ pub fn get<O: Write, E: Write>(
     out: &mut O,
     notes: &mut Notes<'_, E>,
 ) -> Result<(), Fault> {
-    let bytes = fetched(rt, asked, at, notes)?;
-    let to = asked.out.as_str();
-    if is_of_database(rt, asked.db.as_str(), to)? {
-        notes.fault(&to, &"a file of the client's own database");
-        return Err(Fault::File);
-    }
-    put(rt, to, &bytes, notes)?;
-    print(out, b"written\n", notes)
-}
-
-fn fetched<E: Write>(
-    rt: &HostRuntime,
-    asked: &Getting,
-    at: Option<u64>,
-    notes: &mut Notes<'_, E>,
-) -> Result<Vec<u8>, Fault> {
     let now = moment(rt, at)?;
     let path = target_path(rt, asked.path.as_str(), notes)?;
     let call = Call::begun(rt, asked.within)?;
-    granted(call, asked.db.as_str(), &asked.server, &path, now, notes)
+    let (fetched, turns) = granted(call, asked, &path, now, notes);
+    let (done, bytes) = match fetched {
+        Ok(bytes) => (put(rt, asked, &bytes, notes), Some(bytes)),
+        Err(fault) => (Err(fault), None),
+    };
+    if !asked.json {
+        done?;
+        return print(out, b"written\n", notes);
+    }
+    if is_answer(&done) {
+        let got = Got {
+            path: asked.path.as_str(),
+            bytes,
+            turns: turns?,
+        };
+        let text = get_as_json(rt.alloc(), &got, &done, now)?;
+        print(out, &text, notes)?;
+    }
+    done
 }
 
-// The bytes that the state in the database grants, behind a fetch.
-fn granted<E: Write>(
-    call: Call<'_>,
-    db: &str,
-    from: &Server,
-    path: &TargetPath,
+// The bytes that the state in the database grants, after a fetch, and the turns of the sources.
+fn granted<'a, E: Write>(
+    call: Call<'a>,
+    asked: &'a Getting,
+    path: &'a TargetPath,
     now: Moment,
     notes: &mut Notes<'_, E>,
-) -> Result<Vec<u8>, Fault>
-    ensures { IfOk result (λ bytes. IsGranted path.now now bytes.items) }
+) -> (Result<Vec<u8>, Fault>, Result<Vec<Turn<'a>>, AllocError>)
+    ensures { IfOk result.0 (λ bytes. IsGranted path.now now bytes.items) }
 {
     let rt = call.rt();
     let mut fetching = Fetching {
         rt,
         call,
-        from,
+        from: &asked.server,
         path,
         now,
+        turns: Ok(Vec::new(rt.alloc())),
     };
-    worked(rt, db, &mut fetching, notes)
+    let done = worked(rt, asked.db.as_str(), &mut fetching, notes);
+    let Fetching { turns, .. } = fetching;
+    (done, turns)
 }
 
 // Whether a path leads to the file of a database, or to its log. Both are there once the database was opened.
@@ -75,13 +82,18 @@ fn is_of_database(rt: &HostRuntime, db: &str, path: &str) -> Result<bool, AllocE
     Ok(are_one_file(rt, path, db) || are_one_file(rt, path, log.as_str()))
 }
 
-// Writes the target's file.
+// Writes the target's file, unless it is of the client's own database.
 fn put<E: Write>(
     rt: &HostRuntime,
-    out: &str,
+    asked: &Getting,
     bytes: &[u8],
     notes: &mut Notes<'_, E>,
 ) -> Result<(), Fault> {
+    let out = asked.out.as_str();
+    if is_of_database(rt, asked.db.as_str(), out)? {
+        notes.fault(&out, &"a file of the client's own database");
+        return Err(Fault::File);
+    }
     match put_in_place(rt, out, bytes, OWNER_ALONE) {
         Ok(()) => Ok(()),
         Err(error) => {
@@ -106,13 +118,14 @@ fn target_path<E: Write>(
 }
 
 // What is done over the client's own state: the bytes of the target that it grants are fetched. A fault is told with the target's path.
-#[derive(Clone, Copy)]
+#[derive(Drop)]
 struct Fetching<'a> {
     rt: &'a HostRuntime,
     call: Call<'a>,
     from: &'a Server,
     path: &'a TargetPath,
     now: Moment,
+    turns: Result<Vec<Turn<'a>>, AllocError>,
 }
 
 impl Work for Fetching<'_> {
@@ -128,16 +141,26 @@ impl Work for Fetching<'_> {
         notes: &mut Notes<'_, E>,
     ) -> Result<Vec<u8>, Fault> {
         let alloc = self.rt.alloc();
-        let done = {
+        let (done, turns) = {
             let mut remote = Remote::joined(self.call, self.from, notes);
-            let turns = remote.turns();
-            let done = fetch_by_each(alloc, state, &mut remote, turns, self.path, self.now);
-            remote.tell_refused(number_of(&done));
-            done
+            let count = remote.count();
+            let done = fetch_by_each(alloc, state, &mut remote, count, self.path, self.now);
+            (done, remote.take_turns())
         };
+        self.turns = turns;
+        self.tell(number_of(&done), notes);
         match done {
             Ok(bytes) => Ok(bytes),
             Err(fault) => { Err(told(&self.path.as_str(), fault, notes)) }
+        }
+    }
+}
+
+impl Fetching<'_> {
+    // Warns of the turns that ended in a wrong of their own, but not of the denial that is told of the call.
+    fn tell<E: Write>(&self, told: Option<u8>, notes: &mut Notes<'_, E>) {
+        if let Ok(turns) = &self.turns {
+            tell_wrongs(self.from, turns, told, notes);
         }
     }
 }

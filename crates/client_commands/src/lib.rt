@@ -7,8 +7,10 @@ mod fault;
 mod getting;
 mod publishing;
 mod remote;
+mod report;
 mod sending;
 mod server;
+mod turns;
 mod updating;
 mod wire;
 

@@ -1,5 +1,6 @@
 //! What `update` and `get` fetch files from: a repository that is served at a port of 127.0.0.1, or mirrors of one, each in its turn.
 use crate::server::{Asked, Peer};
+use crate::turns::{End, Turn, Turns};
 use crate::wire::{Hearing, Wire, connected, host};
 use client::{ClientFault, Sources};
 use command_line::Server;
@@ -8,9 +9,10 @@ use connections::{FILE_SECONDS, Timer};
 use fetch::{FetchFault, Source};
 use http_fetch::{Refusal, fetch_over, read_refusal};
 use mirrors::{Mirror, is_settled, read_mirror, together};
-use std::alloc::Global;
+use std::alloc::{AllocError, Global};
 use std::fmt;
 use std::io::{IsTerminal, Write};
+use std::mem::replace;
 use std::net::TcpStream;
 
 // So many seconds has a whole call where it is not said otherwise.
@@ -72,25 +74,12 @@ pub struct Remote<'a, 'n, 'e, E: Write> {
     has_timestamp: bool,
     // whether the first turn is that of all mirrors together
     is_joined: bool,
-    place: usize,
+    // who is asked now: nobody alone, where all are asked together
+    peer: Option<Peer<'a>>,
+    // who gave the last file
+    giver: Option<Peer<'a>>,
     until: u64,
-    // whether the last answer of this turn was a file
-    gave: bool,
-    refused: Vec<Refused<'a>>,
-}
-
-// A mirror whose turn ended in a denial after a file that it gave, or in a file over its limit.
-#[derive(Clone, Copy)]
-struct Refused<'a> {
-    url: &'a str,
-    denial: Option<Named>,
-}
-
-// A denial, by its number and its name.
-#[derive(Clone, Copy)]
-struct Named {
-    number: u8,
-    name: &'static str,
+    turns: Turns<'a>,
 }
 
 impl<'a, 'n, 'e, E: Write> Remote<'a, 'n, 'e, E> {
@@ -108,10 +97,10 @@ impl<'a, 'n, 'e, E: Write> Remote<'a, 'n, 'e, E> {
             lacks_timestamp: false,
             has_timestamp: false,
             is_joined: false,
-            place: 0,
+            peer: None,
+            giver: None,
             until: call.seconds,
-            gave: false,
-            refused: Vec::new(call.rt.alloc()),
+            turns: Turns::new(call.rt.alloc()),
             notes,
         }
     }
@@ -128,7 +117,7 @@ impl<'a, 'n, 'e, E: Write> Remote<'a, 'n, 'e, E> {
     }
 
     /// So many turns there are.
-    pub fn turns(&self) -> usize {
+    pub fn count(&self) -> usize {
         count_of(self.server).saturating_add(self.is_joined as usize)
     }
 
@@ -137,33 +126,41 @@ impl<'a, 'n, 'e, E: Write> Remote<'a, 'n, 'e, E> {
         self.lacks_timestamp && !self.has_timestamp
     }
 
-    /// Warns of each of several mirrors whose turn ended in a denial after a file that it gave, or in a file over its limit; of a denial with
-    /// this number it does not, since that is what is told of the call. With one alone the end of the call tells it.
-    pub fn tell_refused(&mut self, told: Option<u8>) {
-        if count_of(self.server) == 1 {
-            return;
-        }
-        for refused in &self.refused {
-            match refused.denial {
-                None => self.notes.warn(&refused.url, &FetchFault::TooLong),
-                Some(denial) if told == Some(denial.number) => {}
-                Some(denial) => self.notes.warn(&refused.url, &denial),
+    /// The turns that were, which it has no more.
+    pub fn take_turns(&mut self) -> Result<Vec<Turn<'a>>, AllocError> {
+        let none = Turns::new(self.call.rt.alloc());
+        replace(&mut self.turns, none).done()
+    }
+
+    // The port, or the mirror that has the turn at this place alone.
+    fn peer_at(&self, place: usize) -> Option<Peer<'a>> {
+        let server: &'a Server = self.server;
+        match server {
+            Server::Port(port) => Some(Peer::Port(*port)),
+            Server::Mirrors(urls) => {
+                let place = place.checked_sub(self.is_joined as usize)?;
+                let url = urls.get(place)?;
+                Some(Peer::Mirror(url.as_str()))
             }
         }
     }
 
-    // The mirror that has this turn alone.
-    fn alone(&self) -> Option<&'a str> {
-        let Server::Mirrors(urls) = self.server else {
-            return None;
+    // The file of this name, from one of them.
+    fn ask(
+        &mut self,
+        alloc: Global,
+        peer: Peer<'a>,
+        name: &str,
+        limit: usize,
+    ) -> Result<Option<Vec<u8>>, FetchFault> {
+        let answer = match peer {
+            Peer::Port(port) => self.ask_port(alloc, port, name, limit),
+            Peer::Mirror(url) => self.ask_mirror(alloc, url, Asked { peer, name, limit }),
         };
-        let place = if self.is_joined {
-            self.place.checked_sub(1)?
-        } else {
-            self.place
-        };
-        let url = urls.get(place)?;
-        Some(url.as_str())
+        if let Ok(Some(_)) = &answer {
+            self.giver = Some(peer);
+        }
+        answer
     }
 
     // The file of this name, from the port.
@@ -185,20 +182,21 @@ impl<'a, 'n, 'e, E: Write> Remote<'a, 'n, 'e, E> {
         self.ask_one(alloc, &mirror, Asked { peer, name, limit })
     }
 
-    // The file of this name, from the first mirror that has it.
+    // The file of this name, from the first of all that has it.
     fn ask_each(
         &mut self,
         alloc: Global,
-        urls: &[String],
         name: &str,
         limit: usize,
     ) -> Result<Option<Vec<u8>>, FetchFault> {
         let mut answer = Err(FetchFault::Broken);
-        for url in urls {
-            if !is_settled(&answer) {
-                let peer = Peer::Mirror(url.as_str());
-                let next = self.ask_mirror(alloc, url.as_str(), Asked { peer, name, limit });
-                answer = together(answer, next);
+        let server: &'a Server = self.server;
+        if let Server::Mirrors(urls) = server {
+            for url in urls {
+                if !is_settled(&answer) {
+                    let next = self.ask(alloc, Peer::Mirror(url.as_str()), name, limit);
+                    answer = together(answer, next);
+                }
             }
         }
         answer
@@ -304,22 +302,17 @@ impl<E: Write> Source for Remote<'_, '_, '_, E> {
                 bytes: self.bytes,
             });
         }
-        let server = self.server;
-        let answer = match (server, self.alone()) {
-            (Server::Port(port), _) => self.ask_port(alloc, *port, name, limit),
-            (Server::Mirrors(_), Some(url)) => {
-                let peer = Peer::Mirror(url);
-                self.ask_mirror(alloc, url, Asked { peer, name, limit })
-            }
-            (Server::Mirrors(urls), None) => self.ask_each(alloc, urls, name, limit),
+        self.giver = None;
+        let answer = match self.peer {
+            Some(peer) => self.ask(alloc, peer, name, limit),
+            None => self.ask_each(alloc, name, limit),
         };
+        self.turns.answered(self.giver);
         let is_timestamp = name == "metadata/timestamp.json";
-        self.gave = false;
         match &answer {
             Ok(Some(file)) => {
                 self.bytes = self.bytes.saturating_add(file.len() as u64);
                 self.has_timestamp |= is_timestamp;
-                self.gave = true;
             }
             Ok(None) => self.lacks_timestamp |= is_timestamp,
             Err(_) => {}
@@ -332,25 +325,36 @@ impl<E: Write> Sources for Remote<'_, '_, '_, E> {
     // The turn has its share of the time that is left.
     fn turn(&mut self, place: usize) {
         let call = self.call;
-        let left = self.turns().saturating_sub(place);
+        let left = self.count().saturating_sub(place);
         self.until = call.share(left as u64);
-        self.place = place;
-        self.gave = false;
+        self.peer = self.peer_at(place);
+        self.turns.begin(self.peer);
     }
 
     fn failed(&mut self, _place: usize, fault: &ClientFault) {
-        let Some(url) = self.alone() else {
-            return;
-        };
-        let denial = match fault {
-            ClientFault::Denied(denial) if self.gave => Some(Named {
-                number: denial.number(),
-                name: denial.name(),
-            }),
-            ClientFault::Fetch(FetchFault::TooLong) => None,
-            _ => return,
-        };
-        let _ = self.refused.push(Refused { url, denial });
+        self.turns.failed(fault);
+    }
+}
+
+/// Warns of each of several mirrors whose turn ended in a wrong of its own; of a denial with this number it does not, since that is what is
+/// told of the call. With one alone the end of the call tells it.
+pub fn tell_wrongs<E: Write>(
+    server: &Server,
+    turns: &[Turn<'_>],
+    told: Option<u8>,
+    notes: &mut Notes<'_, E>,
+) {
+    if count_of(server) == 1 {
+        return;
+    }
+    for turn in turns {
+        match turn.wrong() {
+            Some((peer, End::Fault(fault))) => notes.warn(&peer, &fault),
+            Some((peer, End::Denied(denial))) if told != Some(denial.number) => {
+                notes.warn(&peer, &denial);
+            }
+            _ => {}
+        }
     }
 }
 
@@ -359,13 +363,6 @@ fn count_of(server: &Server) -> usize {
     match server {
         Server::Port(_) => 1,
         Server::Mirrors(urls) => urls.len(),
-    }
-}
-
-impl fmt::Display for Named {
-    fn fmt<W: fmt::Write>(&self, f: &mut fmt::Formatter<W>) -> fmt::Result {
-        let Named { number, name } = self;
-        write!(f, "denied {number} {name}")
     }
 }
 

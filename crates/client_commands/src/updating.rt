@@ -1,113 +1,150 @@
 //! `update`: brings a client's own state up to date.
 use crate::fault::told;
-use crate::remote::{Call, Remote};
+use crate::remote::{Call, Remote, tell_wrongs};
+use crate::report::{Found, is_answer, update_as_json};
 use crate::server::Named;
+use crate::turns::Turn;
 use client::update_by_each;
-use command_line::Server;
+use command_line::Updating;
 use command_support::{Fault, Notes, moment, print};
 use metadata::Moment;
 use sqlite::Alter;
+use std::alloc::AllocError;
 use std::fmt;
 use std::io::{IsTerminal, Write};
 use subcommands::{FirstExpiry, Store, Versions, Work, tell_standing, worked};
 
 /// Takes new roots, the timestamp and the snapshot from the repository at the port or the mirrors into the state in the database
-/// file, each where the state's own rules accept it, and prints `updated`. It warns where the repository has no timestamp, or the one that is
-/// held then has expired: from then on nothing is granted. All of it has so many seconds, 600 where none are given.
+/// file, each where the state's own rules accept it, and prints `updated`, or what it found as JSON, then also where it was denied or the
+/// network failed. It warns where the repository has no timestamp, or the one that is held then has expired: from then on nothing is granted.
+/// All of it has so many seconds, 600 where none are given.
 pub fn update<O: Write, E: Write>(
     rt: &HostRuntime,
-    db: &str,
-    from: &Server,
-    within: Option<u64>,
+    asked: &Updating,
     at: Option<u64>,
     out: &mut O,
     notes: &mut Notes<'_, E>,
 ) -> Result<(), Fault> {
     let now = moment(rt, at)?;
-    let call = Call::begun(rt, within)?;
-    let mut updating = Updating {
-        rt,
+    let call = Call::begun(rt, asked.within)?;
+    let mut bringing = Bringing {
         call,
-        db,
-        from,
+        asked,
         now,
+        found: None,
     };
-    worked(rt, db, &mut updating, notes)?;
-    print(out, b"updated\n", notes)
+    let done = worked(rt, asked.db.as_str(), &mut bringing, notes);
+    if !asked.json {
+        done?;
+        return print(out, b"updated\n", notes);
+    }
+    let Bringing { found, .. } = bringing;
+    match found {
+        Some(found) if is_answer(&done) => {
+            let text = update_as_json(rt.alloc(), &found?, &done, now)?;
+            print(out, &text, notes)?;
+            done
+        }
+        _ => done,
+    }
 }
 
 // What is done over the client's state. A fault is told with the name of its database.
-#[derive(Clone, Copy)]
-struct Updating<'a> {
-    rt: &'a HostRuntime,
+#[derive(Drop)]
+struct Bringing<'a> {
     call: Call<'a>,
-    db: &'a str,
-    from: &'a Server,
+    asked: &'a Updating,
     now: Moment,
+    found: Option<Result<Found<'a>, AllocError>>,
 }
 
-impl Work for Updating<'_> {
+impl<'a> Work for Bringing<'a> {
     ghost use Rattle.client_commands.specs.Clients.{Updated};
 
     type Done = ();
 
-    ghost does = { λ updating A _ B _. Updated updating.now A B };
+    ghost does = { λ bringing A _ B _. Updated bringing.now A B };
 
     fn work<S: Alter, E: Write>(
         &mut self,
         state: &mut Store<S>,
         notes: &mut Notes<'_, E>,
     ) -> Result<(), Fault> {
-        let alloc = self.rt.alloc();
+        let alloc = self.call.rt().alloc();
+        let asked: &'a Updating = self.asked;
         let before = Versions::of(alloc, state.held());
-        let (done, lacks_timestamp) = {
-            let mut remote = Remote::new(self.call, self.from, notes);
-            let turns = remote.turns();
-            let done = update_by_each(alloc, state, &mut remote, turns, self.now);
-            remote.tell_refused(None);
-            (done, remote.lacks_timestamp())
+        let (done, turns, lacks_timestamp) = {
+            let mut remote = Remote::new(self.call, &asked.server, notes);
+            let count = remote.count();
+            let done = update_by_each(alloc, state, &mut remote, count, self.now);
+            (done, remote.take_turns(), remote.lacks_timestamp())
         };
+        self.found = Some(self.find(before, state, turns, notes));
         match done {
             Ok(()) => {
-                self.tell_found(before, state, notes);
+                self.tell_found(state, notes);
                 if lacks_timestamp {
-                    notes.warn(&Named(self.from), &"no timestamp");
+                    notes.warn(&Named(&asked.server), &"no timestamp");
                 }
                 Ok(())
             }
-            Err(fault) => { Err(told(&self.db, fault, notes)) }
+            Err(fault) => Err(told(&asked.db.as_str(), fault, notes)),
         }
     }
 }
 
-impl Updating<'_> {
-    // Tells the versions before and behind an update and the first expiry, and warns of a timestamp that has expired.
-    fn tell_found<S: Alter, E: Write>(
+impl<'a> Bringing<'a> {
+    // Warns of the turns that ended in a wrong of their own, and finds what is held now; what expires first only where it is printed.
+    fn find<S: Alter, E: Write>(
         &self,
-        before: Versions,
+        before: Result<Versions, AllocError>,
         state: &Store<S>,
+        turns: Result<Vec<Turn<'a>>, AllocError>,
         notes: &mut Notes<'_, E>,
-    ) {
-        let alloc = self.rt.alloc();
-        let found = Versions::of(alloc, state.held());
-        let has_expired = found.has_expired(self.now);
-        let change = Change { before, found };
-        notes.tell(&self.db, &change);
+    ) -> Result<Found<'a>, AllocError> {
+        let alloc = self.call.rt().alloc();
+        let (before, turns) = (before?, turns?);
+        tell_wrongs(&self.asked.server, &turns, None, notes);
+        let after = Versions::of(alloc, state.held())?;
+        let first = if self.asked.json {
+            FirstExpiry::of(alloc, state.held())?
+        } else {
+            None
+        };
+        Ok(Found {
+            before,
+            after,
+            first,
+            turns,
+        })
+    }
+
+    // Tells the versions before and after an update and the first expiry, and warns of a timestamp that has expired.
+    fn tell_found<S: Alter, E: Write>(&self, state: &Store<S>, notes: &mut Notes<'_, E>) {
+        let Some(Ok(found)) = &self.found else {
+            return;
+        };
+        let (rt, db) = (self.call.rt(), self.asked.db.as_str());
+        let change = Change {
+            before: found.before,
+            found: found.after,
+        };
+        notes.tell(&db, &change);
         if notes.are_told() {
-            tell_standing(alloc, self.db, state.held(), notes);
-        } else if self.rt.stderr().is_terminal() {
+            tell_standing(rt.alloc(), db, state.held(), notes);
+        } else if rt.stderr().is_terminal() {
             notes.progress(&change);
-            if let Some(first) = FirstExpiry::of(alloc, state.held()) {
+            if let Ok(Some(first)) = FirstExpiry::of(rt.alloc(), state.held()) {
                 notes.progress(&first);
             }
         }
-        if has_expired {
-            notes.warn(&self.db, &"the timestamp has expired");
+        if found.after.has_expired(self.now) {
+            notes.warn(&db, &"the timestamp has expired");
         }
     }
 }
 
-// The versions before an update and behind it.
+// The versions before an update and after it.
 #[derive(Clone, Copy)]
 struct Change {
     before: Versions,

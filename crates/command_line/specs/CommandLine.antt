@@ -246,7 +246,7 @@ name_of (Serve s) = codes "serve"
 name_of (Show showing) = codes "show"
 name_of (Sign s) = codes "sign"
 name_of (SignIn s) = codes "sign"
-name_of (Update db server within) = codes "update"
+name_of (Update u) = codes "update"
 
 -- the subcommand has the options and operands that were found
 abbrev pub HasArguments : List Row → Subcommand → Type 0
@@ -254,7 +254,7 @@ HasArguments rows (Canon file) = HasText rows (codes "file") file
 HasArguments rows (DraftOf d) = HasDraft rows d
 HasArguments rows (Export db to) = HasText rows (codes "db") db × HasText rows (codes "to") to
 HasArguments rows (Get g) = HasText rows (codes "db") g.db × HasServer rows g.server
-    × MayHaveNumber rows (codes "within") 1 most_seconds g.within
+    × MayHaveNumber rows (codes "within") 1 most_seconds g.within × (g.json ≡ is_used rows (codes "json"))
     × HasText rows (codes "out") g.out × HasText rows (codes "path") g.path
 HasArguments rows (Init db root) = HasText rows (codes "db") db × HasText rows (codes "root") root
 HasArguments rows (Key seed params) = HasText rows (codes "seed") seed × HasParams rows params × Lacks rows (codes "new") × Lacks rows (codes "name") × Lacks rows (codes "public")
@@ -277,8 +277,8 @@ HasArguments rows (SignIn s) = HasKeys rows s.keys
     × HasText rows (codes "in") s.folder × HasAnchor rows s.anchor × (s.strict ≡ is_used rows (codes "strict")) × (IsTrue s.strict → IsSome s.anchor)
     × MayHaveTexts rows (codes "file") most_documents s.documents.items × (s.yes ≡ is_used rows (codes "yes")) × (s.again ≡ is_used rows (codes "again"))
     × LacksPair rows
-HasArguments rows (Update db server within) = HasText rows (codes "db") db × HasServer rows server
-    × MayHaveNumber rows (codes "within") 1 most_seconds within
+HasArguments rows (Update u) = HasText rows (codes "db") u.db × HasServer rows u.server
+    × MayHaveNumber rows (codes "within") 1 most_seconds u.within × (u.json ≡ is_used rows (codes "json"))
 
 -- a subcommand of this name with what was found for it
 abbrev pub IsAsked : Text → List Row → Subcommand → Type 0

@@ -26,7 +26,7 @@ use std::alloc::{AllocError, Global};
 use tasks::Unread;
 pub use tasks::{
     Anchor, AttachDraft, Draft, Drafting, FolderSigning, Getting, Keys, LayoutDraft, LinkDraft,
-    Place, Server, Serving, Showing, Signing, Subcommand, TargetsDraft, Task, Usage,
+    Place, Server, Serving, Showing, Signing, Subcommand, TargetsDraft, Task, Updating, Usage,
 };
 
 // Neither a seed nor a new name nor a public key.
@@ -147,6 +147,7 @@ fn get_asked(alloc: Global, given: &ArgMatches<'_>) -> Result<Subcommand, Unread
         db,
         server,
         within,
+        json: is_given(given, "json"),
         out,
         path,
     }))
@@ -415,7 +416,12 @@ fn update_asked(alloc: Global, given: &ArgMatches<'_>) -> Result<Subcommand, Unr
     let db = text_of(alloc, given, "db")?;
     let server = server_of(alloc, given)?;
     let within = within_of(alloc, given)?;
-    Ok(Subcommand::Update { db, server, within })
+    Ok(Subcommand::Update(Updating {
+        db,
+        server,
+        within,
+        json: is_given(given, "json"),
+    }))
 }
 
 // The text of a fault of the command line.

@@ -125,12 +125,23 @@ pub struct LinkDraft {
     pub products: Vec<String>,
 }
 
-/// What a client gets: its own database, where it fetches from and for how many seconds at most, the file that is written, and the path.
+/// What a client brings up to date: its own database, where it fetches from and for how many seconds at most; and whether JSON is printed.
+#[derive(Drop)]
+pub struct Updating {
+    pub db: String,
+    pub server: Server,
+    pub within: Option<u64>,
+    pub json: bool,
+}
+
+/// What a client gets: its own database, where it fetches from and for how many seconds at most, whether JSON is printed, the file that is
+/// written, and the path.
 #[derive(Drop)]
 pub struct Getting {
     pub db: String,
     pub server: Server,
     pub within: Option<u64>,
+    pub json: bool,
     pub out: String,
     pub path: String,
 }
@@ -216,8 +227,8 @@ pub enum Subcommand {
         db: String,
         to: String,
     },
-    /// `get --db FILE (--port P | --mirror URL ..) [--within SECONDS] --out OUT PATH`: fetches a target, and writes the file where the client's
-    /// own state grants it.
+    /// `get --db FILE (--port P | --mirror URL ..) [--within SECONDS] [--json] --out OUT PATH`: fetches a target, and writes the file where the
+    /// client's own state grants it.
     Get(Getting),
     /// `init --db FILE ROOT`: begins the trust with a first root.
     Init {
@@ -273,12 +284,8 @@ pub enum Subcommand {
     /// is said so, and where it is said so also another document of a kind and version that the key has signed. What is held is judged by the
     /// root that is given, and where it is said so nothing is signed over what does not meet its rules.
     SignIn(FolderSigning),
-    /// `update --db FILE (--port P | --mirror URL ..) [--within SECONDS]`: brings a client's own state up to date.
-    Update {
-        db: String,
-        server: Server,
-        within: Option<u64>,
-    },
+    /// `update --db FILE (--port P | --mirror URL ..) [--within SECONDS] [--json]`: brings a client's own state up to date.
+    Update(Updating),
 }
 
 /// Why the words are no task.

@@ -27,3 +27,4 @@ pub use growing::Growing;
 pub use json::as_json;
 pub use page::as_page;
 pub use rows::{KeyRow, Overview, PathRow, Row};
+pub use writing::Text;

@@ -11,14 +11,15 @@ pub(crate) const PLAIN: &str = "\x1b[0m";
 
 /// Text so far. Once memory has run out it takes nothing more, and there is no text in the end.
 #[derive(Drop)]
-pub(crate) struct Text {
+pub struct Text {
     pub alloc: Global,
     bytes: Vec<u8>,
     is_cut: bool,
 }
 
 impl Text {
-    pub(crate) fn new(alloc: Global) -> Text {
+    /// No text so far.
+    pub fn new(alloc: Global) -> Text {
         Text {
             alloc,
             bytes: Vec::new(alloc),
@@ -27,14 +28,15 @@ impl Text {
     }
 
     /// The whole text.
-    pub(crate) fn done(self) -> Result<Vec<u8>, AllocError> {
+    pub fn done(self) -> Result<Vec<u8>, AllocError> {
         if self.is_cut {
             return Err(AllocError);
         }
         Ok(self.bytes)
     }
 
-    pub(crate) fn say(&mut self, text: &str) {
+    /// Says the text.
+    pub fn say(&mut self, text: &str) {
         if !self.is_cut {
             self.is_cut = self.bytes.extend_from_slice(text.as_bytes()).is_err();
         }
@@ -47,7 +49,7 @@ impl Text {
     }
 
     /// Says what was formed, if there was memory for it.
-    pub(crate) fn formed(&mut self, text: Result<String, AllocError>) {
+    pub fn formed(&mut self, text: Result<String, AllocError>) {
         match text {
             Ok(text) => self.say(text.as_str()),
             Err(_) => self.is_cut = true,
@@ -69,7 +71,7 @@ impl Text {
     }
 
     /// Says a number.
-    pub(crate) fn number(&mut self, number: u64) {
+    pub fn number(&mut self, number: u64) {
         let digits = format!(in self.alloc; "{number}");
         self.formed(digits);
     }
@@ -88,7 +90,7 @@ impl Text {
     }
 
     /// Says the text as JSON has it, with its quotation marks.
-    pub(crate) fn quoted(&mut self, text: &str) {
+    pub fn quoted(&mut self, text: &str) {
         self.say("\"");
         for byte in text.as_bytes() {
             match *byte {

@@ -109,9 +109,7 @@ fn perform_task<O: Write, E: Write>(
         Subcommand::Show(showing) => show_with_leaves(rt, showing, at, out, notes),
         Subcommand::Sign(signing) => sign(rt, signing, at, out, notes),
         Subcommand::SignIn(signing) => sign_in_folder(rt, signing, at, out, notes),
-        Subcommand::Update { db, server, within } => {
-            update(rt, db, server, *within, at, out, notes)
-        }
+        Subcommand::Update(updating) => update(rt, updating, at, out, notes),
     }
 }
 

@@ -1,5 +1,5 @@
 use Rattle.client.proofs.Composing.{becomes}
-use Rattle.client_commands.proofs.updating.UpdatingWork.work.Goals as goal
+use Rattle.client_commands.proofs.updating.BringingWork.work.Goals as goal
 
 pub returns-after-lacks_timestamp : goal.returns-after-lacks_timestamp
 returns-after-lacks_timestamp g c = becomes _ _ c.update_by_each-done.ensures.brings (λ C D p. p.2)
