@@ -116,9 +116,10 @@ canon_line = with_rule (begun_line (codes "canon")) (operand_rule (codes "file")
 abbrev pub export_line : App
 export_line = with_rule (stored_line (codes "export")) folder_rule
 
--- a subcommand over a database and over what is at a port or at mirrors, each of which may be left out as far as `clap` is told
+-- a subcommand over a database and over what is at a port, at mirrors or in folders, each of which may be left out as far as `clap` is told
 abbrev pub client_line : Text → App
-client_line name = with_rule (with_rule (with_rule (with_rule (stored_line name) port_option_rule) (many_rule (codes "mirror"))) within_rule) (flag_rule (codes "json"))
+client_line name = with_rule (with_rule (with_rule (with_rule (with_rule (stored_line name) port_option_rule) (many_rule (codes "mirror"))) (many_rule (codes "from")))
+    within_rule) (flag_rule (codes "json"))
 
 abbrev pub get_line : App
 get_line = with_rule (with_rule (client_line (codes "get")) out_rule) (operand_rule (codes "path"))

@@ -29,11 +29,11 @@ const PORT_OR_DB: Word<'static> = Word::Number(
     65535,
 );
 
-// `--port P` and `--mirror URL ..`, each in place of the other, `--within SECONDS` and `--json` of a client.
+// `--port P`, in place of `--from FOLDER ..` and `--mirror URL ..`, and `--within SECONDS` and `--json` of a client.
 const PORT_OR_MIRROR: Word<'static> = Word::Number(
     "port",
     "P",
-    "The port of 127.0.0.1 that the repository is served at; or --mirror",
+    "The port of 127.0.0.1 that the repository is served at; or --mirror or --from",
     1,
     65535,
 );
@@ -42,6 +42,12 @@ const MIRROR: Word<'static> = Word::Many(
     "mirror",
     "URL",
     "A mirror, http://HOST[:PORT][/PREFIX], in place of --port. Of several each is asked in its turn until one brings what is wanted",
+);
+
+const FROM: Word<'static> = Word::Many(
+    "from",
+    "FOLDER",
+    "A folder that export wrote, as on a stick, in place of --port. Folders are asked before mirrors",
 );
 
 const WITHIN: Word<'static> = Word::Number(
@@ -176,6 +182,7 @@ const GET: &[Word<'static>] = &[
     DB,
     PORT_OR_MIRROR,
     MIRROR,
+    FROM,
     WITHIN,
     JSON,
     Word::Required(
@@ -186,7 +193,7 @@ const GET: &[Word<'static>] = &[
     Word::Operand("path", "PATH", "The path of the target"),
 ];
 
-/// `get [--at SECONDS] [--verbose] --db FILE (--port P | --mirror URL ..) [--within SECONDS] [--json] --out OUT PATH`
+/// `get [--at SECONDS] [--verbose] --db FILE (--port P | [--from FOLDER ..] [--mirror URL ..]) [--within SECONDS] [--json] --out OUT PATH`
 pub fn get<'a>(alloc: Global) -> Result<Command<'a>, AllocError>
     ensures { Makes get_line result }
 {
@@ -436,13 +443,13 @@ pub fn sign<'a>(alloc: Global) -> Result<Command<'a>, AllocError>
     with(alloc, command, SIGN)
 }
 
-/// `update [--at SECONDS] [--verbose] --db FILE (--port P | --mirror URL ..) [--within SECONDS] [--json]`
+/// `update [--at SECONDS] [--verbose] --db FILE (--port P | [--from FOLDER ..] [--mirror URL ..]) [--within SECONDS] [--json]`
 pub fn update<'a>(alloc: Global) -> Result<Command<'a>, AllocError>
     ensures { Makes update_line result }
 {
     let about = "Bring the trusted metadata up to date, as a client";
     let command = begun(alloc, "update", about, texts::UPDATE);
-    with(alloc, command, &[DB, PORT_OR_MIRROR, MIRROR, WITHIN, JSON])
+    with(alloc, command, &[DB, PORT_OR_MIRROR, MIRROR, FROM, WITHIN, JSON])
 }
 
 // A subcommand, which takes a moment, and may tell more. Behind its help stands a text.
