@@ -1,4 +1,5 @@
-# Mirrors by their URLs: each is asked in its turn, and by 'get' all together first, each file from the first of them that has it.
+# Mirrors by their URLs, and folders before them: each is asked in its turn, and by 'get' all together first, each file from the first of them
+# that has it.
 
 far=$folder/far.db
 # The processes of mirrors, which are ended behind this part.
@@ -60,6 +61,9 @@ mirrors_are_asked_in_order() {
     whole=$url honest=$asked
     the_first_that_has_it
     turns_as_json
+    folders_are_asked_first
+    folders_that_do_wrong
+    folders_that_are_none
     mirrors_that_are_none
     answers_together
     hosts_and_redirections
@@ -118,6 +122,72 @@ turns_as_json() {
         --json --mirror "$long" --mirror "$lacking"
     gets 0 "{\"answer\":\"written\",\"length\":32,\"mirrors\":[],\"now\":$at,\"path\":\"hello.txt\",\"sha256\":\"${hello:8:64}\",\"source\":\"$whole\"}\n" \
         '' --json --mirror "$long" --mirror "$whole"
+}
+
+# What export wrote is read from its folder, which may be a link, before any mirror is asked.
+folders_are_asked_first() {
+    local files=$folder/mirrors/files newest=$folder/newest
+    ln -s "$files" "$folder/stick"
+    fresh
+    updates 0 'updated\n' "$folder/stick: metadata/2.root.json: none\n$folder/stick: metadata/timestamp.json: $(bytes_of timestamp.json) bytes\n$(
+        )$folder/stick: metadata/1.snapshot.json: $(bytes_of snapshot.json) bytes\n$(
+        )$far: root 1, timestamp 1, snapshot 1; before: root 1, no timestamp, no snapshot\n$far: root 1 is trusted\n$(
+        )$far: the first expiry is at $(first_expiry)\n" -v --from "$folder/stick"
+    gets 0 'written\n' '' --from "$files"
+    fresh
+    updates 0 'updated\n' '' --mirror "$whole" --from "$files/"
+    gets 0 'written\n' "$files: metadata/1.targets.json: $(bytes_of targets.json) bytes\n$files: $hello: 32 bytes\n" -v --mirror "$whole" --from "$files"
+    fresh
+    wants 0 '{"accepted":3,"same":0}\n' '' publish --at=$at --db "$far" timestamp:"$example/chain/timestamp.json" \
+        snapshot:"$example/chain/snapshot.json" targets:"$example/chain/targets.json"
+    "$release" export --at=$at --db "$far" --to "$newest" >"$folder/out"
+    updates 1 '' 'denied 13 TimestampRollback\n' --from "$files"
+    updates 0 'updated\n' "warning: $files: denied 13 TimestampRollback\n" --from "$files" --from "$newest"
+    fresh
+    updates 0 'updated\n' '' --from "$files" --from "$newest"
+    rm "$folder/stick"
+}
+
+# A folder that lies ends its own turn alone, as a mirror does. Below a folder no link is followed.
+folders_that_do_wrong() {
+    local files=$folder/mirrors/files wrong=$folder/wrong
+    cp -r "$files" "$wrong"
+    cp "$example/hello.txt" "$wrong/metadata/2.root.json"
+    fresh
+    updates 1 '' 'denied 2 NotCanonical\n' --from "$wrong"
+    updates 0 'updated\n' "warning: $wrong: denied 2 NotCanonical\n" --from "$wrong" --mirror "$whole"
+    head -c 262145 /dev/zero >"$wrong/metadata/2.root.json"
+    fresh
+    updates 3 '' "release: $wrong: metadata/2.root.json: longer than its limit\nrelease: $far: the source failed\nfault network\n" --from "$wrong"
+    updates 0 'updated\n' "warning: $wrong: longer than its limit\n" --from "$wrong" --mirror "$whole"
+    rm "$wrong/metadata/2.root.json"
+    mv "$wrong/metadata/timestamp.json" "$wrong/there"
+    ln -s ../there "$wrong/metadata/timestamp.json"
+    fresh
+    updates 3 '' "release: $wrong: metadata/timestamp.json: no regular file, and no link is followed\nrelease: $far: the source failed\nfault network\n" \
+        --from "$wrong"
+    updates 0 'updated\n' '' --from "$wrong" --from "$files"
+    mv "$wrong/metadata" "$wrong/documents"
+    ln -s documents "$wrong/metadata"
+    fresh
+    updates 3 '' "release: $wrong: metadata/2.root.json: no folder, and no link is followed\nrelease: $far: the source failed\nfault network\n" --from "$wrong"
+    rm -r "$wrong/metadata"
+    updates 0 'updated\n' "warning: $wrong: no timestamp\n" --from "$wrong"
+    updates 0 "{\"after\":$(versions 1 1 1 1),\"answer\":\"updated\",\"before\":$(versions 1 null null null),\"changed\":true,$(
+        )\"first\":{\"expires\":$(first_expiry),\"role\":\"snapshot\"},\"mirrors\":[{\"files\":0,\"source\":\"$wrong\"},$(
+        ){\"files\":2,\"source\":\"$files\"}],\"now\":$at,\"source\":\"$files\"}\n" '' --json --from "$wrong" --from "$files"
+    rm -r "$wrong"
+}
+
+# A folder that is not there is a fault of a file, whatever stands next to it. A port stands alone.
+folders_that_are_none() {
+    local out=$folder/out.txt
+    fresh
+    updates 3 '' "release: $folder/none: No such file or directory (os error 2)\nfault file\n" --from "$folder/none" --mirror "$whole"
+    wants 3 '' "release: $out: no folder\nfault file\n" get --at=$at --db "$far" --mirror "$whole" --from "$out" --out "$out" hello.txt
+    wants 1 '' 'denied 36 BadPath\n' get --at=$at --db "$far" --from "$folder/none" --out "$out" /hello.txt
+    usage update --db "$far" --from "$folder/mirrors/files" --port 80
+    usage update --db "$far" --from "$folder/mirrors/files" --mirror localhost
 }
 
 # A mirror that is not there, and one that gives no answer, are passed over; where there is no other, the network failed.

@@ -5,6 +5,7 @@ ghost use Rattle.client_commands.specs.Clients.{IsGranted};
 use crate::fault::told;
 use crate::remote::{Call, Remote, tell_wrongs};
 use crate::report::{Got, get_as_json, is_answer};
+use crate::server::see_folders;
 use crate::turns::Turn;
 use client::{ClientFault, fetch_by_each};
 use command_line::{Getting, Server};
@@ -30,6 +31,7 @@ pub fn get<O: Write, E: Write>(
 ) -> Result<(), Fault> {
     let now = moment(rt, at)?;
     let path = target_path(rt, asked.path.as_str(), notes)?;
+    see_folders(rt, &asked.server, notes)?;
     let call = Call::begun(rt, asked.within)?;
     let (fetched, turns) = granted(call, asked, &path, now, notes);
     let (done, bytes) = match fetched {

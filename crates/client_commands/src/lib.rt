@@ -4,6 +4,7 @@
 
 mod asking;
 mod fault;
+mod folders;
 mod getting;
 mod publishing;
 mod remote;

@@ -1,5 +1,7 @@
-//! What `update` and `get` fetch files from: a repository that is served at a port of 127.0.0.1, or mirrors of one, each in its turn.
-use crate::server::{Asked, Peer};
+//! What `update` and `get` fetch files from: a repository that is served at a port of 127.0.0.1, or folders and mirrors of one, each in its
+//! turn.
+use crate::folders::{below, within};
+use crate::server::{Asked, Peer, count_of, peer_at};
 use crate::turns::{End, Turn, Turns};
 use crate::wire::{Hearing, Wire, connected, host};
 use client::{ClientFault, Sources};
@@ -14,6 +16,9 @@ use std::fmt;
 use std::io::{IsTerminal, Write};
 use std::mem::replace;
 use std::net::TcpStream;
+
+// What is told of a file for which there is no time left.
+const TIME_IS_OVER: &str = "not asked for, its time is over";
 
 // So many seconds has a whole call where it is not said otherwise.
 const CALL_SECONDS: u64 = 600;
@@ -61,8 +66,8 @@ impl<'a> Call<'a> {
     }
 }
 
-/// A repository of which nothing is known, at a port of 127.0.0.1 or at mirrors, which are asked in turns. Each file is fetched over a
-/// connection of its own. One that cannot be made gives no answer. On a terminal each name is told before it is fetched.
+/// A repository of which nothing is known, at a port of 127.0.0.1, or in folders and at mirrors, which are asked in turns. Each file of a mirror
+/// is fetched over a connection of its own. One that cannot be made gives no answer. On a terminal each name is told before it is fetched.
 #[derive(Drop)]
 pub struct Remote<'a, 'n, 'e, E: Write> {
     call: Call<'a>,
@@ -72,7 +77,7 @@ pub struct Remote<'a, 'n, 'e, E: Write> {
     bytes: u64,
     lacks_timestamp: bool,
     has_timestamp: bool,
-    // whether the first turn is that of all mirrors together
+    // whether the first turn is that of all together
     is_joined: bool,
     // who is asked now: nobody alone, where all are asked together
     peer: Option<Peer<'a>>,
@@ -83,7 +88,7 @@ pub struct Remote<'a, 'n, 'e, E: Write> {
 }
 
 impl<'a, 'n, 'e, E: Write> Remote<'a, 'n, 'e, E> {
-    /// The port, or each mirror alone in its turn.
+    /// The port, or each folder and mirror alone in its turn.
     pub fn new(
         call: Call<'a>,
         server: &'a Server,
@@ -105,7 +110,7 @@ impl<'a, 'n, 'e, E: Write> Remote<'a, 'n, 'e, E> {
         }
     }
 
-    /// The same, and where there are several mirrors a turn before these, in which each file is that of the first mirror that has it.
+    /// The same, and where there are several a turn before these, in which each file is that of the first that has it.
     pub fn joined(
         call: Call<'a>,
         server: &'a Server,
@@ -132,17 +137,9 @@ impl<'a, 'n, 'e, E: Write> Remote<'a, 'n, 'e, E> {
         replace(&mut self.turns, none).done()
     }
 
-    // The port, or the mirror that has the turn at this place alone.
-    fn peer_at(&self, place: usize) -> Option<Peer<'a>> {
-        let server: &'a Server = self.server;
-        match server {
-            Server::Port(port) => Some(Peer::Port(*port)),
-            Server::Mirrors(urls) => {
-                let place = place.checked_sub(self.is_joined as usize)?;
-                let url = urls.get(place)?;
-                Some(Peer::Mirror(url.as_str()))
-            }
-        }
+    // Who has the turn at this place alone.
+    fn alone_at(&self, place: usize) -> Option<Peer<'a>> {
+        peer_at(self.server, place.checked_sub(self.is_joined as usize)?)
     }
 
     // The file of this name, from one of them.
@@ -156,6 +153,7 @@ impl<'a, 'n, 'e, E: Write> Remote<'a, 'n, 'e, E> {
         let answer = match peer {
             Peer::Port(port) => self.ask_port(alloc, port, name, limit),
             Peer::Mirror(url) => self.ask_mirror(alloc, url, Asked { peer, name, limit }),
+            Peer::Folder(folder) => self.ask_folder(folder, Asked { peer, name, limit }),
         };
         if let Ok(Some(_)) = &answer {
             self.giver = Some(peer);
@@ -190,15 +188,34 @@ impl<'a, 'n, 'e, E: Write> Remote<'a, 'n, 'e, E> {
         limit: usize,
     ) -> Result<Option<Vec<u8>>, FetchFault> {
         let mut answer = Err(FetchFault::Broken);
-        let server: &'a Server = self.server;
-        if let Server::Mirrors(urls) = server {
-            for url in urls {
-                if !is_settled(&answer) {
-                    let next = self.ask(alloc, Peer::Mirror(url.as_str()), name, limit);
+        for place in 0..count_of(self.server) {
+            if !is_settled(&answer) {
+                if let Some(peer) = peer_at(self.server, place) {
+                    let next = self.ask(alloc, peer, name, limit);
                     answer = together(answer, next);
                 }
             }
         }
+        answer
+    }
+
+    // Reads a file in a folder, as long as there is time.
+    fn ask_folder(
+        &mut self,
+        folder: &str,
+        asked: Asked<'_>,
+    ) -> Result<Option<Vec<u8>>, FetchFault> {
+        if self.call.left(self.until).is_none() {
+            self.tell_fault(&asked, &TIME_IS_OVER);
+            return Err(FetchFault::Broken);
+        }
+        let found = below(self.call.rt, folder, asked.name, asked.limit);
+        if let Err(error) = &found {
+            self.tell_fault(&asked, error);
+            return within(found, asked.limit);
+        }
+        let answer = within(found, asked.limit);
+        self.tell(asked, &answer, None);
         answer
     }
 
@@ -226,7 +243,7 @@ impl<'a, 'n, 'e, E: Write> Remote<'a, 'n, 'e, E> {
     ) -> Result<Option<Vec<u8>>, FetchFault> {
         let call = self.call;
         let Some(seconds) = call.left(self.until) else {
-            self.tell_fault(&asked, &"not asked for, its time is over");
+            self.tell_fault(&asked, &TIME_IS_OVER);
             return Err(FetchFault::Broken);
         };
         match connected(call.rt, mirror.host, mirror.port, seconds) {
@@ -327,7 +344,7 @@ impl<E: Write> Sources for Remote<'_, '_, '_, E> {
         let call = self.call;
         let left = self.count().saturating_sub(place);
         self.until = call.share(left as u64);
-        self.peer = self.peer_at(place);
+        self.peer = self.alone_at(place);
         self.turns.begin(self.peer);
     }
 
@@ -336,7 +353,7 @@ impl<E: Write> Sources for Remote<'_, '_, '_, E> {
     }
 }
 
-/// Warns of each of several mirrors whose turn ended in a wrong of its own; of a denial with this number it does not, since that is what is
+/// Warns of each of several whose turn ended in a wrong of its own; of a denial with this number it does not, since that is what is
 /// told of the call. With one alone the end of the call tells it.
 pub fn tell_wrongs<E: Write>(
     server: &Server,
@@ -355,14 +372,6 @@ pub fn tell_wrongs<E: Write>(
             }
             _ => {}
         }
-    }
-}
-
-// How many are asked.
-fn count_of(server: &Server) -> usize {
-    match server {
-        Server::Port(_) => 1,
-        Server::Mirrors(urls) => urls.len(),
     }
 }
 

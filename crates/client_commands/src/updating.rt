@@ -2,7 +2,7 @@
 use crate::fault::told;
 use crate::remote::{Call, Remote, tell_wrongs};
 use crate::report::{Found, is_answer, update_as_json};
-use crate::server::Named;
+use crate::server::{Named, see_folders};
 use crate::turns::Turn;
 use client::update_by_each;
 use command_line::Updating;
@@ -14,7 +14,7 @@ use std::fmt;
 use std::io::{IsTerminal, Write};
 use subcommands::{FirstExpiry, Store, Versions, Work, tell_standing, worked};
 
-/// Takes new roots, the timestamp and the snapshot from the repository at the port or the mirrors into the state in the database
+/// Takes new roots, the timestamp and the snapshot from the repository at the port, or in folders and at mirrors, into the state in the database
 /// file, each where the state's own rules accept it, and prints `updated`, or what it found as JSON, then also where it was denied or the
 /// network failed. It warns where the repository has no timestamp, or the one that is held then has expired: from then on nothing is granted.
 /// All of it has so many seconds, 600 where none are given.
@@ -26,6 +26,7 @@ pub fn update<O: Write, E: Write>(
     notes: &mut Notes<'_, E>,
 ) -> Result<(), Fault> {
     let now = moment(rt, at)?;
+    see_folders(rt, &asked.server, notes)?;
     let call = Call::begun(rt, asked.within)?;
     let mut bringing = Bringing {
         call,

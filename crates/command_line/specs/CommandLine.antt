@@ -74,7 +74,7 @@ abbrev pub HasPlace : List Row → Place → Type 0
 HasPlace rows (Database db) = HasText rows (codes "db") db × (first_of (codes "port") rows ≡ None)
 HasPlace rows (Port port) = HasNumber rows (codes "port") 1 last_port port × (first_of (codes "db") rows ≡ None) × (first_of (codes "at") rows ≡ None)
 
--- the most mirrors of a client
+-- the most mirrors of a client, and the most folders
 abbrev pub most_mirrors : ℕ
 most_mirrors = 16
 
@@ -82,10 +82,12 @@ most_mirrors = 16
 abbrev pub most_times : ℕ
 most_times = 4096
 
--- where a client fetches from: a port, or mirrors
+-- where a client fetches from: a port, mirrors, or folders with mirrors or without
 abbrev pub HasServer : List Row → Server → Type 0
-HasServer rows (servers.Port port) = HasNumber rows (codes "port") 1 last_port port × Lacks rows (codes "mirror")
-HasServer rows (servers.Mirrors mirrors) = HasTexts rows (codes "mirror") most_mirrors mirrors.items × Lacks rows (codes "port")
+HasServer rows (servers.Port port) = HasNumber rows (codes "port") 1 last_port port × Lacks rows (codes "mirror") × Lacks rows (codes "from")
+HasServer rows (servers.Mirrors mirrors) = HasTexts rows (codes "mirror") most_mirrors mirrors.items × Lacks rows (codes "port") × Lacks rows (codes "from")
+HasServer rows (servers.Folders folders mirrors) = HasTexts rows (codes "from") most_mirrors folders.items
+    × MayHaveTexts rows (codes "mirror") most_mirrors mirrors.items × Lacks rows (codes "port")
 
 -- the same number, and another one where it is left out
 abbrev pub HasNumberOr : List Row → Text → ℕ → ℕ → ℕ → ℕ → Type 0

@@ -15,10 +15,10 @@ use lms::{OtsType, Params, SigningHeight};
 use mirrors::read_mirror;
 use std::alloc::{AllocError, Global};
 
-// Neither a port nor a mirror, and both of them, likewise.
+// Neither a port nor a mirror nor a folder, and a port and a mirror, likewise.
 const NO_SERVER: &str = concat!(
     "error: the following required arguments were not provided:\n",
-    "  <--port <P>|--mirror <URL>>\n\n",
+    "  <--port <P>|--mirror <URL>|--from <FOLDER>>\n\n",
     "For more information, try '--help'.\n",
 );
 
@@ -192,10 +192,13 @@ pub fn due_of(alloc: Global, given: &ArgMatches<'_>) -> Result<Option<u64>, Unre
     number_of(alloc, given, "due", 0, MOST_DAYS)
 }
 
-/// Where a client fetches from: exactly one of the two is given.
+/// Where a client fetches from: a port alone, or folders and mirrors.
 pub fn server_of(alloc: Global, given: &ArgMatches<'_>) -> Result<Server, Unread>
     ensures { IfOk result (HasServer (rows_of (found_of given.now))) }
 {
+    if !is_left_out(given, "from") {
+        return folders_of(alloc, given);
+    }
     if is_left_out(given, "mirror") {
         if is_left_out(given, "port") {
             return Err(fault(alloc, NO_SERVER));
@@ -208,6 +211,17 @@ pub fn server_of(alloc: Global, given: &ArgMatches<'_>) -> Result<Server, Unread
     let mirrors = texts_of(alloc, given, "mirror", MOST_MIRRORS)?;
     see_mirrors(alloc, &mirrors)?;
     Ok(Server::Mirrors(mirrors))
+}
+
+// Folders, and the mirrors that are asked after them.
+fn folders_of(alloc: Global, given: &ArgMatches<'_>) -> Result<Server, Unread>
+    ensures { IfOk result (HasServer (rows_of (found_of given.now))) }
+{
+    refuse(alloc, given, "port", "--from <FOLDER>")?;
+    let folders = texts_of(alloc, given, "from", MOST_MIRRORS)?;
+    let mirrors = texts_or_none(alloc, given, "mirror", MOST_MIRRORS)?;
+    see_mirrors(alloc, &mirrors)?;
+    Ok(Server::Folders { folders, mirrors })
 }
 
 // Each of the texts is the URL of a mirror.

@@ -15,7 +15,7 @@ pub const MOST_SECONDS: u64 = 86400;
 /// The most days that `--due` looks ahead, ten years.
 pub const MOST_DAYS: u64 = 3650;
 
-/// The most mirrors of a client.
+/// The most mirrors of a client, and the most folders.
 pub const MOST_MIRRORS: usize = 16;
 
 /// The most times that an option stands that may stand more than once.
@@ -58,6 +58,11 @@ pub enum Server {
     Port(u16),
     /// Mirrors, 1 to 16, each by the text that names it.
     Mirrors(Vec<String>),
+    /// Folders, 1 to 16, and then mirrors, up to 16.
+    Folders {
+        folders: Vec<String>,
+        mirrors: Vec<String>,
+    },
 }
 
 /// What is drafted: the database that the draft follows, if one is given, the folder of the drafts, when the document expires, and whether
@@ -227,8 +232,8 @@ pub enum Subcommand {
         db: String,
         to: String,
     },
-    /// `get --db FILE (--port P | --mirror URL ..) [--within SECONDS] [--json] --out OUT PATH`: fetches a target, and writes the file where the
-    /// client's own state grants it.
+    /// `get --db FILE (--port P | [--from FOLDER ..] [--mirror URL ..]) [--within SECONDS] [--json] --out OUT PATH`: fetches a target, and writes
+    /// the file where the client's own state grants it.
     Get(Getting),
     /// `init --db FILE ROOT`: begins the trust with a first root.
     Init {
@@ -284,7 +289,7 @@ pub enum Subcommand {
     /// is said so, and where it is said so also another document of a kind and version that the key has signed. What is held is judged by the
     /// root that is given, and where it is said so nothing is signed over what does not meet its rules.
     SignIn(FolderSigning),
-    /// `update --db FILE (--port P | --mirror URL ..) [--within SECONDS] [--json]`: brings a client's own state up to date.
+    /// `update --db FILE (--port P | [--from FOLDER ..] [--mirror URL ..]) [--within SECONDS] [--json]`: brings a client's own state up to date.
     Update(Updating),
 }
 

@@ -64,7 +64,8 @@ pub fn read_regular<E: Write>(
     }
 }
 
-fn regular(rt: &HostRuntime, path: &str, limit: usize) -> io::Result<Option<Vec<u8>>> {
+/// The same, where nothing is told.
+pub fn regular(rt: &HostRuntime, path: &str, limit: usize) -> io::Result<Option<Vec<u8>>> {
     let Some(stands) = standing(rt, path)? else {
         return Ok(None);
     };

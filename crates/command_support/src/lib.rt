@@ -15,7 +15,7 @@ pub use command_line::Usage;
 pub use databases::{connected, see_database};
 pub use denials::Denial;
 pub use fault::{Fault, Slip, file_fault};
-pub use files::{names_of, print, read, read_at_most, read_regular};
+pub use files::{names_of, print, read, read_at_most, read_regular, regular};
 pub use folder::{FOR_ALL, Folder};
 pub use limits::FILE_LIMIT;
 pub use locking::FolderLock;
