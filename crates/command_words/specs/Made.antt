@@ -4,9 +4,10 @@ use Rattle.clap.specs.Words.{App, Rule, app_of, with_rule}
 use Rattle.clap.specs.declared.builder.command.Command.{Command}
 use Rattle.clap.specs.declared.builder.command.Command.TheViews.{out-Command}
 use Rattle.clap.specs.declared.builder.value_parser.ValueParser.TheVariants.{Unsigned}
-use Rattle.command_words.specs.Subcommands.{flag_rule, many_rule, operand_rule, operands_rule, option_rule, required_rule, verbose_rule}
+use Rattle.command_words.specs.Subcommands.{begun_line, flag_rule, many_rule, operand_rule, operands_rule, option_rule, required_rule, verbose_rule}
 use Rattle.command_words.specs.declared.options.Word.{Word}
 use Rattle.command_words.specs.declared.options.Word.TheVariants as words
+use Rattle.command_words.specs.declared.subcommands.Subcommand.{Subcommand}
 
 -- where there was memory for the command, it is this one, and subcommands have none of its arguments
 abbrev pub Makes : {E : Type 0} → App → Result Command E → Type 0
@@ -28,3 +29,7 @@ rule_word words.Verbose = verbose_rule
 abbrev pub with_words : App → List Word → App
 with_words a [] = a
 with_words a (w ∷ ws) = with_words (with_rule a (rule_word w)) ws
+
+-- a subcommand with what each takes and with its own arguments
+abbrev pub line_of : Subcommand → App
+line_of s = with_words (begun_line s.name.now) s.words.now

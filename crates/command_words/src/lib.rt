@@ -3,7 +3,7 @@
 
 ghost use Rattle.std.specs.Prelude.{◌≡◌, IfOk, codes};
 ghost use Rattle.clap.specs.Words.{App, app_of, new_app};
-ghost use Rattle.command_words.specs.Made.{Makes};
+ghost use Rattle.command_words.specs.Made.{Makes, line_of};
 ghost use Rattle.command_words.specs.Subcommands.{needs_subcommand, release_line, with_command, with_version};
 
 mod options;
@@ -11,9 +11,11 @@ mod subcommands;
 mod texts;
 
 use clap::Command;
+use options::with;
 use std::alloc::{AllocError, Global};
 use subcommands::{
-    canon, draft, export, get, init, key, prune, publish, put, serve, show, sign, update,
+    CANON, COMMON, DRAFT, EXPORT, GET, INIT, KEY, PROGRAM, PRUNE, PUBLISH, PUT, SERVE, SHOW, SIGN,
+    Subcommand, UPDATE,
 };
 pub use texts::DENIALS;
 
@@ -22,19 +24,19 @@ pub fn release<'a>(alloc: Global) -> Result<Command<'a>, AllocError>
     ensures { IfOk result (λ c. app_of c ≡ release_line) }
 {
     let command = begun(alloc);
-    let command = with(command, canon(alloc));
-    let command = with(command, draft(alloc));
-    let command = with(command, export(alloc));
-    let command = with(command, get(alloc));
-    let command = with(command, init(alloc));
-    let command = with(command, key(alloc));
-    let command = with(command, prune(alloc));
-    let command = with(command, publish(alloc));
-    let command = with(command, put(alloc));
-    let command = with(command, serve(alloc));
-    let command = with(command, show(alloc));
-    let command = with(command, sign(alloc));
-    with(command, update(alloc))
+    let command = with_one(command, made(alloc, CANON));
+    let command = with_one(command, made(alloc, DRAFT));
+    let command = with_one(command, made(alloc, EXPORT));
+    let command = with_one(command, made(alloc, GET));
+    let command = with_one(command, made(alloc, INIT));
+    let command = with_one(command, made(alloc, KEY));
+    let command = with_one(command, made(alloc, PRUNE));
+    let command = with_one(command, made(alloc, PUBLISH));
+    let command = with_one(command, made(alloc, PUT));
+    let command = with_one(command, made(alloc, SERVE));
+    let command = with_one(command, made(alloc, SHOW));
+    let command = with_one(command, made(alloc, SIGN));
+    with_one(command, made(alloc, UPDATE))
 }
 
 // The program, before its subcommands.
@@ -45,17 +47,37 @@ fn begun<'a>(alloc: Global) -> Result<Command<'a>, AllocError>
         Command::new(alloc, "release")
             .about("A release repository after The Update Framework 1.0")
             .version(texts::VERSION)
-            .after_help(texts::PROGRAM)
+            .after_help(PROGRAM)
             .subcommand_required(true),
     )
 }
 
 // The command with one more subcommand, if there was memory for both.
-fn with<'a>(
+fn with_one<'a>(
     command: Result<Command<'a>, AllocError>,
     subcommand: Result<Command<'a>, AllocError>,
 ) -> Result<Command<'a>, AllocError>
     ensures { (a b : App) → Makes a command.entry → Makes b subcommand.entry → Makes (with_command a b) result }
 {
     command?.subcommand(subcommand?)
+}
+
+// A subcommand, as `clap` has it.
+fn made<'a>(alloc: Global, subcommand: Subcommand<'a>) -> Result<Command<'a>, AllocError>
+    ensures { Makes (line_of subcommand.entry) result }
+{
+    let command = bare(alloc, subcommand);
+    let command = with(alloc, command, COMMON);
+    with(alloc, command, subcommand.words)
+}
+
+// The same without any argument.
+fn bare<'a>(alloc: Global, subcommand: Subcommand<'a>) -> Result<Command<'a>, AllocError>
+    ensures { Makes (new_app subcommand.entry.name.now) result }
+{
+    Ok(
+        Command::new(alloc, subcommand.name)
+            .about(subcommand.about)
+            .after_help(subcommand.after),
+    )
 }

@@ -1,71 +1,7 @@
-//! What help says behind the options, and the table of denials.
+//! The version, and the table of denials.
 
 /// The version of the program.
 pub const VERSION: &str = "0.3.0";
-
-macro_rules! behind {
-    ($example:literal) => {
-        concat!(
-            "Example:\n  ",
-            $example,
-            "\n\nExit status:\n",
-            "  0  done\n",
-            "  1  denied: 'denied N Name' on standard error, for a document of a batch with ' at I' behind it;\n",
-            "     also 'leaves spent', 'unknown key', 'refused WORD' of drafts, and 'due' of show\n",
-            "  2  a fault of the command line\n",
-            "  3  all else: 'fault' and one of memory, database, damaged, network, file and clock\n",
-            "\n",
-            "'release help denials' prints the numbers and names of the denials. docs/REFERENCE.md describes the\n",
-            "HTTP interface, docs/TUTORIAL.md a first repository, and docs/OPERATING.md how one is run."
-        )
-    };
-}
-
-/// Behind the help of the whole program.
-pub const PROGRAM: &str = behind!("release init --db repository.db root.json");
-
-/// Behind the help of `canon`.
-pub const CANON: &str = behind!("release canon document.json > canonical.json");
-
-/// Behind the help of `draft`.
-pub const DRAFT: &str = behind!(
-    "release draft --db repository.db --in drafts targets --add hello.txt --remove old.txt"
-);
-
-/// Behind the help of `export`.
-pub const EXPORT: &str = behind!("release export --db repository.db --to /srv/repository");
-
-/// Behind the help of `get`.
-pub const GET: &str = behind!("release get --db client.db --port 8080 --out hello.txt hello.txt");
-
-/// Behind the help of `init`.
-pub const INIT: &str = behind!("release init --db repository.db root.json");
-
-/// Behind the help of `key`.
-pub const KEY: &str = behind!("release key --new root");
-
-/// Behind the help of `prune`.
-pub const PRUNE: &str = behind!("release prune --db repository.db");
-
-/// Behind the help of `publish`.
-pub const PUBLISH: &str = behind!(
-    "release publish --db repository.db timestamp:timestamp.json snapshot:snapshot.json targets:targets.json"
-);
-
-/// Behind the help of `put`.
-pub const PUT: &str = behind!("release put --db repository.db hello.txt");
-
-/// Behind the help of `serve`.
-pub const SERVE: &str = behind!("release serve --db repository.db --port 8080 --verbose");
-
-/// Behind the help of `show`.
-pub const SHOW: &str = behind!("release show --in drafts --db repository.db");
-
-/// Behind the help of `sign`.
-pub const SIGN: &str = behind!("release sign --key root --in drafts");
-
-/// Behind the help of `update`.
-pub const UPDATE: &str = behind!("release update --db client.db --port 8080");
 
 /// The numbers and names of the denials, each with the first rule that fails.
 pub const DENIALS: &str = concat!(

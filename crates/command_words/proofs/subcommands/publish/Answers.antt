@@ -1,4 +1,0 @@
-use Rattle.command_words.proofs.subcommands.publish.Goals as goal
-
-pub returns : goal.returns
-returns c = c.with.ensures _ c.begun-command.ensures
