@@ -1,7 +1,6 @@
 //! What is no document: the denials 1 to 5.
-ghost use Rattle.std.specs.Prelude.{◌<◌, length};
 
-const TOO_LONG: &str = concat!(
+pub(crate) const TOO_LONG: &str = concat!(
     "The file has over 262,144 bytes, the most of a metadata file, a layout or a link. List fewer targets\n",
     "in one document: delegate some paths to another role, as by\n",
     "'release draft --in d targets --delegate NAME=KEY:PATTERN', and list them there. Signatures are\n",
@@ -9,7 +8,7 @@ const TOO_LONG: &str = concat!(
     "shorter, too.\n",
 );
 
-const NOT_CANONICAL: &str = concat!(
+pub(crate) const NOT_CANONICAL: &str = concat!(
     "The file is no canonical JSON, which docs/FORMATS.md describes. Write it anew by\n",
     "'release canon FILE > CANONICAL', and have it signed after that: a signature is over the bytes as\n",
     "they stand. Where 'release canon' is denied so, FILE is no JSON at all, has a number that is no\n",
@@ -17,7 +16,7 @@ const NOT_CANONICAL: &str = concat!(
     "and 'release init' tell the byte at fault where they are certain of it.\n",
 );
 
-const WRONG_SHAPE: &str = concat!(
+pub(crate) const WRONG_SHAPE: &str = concat!(
     "The members are not those of the kind, which docs/FORMATS.md lists. An argument of 'release publish'\n",
     "that is no ROLE:FILE is denied so as well: the line ROLE:FILE has no colon, or no role's name before\n",
     "it, and is to be 'root:FILE', 'timestamp:FILE', 'snapshot:FILE', or the name of another role with\n",
@@ -26,29 +25,16 @@ const WRONG_SHAPE: &str = concat!(
     "bytes. 'release sign' denies so what would get its 17th signature.\n",
 );
 
-const WRONG_TYPE: &str = concat!(
+pub(crate) const WRONG_TYPE: &str = concat!(
     "The _type is another: the document is of another kind than the role that it stands under. 'root',\n",
     "'timestamp' and 'snapshot' have documents of their own, and any other role has targets metadata.\n",
     "Offer the file under its own role, or put it into the folder of drafts by that name, as\n",
     "'timestamp.json'.\n",
 );
 
-const BAD_KEY_ID: &str = concat!(
+pub(crate) const BAD_KEY_ID: &str = concat!(
     "A name in a key table is not its key's id, the SHA-256 of the bytes that 'release key' prints,\n",
     "without the line end. With -v 'release publish' and 'release init' tell which name it is. Put the id\n",
     "in its place, also in the rules that name this key, and have the document signed anew.\n",
     "'release draft' makes key tables of files NAME.key by itself.\n",
 );
-
-/// The paragraph of one of these denials, the last of them where the number is none of theirs.
-pub(crate) fn of_files(number: u8) -> &'static str
-    ensures { 0 < length result.now }
-{
-    match number {
-        1 => TOO_LONG,
-        2 => NOT_CANONICAL,
-        3 => WRONG_SHAPE,
-        4 => WRONG_TYPE,
-        _ => BAD_KEY_ID,
-    }
-}

@@ -14,15 +14,6 @@ mod snapshots;
 mod targets;
 mod timestamps;
 
-use files::of_files;
-use layouts::of_layouts;
-use roles::of_roles;
-use roots::of_roots;
-use rules::of_rules;
-use snapshots::of_snapshots;
-use targets::of_targets;
-use timestamps::of_timestamps;
-
 // The names of the denials in the order of their numbers, the first of which is 1.
 static NAMES: [&str; 53] = [
     "TooLong",
@@ -116,14 +107,59 @@ fn text_of(number: u8) -> &'static str
     ensures { 0 < length result.now }
 {
     match number {
-        0..=5 => of_files(number),
-        6..=11 => of_roots(number),
-        12..=16 => of_timestamps(number),
-        17..=25 => of_snapshots(number),
-        26..=33 => of_roles(number),
-        34..=40 => of_targets(number),
-        41..=47 => of_layouts(number),
-        _ => of_rules(number),
+        1 => files::TOO_LONG,
+        2 => files::NOT_CANONICAL,
+        3 => files::WRONG_SHAPE,
+        4 => files::WRONG_TYPE,
+        5 => files::BAD_KEY_ID,
+        6 => roots::NO_ROOT,
+        7 => roots::ROOT_EXISTS,
+        8 => roots::ROOT_VERSION,
+        9 => roots::OLD_THRESHOLD,
+        10 => roots::NEW_THRESHOLD,
+        11 => roots::ROOT_EXPIRED,
+        12 => timestamps::TIMESTAMP_THRESHOLD,
+        13 => timestamps::TIMESTAMP_ROLLBACK,
+        14 => timestamps::NAMED_SNAPSHOT_ROLLBACK,
+        15 => timestamps::TIMESTAMP_EXPIRED,
+        16 => timestamps::NO_TIMESTAMP,
+        17 => snapshots::SNAPSHOT_LENGTH,
+        18 => snapshots::SNAPSHOT_HASH,
+        19 => snapshots::SNAPSHOT_THRESHOLD,
+        20 => snapshots::SNAPSHOT_VERSION,
+        21 => snapshots::SNAPSHOT_ROLLBACK,
+        22 => snapshots::ROLE_DROPPED,
+        23 => snapshots::SNAPSHOT_EXPIRED,
+        24 => snapshots::NO_SNAPSHOT,
+        25 => snapshots::SNAPSHOT_STALE,
+        26 => roles::ROLE_UNLISTED,
+        27 => roles::ROLE_LENGTH,
+        28 => roles::ROLE_HASH,
+        29 => roles::ROLE_VERSION,
+        30 => roles::ROLE_THRESHOLD,
+        31 => roles::ROLE_EXPIRED,
+        32 => roles::VERSION_TAKEN,
+        33 => roles::ROLE_MISSING,
+        34 => targets::TOO_MANY_ROLES,
+        35 => targets::NOT_FOUND,
+        36 => targets::BAD_PATH,
+        37 => targets::BLOB_MISSING,
+        38 => targets::BLOB_LENGTH,
+        39 => targets::DIGEST_MISMATCH,
+        40 => targets::FULL,
+        41 => layouts::SUPPORT_DENIED,
+        42 => layouts::LAYOUT_NESTED,
+        43 => layouts::LAYOUT_SHAPE,
+        44 => layouts::LAYOUT_THRESHOLD,
+        45 => layouts::LAYOUT_EXPIRED,
+        46 => layouts::STEP_THRESHOLD,
+        47 => layouts::LINKS_DISAGREE,
+        48 => rules::DISALLOWED,
+        49 => rules::REQUIRED,
+        50 => rules::PRODUCT_MISMATCH,
+        51 => rules::INCOHERENT,
+        52 => rules::LAYOUT_REQUIRED,
+        _ => rules::PROFILE_LOWERED,
     }
 }
 

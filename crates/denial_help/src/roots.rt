@@ -1,27 +1,26 @@
 //! Roots: the denials 6 to 11.
-ghost use Rattle.std.specs.Prelude.{◌<◌, length};
 
-const NO_ROOT: &str = concat!(
+pub(crate) const NO_ROOT: &str = concat!(
     "No root is trusted: with this database the trust has not begun. Look first whether --db names the\n",
     "file that you mean, since a file that is not there is made. A repository and a client both begin by\n",
     "'release init --db FILE root.json', with a first root that you got in a way that you trust.\n",
 );
 
-const ROOT_EXISTS: &str = concat!(
+pub(crate) const ROOT_EXISTS: &str = concat!(
     "A root is trusted already: with this database the trust has begun, and 'release init' begins it\n",
     "once. A newer root comes into a repository by 'release publish --db FILE root:root.json', and into a\n",
     "client by 'release update'. Whoever wants to begin with another first root takes another database\n",
     "file, which then knows nothing of what this one has seen.\n",
 );
 
-const ROOT_VERSION: &str = concat!(
+pub(crate) const ROOT_VERSION: &str = concat!(
     "The version is not one more than that of the trusted root. Roots are taken one after the other and\n",
     "none is left out: where several are new, offer all of them in one batch, in the order of their\n",
     "versions. 'release show --db repository.db' prints the version that is trusted. Draft the root that\n",
     "follows it by 'release draft --db repository.db --in d root ROLE=RULE' and have it signed.\n",
 );
 
-const OLD_THRESHOLD: &str = concat!(
+pub(crate) const OLD_THRESHOLD: &str = concat!(
     "The trusted root's rule for roots is not met: too few keys that the root before names for roots have\n",
     "signed this one. As many of the old keys have to sign as the old rule asks for, and as many of the\n",
     "new keys as the new rule asks for (denial 10). 'release show --in d' says by which root's rule which\n",
@@ -30,7 +29,7 @@ const OLD_THRESHOLD: &str = concat!(
     "'release draft --in d take FILE', and publish again.\n",
 );
 
-const NEW_THRESHOLD: &str = concat!(
+pub(crate) const NEW_THRESHOLD: &str = concat!(
     "The root's own rule for roots is not met: too few of the keys that the new root names for roots have\n",
     "signed it. This is asked of a first root, too. 'release show --in d' says which keys have signed and\n",
     "which are wanted, and 'release publish -v' or 'release init -v' how many. Let the missing keys sign\n",
@@ -38,24 +37,10 @@ const NEW_THRESHOLD: &str = concat!(
     "'release draft --in d take FILE', and offer it again.\n",
 );
 
-const ROOT_EXPIRED: &str = concat!(
+pub(crate) const ROOT_EXPIRED: &str = concat!(
     "The trusted root is not live: its 'expires' has come. Until there is a newer root no other document\n",
     "is taken, and no target is served. The publisher drafts one by\n",
     "'release draft --db repository.db --in d root', has it signed by as many keys as both roots ask for,\n",
     "and publishes it. A client gets it by 'release update'; where it is denied again, the publisher has\n",
     "no newer root yet, or the clock of this machine is wrong.\n",
 );
-
-/// The paragraph of one of these denials, the last of them where the number is none of theirs.
-pub(crate) fn of_roots(number: u8) -> &'static str
-    ensures { 0 < length result.now }
-{
-    match number {
-        6 => NO_ROOT,
-        7 => ROOT_EXISTS,
-        8 => ROOT_VERSION,
-        9 => OLD_THRESHOLD,
-        10 => NEW_THRESHOLD,
-        _ => ROOT_EXPIRED,
-    }
-}

@@ -1,14 +1,13 @@
 //! Timestamps: the denials 12 to 16.
-ghost use Rattle.std.specs.Prelude.{◌<◌, length};
 
-const TIMESTAMP_THRESHOLD: &str = concat!(
+pub(crate) const TIMESTAMP_THRESHOLD: &str = concat!(
     "The root's rule for the timestamp is not met: too few of the timestamp's keys have signed it. These\n",
     "keys are those of the root that is trusted by then, a new one of the same batch among them.\n",
     "'release show --in d' says which keys have signed and which are wanted, and 'release publish -v' how\n",
     "many. Sign it by 'release sign --key NAME --in d' and publish again.\n",
 );
 
-const TIMESTAMP_ROLLBACK: &str = concat!(
+pub(crate) const TIMESTAMP_ROLLBACK: &str = concat!(
     "The version is lower than that of the held timestamp: a newer one was published meanwhile, or this\n",
     "file is an old one. The publisher drafts it over what is held by\n",
     "'release draft --db repository.db --in d seal', has it signed and publishes it. A client that is\n",
@@ -16,14 +15,14 @@ const TIMESTAMP_ROLLBACK: &str = concat!(
     "repository was set back to a backup, its publisher has to publish higher versions.\n",
 );
 
-const NAMED_SNAPSHOT_ROLLBACK: &str = concat!(
+pub(crate) const NAMED_SNAPSHOT_ROLLBACK: &str = concat!(
     "It names a lower snapshot version than the held timestamp does: this timestamp was made over an\n",
     "older snapshot. The publisher drafts it over what is held by\n",
     "'release draft --db repository.db --in d seal', has it signed and publishes it. A client that is\n",
     "denied so was offered what is older than it has seen: ask another mirror or wait for this one.\n",
 );
 
-const TIMESTAMP_EXPIRED: &str = concat!(
+pub(crate) const TIMESTAMP_EXPIRED: &str = concat!(
     "The timestamp is not live: its 'expires' has come. The publisher renews it by\n",
     "'release draft --db repository.db --in d seal', 'release sign --key timestamp --in d' and\n",
     "'release publish --db repository.db --in d'. A client calls 'release update' and then asks again;\n",
@@ -31,7 +30,7 @@ const TIMESTAMP_EXPIRED: &str = concat!(
     "'release show --db repository.db --due DAYS' tells beforehand what is about to expire.\n",
 );
 
-const NO_TIMESTAMP: &str = concat!(
+pub(crate) const NO_TIMESTAMP: &str = concat!(
     "No timestamp is held: none was published so far, or a root with other keys for the timestamp or the\n",
     "snapshot made the repository forget it, with the snapshot and all targets metadata. Publish\n",
     "timestamp, snapshot and targets metadata together, in this order: 'release draft --in d seal' drafts\n",
@@ -39,16 +38,3 @@ const NO_TIMESTAMP: &str = concat!(
     "'release publish --db repository.db --in d' offers all of it. A client calls 'release update' and\n",
     "then asks again.\n",
 );
-
-/// The paragraph of one of these denials, the last of them where the number is none of theirs.
-pub(crate) fn of_timestamps(number: u8) -> &'static str
-    ensures { 0 < length result.now }
-{
-    match number {
-        12 => TIMESTAMP_THRESHOLD,
-        13 => TIMESTAMP_ROLLBACK,
-        14 => NAMED_SNAPSHOT_ROLLBACK,
-        15 => TIMESTAMP_EXPIRED,
-        _ => NO_TIMESTAMP,
-    }
-}
