@@ -71,16 +71,15 @@ pub fn get_as_json(
     say_answer(&mut text, "written", done);
     text.say(",\"length\":");
     match &got.bytes {
-        Some(bytes) => text.number(bytes.len() as u64),
+        Some(bytes) => text.number("", bytes.len() as u64),
         None => text.say("null"),
     }
-    text.say(",\"path\":");
-    text.quoted(got.path);
+    text.quoted(",\"path\":", got.path);
     text.say(",\"sha256\":");
     match &got.bytes {
         Some(bytes) => {
             let digits = digest_of(bytes).digits();
-            text.quoted(str::from_utf8(&digits).unwrap_or("-"));
+            text.quoted("", str::from_utf8(&digits).unwrap_or("-"));
         }
         None => text.say("null"),
     }
@@ -102,8 +101,7 @@ fn say_end(text: &mut Text, turns: &[Turn<'_>], now: Moment) {
             between = ",";
         }
     }
-    text.say("],\"now\":");
-    text.number(now.seconds());
+    text.number("],\"now\":", now.seconds());
     text.say(",\"source\":");
     say_source(text, turns);
     text.say("}\n");
@@ -113,10 +111,8 @@ fn say_end(text: &mut Text, turns: &[Turn<'_>], now: Moment) {
 fn say_turn(text: &mut Text, turn: &Turn<'_>) {
     match turn.end {
         Some(End::Denied(denial)) => {
-            text.say("{\"denied\":{\"name\":");
-            text.quoted(denial.name);
-            text.say(",\"number\":");
-            text.number(u64::from(denial.number));
+            text.quoted("{\"denied\":{\"name\":", denial.name);
+            text.number(",\"number\":", u64::from(denial.number));
             text.say("}");
         }
         Some(End::Fault(fault)) => {
@@ -124,8 +120,7 @@ fn say_turn(text: &mut Text, turn: &Turn<'_>) {
             say_shown(text, &fault);
         }
         None => {
-            text.say("{\"files\":");
-            text.number(turn.files);
+            text.number("{\"files\":", turn.files);
         }
     }
 }
@@ -144,9 +139,9 @@ fn say_source(text: &mut Text, turns: &[Turn<'_>]) {
 // The word of a command that was done, or why it was not.
 fn say_answer(text: &mut Text, word: &str, done: &Result<(), Fault>) {
     match done {
-        Ok(()) => text.quoted(word),
+        Ok(()) => text.quoted("", word),
         Err(fault) => match format!(in text.alloc; "{fault}") {
-            Ok(line) => text.quoted(line.as_str().strip_suffix('\n').unwrap_or("-")),
+            Ok(line) => text.quoted("", line.as_str().strip_suffix('\n').unwrap_or("-")),
             Err(error) => text.formed(Err(error)),
         },
     }
@@ -166,7 +161,7 @@ fn say_versions(text: &mut Text, versions: &Versions) {
 
 fn say_version(text: &mut Text, version: Option<u32>) {
     match version {
-        Some(version) => text.number(u64::from(version)),
+        Some(version) => text.number("", u64::from(version)),
         None => text.say("null"),
     }
 }
@@ -174,10 +169,8 @@ fn say_version(text: &mut Text, version: Option<u32>) {
 fn say_first(text: &mut Text, first: &Option<FirstExpiry>) {
     match first {
         Some(first) => {
-            text.say("{\"expires\":");
-            text.number(first.seconds());
-            text.say(",\"role\":");
-            text.quoted(first.role.as_str());
+            text.number("{\"expires\":", first.seconds());
+            text.quoted(",\"role\":", first.role.as_str());
             text.say("}");
         }
         None => text.say("null"),
@@ -186,7 +179,7 @@ fn say_first(text: &mut Text, first: &Option<FirstExpiry>) {
 
 fn say_shown<T: Display>(text: &mut Text, shown: &T) {
     match format!(in text.alloc; "{shown}") {
-        Ok(line) => text.quoted(line.as_str()),
+        Ok(line) => text.quoted("", line.as_str()),
         Err(error) => text.formed(Err(error)),
     }
 }

@@ -57,8 +57,7 @@ fn say_row(text: &mut Text, shown: &Overview, row: &Row) {
     if let Some(leaves) = together {
         text.say("  together ");
         say_bar(text, parts_of_leaves(leaves), leaves.are_few());
-        text.say(" ");
-        text.number(leaves.left);
+        text.number(" ", leaves.left);
     }
     say_part(text, &row.covers);
     say_part(text, &row.facts);
@@ -89,8 +88,7 @@ fn say_leaves(text: &mut Text, key: &KeyRow, is_alone: bool) {
             parts_of_leaves(key.leaves(left)),
             is_alone && key.is_low(),
         );
-        text.say(" ");
-        text.number(u64::from(left));
+        text.number(" ", u64::from(left));
     }
 }
 

@@ -55,8 +55,7 @@ pub(crate) fn page_steps(text: &mut Text, steps: &[StepRow], target: &str) {
         page_step(text, step);
         text.say(" &rarr; ");
     }
-    text.say("<b>");
-    text.escaped(target);
+    text.escaped("<b>", target);
     text.say("</b></p>\n");
 }
 
@@ -66,15 +65,12 @@ fn page_step(text: &mut Text, step: &StepRow) {
     } else {
         "<span class=\"step\"><b>"
     });
-    text.escaped(step.name.as_str());
-    text.say("</b> ");
-    text.number(step.links as u64);
-    text.say(" of ");
-    text.number(u64::from(step.threshold));
+    text.escaped("", step.name.as_str());
+    text.number("</b> ", step.links as u64);
+    text.number(" of ", u64::from(step.threshold));
     text.say(" links");
     for key in &step.keys {
-        text.say(" ");
-        text.escaped(key.as_str());
+        text.escaped(" ", key.as_str());
     }
     text.say("</span>");
 }
@@ -82,23 +78,17 @@ fn page_step(text: &mut Text, step: &StepRow) {
 /// The steps as a list of JSON.
 pub(crate) fn json_steps(text: &mut Text, steps: &[StepRow]) {
     text.say("[");
-    let mut between = "";
-    for step in steps {
-        text.say(between);
+    for (index, step) in steps.iter().enumerate() {
+        text.comma(index);
         json_step(text, step);
-        between = ",";
     }
     text.say("]");
 }
 
 fn json_step(text: &mut Text, step: &StepRow) {
-    text.say("{\"keys\":");
-    text.list(&step.keys);
-    text.say(",\"links\":");
-    text.number(step.links as u64);
-    text.say(",\"name\":");
-    text.quoted(step.name.as_str());
-    text.say(",\"threshold\":");
-    text.number(u64::from(step.threshold));
+    text.list("{\"keys\":", &step.keys);
+    text.number(",\"links\":", step.links as u64);
+    text.quoted(",\"name\":", step.name.as_str());
+    text.number(",\"threshold\":", u64::from(step.threshold));
     text.say("}")
 }

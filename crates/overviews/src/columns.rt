@@ -52,8 +52,7 @@ fn say_key(text: &mut Text, key: &KeyRow, is_alone: bool) {
     text.say("  ");
     text.say(key.name.as_str());
     if let Some(left) = key.left {
-        text.say(" ");
-        text.number(u64::from(left));
+        text.number(" ", u64::from(left));
         if is_alone && key.is_low() {
             text.say(" !");
         }
@@ -62,10 +61,8 @@ fn say_key(text: &mut Text, key: &KeyRow, is_alone: bool) {
 
 // The leaves of several keys together, and a mark where few are left.
 fn say_together(text: &mut Text, leaves: Leaves) {
-    text.say("  together ");
-    text.number(leaves.left);
-    text.say(" of ");
-    text.number(leaves.most);
+    text.number("  together ", leaves.left);
+    text.number(" of ", leaves.most);
     if leaves.are_few() {
         text.say(" !");
     }

@@ -9,49 +9,35 @@ pub fn drafts_as_json(alloc: Global, shown: &Drafts) -> Result<Vec<u8>, AllocErr
     let mut text = Text::new(alloc);
     text.say("{");
     if let Some(answer) = &shown.answer {
-        text.say("\"answer\":");
-        text.quoted(answer.as_str());
+        text.quoted("\"answer\":", answer.as_str());
         text.say(",");
     }
     text.say("\"drafts\":[");
-    let mut between = "";
-    for draft in &shown.drafts {
-        text.say(between);
+    for (index, draft) in shown.drafts.iter().enumerate() {
+        text.comma(index);
         say_draft(&mut text, shown, draft);
-        between = ",";
     }
     text.say("],\"layouts\":[");
-    let mut between = "";
-    for layout in &shown.layouts {
-        text.say(between);
+    for (index, layout) in shown.layouts.iter().enumerate() {
+        text.comma(index);
         say_layout(&mut text, layout);
-        between = ",";
     }
-    text.say("],\"links\":");
-    text.list(&shown.links);
-    text.say(",\"next\":");
-    text.list(&shown.next);
-    text.say(",\"now\":");
-    text.number(shown.now);
+    text.list("],\"links\":", &shown.links);
+    text.list(",\"next\":", &shown.next);
+    text.number(",\"now\":", shown.now);
     text.say("}\n");
     text.done()
 }
 
 fn say_draft(text: &mut Text, shown: &Drafts, draft: &DraftRow) {
-    text.say("{\"changes\":");
-    text.list(&draft.changes);
-    text.say(",\"days\":");
-    text.number(shown.days(draft));
-    text.say(",\"expires\":");
-    text.number(draft.expires);
-    text.say(",\"held\":");
-    text.number(u64::from(draft.held));
-    text.say(",\"role\":");
-    text.quoted(draft.role.as_str());
+    text.list("{\"changes\":", &draft.changes);
+    text.number(",\"days\":", shown.days(draft));
+    text.number(",\"expires\":", draft.expires);
+    text.number(",\"held\":", u64::from(draft.held));
+    text.quoted(",\"role\":", draft.role.as_str());
     text.say(",\"rules\":");
     say_rules(text, &draft.rules);
-    text.say(",\"version\":");
-    text.number(u64::from(draft.version));
+    text.number(",\"version\":", u64::from(draft.version));
     text.say("}")
 }
 
@@ -60,18 +46,15 @@ fn say_layout(text: &mut Text, layout: &LayoutRow) {
     say_rules(text, &layout.rules);
     text.say(",\"steps\":");
     json_steps(text, &layout.steps);
-    text.say(",\"target\":");
-    text.quoted(layout.target.as_str());
+    text.quoted(",\"target\":", layout.target.as_str());
     text.say("}")
 }
 
 fn say_rules(text: &mut Text, rules: &[RuleRow]) {
     text.say("[");
-    let mut between = "";
-    for rule in rules {
-        text.say(between);
+    for (index, rule) in rules.iter().enumerate() {
+        text.comma(index);
         say_rule(text, rule);
-        between = ",";
     }
     text.say("]");
 }
@@ -79,15 +62,11 @@ fn say_rules(text: &mut Text, rules: &[RuleRow]) {
 fn say_rule(text: &mut Text, rule: &RuleRow) {
     text.say("{");
     if !rule.by.is_empty() {
-        text.say("\"by\":");
-        text.quoted(rule.by.as_str());
+        text.quoted("\"by\":", rule.by.as_str());
         text.say(",");
     }
-    text.say("\"signed\":");
-    text.list(&rule.signed);
-    text.say(",\"threshold\":");
-    text.number(u64::from(rule.threshold));
-    text.say(",\"unsigned\":");
-    text.list(&rule.unsigned);
+    text.list("\"signed\":", &rule.signed);
+    text.number(",\"threshold\":", u64::from(rule.threshold));
+    text.list(",\"unsigned\":", &rule.unsigned);
     text.say("}")
 }

@@ -31,15 +31,13 @@ pub fn drafts_as_page(alloc: Global, shown: &Drafts) -> Result<Vec<u8>, AllocErr
 }
 
 fn say_draft(text: &mut Text, shown: &Drafts, draft: &DraftRow) {
-    text.say("<tr><td>");
-    text.escaped(draft.role.as_str());
+    text.escaped("<tr><td>", draft.role.as_str());
     for number in [
         u64::from(draft.version),
         u64::from(draft.held),
         shown.days(draft),
     ] {
-        text.say("</td><td>");
-        text.number(number);
+        text.number("</td><td>", number);
     }
     text.say("</td><td>");
     for change in &draft.changes {
@@ -58,7 +56,7 @@ fn say_change(text: &mut Text, change: &str) {
     } else {
         "<div>"
     });
-    text.escaped(change);
+    text.escaped("", change);
     text.say("</div>");
 }
 
@@ -74,12 +72,10 @@ fn say_rule(text: &mut Text, rule: &RuleRow) {
     } else {
         "<div class=\"denied\">"
     });
-    text.number(rule.signed.len() as u64);
-    text.say(" of ");
-    text.number(u64::from(rule.threshold));
+    text.number("", rule.signed.len() as u64);
+    text.number(" of ", u64::from(rule.threshold));
     if !rule.by.is_empty() {
-        text.say(" by ");
-        text.escaped(rule.by.as_str());
+        text.escaped(" by ", rule.by.as_str());
     }
     text.say("</div>");
     say_names(text, "&#9745; ", &rule.signed);
@@ -89,15 +85,13 @@ fn say_rule(text: &mut Text, rule: &RuleRow) {
 fn say_names(text: &mut Text, mark: &str, names: &[String]) {
     for name in names {
         text.say("<div>");
-        text.say(mark);
-        text.escaped(name.as_str());
+        text.escaped(mark, name.as_str());
         text.say("</div>");
     }
 }
 
 fn say_layout(text: &mut Text, layout: &LayoutRow) {
-    text.say("<h2>Layout of ");
-    text.escaped(layout.target.as_str());
+    text.escaped("<h2>Layout of ", layout.target.as_str());
     text.say("</h2>\n");
     page_steps(text, &layout.steps, layout.target.as_str());
     say_rules(text, &layout.rules);
@@ -111,11 +105,7 @@ fn say_list(text: &mut Text, id: &str, items: &[String]) {
     text.say("<ul id=\"");
     text.say(id);
     text.say("\">\n");
-    for item in items {
-        text.say("<li>");
-        text.escaped(item.as_str());
-        text.say("</li>\n");
-    }
+    text.items(items);
     text.say("</ul>\n");
 }
 
@@ -125,6 +115,6 @@ fn say_answer(text: &mut Text, answer: &str, is_ready: bool) {
     } else {
         "<p id=\"answer\" class=\"denied\">"
     });
-    text.escaped(answer);
+    text.escaped("", answer);
     text.say("</p>\n");
 }

@@ -48,18 +48,14 @@ pub fn as_page(alloc: Global, shown: &Overview) -> Result<Vec<u8>, AllocError> {
 }
 
 fn say_row(text: &mut Text, shown: &Overview, row: &Row) {
-    text.say("<tr><td style=\"padding-left:");
-    text.number((row.depth as u64).saturating_mul(24).saturating_add(8));
-    text.say("px\">");
-    text.escaped(row.role.as_str());
-    text.say("</td><td>");
-    text.number(u64::from(row.version));
+    let indent = (row.depth as u64).saturating_mul(24).saturating_add(8);
+    text.number("<tr><td style=\"padding-left:", indent);
+    text.escaped("px\">", row.role.as_str());
+    text.number("</td><td>", u64::from(row.version));
     text.say("</td><td>");
     say_days(text, shown, row);
-    text.say("</td><td>");
-    text.number(u64::from(row.threshold));
-    text.say(" of ");
-    text.number(row.keys.len() as u64);
+    text.number("</td><td>", u64::from(row.threshold));
+    text.number(" of ", row.keys.len() as u64);
     text.say("</td><td>");
     let together = row.together();
     for key in &row.keys {
@@ -68,15 +64,14 @@ fn say_row(text: &mut Text, shown: &Overview, row: &Row) {
     if let Some(leaves) = together {
         say_together(text, leaves);
     }
-    text.say("</td><td>");
-    text.escaped(row.covers.as_str());
+    text.escaped("</td><td>", row.covers.as_str());
     text.say("</td></tr>\n");
 }
 
 fn say_days(text: &mut Text, shown: &Overview, row: &Row) {
     let days = shown.days(row);
     say_bar(text, parts_of_days(days), shown.is_due(row));
-    text.number(days);
+    text.number("", days);
 }
 
 fn say_bar(text: &mut Text, parts: u64, is_due: bool) {
@@ -85,7 +80,7 @@ fn say_bar(text: &mut Text, parts: u64, is_due: bool) {
     } else {
         "<span class=\"bar\"><i style=\"width:"
     });
-    text.number(parts.saturating_mul(12));
+    text.number("", parts.saturating_mul(12));
     text.say("px\"></i></span>");
 }
 
@@ -98,39 +93,33 @@ fn say_key(text: &mut Text, key: &KeyRow, is_alone: bool) {
             parts_of_leaves(key.leaves(left)),
             is_alone && key.is_low(),
         );
-        text.number(u64::from(left));
+        text.number("", u64::from(left));
         text.say(" ");
     }
-    text.escaped(key.name.as_str());
+    text.escaped("", key.name.as_str());
     text.say("</div>");
 }
 
 fn say_together(text: &mut Text, leaves: Leaves) {
     text.say("<div>");
     say_bar(text, parts_of_leaves(leaves), leaves.are_few());
-    text.number(leaves.left);
+    text.number("", leaves.left);
     text.say(" together</div>");
 }
 
 fn say_expiry(text: &mut Text, shown: &Overview, row: &Row) {
     text.say("<tr><td>");
     say_days(text, shown, row);
-    text.say("</td><td>");
-    text.escaped(row.role.as_str());
+    text.escaped("</td><td>", row.role.as_str());
     text.say("</td></tr>\n");
 }
 
 fn say_path(text: &mut Text, path: &PathRow) {
-    text.say("<h2 id=\"target\">");
-    text.escaped(path.path.as_str());
+    text.escaped("<h2 id=\"target\">", path.path.as_str());
     text.say("</h2>\n<ol>\n");
-    for visit in &path.visits {
-        say_item(text, visit);
-    }
+    text.items(&path.visits);
     text.say("</ol>\n<ul>\n");
-    for found in &path.found {
-        say_item(text, found);
-    }
+    text.items(&path.found);
     text.say("</ul>\n");
     if !path.steps.is_empty() {
         page_steps(text, &path.steps, path.path.as_str());
@@ -140,12 +129,6 @@ fn say_path(text: &mut Text, path: &PathRow) {
     } else {
         "<p class=\"denied\">"
     });
-    text.escaped(path.end.as_str());
+    text.escaped("", path.end.as_str());
     text.say("</p>\n");
-}
-
-fn say_item(text: &mut Text, item: &str) {
-    text.say("<li>");
-    text.escaped(item);
-    text.say("</li>\n");
 }

@@ -70,14 +70,14 @@ impl Text {
         }
     }
 
-    /// Says a number.
-    pub fn number(&mut self, number: u64) {
-        let digits = format!(in self.alloc; "{number}");
-        self.formed(digits);
+    /// Says a number, and before it what leads to it.
+    pub fn number(&mut self, lead: &str, number: u64) {
+        self.formed(format!(in self.alloc; "{lead}{number}"));
     }
 
-    /// Says the text as a page has it.
-    pub(crate) fn escaped(&mut self, text: &str) {
+    /// Says the text as a page has it, and before it what leads to it.
+    pub(crate) fn escaped(&mut self, lead: &str, text: &str) {
+        self.say(lead);
         for byte in text.as_bytes() {
             match *byte {
                 b'&' => self.say("&amp;"),
@@ -89,8 +89,9 @@ impl Text {
         }
     }
 
-    /// Says the text as JSON has it, with its quotation marks.
-    pub fn quoted(&mut self, text: &str) {
+    /// Says the text as JSON has it, with its quotation marks, and before it what leads to it.
+    pub fn quoted(&mut self, lead: &str, text: &str) {
+        self.say(lead);
         self.say("\"");
         for byte in text.as_bytes() {
             match *byte {
@@ -103,16 +104,30 @@ impl Text {
         self.say("\"");
     }
 
-    /// Says the texts as a list of JSON.
-    pub(crate) fn list(&mut self, items: &[String]) {
+    /// Says the texts as a list of JSON, and before it what leads to it.
+    pub(crate) fn list(&mut self, lead: &str, items: &[String]) {
+        self.say(lead);
         self.say("[");
-        let mut between = "";
-        for item in items {
-            self.say(between);
-            self.quoted(item.as_str());
-            between = ",";
+        for (index, item) in items.iter().enumerate() {
+            self.comma(index);
+            self.quoted("", item.as_str());
         }
         self.say("]");
+    }
+
+    /// Says the comma that stands before each item of a list but the first.
+    pub(crate) fn comma(&mut self, index: usize) {
+        if index > 0 {
+            self.say(",");
+        }
+    }
+
+    /// Says each of the texts as an item of a page's list.
+    pub(crate) fn items(&mut self, items: &[String]) {
+        for item in items {
+            self.escaped("<li>", item.as_str());
+            self.say("</li>\n");
+        }
     }
 }
 
