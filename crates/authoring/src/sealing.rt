@@ -206,10 +206,7 @@ fn listed_versions<E: Write>(
 
 // Whether the snapshot names these versions.
 fn names_all(said: &Said, listed: &[(String, u32)]) -> bool {
-    for (role, version) in listed {
-        if said.named(role.as_str()) != Some(*version) {
-            return false;
-        }
-    }
-    true
+    listed
+        .iter()
+        .all(|row| said.named(row.0.as_str()) == Some(row.1))
 }

@@ -1,11 +1,11 @@
 //! `show`: what a database holds, and what a folder of drafts has.
 use crate::publishing::batch_in;
 use command_line::Showing;
-use command_support::{Fault, Notes, moment, print, see_database};
+use command_support::{Fault, Notes, OWNER_ALONE, moment, print, put_told, see_database};
 use drafts::Folder;
 use keys_roles::KeyId;
 use metadata::Moment;
-use overview_rows::{drafts_in, put, show_standing};
+use overview_rows::{drafts_in, show_standing};
 use overviews::{Drafts, drafts_as_json, drafts_as_lines, drafts_as_page};
 use sqlite::Alter;
 use std::alloc::{AllocError, Global};
@@ -67,7 +67,7 @@ fn show_drafts<O: Write, E: Write>(
 ) -> Result<(), Fault> {
     if let Some(file) = &asked.html {
         let page = drafts_as_page(rt.alloc(), shown)?;
-        put(rt, file.as_str(), &page, notes)?;
+        put_told(rt, file.as_str(), &page, OWNER_ALONE, notes)?;
     }
     let text = if asked.json {
         drafts_as_json(rt.alloc(), shown)?

@@ -207,13 +207,10 @@ fn is_referred<E: Write>(
 }
 
 fn are_listed(said: &Said, added: &[Addition]) -> bool {
-    for one in added {
-        match said.listed(one.path.as_str()) {
-            Some(listed) if listed.digest == one.digest => {}
-            _ => return false,
-        }
-    }
-    true
+    added.iter().all(|one| {
+        let listed = said.listed(one.path.as_str());
+        listed.is_some_and(|listed| listed.digest == one.digest)
+    })
 }
 
 fn refer_anew<E: Write>(

@@ -18,7 +18,7 @@ pub fn read<E: Write>(
 {
     match fs::read(rt, path) {
         Ok(bytes) => Ok(bytes),
-        Err(error) => Err(unread(path, &error, notes)),
+        Err(error) => Err(unused(path, &error, notes)),
     }
 }
 
@@ -33,7 +33,7 @@ pub fn read_at_most<E: Write>(
 {
     match beginning(rt, path, limit) {
         Ok(bytes) => Ok(bytes),
-        Err(error) => Err(unread(path, &error, notes)),
+        Err(error) => Err(unused(path, &error, notes)),
     }
 }
 
@@ -57,10 +57,7 @@ pub fn read_regular<E: Write>(
 {
     match regular(rt, path, limit) {
         Ok(bytes) => Ok(bytes),
-        Err(error) => {
-            notes.fault(&path, &error);
-            Err(file_fault(&error))
-        }
+        Err(error) => Err(unused(path, &error, notes)),
     }
 }
 
@@ -99,7 +96,8 @@ fn no_regular_file() -> io::Error {
     )
 }
 
-fn unread<E: Write>(path: &str, error: &io::Error, notes: &mut Notes<'_, E>) -> Fault
+/// Tells why a file cannot be used, and answers what that comes to.
+pub fn unused<E: Write>(path: &str, error: &io::Error, notes: &mut Notes<'_, E>) -> Fault
     ensures { status_of result ≡ 3 }
 {
     notes.fault(&path, error);

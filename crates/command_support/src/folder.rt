@@ -1,14 +1,14 @@
 //! The files of a folder of drafts.
-use crate::fault::{Fault, file_fault};
-use crate::files::{names_of, read_regular, standing};
+use crate::fault::Fault;
+use crate::files::{names_of, read_regular, standing, unused};
 use crate::locking::FolderLock;
 use crate::notes::Notes;
-use crate::on_disk::put_in_place;
+use crate::on_disk::put_told;
 use limits::FILE_LIMIT;
 use metadata::{Digest, RoleName, digest_of};
 use std::alloc::{AllocError, Global};
 use std::fs;
-use std::io::{self, ErrorKind, Write};
+use std::io::{ErrorKind, Write};
 
 /// The mode of what everybody may read, less the process's mask.
 pub const FOR_ALL: u32 = 0o666;
@@ -144,10 +144,7 @@ impl<'a> Folder<'a> {
         role: &str,
         notes: &mut Notes<'_, E>,
     ) -> Result<Option<Vec<u8>>, Fault> {
-        match self.draft(role, notes)? {
-            Some(draft) => Ok(Some(draft)),
-            None => self.held(role, notes),
-        }
+        Ok(self.latest_named(role, notes)?.0)
     }
 
     // The bytes of a file of the folder, where it is there. The folder in which it stands is no link either.
@@ -185,10 +182,8 @@ impl<'a> Folder<'a> {
         role: &str,
         notes: &mut Notes<'_, E>,
     ) -> Result<Vec<u8>, Fault> {
-        match self.draft(role, notes)? {
-            Some(bytes) => Ok(bytes),
-            None => Ok(Vec::new(self.alloc())),
-        }
+        let draft = self.draft(role, notes)?;
+        Ok(draft.unwrap_or(Vec::new(self.alloc())))
     }
 
     /// The file of this name in the folder, if there is one.
@@ -207,10 +202,8 @@ impl<'a> Folder<'a> {
         name: &str,
         notes: &mut Notes<'_, E>,
     ) -> Result<Vec<u8>, Fault> {
-        match self.file(name, notes)? {
-            Some(bytes) => Ok(bytes),
-            None => Ok(Vec::new(self.alloc())),
-        }
+        let file = self.file(name, notes)?;
+        Ok(file.unwrap_or(Vec::new(self.alloc())))
     }
 
     /// Writes the file of this name.
@@ -221,7 +214,7 @@ impl<'a> Folder<'a> {
         notes: &mut Notes<'_, E>,
     ) -> Result<(), Fault> {
         let place = self.place(name)?;
-        self.put(place.as_str(), bytes, notes)
+        put_told(self.rt, place.as_str(), bytes, FOR_ALL, notes)
     }
 
     /// Keeps a file whose signatures are taken off, under its digest: the leaves that they are by are spent.
@@ -258,7 +251,7 @@ impl<'a> Folder<'a> {
         notes: &mut Notes<'_, E>,
     ) -> Result<(), Fault> {
         let place = self.place_of(role)?;
-        self.put(place.as_str(), bytes, notes)
+        put_told(self.rt, place.as_str(), bytes, FOR_ALL, notes)
     }
 
     /// Writes a role's document that is held.
@@ -269,7 +262,7 @@ impl<'a> Folder<'a> {
         notes: &mut Notes<'_, E>,
     ) -> Result<(), Fault> {
         let place = self.held_place(role)?;
-        self.put(place.as_str(), bytes, notes)
+        put_told(self.rt, place.as_str(), bytes, FOR_ALL, notes)
     }
 
     /// Writes a target file under its digest, and answers it.
@@ -280,20 +273,8 @@ impl<'a> Folder<'a> {
     ) -> Result<Digest, Fault> {
         let digest = digest_of(bytes);
         let place = self.file_place(&digest)?;
-        self.put(place.as_str(), bytes, notes)?;
+        put_told(self.rt, place.as_str(), bytes, FOR_ALL, notes)?;
         Ok(digest)
-    }
-
-    fn put<E: Write>(
-        &self,
-        place: &str,
-        bytes: &[u8],
-        notes: &mut Notes<'_, E>,
-    ) -> Result<(), Fault> {
-        match put_in_place(self.rt, place, bytes, FOR_ALL) {
-            Ok(()) => Ok(()),
-            Err(error) => Err(unused(place, &error, notes)),
-        }
     }
 
     /// Takes the draft of a role's document away.
@@ -412,9 +393,4 @@ impl<'a> Folder<'a> {
             Err(error) => Err(unused(folder.as_str(), &error, notes)),
         }
     }
-}
-
-fn unused<E: Write>(place: &str, error: &io::Error, notes: &mut Notes<'_, E>) -> Fault {
-    notes.fault(&place, error);
-    file_fault(error)
 }

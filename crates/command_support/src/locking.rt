@@ -1,5 +1,6 @@
 //! One command at a time writes in a folder of drafts.
-use crate::fault::{Fault, Slip, file_fault};
+use crate::fault::{Fault, Slip};
+use crate::files::unused;
 use crate::notes::Notes;
 use std::fs::{File, TryLockError};
 use std::io::Write;
@@ -28,10 +29,7 @@ impl FolderLock {
     ) -> Result<FolderLock, Fault> {
         let folder = match File::open(rt, path) {
             Ok(folder) => folder,
-            Err(error) => {
-                notes.fault(&path, &error);
-                return Err(file_fault(&error));
-            }
+            Err(error) => return Err(unused(path, &error, notes)),
         };
         if is_locked(rt, &folder, path, notes) {
             return Ok(FolderLock { _folder: folder });

@@ -46,10 +46,8 @@ impl<'e, E: Write> Notes<'e, E> {
 
     /// Warns once of what is passed over at a place, however often it is looked at.
     pub fn warn_once<F: Display>(&mut self, place: &str, fact: &F) {
-        for told in &self.passed_over {
-            if told.as_str() == place {
-                return;
-            }
+        if self.passed_over.iter().any(|told| told.as_str() == place) {
+            return;
         }
         self.warn(&place, fact);
         if let Ok(place) = String::from_str(self.alloc, place) {

@@ -1,4 +1,7 @@
 //! Files that come into their places whole, on the disk.
+use crate::fault::Fault;
+use crate::files::unused;
+use crate::notes::Notes;
 use placing::{Found, Places};
 use std::fs::{self, File, Permissions};
 use std::io::{self, ErrorKind, Write};
@@ -75,6 +78,20 @@ impl Places for OnDisk<'_> {
 pub fn put_in_place(rt: &HostRuntime, place: &str, bytes: &[u8], mode: u32) -> io::Result<()> {
     let mut disk = OnDisk::new(rt);
     placing::put_in_place(rt.alloc(), &mut disk, place, bytes, mode)
+}
+
+/// The same, and why it was not done is told.
+pub fn put_told<E: Write>(
+    rt: &HostRuntime,
+    place: &str,
+    bytes: &[u8],
+    mode: u32,
+    notes: &mut Notes<'_, E>,
+) -> Result<(), Fault> {
+    match put_in_place(rt, place, bytes, mode) {
+        Ok(()) => Ok(()),
+        Err(error) => Err(unused(place, &error, notes)),
+    }
 }
 
 /// Whether two paths lead to one file, by whatever names. Where one of them leads to none, they do not.

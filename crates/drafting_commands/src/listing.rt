@@ -5,7 +5,7 @@ use crate::saving::Before;
 use crate::terms::terms_of;
 use chain_drafting::{Delegated, DelegationChanges, draft_delegations};
 use command_line::{Drafting, TargetsDraft};
-use command_support::{Denial, Fault, Notes, Slip, file_fault, names_of, read_at_most};
+use command_support::{Denial, Fault, Notes, Slip, names_of, read_at_most, unused};
 use drafting::{Addition, DraftFault, Rule, TargetsChanges, Terms, draft_targets};
 use drafts::Folder;
 use limits::BLOB_LIMIT;
@@ -298,10 +298,7 @@ impl Adding<'_, '_> {
         let alloc = self.rt.alloc();
         let names = match names_of(self.rt, folder, notes) {
             Ok(names) => names,
-            Err(error) => {
-                notes.fault(&folder, &error);
-                return Err(file_fault(&error));
-            }
+            Err(error) => return Err(unused(folder, &error, notes)),
         };
         for name in &names {
             let both = both_below(alloc, path, folder, name.as_str())?;

@@ -39,10 +39,7 @@ impl Before {
 
     /// What is begun, or else what is held.
     pub fn latest(&self) -> Option<&[u8]> {
-        match &self.begun {
-            Some(bytes) => Some(bytes),
-            None => self.held.as_deref(),
-        }
+        self.begun().or(self.held())
     }
 }
 

@@ -25,10 +25,7 @@ pub struct Referred {
 /// What refers a target to its layout in these targets metadata, if they list it with one.
 pub fn reference_of(alloc: Global, bytes: &[u8], target: &str) -> Result<Option<Referred>, Fault> {
     let mut referring = Referring { target };
-    match look_at(alloc, Kind::Targets, bytes, &mut referring) {
-        Ok(found) => Ok(found),
-        Err(fault) => Err(Fault::from(fault)),
-    }
+    Ok(look_at(alloc, Kind::Targets, bytes, &mut referring)?)
 }
 
 // Looks for what refers a target to its layout.

@@ -73,10 +73,7 @@ pub(crate) fn meets_in(
     bytes: &[u8],
 ) -> Result<bool, Fault> {
     let mut meeting = Meeting { rules };
-    match look_at(alloc, kind_of(role), bytes, &mut meeting) {
-        Ok(is_met) => Ok(is_met),
-        Err(fault) => Err(Fault::from(fault)),
-    }
+    Ok(look_at(alloc, kind_of(role), bytes, &mut meeting)?)
 }
 
 // Looks whether a document meets rules.

@@ -48,10 +48,7 @@ pub fn read_said(alloc: Global, role: &str, bytes: &[u8]) -> Result<Said, Fault>
 /// What a document of a kind says; of a layout the rules of its steps.
 pub fn read_said_of(alloc: Global, kind: Kind, bytes: &[u8]) -> Result<Said, Fault> {
     let mut saying = Saying;
-    match look_at(alloc, kind, bytes, &mut saying) {
-        Ok(said) => Ok(said),
-        Err(fault) => Err(Fault::from(fault)),
-    }
+    Ok(look_at(alloc, kind, bytes, &mut saying)?)
 }
 
 // Looks at what a document says.
@@ -269,31 +266,18 @@ impl Said {
 
     /// The target file that is listed under a path, if one is.
     pub fn listed(&self, path: &str) -> Option<&ListedFile> {
-        for file in &self.files {
-            if file.path.as_str() == path {
-                return Some(file);
-            }
-        }
-        None
+        self.files.iter().find(|file| file.path.as_str() == path)
     }
 
     /// The rule of a role, if there is one.
     pub fn rule(&self, role: &str) -> Option<&SaidRule> {
-        for rule in &self.rules {
-            if rule.role.as_str() == role {
-                return Some(rule);
-            }
-        }
-        None
+        self.rules.iter().find(|rule| rule.role.as_str() == role)
     }
 
     /// Whether a file of this length and digest is listed, under any path.
     pub fn has_file(&self, length: u32, digest: &Digest) -> bool {
-        for file in &self.files {
-            if file.length == length && file.digest == *digest {
-                return true;
-            }
-        }
-        false
+        self.files
+            .iter()
+            .any(|file| file.length == length && file.digest == *digest)
     }
 }

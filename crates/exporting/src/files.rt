@@ -1,5 +1,5 @@
 //! The files of a repository in a folder, under the names that clients ask for.
-use command_support::{Denial, FOR_ALL, Fault, Notes, file_fault, put_in_place};
+use command_support::{Denial, FOR_ALL, Fault, Notes, put_in_place, unused};
 use exported_files::Mirror;
 use limits::BLOB_LIMIT;
 use metadata::{Listing, Moment, digest_of};
@@ -71,7 +71,7 @@ impl<'a, 'n, 'e, S: Alter, E: Write> Exporting<'a, 'n, 'e, S, E> {
                     self.notes.warn(&listing.path.as_str(), &why);
                     Ok(())
                 }
-                None => Err(unwritten(place, &error, self.notes)),
+                None => Err(unused(place, &error, self.notes)),
             },
         }
     }
@@ -83,7 +83,7 @@ impl<'a, 'n, 'e, S: Alter, E: Write> Exporting<'a, 'n, 'e, S, E> {
                 self.written = self.written.saturating_add(1);
                 Ok(())
             }
-            Err(error) => Err(unwritten(place, &error, self.notes)),
+            Err(error) => Err(unused(place, &error, self.notes)),
         }
     }
 
@@ -156,11 +156,6 @@ fn why_left_out(kind: ErrorKind) -> Option<&'static str> {
         ErrorKind::InvalidInput => Some("not exported: what stands in its place is no file"),
         _ => None,
     }
-}
-
-fn unwritten<E: Write>(place: &str, error: &io::Error, notes: &mut Notes<'_, E>) -> Fault {
-    notes.fault(&place, error);
-    file_fault(error)
 }
 
 // Whether the file of the target stands there. What is no file, a link too, is not looked into.

@@ -10,4 +10,4 @@ mod visits;
 pub use command_support::{Fault, Notes};
 pub use drafted::{drafts_in, lacks_targets};
 pub use following::follow;
-pub use standing::{put, show_standing};
+pub use standing::show_standing;

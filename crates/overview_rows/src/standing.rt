@@ -3,7 +3,7 @@
 use crate::tree::Looking;
 use crate::visits::look_for;
 use command_line::Showing;
-use command_support::{Denial, Fault, Notes, OWNER_ALONE, file_fault, print, put_in_place};
+use command_support::{Denial, Fault, Notes, OWNER_ALONE, print, put_told};
 use keys_roles::KeyId;
 use metadata::Moment;
 use overviews::{Overview, as_bars, as_columns, as_json, as_page};
@@ -83,7 +83,7 @@ fn show_all<O: Write, E: Write>(
 ) -> Result<(), Fault> {
     if let Some(file) = &asked.html {
         let page = as_page(rt.alloc(), shown)?;
-        put(rt, file.as_str(), &page, notes)?;
+        put_told(rt, file.as_str(), &page, OWNER_ALONE, notes)?;
     }
     let text = text_of(rt, asked, shown)?;
     print(out, &text, notes)
@@ -99,28 +99,8 @@ fn text_of(rt: &HostRuntime, asked: &Showing, shown: &Overview) -> Result<Vec<u8
     }
 }
 
-/// Writes a page into a file of its owner alone, in the place of the one that stood there.
-pub fn put<E: Write>(
-    rt: &HostRuntime,
-    file: &str,
-    bytes: &[u8],
-    notes: &mut Notes<'_, E>,
-) -> Result<(), Fault> {
-    match put_in_place(rt, file, bytes, OWNER_ALONE) {
-        Ok(()) => Ok(()),
-        Err(error) => {
-            notes.fault(&file, &error);
-            Err(file_fault(&error))
-        }
-    }
-}
-
 // Whether something is due is what the command answers. Each document that is due is told, with why.
-fn end<E: Write>(
-    alloc: Global,
-    shown: &Overview,
-    notes: &mut Notes<'_, E>,
-) -> Result<(), Fault> {
+fn end<E: Write>(alloc: Global, shown: &Overview, notes: &mut Notes<'_, E>) -> Result<(), Fault> {
     let mut is_due = false;
     for row in &shown.rows {
         if shown.is_due(row) {

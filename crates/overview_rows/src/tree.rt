@@ -125,12 +125,7 @@ impl<'a> Looking<'a> {
     }
 
     fn has_seen(&self, role: &str) -> bool {
-        for seen in &self.seen {
-            if seen.as_str() == role {
-                return true;
-            }
-        }
-        false
+        self.seen.iter().any(|seen| seen.as_str() == role)
     }
 
     fn look_at_role<S: Alter>(

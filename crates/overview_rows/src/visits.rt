@@ -39,12 +39,7 @@ pub fn look_for<S: Alter>(
     Ok((row_of(alloc, path, seeing, end)?, denial))
 }
 
-fn row_of(
-    alloc: Global,
-    path: &str,
-    seeing: Seeing,
-    end: End,
-) -> Result<PathRow, AllocError> {
+fn row_of(alloc: Global, path: &str, seeing: Seeing, end: End) -> Result<PathRow, AllocError> {
     let Seeing {
         visits,
         found,
@@ -209,12 +204,11 @@ impl Seeing {
         if member(link.signed, "name") != Some(name.as_bytes()) {
             return Ok(false);
         }
-        for signature in &link.signatures {
-            if rule.keyids.contains(&signature.keyid) {
-                return Ok(true);
-            }
-        }
-        Ok(false)
+        Ok(
+            link.signatures
+                .iter()
+                .any(|signature| rule.keyids.contains(&signature.keyid)),
+        )
     }
 
     // The bytes of a target, if it is granted.

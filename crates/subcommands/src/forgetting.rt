@@ -124,12 +124,9 @@ impl Batch<'_> {
     }
 
     fn has_root(&self) -> bool {
-        for (offer, _) in self.documents {
-            if let Offer::Root = offer {
-                return true;
-            }
-        }
-        false
+        self.documents
+            .iter()
+            .any(|document| matches!(document.0, Offer::Root))
     }
 
     // The last root of the batch, where no timestamp stands behind it.
