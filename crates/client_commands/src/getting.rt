@@ -10,7 +10,7 @@ use crate::turns::Turn;
 use client::{ClientFault, fetch_by_each};
 use command_line::{Getting, Server};
 use command_support::{
-    Denial, Fault, Notes, OWNER_ALONE, are_one_file, file_fault, moment, print, put_in_place,
+    Denial, Fault, Notes, OWNER_ALONE, are_one_file, moment, print, put_in_place, unused,
 };
 use metadata::Moment;
 use path_patterns::TargetPath;
@@ -98,10 +98,7 @@ fn put<E: Write>(
     }
     match put_in_place(rt, out, bytes, OWNER_ALONE) {
         Ok(()) => Ok(()),
-        Err(error) => {
-            notes.fault(&out, &error);
-            Err(file_fault(&error))
-        }
+        Err(error) => Err(unused(out, &error, notes)),
     }
 }
 

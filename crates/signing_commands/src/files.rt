@@ -4,7 +4,7 @@ use crate::documents::tell_of_tree;
 use crate::pairs::Pair;
 use crate::seeds::seed_at;
 use command_support::{
-    FOR_ALL, Fault, Notes, OWNER_ALONE, Slip, file_fault, moment, print, read_at_most,
+    FOR_ALL, Fault, Notes, OWNER_ALONE, Slip, moment, print, read_at_most, unused,
 };
 use drafts::{KEY_FILE_LIMIT, key_in};
 use keys_roles::{Key, KeyId, key_id, key_object, top_key};
@@ -240,8 +240,7 @@ fn new_seed<E: Write>(
 ) -> Result<String, Fault> {
     let mut bytes = [0; 48];
     if let Err(error) = rt.fill_bytes(&mut bytes) {
-        notes.fault(&place, &error);
-        return Err(file_fault(&error));
+        return Err(unused(place, &error, notes));
     }
     let mut text = hex::encode(rt.alloc(), &bytes)?;
     text.push('\n')?;
@@ -258,10 +257,7 @@ fn made<E: Write>(
 ) -> Result<(), Fault> {
     match written(rt, place, bytes, mode) {
         Ok(()) => Ok(()),
-        Err(error) => {
-            notes.fault(&place, &error);
-            Err(file_fault(&error))
-        }
+        Err(error) => Err(unused(place, &error, notes)),
     }
 }
 

@@ -1,5 +1,5 @@
 //! Seed files.
-use command_support::{Fault, Notes, file_fault};
+use command_support::{Fault, Notes, unused};
 use signer::{Seed, read_seed};
 use std::fs::File;
 use std::io::{self, Read, Write};
@@ -23,10 +23,7 @@ pub fn seed_at<E: Write>(
 ) -> Result<Seed, Fault> {
     let (bytes, mode) = match open_seed(rt, path) {
         Ok(read) => read,
-        Err(error) => {
-            notes.fault(&path, &error);
-            return Err(file_fault(&error));
-        }
+        Err(error) => return Err(unused(path, &error, notes)),
     };
     let Some(seed) = read_seed(&bytes) else {
         notes.fault(
