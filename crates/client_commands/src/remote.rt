@@ -139,7 +139,8 @@ impl<'a, 'n, 'e, E: Write> Remote<'a, 'n, 'e, E> {
 
     // Who has the turn at this place alone.
     fn alone_at(&self, place: usize) -> Option<Peer<'a>> {
-        peer_at(self.server, place.checked_sub(self.is_joined as usize)?)
+        let server: &'a Server = self.server;
+        peer_at(server, place.checked_sub(self.is_joined as usize)?)
     }
 
     // The file of this name, from one of them.
@@ -188,9 +189,10 @@ impl<'a, 'n, 'e, E: Write> Remote<'a, 'n, 'e, E> {
         limit: usize,
     ) -> Result<Option<Vec<u8>>, FetchFault> {
         let mut answer = Err(FetchFault::Broken);
-        for place in 0..count_of(self.server) {
+        let server: &'a Server = self.server;
+        for place in 0..count_of(server) {
             if !is_settled(&answer) {
-                if let Some(peer) = peer_at(self.server, place) {
+                if let Some(peer) = peer_at(server, place) {
                     let next = self.ask(alloc, peer, name, limit);
                     answer = together(answer, next);
                 }
@@ -212,10 +214,12 @@ impl<'a, 'n, 'e, E: Write> Remote<'a, 'n, 'e, E> {
         let found = below(self.call.rt, folder, asked.name, asked.limit);
         if let Err(error) = &found {
             self.tell_fault(&asked, error);
-            return within(found, asked.limit);
         }
+        let is_read = found.is_ok();
         let answer = within(found, asked.limit);
-        self.tell(asked, &answer, None);
+        if is_read {
+            self.tell(asked, &answer, None);
+        }
         answer
     }
 
