@@ -4,7 +4,6 @@ use crate::files::{PublicHalf, book_place, leaf_count};
 use crate::seeds::seed_at;
 use command_support::{Fault, Notes, Slip};
 use keys_roles::{Key, KeyId, key_id};
-use leaf_plans::leaves_of as leaves_in;
 use lms::Params;
 use signer::{Book, Seed, lower_params};
 use sqlite::Alter;
@@ -112,7 +111,7 @@ pub fn used_in<S: Alter>(
     lower: Option<Params>,
 ) -> Result<(u32, u32), Fault> {
     let each = match lower {
-        Some(lower) => leaves_in(lower),
+        Some(lower) => leaf_count(lower, None),
         None => 0,
     };
     let mut used = 0u32;
