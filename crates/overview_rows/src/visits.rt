@@ -34,12 +34,21 @@ pub fn look_for<S: Alter>(
     if let Some(layout) = &layout {
         seeing.look_at_steps(repository, layout)?;
     }
-    let end = end_of(alloc, repository, path, now)?;
-    let denial = end.denial;
-    Ok((row_of(alloc, path, seeing, end)?, denial))
+    let End {
+        text,
+        is_granted,
+        denial,
+    } = end_of(alloc, repository, path, now)?;
+    Ok((row_of(alloc, path, seeing, text, is_granted)?, denial))
 }
 
-fn row_of(alloc: Global, path: &str, seeing: Seeing, end: End) -> Result<PathRow, AllocError> {
+fn row_of(
+    alloc: Global,
+    path: &str,
+    seeing: Seeing,
+    end: String,
+    is_granted: bool,
+) -> Result<PathRow, AllocError> {
     let Seeing {
         visits,
         found,
@@ -54,8 +63,8 @@ fn row_of(alloc: Global, path: &str, seeing: Seeing, end: End) -> Result<PathRow
         visits,
         found,
         steps,
-        end: end.text,
-        is_granted: end.is_granted,
+        end,
+        is_granted,
     })
 }
 
