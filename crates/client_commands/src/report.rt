@@ -1,4 +1,5 @@
 //! What `update` and `get` print with `--json`.
+use crate::server::Peer;
 use crate::turns::{End, Turn};
 use command_support::Fault;
 use metadata::{Moment, digest_of};
@@ -38,7 +39,8 @@ pub fn update_as_json(
     });
     text.say(",\"first\":");
     say_first(&mut text, &found.first);
-    say_end(&mut text, &found.turns, now);
+    say_turns(&mut text, &found.turns, now);
+    say_source(&mut text, &found.turns);
     text.done()
 }
 
@@ -74,6 +76,7 @@ pub fn get_as_json(
         Some(bytes) => text.number("", bytes.len() as u64),
         None => text.say("null"),
     }
+    say_turns(&mut text, &got.turns, now);
     text.quoted(",\"path\":", got.path);
     text.say(",\"sha256\":");
     match &got.bytes {
@@ -83,12 +86,12 @@ pub fn get_as_json(
         }
         None => text.say("null"),
     }
-    say_end(&mut text, &got.turns, now);
+    say_source(&mut text, &got.turns);
     text.done()
 }
 
-// The members that both have: who ended it well, and what each source did.
-fn say_end(text: &mut Text, turns: &[Turn<'_>], now: Moment) {
+// What each source did, and the moment.
+fn say_turns(text: &mut Text, turns: &[Turn<'_>], now: Moment) {
     text.say(",\"mirrors\":[");
     let mut between = "";
     for turn in turns {
@@ -102,9 +105,6 @@ fn say_end(text: &mut Text, turns: &[Turn<'_>], now: Moment) {
         }
     }
     text.number("],\"now\":", now.seconds());
-    text.say(",\"source\":");
-    say_source(text, turns);
-    text.say("}\n");
 }
 
 // How a turn ended: in a denial, in a fault, or well with so many files.
@@ -125,15 +125,23 @@ fn say_turn(text: &mut Text, turn: &Turn<'_>) {
     }
 }
 
-// Who gave the last file of the first turn that ended well.
+// Who gave the last file of the first turn that ended well, and the end of the object.
 fn say_source(text: &mut Text, turns: &[Turn<'_>]) {
+    text.say(",\"source\":");
+    match source_of(turns) {
+        Some(giver) => say_shown(text, &giver),
+        None => text.say("null"),
+    }
+    text.say("}\n");
+}
+
+fn source_of<'a>(turns: &[Turn<'a>]) -> Option<Peer<'a>> {
     for turn in turns {
         if let (None, Some(giver)) = (turn.end, turn.giver) {
-            say_shown(text, &giver);
-            return;
+            return Some(giver);
         }
     }
-    text.say("null");
+    None
 }
 
 // The word of a command that was done, or why it was not.
