@@ -244,8 +244,8 @@ impl Adding<'_, '_> {
             };
             self.add(path, file, notes)?;
         }
-        match &self.refused {
-            Some(denial) => Err(Fault::Denied(*denial, None)),
+        match self.refused.take() {
+            Some(denial) => Err(Fault::Denied(denial, None)),
             None => Ok(()),
         }
     }

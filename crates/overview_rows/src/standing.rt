@@ -34,8 +34,8 @@ pub fn show_standing<O: Write, E: Write>(
     };
     worked(rt, db, &mut looking, notes)?;
     show_all(rt, asked, &looking.looking.shown, out, notes)?;
-    if let Some(denial) = &looking.denial {
-        return Err(Fault::Denied(*denial, None));
+    if let Some(denial) = looking.denial.take() {
+        return Err(Fault::Denied(denial, None));
     }
     if asked.due.is_none() {
         return Ok(());
