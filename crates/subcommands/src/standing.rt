@@ -204,11 +204,9 @@ impl FileVisitor for Looked<'_> {
     }
 
     fn visit_root(&mut self, name: &str, bytes: &[u8]) -> Result<(), AllocError> {
-        match read_document(self.alloc, Kind::Root, bytes) {
-            Ok(document) => self.note(name, expiry_of(&document.body)),
-            Err(ShapeFault::OutOfMemory) => Err(AllocError),
-            Err(_) => Ok(()),
-        }
+        let expires = root_expiry(self.alloc, bytes)?;
+        self.note(name, expires)?;
+        Ok(())
     }
 
     fn visit_metadata(
@@ -218,10 +216,10 @@ impl FileVisitor for Looked<'_> {
         _bytes: &[u8],
         body: Option<&Body>,
     ) -> Result<(), AllocError> {
-        match body {
-            Some(body) => self.note(name, expiry_of(body)),
-            None => Ok(()),
+        if let Some(body) = body {
+            self.note(name, expiry_of(body))?;
         }
+        Ok(())
     }
 
     fn visit_target(&mut self, _listing: &Listing) -> Result<(), AllocError> {
@@ -246,6 +244,15 @@ impl Looked<'_> {
             Some(first) => at < first.at,
             None => true,
         }
+    }
+}
+
+// When a root expires, if it is one.
+fn root_expiry(alloc: Global, bytes: &[u8]) -> Result<Option<Moment>, AllocError> {
+    match read_document(alloc, Kind::Root, bytes) {
+        Ok(document) => Ok(expiry_of(&document.body)),
+        Err(ShapeFault::OutOfMemory) => Err(AllocError),
+        Err(_) => Ok(None),
     }
 }
 
