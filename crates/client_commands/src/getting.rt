@@ -22,9 +22,9 @@ use subcommands::{Store, Work, worked};
 /// Fetches what the client's own state misses for the target, and writes the target's file where that state grants it. Prints
 /// `written`, or what it got as JSON, then also where it was denied or the network failed. The file that is written may not be the client's
 /// own database or its log, by whatever name.
-pub fn get<O: Write, E: Write>(
-    rt: &HostRuntime,
-    asked: &Getting,
+pub fn get<'a, O: Write, E: Write>(
+    rt: &'a HostRuntime,
+    asked: &'a Getting,
     at: Option<u64>,
     out: &mut O,
     notes: &mut Notes<'_, E>,

@@ -18,11 +18,11 @@ const DUE: u64 = 7;
 /// Shows what a database holds, as columns, on a terminal with bars, or as JSON; and where a file is given, writes a page. Where something
 /// expires within the days that are given, or the leaves of a key, or of all keys of which any one meets a rule, are a quarter or fewer, that is
 /// the answer; before it what denies the target that is asked for.
-pub fn show_standing<O: Write, E: Write>(
+pub fn show_standing<'a, O: Write, E: Write>(
     rt: &HostRuntime,
     db: &str,
-    asked: &Showing,
-    leaves: &[(KeyId, u32, u32)],
+    asked: &'a Showing,
+    leaves: &'a [(KeyId, u32, u32)],
     now: Moment,
     out: &mut O,
     notes: &mut Notes<'_, E>,
