@@ -15,7 +15,7 @@ use command_support::{
 use metadata::Moment;
 use path_patterns::TargetPath;
 use sqlite::Alter;
-use std::alloc::AllocError;
+use std::alloc::{AllocError, Global};
 use std::io::Write;
 use subcommands::{Store, Work, worked};
 
@@ -42,13 +42,25 @@ pub fn get<'a, O: Write, E: Write>(
         done?;
         return print(out, b"written\n", notes);
     }
+    let got = Got {
+        path: asked.path.as_str(),
+        bytes,
+        turns: turns?,
+    };
+    print_got(rt.alloc(), &got, done, now, out, notes)
+}
+
+// Prints what was got as JSON, where the sources made the end.
+fn print_got<O: Write, E: Write>(
+    alloc: Global,
+    got: &Got<'_>,
+    done: Result<(), Fault>,
+    now: Moment,
+    out: &mut O,
+    notes: &mut Notes<'_, E>,
+) -> Result<(), Fault> {
     if is_answer(&done) {
-        let got = Got {
-            path: asked.path.as_str(),
-            bytes,
-            turns: turns?,
-        };
-        let text = get_as_json(rt.alloc(), &got, &done, now)?;
+        let text = get_as_json(alloc, got, &done, now)?;
         print(out, &text, notes)?;
     }
     done
