@@ -144,7 +144,7 @@ the_machines_chapter() {
         printf 'signed root with leaf 0 of 32\nbegun\nsigned targets with leaf 0 of 32\n'
         printf 'signed snapshot with leaf 0 of 32\nsigned timestamp with leaf 1 of 32\n{"accepted":3,"same":0}\n'
         printf 'signed timestamp with leaf 0 of 32\n{"accepted":1,"same":0}\n'
-        printf 'signed root with leaf 1 of 32\nsigned snapshot with leaf 2 of 32\nsigned timestamp with leaf 3 of 32\n{"accepted":3,"same":0}\n'
+        printf 'signed root with leaf 1 of 32\nsigned snapshot with leaf 2 of 32\nsigned timestamp with leaf 3 of 32\n{"accepted":4,"same":0}\n'
     } >"$machines/wanted"
     same "what the chapter 'machines' prints" "$machines/wanted" "$machines/said"
     [ "$(grep -cE '^(snapshot|timestamp) .* 1 of 2  (near 30  far 31|far 31  near 30)  together 61 of 64$' "$machines/out")" = 2 ] ||
