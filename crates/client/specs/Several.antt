@@ -64,7 +64,8 @@ module _ {Src A : Type 0} (turns tells : Turns Src) (Call : Src → State → Sr
     goes : {place n : ℕ} {so_far r q : Result A Fault} {s t u v w : Src} {C D E : State} → turns s place t → Call t C u D r → (IsEnd r → ⊥)
         → Told tells place r u v → InTurn (suc place) n (together so_far r) v D w E q → InTurn place (suc n) so_far s C w E q
 
--- at most so many turns from this place on, in each of which at most so many names were asked for, and none between two of them
+-- At most so many turns from this place on, in each of which at most so many names were asked for; between two of them the sources are told of a fault,
+-- or left as they are, and nothing else.
 pub data AsksInTurn {Src : Type 0} (gives : Gives Src) (turns tells : Turns Src) (most : ℕ) : ℕ → ℕ → Src → Src → Type 0 where
   done : {place n : ℕ} {s : Src} → AsksInTurn gives turns tells most place n s s
   one : {place n : ℕ} {s t u v w : Src} → turns s place t → AsksAtMost gives most t u → (v ≡ u) ⊎ tells u place v

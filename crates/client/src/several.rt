@@ -24,8 +24,8 @@ pub trait Sources: Source {
     /// The sources that were, a place, the sources that are left: whether the one at this place is asked from then on. Without a value
     /// of its own this claims nothing.
     ghost turns: { Self → ℕ → Self → Type 0 } = { λ _ _ _. ⊤ };
-    /// The sources that were, a place, the sources that are left: what telling them of a fault at this place changes. It asks none of
-    /// them for a name, unless this says so.
+    /// The sources that were, a place, the sources that are left: what telling them of a fault at this place changes. Without a value
+    /// of its own this claims nothing, so it may be anything.
     ghost tells: { Self → ℕ → Self → Type 0 } = { λ _ _ _. ⊤ };
 
     /// From now on the one at this place is asked, whatever was asked before.
