@@ -98,6 +98,7 @@ pub use hss::{verify_hss, verify_hss_counted};
 pub use hss_keys::{HssKeyPair, child_of, hss_public, join_levels};
 pub use key_pairs::KeyPair;
 pub use keys::public_of;
+pub use parts::signature_len;
 pub use signing::sign;
 pub use steps::Steps;
 pub use verifying::{verify, verify_counted};

@@ -132,8 +132,8 @@ impl LmsType {
 }
 
 impl SigningHeight {
-    /// The type of a tree of this height.
-    pub(crate) fn lms_type(self) -> LmsType
+    /// The type of a tree of this height (RFC 8554, section 5.1).
+    pub fn lms_type(self) -> LmsType
         ensures { result ≡ signing_type self }
     {
         match self {

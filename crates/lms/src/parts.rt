@@ -79,7 +79,7 @@ pub fn read_public(public: &[u8; 56]) -> Option<PublicKey<'_>>
     })
 }
 
-/// The length of a signature in bytes.
+/// How many bytes a signature of these types has (RFC 8554, section 5.4). It takes no memory.
 pub fn signature_len(lms: LmsType, ots: OtsType) -> usize
     ensures { result ≡ signature_len_of ots lms }
 {

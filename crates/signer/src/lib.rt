@@ -33,7 +33,7 @@ pub use leaf_book::{Book, BookFault, close_into_file};
 pub use leaves::{keeps, leaf_of};
 pub use levels::{leaf_of_tree, sign_below};
 pub use lms::{HssKeyPair, KeyPair, Levels, Params, Seed};
-pub use lower::lower_params;
+pub use lower::{lower_params, params_in};
 pub use messages::sign_message;
 pub use metadata::ShapeFault;
 pub use once::{one_document_a_version, sign_file_once};

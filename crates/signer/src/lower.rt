@@ -42,8 +42,9 @@ fn params_at<S: Alter>(book: &Book<S>, top: &KeyId, q: u32) -> Option<Params>
     }
 }
 
-// The parameters that a public key begins with.
-fn params_in(bytes: &[u8]) -> Option<Params>
+/// The parameters that an LMS public key names by its two types, where a tree of them is signed by (RFC 8554, section 5.3). `None` where
+/// the bytes are of another length too. It takes no memory.
+pub fn params_in(bytes: &[u8]) -> Option<Params>
     ensures { MatchOption result ((params : PlainParams) → IsOfParams bytes.now params → ⊥) (λ params. IsOfParams bytes.now params) }
 {
     if bytes.len() != 56 {

@@ -8,4 +8,3 @@ mod spent;
 pub use command_support::{Fault, Notes};
 pub use guarding::Signer;
 pub use judged::Judged;
-pub use spent::params_of;

@@ -1,8 +1,8 @@
 //! The one-time keys that a signature is by, and whether a book keeps them for what they sign.
 use keys_roles::{Key, KeyId, key_id, top_key};
-use leaf_plans::{leaves_of, number_of};
-use lms::{LmsType, OtsType, Params, SigningHeight};
-use signer::{Book, keeps, leaf_of};
+use leaf_plans::leaves_of;
+use lms::signature_len;
+use signer::{Book, keeps, leaf_of, params_in};
 use sqlite::Alter;
 use std::alloc::{AllocError, Global};
 
@@ -60,7 +60,7 @@ impl Spent {
         match &self.below {
             None => self.leaf,
             Some(below) => {
-                let each = params_of(top_key(&below.key)).map_or(0, |params| leaves_of(params));
+                let each = params_in(top_key(&below.key)).map_or(0, |params| leaves_of(params));
                 self.leaf.saturating_mul(each).saturating_add(below.leaf)
             }
         }
@@ -95,7 +95,8 @@ fn parts_of(key: &Key, sig: &str) -> Option<(u32, u32, Key)> {
         return None;
     }
     let leaf = leaf_of(sig.get(8..)?)?;
-    let from = signature_len(params_of(top_key(key))?)
+    let top = params_in(top_key(key))?;
+    let from = signature_len(top.height.lms_type(), top.ots)
         .saturating_mul(2)
         .saturating_add(8);
     let to = from.saturating_add(112);
@@ -111,30 +112,6 @@ fn key_in(digits: &str) -> Option<Key> {
         Ok(()) => Some(Key::Lms(public)),
         Err(_) => None,
     }
-}
-
-/// The parameters that a public key says by its two types (RFC 8554, section 5.3), where a tree of them is signed by.
-pub fn params_of(public: &[u8; 56]) -> Option<Params> {
-    let (lms, rest) = public.split_first_chunk::<4>()?;
-    let (ots, _) = rest.split_first_chunk::<4>()?;
-    let height = match LmsType::from_code(u32::from_be_bytes(*lms))? {
-        LmsType::H5 => SigningHeight::H5,
-        LmsType::H10 => SigningHeight::H10,
-        LmsType::H15 | LmsType::H20 | LmsType::H25 => return None,
-    };
-    let ots = OtsType::from_code(u32::from_be_bytes(*ots))?;
-    Some(Params { ots, height })
-}
-
-// How many bytes the signatures of a tree have (RFC 8554, sections 4.1, 5.1 and 5.4).
-fn signature_len(params: Params) -> usize {
-    let chains = match params.ots {
-        OtsType::W1 => 265,
-        OtsType::W2 => 133,
-        OtsType::W4 => 67,
-        OtsType::W8 => 34,
-    };
-    12 + 32 * (chains + 1) + 32 * number_of(params.height) as usize
 }
 
 // Whether the book keeps the leaf of a key for anything.

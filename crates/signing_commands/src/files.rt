@@ -10,8 +10,7 @@ use drafts::{KEY_FILE_LIMIT, key_in};
 use keys_roles::{Key, KeyId, key_id, key_object, top_key};
 use leaf_plans::leaves_of;
 use lms::{HssKeyPair, KeyPair, Levels, Params};
-use signer::{Book, Seed, read_seed, sign_message};
-use signing_checks::params_of;
+use signer::{Book, Seed, params_in, read_seed, sign_message};
 use sqlite::Alter;
 use std::alloc::{AllocError, Global};
 use std::fs::{self, File};
@@ -43,7 +42,7 @@ impl PublicHalf {
             return Err(Fault::File);
         };
         let params = if has_known_levels(&key) {
-            params_of(top_key(&key))
+            params_in(top_key(&key))
         } else {
             None
         };
