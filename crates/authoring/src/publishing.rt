@@ -79,7 +79,7 @@ impl Drafted {
     }
 }
 
-/// What a folder has to publish. A root that makes a repository forget its timestamp is refused without the next one, since behind it every
+/// What a folder has to publish. A root that makes a repository forget its timestamp is refused without the next one, since after it every
 /// target would be denied.
 pub fn complete_batch_in<E: Write>(
     alloc: Global,

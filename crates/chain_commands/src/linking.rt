@@ -9,7 +9,7 @@ use metadata::{Kind, digest_of};
 use std::io::Write;
 
 /// Drafts the link of a step, with these files as its materials and products beside those that it has already: materials before the step and
-/// products behind it, in two calls. The paths are as they are typed. A link that has a signature is changed only where that is to be taken off.
+/// products after it, in two calls. The paths are as they are typed. A link that has a signature is changed only where that is to be taken off.
 pub fn draft_step<E: Write>(
     rt: &HostRuntime,
     folder: Folder<'_>,

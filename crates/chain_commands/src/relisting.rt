@@ -159,7 +159,7 @@ fn additions<E: Write>(
     Ok(added)
 }
 
-// Whether a file is the target's layout, or a link of one of its steps: `.layout.json` or `.STEP.ID.json` behind the target's own name, where
+// Whether a file is the target's layout, or a link of one of its steps: `.layout.json` or `.STEP.ID.json` after the target's own name, where
 // ID is 8 hex digits.
 fn is_own<E: Write>(
     chain: Chain<'_>,

@@ -16,9 +16,6 @@ mod updating;
 mod wire;
 
 pub use asking::root_at;
-pub use client::ClientFault;
-pub use command_support::{Fault, Notes};
-pub use fault::fault_of_client;
 pub use getting::get;
 pub use publishing::{prune_at, publish_at, put_at};
 pub use updating::update;

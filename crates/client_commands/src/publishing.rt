@@ -93,7 +93,7 @@ fn same_of(reply: &[u8], documents: usize) -> Option<usize> {
     }
 }
 
-// The documents as the body of a batch: each behind a line with its role and its length.
+// The documents as the body of a batch: each after a line with its role and its length.
 fn batch_body<E: Write>(
     rt: &HostRuntime,
     documents: &[(Offer, &[u8])],

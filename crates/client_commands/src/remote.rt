@@ -379,7 +379,7 @@ pub fn tell_wrongs<E: Write>(
     }
 }
 
-// A name that is fetched, behind so many bytes.
+// A name that is fetched, after so many bytes.
 #[derive(Clone, Copy)]
 struct Fetching<'a> {
     name: &'a str,

@@ -14,7 +14,7 @@ const REPLY_LIMIT: usize = 4096;
 
 const UNKNOWN: &str = "it is not known whether this was taken; sending it again is safe";
 
-/// What a server is asked for: its port, the method, the name behind the first `/` of the target, and the body.
+/// What a server is asked for: its port, the method, the name after the first `/` of the target, and the body.
 #[derive(Clone, Copy)]
 pub struct Sending<'a> {
     pub rt: &'a HostRuntime,

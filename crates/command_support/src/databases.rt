@@ -171,7 +171,7 @@ fn has_first_change(log: &[u8]) -> bool {
     head == sum_at(log, 24) && change == sum_at(log, 48)
 }
 
-// The sum of a log over these bytes, behind that of what stands before them.
+// The sum of a log over these bytes, after that of what stands before them.
 fn sum_over(is_big: bool, before: (u32, u32), bytes: &[u8]) -> (u32, u32) {
     let (mut first, mut second) = before;
     for i in 0..bytes.len() / 8 {

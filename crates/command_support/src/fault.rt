@@ -12,7 +12,7 @@ use std::{fmt, io};
 /// What a slip of the hand over drafts is refused for, before a leaf is spent. Its text is one word.
 #[derive(Clone, Copy, PartialEq, Eq)]
 pub enum Slip {
-    /// Behind what is published fewer targets would be granted, for want of documents.
+    /// After what is published fewer targets would be granted, for want of documents.
     Bare,
     /// The key has no book, or one that does not know a signature of the key.
     Book,

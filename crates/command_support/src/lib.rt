@@ -11,7 +11,6 @@ mod moments;
 mod notes;
 mod on_disk;
 
-pub use command_line::Usage;
 pub use databases::{connected, see_database};
 pub use denials::Denial;
 pub use fault::{Fault, Slip, file_fault};
@@ -19,7 +18,6 @@ pub use files::{names_of, print, read, read_at_most, read_regular, regular, unus
 pub use folder::{FOR_ALL, Folder};
 pub use limits::FILE_LIMIT;
 pub use locking::FolderLock;
-pub use loose_json::CanonFault;
 pub use moments::{expiry_of, moment};
 pub use notes::{MOST_DENIALS, Notes};
 pub use on_disk::{OWNER_ALONE, OnDisk, are_one_file, put_in_place, put_told};

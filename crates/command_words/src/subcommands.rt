@@ -22,7 +22,7 @@ macro_rules! after {
             $example,
             "\n\nExit status:\n",
             "  0  done\n",
-            "  1  denied: 'denied N Name' on standard error, for a document of a batch with ' at I' behind it;\n",
+            "  1  denied: 'denied N Name' on standard error, for a document of a batch with ' at I' after it;\n",
             "     also 'leaves spent', 'unknown key', 'refused WORD' of drafts, and 'due' of show\n",
             "  2  a fault of the command line\n",
             "  3  all else: 'fault' and one of memory, database, damaged, network, file and clock\n",
@@ -143,7 +143,7 @@ pub(crate) const DRAFT: Subcommand<'static> = Subcommand {
         ),
         Word::Flag(
             "terminating",
-            "Nothing behind these delegations is searched for what they cover",
+            "Nothing after these delegations is searched for what they cover",
         ),
         Word::Option(
             "before",

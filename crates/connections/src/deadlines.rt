@@ -8,7 +8,7 @@ pub const HEAD_SECONDS: u64 = 10;
 /// A connection has so many seconds in all.
 pub const ALL_SECONDS: u64 = 60;
 
-/// What a peer still sends behind its reply is read away for so many seconds.
+/// What a peer still sends after its reply is read away for so many seconds.
 pub const LAST_SECONDS: u64 = 5;
 
 /// A client waits for the next bytes of a reply so many seconds.

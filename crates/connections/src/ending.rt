@@ -32,7 +32,7 @@ pub fn end(
     }
 }
 
-// Takes away what has come behind the request, so that the system has no reason to take the reply back.
+// Takes away what has come after the request, so that the system has no reason to take the reply back.
 fn take_what_came(stream: &TcpStream) {
     if stream.set_nonblocking(true).is_err() {
         return;

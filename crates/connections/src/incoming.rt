@@ -50,7 +50,7 @@ impl<'a, 'k> Incoming<'a, 'k> {
         self.kept.as_slice()
     }
 
-    /// Whether the request came whole: its head, and as many bytes behind it as its fields declare.
+    /// Whether the request came whole: its head, and as many bytes after it as its fields declare.
     pub fn is_whole(&self) -> bool {
         match head_of(self.kept.as_slice()) {
             Some(

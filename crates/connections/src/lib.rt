@@ -9,7 +9,6 @@ mod lines;
 mod outgoing;
 
 pub use accepting::{Port, listen, next_stream};
-pub use command_support::{Fault, Notes};
 pub use deadlines::{FILE_SECONDS, QUIET_SECONDS, Timer};
 pub use ending::end;
 pub use incoming::{Beginning, Incoming};

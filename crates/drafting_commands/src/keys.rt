@@ -83,7 +83,7 @@ pub fn items_in(alloc: Global, list: &str) -> Result<Vec<String>, AllocError> {
     Ok(items)
 }
 
-/// What stands behind the last slash.
+/// What stands after the last slash.
 pub fn last_segment(path: &str) -> &str {
     match path.rsplit_once('/') {
         Some((_, last)) => last,

@@ -9,7 +9,6 @@ mod rooting;
 mod saving;
 mod terms;
 
-pub use command_support::{Fault, Notes};
 pub use drafting_faults::{drafted, usage};
 pub use keys::{Known, RuleRead, items_in, key_in_file, last_segment, rule_of};
 pub use listing::{TARGETS_DAYS, addition_of, digest_in, draft_listing};

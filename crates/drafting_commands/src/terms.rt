@@ -19,7 +19,7 @@ const NO_TERM: &str = concat!(
     "For more information, try '--help'.\n",
 );
 
-/// When the next document expires: as the term says that is given, else so long behind now as the last one's term, else as long as the first
+/// When the next document expires: as the term says that is given, else so long after now as the last one's term, else as long as the first
 /// of its kind.
 pub fn terms_of(
     alloc: Global,
@@ -57,7 +57,7 @@ pub fn kept_terms(alloc: Global, role: &str, draft: &[u8], first: u64) -> Result
     }
 }
 
-// So many seconds behind now.
+// So many seconds after now.
 fn behind(alloc: Global, now: Moment, seconds: u64) -> Result<Terms, Fault> {
     match Moment::new(now.seconds().saturating_add(seconds)) {
         Some(expires) => Ok(Terms { expires, seconds }),

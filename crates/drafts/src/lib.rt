@@ -19,9 +19,9 @@ pub use chains::{
 };
 pub use change_lines::{FIRST_DIGITS, Names, key_text};
 pub use changes::{changes_of, signed_in};
-pub use command_support::{Fault, Folder, Notes, Slip};
+pub use command_support::Folder;
 pub use counting::{Count, count_of, has_signed};
-pub use drafting::{name_of_key, number_in};
+pub use drafting::name_of_key;
 pub use entries::{signatures_in, without_false_entries};
 pub use key_files::{KEY_FILE_LIMIT, key_in};
 pub use roles::{kind_of, offer_order, sign_order};

@@ -13,7 +13,7 @@ use std::alloc::{AllocError, Global};
 use std::io::Write;
 
 /// The rules of roles and of the owners of layouts, by the documents of a folder. Targets metadata are read where they are asked for first; of
-/// a draft that is written behind that it has to be told.
+/// a draft that is written after that it has to be told.
 #[derive(Drop)]
 pub struct TargetsRead<'a> {
     alloc: Global,

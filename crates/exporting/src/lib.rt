@@ -4,5 +4,4 @@
 mod exporting;
 mod files;
 
-pub use command_support::{Fault, Notes};
 pub use exporting::export;

@@ -193,13 +193,13 @@ fn are_first(rows: &[Row], wanted: &[[ValueRef<'_>; 3]], count: usize) -> bool {
     rows.len() == count
 }
 
-// Whether the rows of both tables are just those behind so many steps.
+// Whether the rows of both tables are just those after so many steps.
 fn are_behind(signers: &[Row], leaves: &[Row], count: usize) -> bool {
     are_first(signers, &SIGNER_ROWS, count.min(1))
         && are_first(leaves, &LEAF_ROWS, count.saturating_sub(1))
 }
 
-// Whether the rows of both tables are just those behind so many steps, or behind one more.
+// Whether the rows of both tables are just those after so many steps, or after one more.
 fn finds<S: Alter>(conn: &mut Connection<S>, count: usize) -> bool {
     let signers = rows_of(conn, SIGNERS);
     let leaves = rows_of(conn, LEAVES);
@@ -242,7 +242,7 @@ fn signs_again<S: Alter>(alloc: Global, book: &mut Book<S>, pair: &KeyPair, made
         && c < 3
 }
 
-// Whether the book has the rows behind the steps that were made, or behind one more, and each message its leaf.
+// Whether the book has the rows after the steps that were made, or after one more, and each message its leaf.
 fn is_whole<S: Alter + Drop>(alloc: Global, book: Book<S>, pair: &KeyPair, made: &Made) -> bool {
     let mut conn = book.into_connection();
     let has_rows = finds(&mut conn, made.count());

@@ -6,7 +6,7 @@ use http_messages::{Cut, Fault, ReceiveFault, Received, Routes, Sink, read_reque
 use std::alloc::Global;
 use std::test::Fail;
 
-// At whichever call the reader fails, it is said, and nothing is asked for. No call is made behind the body.
+// At whichever call the reader fails, it is said, and nothing is asked for. No call is made after the body.
 #[test]
 fn each_read_fails(rt: HostRuntime) -> Result<(), Fail> {
     let routes = Routes::new(rt.alloc())?;

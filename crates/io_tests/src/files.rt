@@ -1,4 +1,4 @@
-// Two files in memory, each of which stops behind a number of its calls.
+// Two files in memory, each of which stops after a number of its calls.
 use sqlite::types::ValueRef;
 use sqlite::{Connection, FileStore, Files};
 use sqlite_disk::{Fuse, Memory};
@@ -22,7 +22,7 @@ pub fn calm_files(alloc: Global) -> Files<Fuse<Memory>> {
     files_that_stop(alloc, true, u64::MAX)
 }
 
-/// Behind how many calls the log stops, and the database.
+/// After how many calls the log stops, and the database.
 pub fn stops(stops_log: bool, calls: u64) -> (u64, u64) {
     if stops_log {
         (calls, u64::MAX)

@@ -148,7 +148,7 @@ fn run<'a>(
     }
 }
 
-// Puts the rows that the query answers behind the others.
+// Puts the rows that the query answers after the others.
 fn add_rows<S: Alter>(conn: &mut Connection<S>, query: &str, tables: &mut Tables) -> bool {
     match conn.query_all(query, &[]) {
         Ok(rows) => tables.push(rows).is_ok(),
@@ -223,7 +223,7 @@ fn documents_of<'a>(role: RoleName) -> [Document<'a>; 3] {
     ]
 }
 
-// The rows behind these commands, where nothing stops.
+// The rows after these commands, where nothing stops.
 fn tables_behind<'a>(
     alloc: Global,
     steps: &[Step],
@@ -236,7 +236,7 @@ fn tables_behind<'a>(
     }
 }
 
-// Puts the rows behind these commands behind the others.
+// Puts the rows after these commands after the others.
 fn add_wanted<'a>(
     alloc: Global,
     wanted: &mut Vec<Tables>,
@@ -250,7 +250,7 @@ fn add_wanted<'a>(
     }
 }
 
-// The rows behind each number of commands, where nothing stops.
+// The rows after each number of commands, where nothing stops.
 fn wanted<'a>(
     alloc: Global,
     steps: &[Step],
@@ -266,12 +266,12 @@ fn wanted<'a>(
     Some(wanted)
 }
 
-// Whether these are the rows behind so many commands.
+// Whether these are the rows after so many commands.
 fn are_behind(found: &[Vec<Row>], wanted: &[Tables], made: usize) -> bool {
     made < wanted.len() && are_same(found, &wanted[made])
 }
 
-// Whether the next open after a crash finds the rows behind the commands that were made, or behind one more, where there is one.
+// Whether the next open after a crash finds the rows after the commands that were made, or after one more, where there is one.
 fn finds(alloc: Global, files: Files<Fuse<Memory>>, wanted: &[Tables], made: usize) -> bool {
     match tables_after(alloc, files) {
         Some(found) => {
@@ -302,7 +302,7 @@ fn made_before<'a>(
     }
 }
 
-// The file stops at each of its calls in turn, until none is left: the number of calls behind which something was wrong, if any.
+// The file stops at each of its calls in turn, until none is left: the number of calls after which something was wrong, if any.
 fn wrong_stop<'a>(
     alloc: Global,
     steps: &[Step],
@@ -328,7 +328,7 @@ fn wrong_stop<'a>(
     Some(2_000)
 }
 
-// Behind each stop the next open finds the rows before the command that was not made, or those behind it.
+// After each stop the next open finds the rows before the command that was not made, or those after it.
 fn stops_at_each_call(
     rt: &(impl Abort + AllocGlobal),
     steps: &[Step],
@@ -466,7 +466,7 @@ fn are_found(alloc: Global, files: Files<Fuse<Memory>>, rows: &[Vec<Row>]) -> bo
     }
 }
 
-// Whether a store is open behind a migration that may stop, unless what it leaves is wrong.
+// Whether a store is open after a migration that may stop, unless what it leaves is wrong.
 fn is_open_after(
     alloc: Global,
     files: Files<Fuse<Memory>>,
@@ -485,7 +485,7 @@ fn is_open_after(
     }
 }
 
-// An opening of a database of schema 1 stops at each of its calls in turn, until none is left: the number of calls behind which something
+// An opening of a database of schema 1 stops at each of its calls in turn, until none is left: the number of calls after which something
 // was wrong, if any.
 fn wrong_stop_of_a_migration(
     alloc: Global,

@@ -148,7 +148,7 @@ fn keep_signatures<E: Write>(
 }
 
 // Whether the draft of a role is of a version that is held, or of an earlier one. A draft that has just the bytes that are held may have come
-// in behind a new root, which makes a repository forget them.
+// in after a new root, which makes a repository forget them.
 fn is_held<E: Write>(
     alloc: Global,
     folder: Folder<'_>,

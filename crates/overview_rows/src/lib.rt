@@ -7,7 +7,6 @@ mod standing;
 mod tree;
 mod visits;
 
-pub use command_support::{Fault, Notes};
 pub use drafted::{drafts_in, lacks_targets};
 pub use following::follow;
 pub use standing::show_standing;

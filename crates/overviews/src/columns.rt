@@ -5,7 +5,7 @@ use crate::writing::Text;
 use std::alloc::{AllocError, Global};
 
 /// The rows as columns: role, version, days left, rule, keys with their leaves, and those of several together where any one of them meets the
-/// rule, what is delegated to it and what else is said of it; behind them what becomes of the target that is asked for.
+/// rule, what is delegated to it and what else is said of it; after them what becomes of the target that is asked for.
 pub fn as_columns(alloc: Global, shown: &Overview) -> Result<Vec<u8>, AllocError> {
     let mut text = Text::new(alloc);
     for row in &shown.rows {

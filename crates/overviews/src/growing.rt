@@ -1,7 +1,7 @@
 //! Lists that grow.
 use std::alloc::{AllocError, Global};
 
-/// A list that grows. Behind the first part for which memory ran out it takes no more, and there is no list in the end.
+/// A list that grows. After the first part for which memory ran out it takes no more, and there is no list in the end.
 #[derive(Drop)]
 pub struct Growing<T> {
     list: Vec<T>,
@@ -17,7 +17,7 @@ impl<T: Drop> Growing<T> {
         }
     }
 
-    /// Puts a part behind the others, if it was made.
+    /// Puts a part after the others, if it was made.
     pub fn put(&mut self, part: Result<T, AllocError>) {
         let Ok(part) = part else {
             self.is_cut = true;

@@ -24,7 +24,7 @@ pub(crate) fn first_stray(bytes: &[u8]) -> Option<usize> {
     }
 }
 
-// Where the byte behind this one stands, if this one can stand here.
+// Where the byte after this one stands, if this one can stand here.
 fn step(place: Place, b: u8) -> Option<Place> {
     match place {
         Place::Outside => outside(b),

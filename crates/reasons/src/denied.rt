@@ -60,7 +60,7 @@ pub fn reason<H: HeldFiles>(
     reason_of(alloc, held, &documents[..index], question, role, bytes)
 }
 
-// The same of one document, behind those that were offered before it.
+// The same of one document, after those that were offered before it.
 fn reason_of<H: HeldFiles>(
     alloc: Global,
     held: &mut H,

@@ -1,6 +1,6 @@
 //! Why a document of a batch was denied, in words, and what a repository lists.
 //!
-//! It decides nothing: it is asked behind a denial, and answers `None` where nothing is certain. Everything it is given is read anew.
+//! It decides nothing: it is asked after a denial, and answers `None` where nothing is certain. Everything it is given is read anew.
 #![tactic(auto)]
 
 mod bytes;
@@ -16,6 +16,5 @@ mod thresholds;
 
 pub use denied::reason;
 pub use held::HeldFiles;
-pub use metadata::Kind;
 pub use place::place_of;
 pub use targets::listed_targets;

@@ -17,7 +17,7 @@ pub(crate) struct Standing<'a> {
     pub keeps_held: bool,
 }
 
-/// What stands behind these documents.
+/// What stands after these documents.
 pub(crate) fn standing_behind<'a, H: HeldFiles>(
     alloc: Global,
     held: &mut H,

@@ -19,7 +19,7 @@ pub(crate) fn worded(alloc: Global, tally: Option<Tally>) -> Found {
     }
 }
 
-/// By the rule for the role of the root that is trusted behind the documents.
+/// By the rule for the role of the root that is trusted after the documents.
 pub(crate) fn by_root<H: HeldFiles>(
     alloc: Global,
     held: &mut H,
@@ -36,7 +36,7 @@ pub(crate) fn by_root<H: HeldFiles>(
     }
 }
 
-/// By the first delegation to the role in the targets metadata that stands behind the documents, that of `targets` before all others.
+/// By the first delegation to the role in the targets metadata that stands after the documents, that of `targets` before all others.
 pub(crate) fn by_delegation<H: HeldFiles>(
     alloc: Global,
     held: &mut H,

@@ -35,7 +35,7 @@ fn granted_by(
 
 impl Session<'_> {
     /// `agree PATH`: fetches a target into the client's database from the state that the server's rows stand for: how that ends, and
-    /// behind ` | ` what the state itself answers.
+    /// after ` | ` what the state itself answers.
     pub fn agree(&mut self, text: &str) -> Result<String, LineFault> {
         self.begin_client()?;
         match TargetPath::read(self.alloc, text)? {

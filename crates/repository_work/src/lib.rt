@@ -4,10 +4,9 @@
 mod faults;
 mod repository;
 
-pub use command_support::{Denial, Fault, Notes};
 pub use faults::{fault_of_store, refused};
 pub use repository::{Work, applied, worked};
 pub use store::{
-    BatchRefusal, Command, Held, Offer, Reply, Search, SearchDenial, Store, StoreFault, search_of,
+    BatchRefusal, Command, Held, Offer, Reply, Search, SearchDenial, Store, search_of,
     would_take,
 };

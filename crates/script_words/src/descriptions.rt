@@ -173,7 +173,7 @@ impl Description {
         Ok(())
     }
 
-    // A name with `~` behind it is that of a target that refers to a layout.
+    // A name with `~` after it is that of a target that refers to a layout.
     fn take_target(&mut self, files: &[File], name: &str, value: &str) -> Result<(), LineFault> {
         match name.strip_suffix("~") {
             Some(path) => self.take_reference(path, value),
@@ -359,7 +359,7 @@ fn make_signers(keys: &mut Keys, leaves: &[Leaf]) -> Result<(), LineFault> {
     Ok(())
 }
 
-/// The leaves that stand behind `by`.
+/// The leaves that stand after `by`.
 pub fn leaves_of(alloc: Global, words: &str) -> Result<Vec<Leaf>, LineFault> {
     let mut leaves = Vec::new(alloc);
     for word in words.split_whitespace() {
@@ -389,7 +389,7 @@ fn whole_words(alloc: Global, files: &[File], words: &str) -> Result<String, Lin
     Ok(format!(in alloc; "{before} {rest}")?)
 }
 
-// The kind that words begin with, and what stands behind it. Where the first is no kind, it is the usual one.
+// The kind that words begin with, and what stands after it. Where the first is no kind, it is the usual one.
 fn kind_and_rest(usual: Kind, words: &str) -> (Kind, &str) {
     match words.split_once(' ') {
         Some((first, rest)) => match kind_named(first) {

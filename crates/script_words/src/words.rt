@@ -5,7 +5,7 @@ use metadata::digest_of;
 use std::alloc::Global;
 use test_files::{Delegation, Digest, Entry, Leaf, Listing, Rule, Scope, SeedKey};
 
-// The number with one more digit behind it.
+// The number with one more digit after it.
 fn with_digit(number: u32, digit: u8) -> Option<u32> {
     if !digit.is_ascii_digit() {
         return None;
@@ -104,7 +104,7 @@ pub fn listing_of(files: &[File], word: &str) -> Result<Listing, LineFault> {
     })
 }
 
-/// A key by its seed, `5`, or an HSS key by the seeds of its levels, each behind a `^`, the top one first: `^1`, `^1^7`.
+/// A key by its seed, `5`, or an HSS key by the seeds of its levels, each after a `^`, the top one first: `^1`, `^1^7`.
 pub fn key_of(word: &str) -> Result<SeedKey, LineFault> {
     let Some(seeds) = word.strip_prefix("^") else {
         return Ok(SeedKey {
@@ -119,7 +119,7 @@ pub fn key_of(word: &str) -> Result<SeedKey, LineFault> {
     })
 }
 
-// How many levels the words have that stand behind one another with `^` between them.
+// How many levels the words have that stand one after another with `^` between them.
 fn levels_of(words: &str) -> u32 {
     u32::try_from(words.split('^').count()).unwrap_or(0)
 }
@@ -142,7 +142,7 @@ fn keys_of(alloc: Global, list: &str) -> Result<Vec<SeedKey>, LineFault> {
     Ok(keys)
 }
 
-/// A delegation to the role: its rule, a semicolon, and the patterns, or behind a `#` the prefixes, that it covers: `6,7:2;a/*,b`,
+/// A delegation to the role: its rule, a semicolon, and the patterns, or after a `#` the prefixes, that it covers: `6,7:2;a/*,b`,
 /// `6;#ba78,00`.
 pub fn delegation_of(
     alloc: Global,
@@ -175,7 +175,7 @@ pub fn texts_of(alloc: Global, word: &str) -> Result<Vec<String>, LineFault> {
     Ok(texts)
 }
 
-/// Puts the leaf of a seed, `3/1`, or the leaves of the levels of an HSS key, `^1/0^7/3`, behind the others.
+/// Puts the leaf of a seed, `3/1`, or the leaves of the levels of an HSS key, `^1/0^7/3`, after the others.
 pub fn add_leaves(word: &str, leaves: &mut Vec<Leaf>) -> Result<(), LineFault> {
     let Some(list) = word.strip_prefix("^") else {
         leaves.push(leaf_of(word, None)?)?;

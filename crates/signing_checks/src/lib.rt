@@ -5,6 +5,5 @@ mod guarding;
 mod judged;
 mod spent;
 
-pub use command_support::{Fault, Notes};
 pub use guarding::Signer;
 pub use judged::Judged;

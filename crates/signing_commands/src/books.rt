@@ -35,7 +35,7 @@ pub struct BookAt<'a> {
 }
 
 /// Opens the book, which is made where there is none and it need not be known, does the work over it, and closes it, so that its file alone
-/// is whole. What was done is handed out only behind that: a signature leaves the program when the book's file has its leaf without the log.
+/// is whole. What was done is handed out only after that: a signature leaves the program when the book's file has its leaf without the log.
 pub fn worked_over<W: BookWork, E: Write>(
     rt: &HostRuntime,
     at: BookAt<'_>,

@@ -19,10 +19,8 @@ mod signing;
 mod turn;
 
 pub use by_key::{Anchor, Anchoring, sign_in};
-pub use command_support::{Fault, Notes};
 pub use documents::sign;
 pub use files::{NewKey, make_keys};
 pub use key::print_key;
 pub use leaves::leaves_of;
-pub use lms::Params;
 pub use outside::print_public_key;

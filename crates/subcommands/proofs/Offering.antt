@@ -12,7 +12,7 @@ use Rattle.trusted_state.specs.Views.{offer_view}
 use Rattle.trusted_state.specs.declared.outcome.Offer.{Offer as CodeOffer}
 use Rattle.subcommands.specs.Arguments.{AreDocuments, IsDocument}
 
--- ---- the colon behind a name
+-- ---- the colon after a name
 
 start-is : (c : ℕ) → is_name_start c ≡ true → (c == 58) ≡ false
 start-is c e = grind (arith, nat_tests)
@@ -54,7 +54,7 @@ documents-next (a ∷ more) zero (x ∷ xs) d lt h is = absurd h
 documents-next (a ∷ more) (suc i) [] d lt h is = absurd h
 documents-next (a ∷ more) (suc i) (x ∷ xs) d lt h is = (h.0, documents-next more i xs d (omega arith) h.1 is)
 
--- one more is shown behind the others
+-- one more is shown after the others
 pub shown-next : (items more : List (CodeOffer × Bor (List ℕ))) (d : CodeOffer × Bor (List ℕ)) → more ≡ items ++ d ∷ []
     → map {B = Offer × List ℕ} (λ x. (offer_view x.0, x.1.now)) more ≡ map (λ x. (offer_view x.0, x.1.now)) items ++ (offer_view d.0, d.1.now) ∷ []
 shown-next items more d e =

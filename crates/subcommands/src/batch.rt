@@ -7,7 +7,7 @@ use repository_work::Offer;
 use std::alloc::{AllocError, Global};
 use std::io::Write;
 
-/// What is published: the target files that are put first, and the documents that are offered together behind them, in order. Each document
+/// What is published: the target files that are put first, and the documents that are offered together after them, in order. Each document
 /// has its argument, ROLE:FILE, by which it is told.
 #[derive(Clone, Copy)]
 pub struct Batch<'a> {

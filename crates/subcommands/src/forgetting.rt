@@ -11,7 +11,7 @@ use std::io::Write;
 
 // What is said of a root that was published and made the repository forget its timestamp, where none is offered after it.
 const FORGETS: &str =
-    "the root has other keys for the timestamp or the snapshot, and no timestamp stands behind it: every target will be denied";
+    "the root has other keys for the timestamp or the snapshot, and no timestamp comes after it: every target will be denied";
 
 // What is said of a root with other keys for the timestamp or the snapshot that was published without their successors.
 const FORGOTTEN: &str =
@@ -89,7 +89,7 @@ impl Batch<'_> {
         }
     }
 
-    // Whether the repository forgets its timestamp by the last root of the batch, and none is offered behind it.
+    // Whether the repository forgets its timestamp by the last root of the batch, and none is offered after it.
     fn will_forget<H: HeldFiles>(&self, alloc: Global, held: &mut H) -> bool {
         let Some(root) = self.last_root() else {
             return false;
@@ -129,7 +129,7 @@ impl Batch<'_> {
             .any(|document| matches!(document.0, Offer::Root))
     }
 
-    // The last root of the batch, where no timestamp stands behind it.
+    // The last root of the batch, where no timestamp stands after it.
     fn last_root(&self) -> Option<&[u8]> {
         let mut last = None;
         for (offer, bytes) in self.documents {
@@ -187,7 +187,7 @@ impl Forgetting {
     }
 }
 
-/// Whether the one root has another rule than the other for the timestamp or the snapshot: a repository that takes it behind the other
+/// Whether the one root has another rule than the other for the timestamp or the snapshot: a repository that takes it after the other
 /// forgets its timestamp, its snapshot and its targets metadata. A fault is why one of them is no root: the newer one is read first.
 pub fn forgets(alloc: Global, held: &[u8], root: &[u8]) -> Result<bool, Fault> {
     match read_document(alloc, Kind::Root, root) {

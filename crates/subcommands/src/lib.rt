@@ -11,7 +11,6 @@ mod why;
 
 pub use arguments::{batch_of, documents_of, tell_argument};
 pub use batch::{Batch, Waiting, role_of};
-pub use command_support::{Denial, Fault, Notes};
 pub use files::{InputFile, read_all};
 pub use forgetting::{forgets, root_of_version};
 pub use reasons::HeldFiles;

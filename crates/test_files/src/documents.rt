@@ -59,7 +59,7 @@ pub enum Scope {
     Prefixes(Vec<String>),
 }
 
-/// What targets metadata says of a role that it delegates to: its name, the rule of its keys, whether nothing behind it is searched
+/// What targets metadata says of a role that it delegates to: its name, the rule of its keys, whether nothing after it is searched
 /// for a path that it covers, and what it covers.
 #[derive(Drop)]
 pub struct Delegation {
@@ -98,7 +98,7 @@ fn key_table(alloc: Global, keys: &Keys, said: &Root<'_>) -> Result<Value, Fault
     keys_of(alloc, keys, &all)
 }
 
-/// Puts the keys of a rule behind the others, each that is not there yet.
+/// Puts the keys of a rule after the others, each that is not there yet.
 pub fn add_keys(all: &mut Vec<SeedKey>, rule: &Rule) -> Result<(), Fault> {
     for key in &rule.keys {
         if !all.contains(key) {

@@ -5,7 +5,7 @@ use crate::fault::Fault;
 use canonical_json::Value;
 use std::alloc::Global;
 
-/// The members of an object, in the order of their names, whatever the order in which they are put. Behind the first one that cannot be made
+/// The members of an object, in the order of their names, whatever the order in which they are put. After the first one that cannot be made
 /// there is no object in the end.
 #[derive(Drop)]
 pub struct Members {

@@ -4,8 +4,8 @@ use crate::keys::{Keys, SeedKey};
 use canonical_json::{Value, write};
 use std::alloc::{AllocError, Global};
 
-/// A leaf of a seed's tree, with the key that has it as its top tree. That of a key of several levels signs the key of the leaf behind it, which is
-/// of one level less, and any other signs the message: so a list has the leaves of one HSS signature behind one another, the top one first.
+/// A leaf of a seed's tree, with the key that has it as its top tree. That of a key of several levels signs the key of the leaf after it, which is
+/// of one level less, and any other signs the message: so a list has the leaves of one HSS signature one after another, the top one first.
 /// RFC 8554 has each leaf sign once alone; test files of test seeds need not keep to it.
 #[derive(Debug, Clone, Copy, PartialEq, Eq)]
 pub struct Leaf {

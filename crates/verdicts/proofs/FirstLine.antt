@@ -28,7 +28,7 @@ take_through-first c cs =
 strip_take-cons : (b c : ℕ) (cs : List ℕ) → strip_last 10 (b ∷ take_through 10 (c ∷ cs)) ≡ b ∷ strip_last 10 (take_through 10 (c ∷ cs))
 strip_take-cons b c cs = let p = take_through-first c cs in rw p.1 (strip_last-cons b c p.0)
 
--- the text up to its first break without the break, and then the lines behind
+-- the text up to its first break without the break, and then the lines after
 pub lines_of-first : (text : List ℕ) → 0 < length text
     → lines_of text ≡ strip_last 10 (take_through 10 text) ∷ lines_of (drop_through 10 text)
 lines_of-first [] some = absurd (omega (arith, some))

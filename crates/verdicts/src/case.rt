@@ -178,7 +178,7 @@ fn words<'a>(alloc: Global, line: &'a [u8]) -> Result<Vec<&'a [u8]>, AllocError>
     line.split(|b| *b == b' ').collect(alloc)
 }
 
-// The case of a line that begins with `json`, by the words behind.
+// The case of a line that begins with `json`, by the words after.
 fn json_case(alloc: Global, parts: &[&[u8]]) -> Result<Case, CaseFault>
     ensures case { IfOk result (IsCase (codes "json" ∷ map (λ w. w.now) parts.now)) }
     ensures fault { IfErr result (IsCaseFault (codes "json" ∷ map (λ w. w.now) parts.now)) }
@@ -354,7 +354,7 @@ fn rules_case(alloc: Global, parts: &[&[u8]]) -> Result<Case, CaseFault>
     rules_of_word(alloc, text)
 }
 
-// The case whose word stands behind `rules`.
+// The case whose word stands after `rules`.
 fn rules_of_word(alloc: Global, word: &[u8]) -> Result<Case, CaseFault>
     ensures case { IfOk result (IsCase (codes "rules" ∷ word.now ∷ [])) }
     ensures fault { IfErr result (IsCaseFault (codes "rules" ∷ word.now ∷ [])) }
