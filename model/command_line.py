@@ -70,7 +70,7 @@ def publish(state, arguments, files, now):
 
 def warning_before_publish(before, arguments, files, database):
     """What `publish --db` warns of whatever becomes of the batch: its last root has other rules than the trusted one for the timestamp or the
-    snapshot, and no timestamp stands behind it."""
+    snapshot, and no timestamp comes after it."""
     offers = [argument.partition(":")[::2] for argument in arguments]
     if not before.timestamp or not all(is_role_name(role) and file in files for role, file in offers):
         return b""
@@ -83,7 +83,7 @@ def warning_before_publish(before, arguments, files, database):
     root = read_document("root", text)
     if all(before.rule(role).same_as(root.rules[role]) for role in ("timestamp", "snapshot")):
         return b""
-    why = "the root has other keys for the timestamp or the snapshot, and no timestamp stands behind it: every target will be denied"
+    why = "the root has other keys for the timestamp or the snapshot, and no timestamp comes after it: every target will be denied"
     return f"warning: {database}: {why}\n".encode()
 
 

@@ -62,7 +62,7 @@ open(f"{folder}/alone.json", "w").write(json.dumps(text, sort_keys=True, separat
 END
     "$release" sign --book "$first/book.db" --known --seed "$first/root.seed" --ots 8 --height 5 "$first/alone.json" >"$first/alone"
     wants 0 '{"accepted":1,"same":0}\n' \
-        "warning: $first/repository.db: the root has other keys for the timestamp or the snapshot, and no timestamp stands behind it: every target will be denied\nwarning: $first/repository.db: no timestamp any more: every target is denied until timestamp, snapshot and targets metadata are published\n" \
+        "warning: $first/repository.db: the root has other keys for the timestamp or the snapshot, and no timestamp comes after it: every target will be denied\nwarning: $first/repository.db: no timestamp any more: every target is denied until timestamp, snapshot and targets metadata are published\n" \
         publish --db "$first/repository.db" "root:$first/alone"
     wants 0 '{"accepted":0,"same":1}\n' '' publish --db "$first/repository.db" "root:$first/alone"
 }

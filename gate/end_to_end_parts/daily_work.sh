@@ -195,7 +195,7 @@ a_life_is_typed() {
     cd "$here"
 }
 
-# typed_words LINE: what stands behind it here, where nobody is asked and keys are made in no time.
+# typed_words LINE: what stands after it here, where nobody is asked and keys are made in no time.
 typed_words() {
     case $1 in
         'release sign '*) echo --yes ;;

@@ -115,7 +115,7 @@ each_of() {
 # A root of other keys alone, also behind others of its batch; not where its timestamp stands behind it, not where it is held, and not where
 # it is denied.
 roots_that_forget() {
-    local forgets='warning: NAME: the root has other keys for the timestamp or the snapshot, and no timestamp stands behind it: every target will be denied\n'
+    local forgets='warning: NAME: the root has other keys for the timestamp or the snapshot, and no timestamp comes after it: every target will be denied\n'
     local forgotten='warning: NAME: no timestamp any more: every target is denied until timestamp, snapshot and targets metadata are published\n'
     local root=root:$folder/own targets=targets:$folder/own.targets timestamp=timestamp:$folder/new.timestamp
     each_of 0 '{"accepted":1,"same":0}\n' '' "$root.2.root"
