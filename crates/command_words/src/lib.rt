@@ -12,12 +12,13 @@ mod texts;
 
 use clap::Command;
 use options::with;
+pub use options::{VERBOSE, Word};
 use std::alloc::{AllocError, Global};
+pub use subcommands::{COMMON, PROGRAM, SUBCOMMANDS, Subcommand};
 use subcommands::{
-    CANON, COMMON, DRAFT, EXPORT, GET, INIT, KEY, PROGRAM, PRUNE, PUBLISH, PUT, SERVE, SHOW, SIGN,
-    Subcommand, UPDATE,
+    CANON, DRAFT, EXPORT, GET, INIT, KEY, PRUNE, PUBLISH, PUT, SERVE, SHOW, SIGN, UPDATE,
 };
-pub use texts::DENIALS;
+pub use texts::{DENIALS, VERSION};
 
 /// The whole command line.
 pub fn release<'a>(alloc: Global) -> Result<Command<'a>, AllocError>

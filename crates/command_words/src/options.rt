@@ -12,7 +12,7 @@ use std::alloc::{AllocError, Global};
 
 /// An argument of a subcommand: its name, the name of its value, and what help says of it.
 #[derive(Clone, Copy)]
-pub(crate) enum Word<'a> {
+pub enum Word<'a> {
     /// `--NAME VALUE`
     Option(&'a str, &'a str, &'a str),
     /// `--NAME VALUE`, which has to be there.
@@ -32,6 +32,9 @@ pub(crate) enum Word<'a> {
     /// `--verbose`, `-v`
     Verbose,
 }
+
+/// What help says of `--verbose`.
+pub const VERBOSE: &str = "Tell what is done, and what faults are about, on standard error";
 
 /// `--at SECONDS`
 pub(crate) const AT: Word<'static> = Word::Number(
@@ -193,6 +196,6 @@ fn verbose<'a>(alloc: Global) -> Arg<'a>
     Arg::new(alloc, "verbose")
         .long("verbose")
         .short('v')
-        .help("Tell what is done, and what faults are about, on standard error")
+        .help(VERBOSE)
         .action(ArgAction::Count)
 }

@@ -4,15 +4,20 @@ use crate::options::{AT, DB, HEIGHT, OTS, SEED, Word};
 
 /// A subcommand.
 #[derive(Clone, Copy)]
-pub(crate) struct Subcommand<'a> {
-    pub(crate) name: &'a str,
+pub struct Subcommand<'a> {
+    pub name: &'a str,
     /// What it does, in a line.
-    pub(crate) about: &'a str,
+    pub about: &'a str,
     /// What its help ends with.
-    pub(crate) after: &'a str,
+    pub after: &'a str,
     /// Its own words, after those that each subcommand takes.
-    pub(crate) words: &'a [Word<'a>],
+    pub words: &'a [Word<'a>],
 }
+
+/// The subcommands, in the order of their names.
+pub const SUBCOMMANDS: &[Subcommand<'static>] = &[
+    CANON, DRAFT, EXPORT, GET, INIT, KEY, PRUNE, PUBLISH, PUT, SERVE, SHOW, SIGN, UPDATE,
+];
 
 // What help ends with, after an example.
 macro_rules! after {
@@ -27,17 +32,19 @@ macro_rules! after {
             "  2  a fault of the command line\n",
             "  3  all else: 'fault' and one of memory, database, damaged, network, file and clock\n",
             "\n",
-            "'release help denials' prints the numbers and names of the denials. docs/REFERENCE.md describes the\n",
-            "HTTP interface, docs/TUTORIAL.md a first repository, and docs/OPERATING.md how one is run."
+            "'release help denials' prints the numbers and names of the denials, 'release help man' the manual page, and\n",
+            "'release help bash', 'release help fish' and 'release help zsh' what such a shell completes.\n",
+            "docs/REFERENCE.md describes the HTTP interface, docs/TUTORIAL.md a first repository, and\n",
+            "docs/OPERATING.md how one is run."
         )
     };
 }
 
 /// What the help of the whole program ends with.
-pub(crate) const PROGRAM: &str = after!("release init --db repository.db root.json");
+pub const PROGRAM: &str = after!("release init --db repository.db root.json");
 
 /// The words that each subcommand takes: a moment, and to tell more.
-pub(crate) const COMMON: &[Word<'static>] = &[AT, Word::Verbose];
+pub const COMMON: &[Word<'static>] = &[AT, Word::Verbose];
 
 // What a folder of drafts is.
 const DRAFTS: &str = "The folder of the drafts";

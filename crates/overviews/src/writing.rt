@@ -42,7 +42,8 @@ impl Text {
         }
     }
 
-    fn say_byte(&mut self, byte: u8) {
+    /// Says a byte, which is a part of a text.
+    pub fn say_byte(&mut self, byte: u8) {
         if !self.is_cut {
             self.is_cut = self.bytes.push(byte).is_err();
         }

@@ -1,4 +1,6 @@
-//! `help N` and `help NAME`: what a denial says, and what to do next.
+//! What help has besides that of `clap`: `help N` and `help NAME`, what a denial says and what to do next; and the pages that are made from the
+//! table of the subcommands.
+use completion::page;
 use denial_help::asked;
 use std::alloc::{AllocError, Global};
 
@@ -18,4 +20,15 @@ pub fn denial_asked(alloc: Global, words: &[String]) -> Result<Option<String>, A
         }
         None => Ok(None),
     }
+}
+
+/// What `help man`, `help bash`, `help fish` and `help zsh` print. Of other words it is nothing.
+pub fn page_asked(alloc: Global, words: &[String]) -> Result<Option<Vec<u8>>, AllocError> {
+    let [_, help, name] = words else {
+        return Ok(None);
+    };
+    if help.as_str() != "help" {
+        return Ok(None);
+    }
+    page(alloc, name.as_str())
 }

@@ -2,7 +2,7 @@
 ghost use Rattle.std.specs.Prelude.{◌≡◌, ◌≤◌, MatchResult};
 ghost use Rattle.command_support.specs.Statuses.{EndsWith, status_of};
 
-use crate::help::denial_asked;
+use crate::help::{denial_asked, page_asked};
 use crate::init::init;
 use crate::prune::prune;
 use crate::publish::{publish, publish_in_folder};
@@ -70,6 +70,9 @@ fn perform<O: Write, E: Write>(
 ) -> Result<(), Fault> {
     if let Some(text) = denial_asked(rt.alloc(), words)? {
         return Err(Fault::Help(text));
+    }
+    if let Some(page) = page_asked(rt.alloc(), words)? {
+        return print(out, &page, &mut Notes::new(rt.alloc(), err, false));
     }
     let task = task(rt.alloc(), words)?;
     perform_task(rt, &task, out, err)
