@@ -32,10 +32,9 @@ macro_rules! after {
             "  2  a fault of the command line\n",
             "  3  all else: 'fault' and one of memory, database, damaged, network, file and clock\n",
             "\n",
-            "'release help denials' prints the numbers and names of the denials, 'release help man' the manual page, and\n",
-            "'release help bash', 'release help fish' and 'release help zsh' what such a shell completes.\n",
-            "docs/REFERENCE.md describes the HTTP interface, docs/TUTORIAL.md a first repository, and\n",
-            "docs/OPERATING.md how one is run."
+            "'release help denials' prints the numbers and names of the denials, 'release help man' the manual,\n",
+            "and 'release help bash', 'fish' or 'zsh' what such a shell completes. docs/REFERENCE.md describes\n",
+            "the HTTP interface, docs/TUTORIAL.md a first repository, and docs/OPERATING.md how one is run."
         )
     };
 }
