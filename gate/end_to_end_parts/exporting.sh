@@ -117,8 +117,10 @@ updates_that_look_like_success() {
     serve --count 3
     wants 0 'updated\n' '' update --at=$at --db "$db" --port "$port"
     served_one
-    serve --count 2
+    serve --count 6
+    wants 0 'updated\n' '' update --at=$at --fresh --db "$db" --port "$port"
     wants 0 'updated\n' "warning: $db: the timestamp has expired\n" update --at=$late --db "$db" --port "$port"
+    wants 1 '' "warning: $db: the timestamp has expired\nnot fresh\n" update --at=$late --fresh --db "$db" --port "$port"
     served_one
     wants 1 '' 'denied 15 TimestampExpired\n' get --at=$late --db "$db" --port "$port" --out "$folder/out.txt" plain
     served=$folder/db

@@ -207,7 +207,8 @@ mirrors_that_are_none() {
     gets 0 'written\n' '' --mirror "$dead" --mirror "$closing" --mirror http://nowhere.invalid/files --mirror "$whole/"
 }
 
-# None of the mirrors has a timestamp: it is warned of, as of a port. One that gives no answer stands for none.
+# None of the mirrors has a timestamp: it is warned of, as of a port, and is an end of its own where the update has to be fresh. One that gives no
+# answer stands for none.
 answers_together() {
     local first second dead
     dead=http://127.0.0.1:$(free_port)
@@ -218,7 +219,14 @@ answers_together() {
     fresh
     updates 0 'updated\n' "warning: $first, $second: no timestamp\n" --mirror "$first" --mirror "$second"
     updates 0 'updated\n' "warning: $dead, $first: no timestamp\n" --mirror "$dead" --mirror "$first"
+    updates 1 '' "warning: $first, $second: no timestamp\nnot fresh\n" --fresh --mirror "$first" --mirror "$second"
     updates 0 'updated\n' '' --mirror "$first" --mirror "$second" --mirror "$whole"
+    updates 0 'updated\n' '' --fresh --mirror "$first" --mirror "$second" --mirror "$whole"
+    updates 1 '' "warning: $first: no timestamp\nnot fresh\n" --fresh --mirror "$first"
+    updates 1 "{\"after\":$(versions 1 1 1 1),\"answer\":\"not fresh\",\"before\":$(versions 1 1 1 1),\"changed\":false,$(
+        )\"first\":{\"expires\":$(first_expiry),\"role\":\"snapshot\"},\"mirrors\":[{\"files\":0,\"source\":\"$first\"}],$(
+        )\"now\":$at,\"source\":null}\n" "warning: $first: no timestamp\nnot fresh\n" --fresh --json --mirror "$first"
+    updates 3 '' "fault network\n" --fresh --mirror "$dead" --mirror "$dead"
 }
 
 # nginx knows one host by its name, and another that points elsewhere: no redirection is followed, and a line tells of it.

@@ -328,8 +328,8 @@ impl<E: Write> Source for Remote<'_, '_, '_, E> {
             Some(peer) => self.ask(alloc, peer, name, limit),
             None => self.ask_each(alloc, name, limit),
         };
-        self.turns.answered(self.giver);
         let is_timestamp = name == "metadata/timestamp.json";
+        self.turns.answered(self.giver, is_timestamp);
         match &answer {
             Ok(Some(file)) => {
                 self.bytes = self.bytes.saturating_add(file.len() as u64);

@@ -17,6 +17,18 @@ pub struct Found<'a> {
     pub turns: Vec<Turn<'a>>,
 }
 
+impl Found<'_> {
+    /// Whether a turn that ended well gave a timestamp, and the one that is held is live at the moment.
+    pub fn is_fresh(&self, now: Moment) -> bool {
+        for turn in &self.turns {
+            if turn.end.is_none() && turn.has_timestamp {
+                return !self.after.has_expired(now);
+            }
+        }
+        false
+    }
+}
+
 /// One object of what an update found and how it ended, and a line end.
 pub fn update_as_json(
     alloc: Global,
@@ -56,7 +68,7 @@ pub struct Got<'a> {
 pub fn is_answer(done: &Result<(), Fault>) -> bool {
     match done {
         Ok(()) => true,
-        Err(Fault::Denied(_, _) | Fault::Network) => true,
+        Err(Fault::Denied(_, _) | Fault::NotFresh | Fault::Network) => true,
         Err(_) => false,
     }
 }

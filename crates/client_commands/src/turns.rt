@@ -35,6 +35,8 @@ pub struct Turn<'a> {
     pub files: u64,
     /// Who gave the last of them.
     pub giver: Option<Peer<'a>>,
+    /// Whether a timestamp was given.
+    pub has_timestamp: bool,
     /// How it ended, where it did not end well.
     pub end: Option<End>,
     // whether the last answer was a file
@@ -75,16 +77,18 @@ impl<'a> Turns<'a> {
             peer,
             files: 0,
             giver: None,
+            has_timestamp: false,
             end: None,
             gave: false,
         });
     }
 
-    /// A file was given by this one, or none was given.
-    pub fn answered(&mut self, giver: Option<Peer<'a>>) {
+    /// A file was given by this one, or none was given; the file is a timestamp, or another.
+    pub fn answered(&mut self, giver: Option<Peer<'a>>, is_timestamp: bool) {
         if let Some(mut turn) = self.now {
             turn.gave = giver.is_some();
             if turn.gave {
+                turn.has_timestamp |= is_timestamp;
                 turn.files = turn.files.saturating_add(1);
                 turn.giver = giver;
             }

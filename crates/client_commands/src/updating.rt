@@ -17,7 +17,8 @@ use subcommands::{FirstExpiry, Store, Versions, Work, tell_standing, worked};
 /// Takes new roots, the timestamp and the snapshot from the repository at the port, or in folders and at mirrors, into the state in the database
 /// file, each where the state's own rules accept it, and prints `updated`, or what it found as JSON, then also where it was denied or the
 /// network failed. It warns where the repository has no timestamp, or the one that is held then has expired: from then on nothing is granted.
-/// All of it has so many seconds, 600 where none are given.
+/// Where it is to be fresh, it ends as not fresh in those two cases, and where no turn that ended well gave a timestamp. All of it has so many
+/// seconds, 600 where none are given.
 pub fn update<O: Write, E: Write>(
     rt: &HostRuntime,
     asked: &Updating,
@@ -35,11 +36,12 @@ pub fn update<O: Write, E: Write>(
         found: None,
     };
     let done = worked(rt, asked.db.as_str(), &mut bringing, notes);
+    let Bringing { found, .. } = bringing;
+    let done = seen_fresh(done, asked.fresh, &found, now);
     if !asked.json {
         done?;
         return print(out, b"updated\n", notes);
     }
-    let Bringing { found, .. } = bringing;
     match found {
         Some(found) if is_answer(&done) => {
             let text = update_as_json(rt.alloc(), &found?, &done, now)?;
@@ -47,6 +49,24 @@ pub fn update<O: Write, E: Write>(
             done
         }
         _ => done,
+    }
+}
+
+// How an update ends that is to be fresh, or need not be.
+fn seen_fresh(
+    done: Result<(), Fault>,
+    is_wanted: bool,
+    found: &Option<Result<Found<'_>, AllocError>>,
+    now: Moment,
+) -> Result<(), Fault> {
+    done?;
+    if !is_wanted {
+        return Ok(());
+    }
+    match found {
+        Some(Ok(found)) if found.is_fresh(now) => Ok(()),
+        Some(Err(_)) => Err(Fault::Memory),
+        _ => Err(Fault::NotFresh),
     }
 }
 

@@ -281,6 +281,7 @@ HasArguments rows (SignIn s) = HasKeys rows s.keys
     × LacksPair rows
 HasArguments rows (Update u) = HasText rows (codes "db") u.db × HasServer rows u.server
     × MayHaveNumber rows (codes "within") 1 most_seconds u.within × (u.json ≡ is_used rows (codes "json"))
+    × (u.fresh ≡ is_used rows (codes "fresh"))
 
 -- a subcommand of this name with what was found for it
 abbrev pub IsAsked : Text → List Row → Subcommand → Type 0

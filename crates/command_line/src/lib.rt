@@ -421,6 +421,7 @@ fn update_asked(alloc: Global, given: &ArgMatches<'_>) -> Result<Subcommand, Unr
         server,
         within,
         json: is_given(given, "json"),
+        fresh: is_given(given, "fresh"),
     }))
 }
 

@@ -130,13 +130,15 @@ pub struct LinkDraft {
     pub products: Vec<String>,
 }
 
-/// What a client brings up to date: its own database, where it fetches from and for how many seconds at most; and whether JSON is printed.
+/// What a client brings up to date: its own database, where it fetches from and for how many seconds at most; whether JSON is printed; and
+/// whether it has to be fresh.
 #[derive(Drop)]
 pub struct Updating {
     pub db: String,
     pub server: Server,
     pub within: Option<u64>,
     pub json: bool,
+    pub fresh: bool,
 }
 
 /// What a client gets: its own database, where it fetches from and for how many seconds at most, whether JSON is printed, the file that is
@@ -289,7 +291,8 @@ pub enum Subcommand {
     /// is said so, and where it is said so also another document of a kind and version that the key has signed. What is held is judged by the
     /// root that is given, and where it is said so nothing is signed over what does not meet its rules.
     SignIn(FolderSigning),
-    /// `update --db FILE (--port P | [--from FOLDER ..] [--mirror URL ..]) [--within SECONDS] [--json]`: brings a client's own state up to date.
+    /// `update --db FILE (--port P | [--from FOLDER ..] [--mirror URL ..]) [--within SECONDS] [--json] [--fresh]`: brings a client's own state up
+    /// to date.
     Update(Updating),
 }
 

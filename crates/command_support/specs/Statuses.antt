@@ -2,7 +2,7 @@
 use Rattle.std.specs.Prelude.{◌≡◌, ◌⊎◌, ℕ, None}
 use Rattle.denials.specs.declared.denial.Denial.TheVariants as denials
 use Rattle.command_support.specs.declared.fault.Fault.{Fault}
-use Rattle.command_support.specs.declared.fault.Fault.TheVariants.{Usage, Help, Denied, Refused, Slip, Due, LeavesSpent, UnknownKey, Memory, Database, Damaged, Network, File, Clock}
+use Rattle.command_support.specs.declared.fault.Fault.TheVariants.{Usage, Help, Denied, Refused, Slip, Due, NotFresh, LeavesSpent, UnknownKey, Memory, Database, Damaged, Network, File, Clock}
 use Rattle.command_line.specs.declared.tasks.Usage.{Usage as Usages}
 use Rattle.command_line.specs.declared.tasks.Usage.TheVariants as usages
 use Rattle.loose_json.specs.declared.CanonFault.{CanonFault}
@@ -17,6 +17,7 @@ status_of (Denied denial index) = 1
 status_of (Refused number name index) = 1
 status_of (Slip slip) = 1
 status_of Due = 1
+status_of NotFresh = 1
 status_of LeavesSpent = 1
 status_of UnknownKey = 1
 status_of (Usage text) = 2

@@ -86,6 +86,8 @@ pub enum Fault {
     Slip(Slip),
     /// Something expires within the days that are looked ahead.
     Due,
+    /// No source of a client gave a timestamp that is trusted, or the one that is has expired.
+    NotFresh,
     /// All leaves of a key are spent.
     LeavesSpent,
     /// The book is to be known and is not there, or the key is to be known and is not in it.
@@ -111,6 +113,7 @@ impl Fault {
             | Fault::Refused(_, _, _)
             | Fault::Slip(_)
             | Fault::Due
+            | Fault::NotFresh
             | Fault::LeavesSpent
             | Fault::UnknownKey => 1,
             Fault::Usage(_) => 2,
@@ -135,6 +138,7 @@ impl fmt::Display for Fault {
                 writeln!(f, "refused {word}")
             }
             Fault::Due => f.write_str("due\n"),
+            Fault::NotFresh => f.write_str("not fresh\n"),
             Fault::LeavesSpent => f.write_str("leaves spent\n"),
             Fault::UnknownKey => f.write_str("unknown key\n"),
             Fault::Memory => f.write_str("fault memory\n"),

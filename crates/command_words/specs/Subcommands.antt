@@ -172,7 +172,7 @@ sign_line = with_rule (with_rule (with_rule (with_anchor (with_rule (with_rule (
     (option_rule (codes "in")))) (flag_rule (codes "yes"))) (flag_rule (codes "again"))) (operands_rule (codes "file"))
 
 abbrev pub update_line : App
-update_line = client_line (codes "update")
+update_line = with_rule (client_line (codes "update")) (flag_rule (codes "fresh"))
 
 -- `draft`: what each kind has, what targets metadata, layouts and links have, the kind itself and its words
 abbrev pub begun_draft_line : App

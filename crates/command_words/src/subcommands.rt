@@ -28,7 +28,8 @@ macro_rules! after {
             "\n\nExit status:\n",
             "  0  done\n",
             "  1  denied: 'denied N Name' on standard error, for a document of a batch with ' at I' after it;\n",
-            "     also 'leaves spent', 'unknown key', 'refused WORD' of drafts, and 'due' of show\n",
+            "     also 'leaves spent', 'unknown key', 'refused WORD' of drafts, 'due' of show, and 'not fresh'\n",
+            "     of update\n",
             "  2  a fault of the command line\n",
             "  3  all else: 'fault' and one of memory, database, damaged, network, file and clock\n",
             "\n",
@@ -439,10 +440,21 @@ pub(crate) const SIGN: Subcommand<'static> = Subcommand {
     ],
 };
 
-/// `update [--at SECONDS] [--verbose] --db FILE (--port P | [--from FOLDER ..] [--mirror URL ..]) [--within SECONDS] [--json]`
+/// `update [--at SECONDS] [--verbose] --db FILE (--port P | [--from FOLDER ..] [--mirror URL ..]) [--within SECONDS] [--json] [--fresh]`
 pub(crate) const UPDATE: Subcommand<'static> = Subcommand {
     name: "update",
     about: "Bring the trusted metadata up to date, as a client",
     after: after!("release update --db client.db --port 8080"),
-    words: &[DB, PORT_OR_MIRROR, MIRROR, FROM, WITHIN, JSON],
+    words: &[
+        DB,
+        PORT_OR_MIRROR,
+        MIRROR,
+        FROM,
+        WITHIN,
+        JSON,
+        Word::Flag(
+            "fresh",
+            "End with status 1 where none of them has a timestamp that is trusted, and live at the moment",
+        ),
+    ],
 };

@@ -24,6 +24,7 @@ module _ (reply : runs.Reply) (IsDone : runs.Reply → Type 0) where
   other_by (faults.Refused number name index) e = e
   other_by (faults.Slip slip) e = e
   other_by faults.Due e = e
+  other_by faults.NotFresh e = e
   other_by faults.LeavesSpent e = e
   other_by faults.UnknownKey e = e
   other_by faults.Memory e = e
@@ -58,6 +59,7 @@ module _ (command : runs.Command) (now : ℕ) (IsDone : runs.Reply → Type 0) w
   unmade (faults.Refused number name index) e = e
   unmade (faults.Slip slip) e = e
   unmade faults.Due e = e
+  unmade faults.NotFresh e = e
   unmade faults.LeavesSpent e = e
   unmade faults.UnknownKey e = e
   unmade faults.Memory e = e
@@ -82,6 +84,7 @@ module _ (command : runs.Command) (now : ℕ) (IsDone : runs.Reply → Type 0) w
   ends S T reply (Err (faults.Refused number name index)) h e = e
   ends S T reply (Err (faults.Slip slip)) h e = e
   ends S T reply (Err faults.Due) h e = e
+  ends S T reply (Err faults.NotFresh) h e = e
   ends S T reply (Err faults.LeavesSpent) h e = e
   ends S T reply (Err faults.UnknownKey) h e = e
   ends S T reply (Err faults.Memory) h e = e
