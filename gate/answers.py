@@ -122,7 +122,7 @@ REFUSED = [
     (PRUNE, reply(405, fault("method"), "Allow: GET\r\n"), 3, "", NETWORK),
     (PRUNE, reply(503, fault("memory")), 3, "", "fault memory\n"),
 ]
-# Behind these the change may stand.
+# After these the change may stand.
 OPEN = [
     (PUBLISH, b"", 3, "", f"{UNKNOWN}{NETWORK}"),
     (PUBLISH, b"", 3, "", f"release: batch: no answer that can be read\n{UNKNOWN}{NETWORK}", "-v"),

@@ -48,7 +48,7 @@ def made(room, files, release):
 
 
 def read_early():
-    """Bytes with a low digest: an opening reads by digest, so that it reads most of the further blobs behind them."""
+    """Bytes with a low digest: an opening reads by digest, so that it reads most of the further blobs after them."""
     while True:
         data = random.randbytes(MEBIBYTE)
         if hashlib.sha256(data).hexdigest() < "2":
@@ -72,9 +72,9 @@ def serves_on(room, release):
         for _ in range(2):
             reply = server.ask(ask("targets/large"))
             want(reply == UNAVAILABLE, f"a changed target: {reply[:200]!r}")
-            want(server.ask(ask("targets/small")).startswith(GRANTED), "another target behind it")
-        want(server.ask(ask("metadata/timestamp.json")).startswith(GRANTED), "metadata behind it")
-        want(server.ask(put(b"new")).endswith(b'{"stored":true}'), "an upload behind it")
+            want(server.ask(ask("targets/small")).startswith(GRANTED), "another target after it")
+        want(server.ask(ask("metadata/timestamp.json")).startswith(GRANTED), "metadata after it")
+        want(server.ask(put(b"new")).endswith(b'{"stored":true}'), "an upload after it")
         want(server.errors() == b"", f"the server says {server.errors()!r}")
     ended = subprocess.run([release, "prune", *AT, "--db", db], capture_output=True)
     want((ended.returncode, without_reasons(ended.stderr)) == (3, b"fault damaged\n"), f"the changed file is opened: {ended!r}")

@@ -28,11 +28,11 @@ def main(words):
                 want(time.monotonic() - began < SECONDS - 1, "the machine is too slow to ask in time")
                 time.sleep(SECONDS + 1)
                 reply = server.ask(HELLO)
-                want(reply.endswith(b'{"denial":11,"rule":"RootExpired"}'), f"behind the expiry it answers {reply!r}")
+                want(reply.endswith(b'{"denial":11,"rule":"RootExpired"}'), f"after the expiry it answers {reply!r}")
     except (Wrong, OSError, subprocess.SubprocessError) as error:
         print(f"clock: {error}")
         return 1
-    print("clock: granted before the expiry, denied behind it")
+    print("clock: granted before the expiry, denied after it")
     return 0
 
 

@@ -75,21 +75,21 @@ STORED, HELD = (HEAD % len(body) + body for body in (b'{"stored":true}', b'{"sto
 
 
 def reads(server):
-    """Each read of an upload fails once: it has no reply and stores nothing. The read behind the last one cuts nothing."""
+    """Each read of an upload fails once: it has no reply and stores nothing. The read after the last one cuts nothing."""
     calls = -(-len(put(b"00000")) // ROOM)
     for number in range(1, calls + 1):
         request = put(b"%05d" % number)
         want(server.ask(request) == b"", f"read {number} fails, and there is a reply")
-        want(server.ask(request) == STORED, f"behind read {number}, which failed")
+        want(server.ask(request) == STORED, f"after read {number}, which failed")
     want(server.ask(put(b"00000")) == STORED, "all reads of a request went well")
 
 
 def writes(server):
-    """Each write of a reply is cut once: what was taken before is there, and the command stands. The write behind the last one is not made."""
+    """Each write of a reply is cut once: what was taken before is there, and the command stands. The write after the last one is not made."""
     for number in range(1, -(-len(STORED) // ROOM) + 2):
         request = put(b"%05d" % number)
         want(server.ask(request) == STORED[:(number - 1) * ROOM], f"write {number} is cut")
-        want(server.ask(request) == HELD, f"behind write {number}, which was cut")
+        want(server.ask(request) == HELD, f"after write {number}, which was cut")
 
 
 def seams(server):
@@ -121,7 +121,7 @@ def each_read(server, request, room):
     reply = server.ask(request)
     for number in range(2, -(-len(request) // room) + 1):
         want(server.ask(request) == b"", f"read {number} fails, and there is a reply")
-        want(server.ask(request) == reply, f"behind read {number}, which failed")
+        want(server.ask(request) == reply, f"after read {number}, which failed")
 
 
 def each_write(server, request, room):
@@ -131,7 +131,7 @@ def each_write(server, request, room):
     want(reply.startswith(b"HTTP/1.1 "), f"a reply {reply!r}")
     for number in range(2, -(-len(reply) // room) + 2):
         want(server.ask(request) == reply[:(number - 1) * room], f"write {number} is cut")
-        want(server.ask(request) == reply, f"behind write {number}, which was cut")
+        want(server.ask(request) == reply, f"after write {number}, which was cut")
 
 
 def of_kind(case, kind):

@@ -132,7 +132,7 @@ def lines_that_are_no_case():
 
 
 def reads_that_fail():
-    """At the first read, and behind whole lines and within a line."""
+    """At the first read, and after whole lines and within a line."""
     source = os.open("/", os.O_RDONLY)
     hold("a folder as input", run_over(source) == (FILE, b""))
     os.close(source)
@@ -152,7 +152,7 @@ def reads_that_fail():
         peer.setsockopt(socket.SOL_SOCKET, socket.SO_LINGER, struct.pack("ii", 1, 0))
         peer.close()
         out, err = started.communicate(timeout=60)
-        hold(f"a read that fails behind {len(text)} bytes", ((started.returncode, err), out) == (FILE, printed))
+        hold(f"a read that fails after {len(text)} bytes", ((started.returncode, err), out) == (FILE, printed))
 
 
 def writes_that_fail():

@@ -3,7 +3,7 @@
 
     gate/example.py FOLDER     writes the files into the folder, and prints the SHA-256 and the name of each, as 'sha256sum' reads them
 
-A repository of two targets, one of them empty; three documents behind it that are refused together; and two more of a target with a layout, of which
+A repository of two targets, one of them empty; three documents after it that are refused together; and two more of a target with a layout, of which
 the second has a link of the wrong key. The documents and the keys are those of model/.
 """
 import os
@@ -93,7 +93,7 @@ def refused():
 
 
 def chain():
-    """The next documents, of a target with a layout, and what that needs; then those behind them, in which somebody else has signed the last link."""
+    """The next documents, of a target with a layout, and what that needs; then those after them, in which somebody else has signed the last link."""
     source, tool = made.digest(SOURCE), made.digest(TOOL)
     layout = signed(made.layout(EXPIRES, [KEYS[WRITER], KEYS[PACKER]], STEPS), (OWNER, 0))
     write = signed(made.link("write", {}, {"source.txt": source}), (WRITER, 0))

@@ -26,7 +26,7 @@ import time
 from served import AT, RELEASE, Wrong, want
 
 PARAMETERS = [(ots, height) for height in (5, 10) for ots in (1, 2, 4, 8)]
-# What an empty log has: its head, and what the kit writes behind it.
+# What an empty log has: its head, and what the kit writes after it.
 EMPTY_LOG = 41
 KILLS = 40
 

@@ -3,7 +3,7 @@
 
     gate/peers.py [RELEASE]       the program, out/release where none is named
 
-A connection has 10 seconds for its head, 60 in all, and 5 for what is read away behind a reply. The cases run side by side, each over
+A connection has 10 seconds for its head, 60 in all, and 5 for what is read away after a reply. The cases run side by side, each over
 a repository and a server of its own. Prints what is wrong, and ends with status 1 then.
 """
 import concurrent.futures
@@ -70,9 +70,9 @@ def slow_behind(server):
         began = time.monotonic()
         peer.sendall(b"PUT /blobs/%s HTTP/1.1\r\nContent-Length: 2000000\r\n\r\n" % (b"0" * 64))
         reply = peer.recv(1000)
-        want(reply.startswith(b"HTTP/1.1 413 "), f"behind the reply: {reply!r}")
+        want(reply.startswith(b"HTTP/1.1 413 "), f"after the reply: {reply!r}")
         dripping = pool.submit(drip, peer, b"a", 0.5, 100)
-        next_is_served(server, began, 4.9, "a byte in half a second behind the reply")
+        next_is_served(server, began, 4.9, "a byte in half a second after the reply")
         dripping.result()
 
 
@@ -113,7 +113,7 @@ def stop_a_while(server):
     time.sleep(0.2)
 
 
-# The server is stopped and goes on while it waits for a connection, within a head, within a body and behind a reply.
+# The server is stopped and goes on while it waits for a connection, within a head, within a body and after a reply.
 def stopped(server):
     stop_a_while(server)
     with server.connect() as peer:
@@ -133,7 +133,7 @@ def stopped(server):
         want(rest(peer).endswith(b'{"stored":true}'), "stopped within a body")
     with server.connect() as peer:
         peer.sendall(b"PUT /blobs/%s HTTP/1.1\r\nContent-Length: 2000000\r\n\r\nabc" % (b"0" * 64))
-        want(peer.recv(1000).startswith(b"HTTP/1.1 413 "), "stopped behind a reply")
+        want(peer.recv(1000).startswith(b"HTTP/1.1 413 "), "stopped after a reply")
         stop_a_while(server)
     want(is_granted(server.ask(HELLO)), "stopped and continued: the next peer is not served")
 
@@ -149,14 +149,14 @@ def wait_for_accept(server):
 
 
 # While the process may open no more files, the next connection waits, and is served when it may. (The system takes the descriptor before it
-# waits for the peer, so the one peer behind the change is served still.)
+# waits for the peer, so the one peer after the change is served still.)
 def no_descriptor(server):
     wait_for_accept(server)
     taken = {int(it) for it in os.listdir(f"/proc/{server.pid()}/fd")}
     few = next(it for it in range(len(taken) + 1) if it not in taken)
     hard = resource.prlimit(server.pid(), resource.RLIMIT_NOFILE)[1]
     resource.prlimit(server.pid(), resource.RLIMIT_NOFILE, (few, hard))
-    want(is_granted(server.ask(HELLO)), "the peer behind the change is not served")
+    want(is_granted(server.ask(HELLO)), "the peer after the change is not served")
     with server.connect() as peer:
         peer.sendall(HELLO)
         peer.settimeout(1.5)

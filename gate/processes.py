@@ -2,7 +2,7 @@
 
 
 def fields_of(process):
-    """Gives the fields of a process's state behind its name: its state, its parent and so on. The name, in brackets, may hold spaces."""
+    """Gives the fields of a process's state after its name: its state, its parent and so on. The name, in brackets, may hold spaces."""
     with open(f"/proc/{process}/stat") as file:
         return file.read().rpartition(")")[2].split()
 

@@ -284,7 +284,7 @@ def selftest():
     keys = OneTimeKeys(tree(b"t"))
     want(keys.see(made(0, tree(b"a"), 0), b"one") == 0 and keys.see(made(0, tree(b"a"), 31), b"two") == 31, "the first tree")
     want(keys.see(made(1, tree(b"b"), 0), b"three") == 32, "the second tree")
-    want(keys.see(made(1, tree(b"b"), 0)[:20000], b"three") == 32, "a signature that is cut behind its leaves")
+    want(keys.see(made(1, tree(b"b"), 0)[:20000], b"three") == 32, "a signature that is cut after its leaves")
     want(keys.see(made(1, tree(b"b"), 1)[:100], b"four") is None, "a signature that is cut before its leaves")
     want(is_refused(keys, made(0, tree(b"a"), 0), b"five"), "a lower leaf that signs two documents is not found")
     want(is_refused(keys, made(1, tree(b"c"), 0), b"six"), "a leaf of the top tree that signs two trees is not found")

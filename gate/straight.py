@@ -89,7 +89,7 @@ def verdict(public, signature, message):
 
 
 def down(signed_keys, public, message, rest):
-    """So many signed keys, each behind the signature of the key before it, and then a signature of the message."""
+    """So many signed keys, each after the signature of the key before it, and then a signature of the message."""
     if signed_keys == 0:
         return verdict(public, rest, message).startswith("valid")
     w = OTS_OF_CODE.get(int.from_bytes(public[4:8], "big"))

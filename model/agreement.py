@@ -1,7 +1,7 @@
 """Agreement: when a client is behind its server, and what a fetch from the server's state then has to end in.
 
 A client is behind where its roots are a beginning of the server's, at most 64 fewer, its target files are the server's, and what it trusts
-behind the later roots is nothing else, or older than what the server trusts, whose timestamp and snapshot are live.
+after the later roots is nothing else, or older than what the server trusts, whose timestamp and snapshot are live.
 """
 import repository
 from client import Client

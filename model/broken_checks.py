@@ -20,7 +20,7 @@ def sets_to_break(random, names, larger_sets):
 
 
 def requests_of(random, state, role, text):
-    """The document alone, and at times behind a document that is held, before one that is refused, or twice."""
+    """The document alone, and at times after a document that is held, before one that is refused, or twice."""
     if role is None:
         return [text]
     offered = (role, text)

@@ -53,7 +53,7 @@ class Reader:
             raise NotCanonical from None
 
     def integer(self):
-        """64-bit and signed, with no leading zero and no negative zero. More digits stand behind it as a fault."""
+        """64-bit and signed, with no leading zero and no negative zero. More digits stand after it as a fault."""
         digits = INTEGER.match(self.text, self.at)
         require(digits is not None)
         number = int(digits[0])
@@ -62,7 +62,7 @@ class Reader:
         return number
 
     def another(self, end):
-        """Behind a value inside a list or an object: a comma, or the end."""
+        """After a value inside a list or an object: a comma, or the end."""
         require(self.peek() in (b",", end))
         self.at += 1
         return self.text[self.at - 1:self.at] == b","

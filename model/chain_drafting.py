@@ -158,7 +158,7 @@ class Drafts:
             copy.deepcopy(self).list_all()
 
     def drafted_again(self, document, before, anew):
-        """Behind a listing that changes something. Targets metadata without a term get that of a first one."""
+        """After a listing that changes something. Targets metadata without a term get that of a first one."""
         if document.signed == before:
             return
         if document.entries and not anew:
@@ -196,7 +196,7 @@ class Drafts:
         self.list_all(anew)
 
     def draft_targets(self, role, added, given, now, anew=False):
-        """Targets metadata as `draft targets` makes them, behind which all layouts and links are listed."""
+        """Targets metadata as `draft targets` makes them, after which all layouts and links are listed."""
         begun = self.documents.get(role)
         if begun and begun.entries and not anew:
             raise Refused("signed")

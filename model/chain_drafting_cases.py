@@ -1,4 +1,4 @@
-"""The command `draft` over folders: layouts, links, and what `take` brings in, one call behind the other, beside the model."""
+"""The command `draft` over folders: layouts, links, and what `take` brings in, one call after the other, beside the model."""
 import copy
 import json
 import os
@@ -181,7 +181,7 @@ def listed_targets(random):
 
 
 def compare_layouts(session, random, count):
-    """Layouts one behind the other: several targets, each layout drafted again, at times once it is signed, with usual rules and with those of a file."""
+    """Layouts one after the other: several targets, each layout drafted again, at times once it is signed, with usual rules and with those of a file."""
     for _ in range(count):
         folder = Folder(session, listed_targets(random))
         for step in range(random.randint(1, 6)):
@@ -310,7 +310,7 @@ def take_link(folder, random, now):
 
 
 def draft_again(folder, random, now):
-    """A layout that is drafted behind links, some of whose steps it has no more."""
+    """A layout that is drafted after links, some of whose steps it has no more."""
     return draft_layout(folder, random, random.choice(listed_here(folder)), now)
 
 
@@ -326,7 +326,7 @@ def draft_targets(folder, random, now):
 
 
 def compare_takes(session, random, count):
-    """What other machines send back, one behind the other, over drafts of several documents and layouts."""
+    """What other machines send back, one after the other, over drafts of several documents and layouts."""
     for _ in range(count):
         documents = [(role, further_document(random, role)) for role in ("root", "snapshot", "timestamp") if random.random() < 0.6]
         folder = Folder(session, [*documents, *listed_targets(random)])

@@ -1,4 +1,4 @@
-"""Random histories of a client: what it asks for, what it holds behind each call, and how the call ends, beside the program `replay`.
+"""Random histories of a client: what it asks for, what it holds after each call, and how the call ends, beside the program `replay`.
 
 The server goes on as in other histories, in the model alone. Each call has a source that answers what the server would, or what it
 would have answered earlier, but for some names, of which it answers something else.

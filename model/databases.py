@@ -256,7 +256,7 @@ HARMLESS_BEFORE = [
 ]
 
 
-# What stands in the way of `root2` where it is to be made behind the first five tables.
+# What stands in the way of `root2` where it is to be made after the first five tables.
 REFUSED_BEFORE_SECOND = [
     "CREATE TABLE root2(a)", "CREATE INDEX root2 ON blob(digest)", "CREATE VIEW root2 AS SELECT 1",
     "CREATE TABLE further(a REFERENCES root2(version))", "CREATE TABLE further(a, FOREIGN KEY (a) REFERENCES ROOT2(version))",
@@ -264,7 +264,7 @@ REFUSED_BEFORE_SECOND = [
 
 
 def compare_first_schema(session):
-    """Rows of schema 1 with others behind its tables, which stay where they are."""
+    """Rows of schema 1 with others after its tables, which stay where they are."""
     rows = tables.first_rows_of(held_state())
     listed = [table for table in tables.TABLES if table != "root2"]
     for statement in [*REFUSED_FURTHER, *REFUSED_BEFORE_SECOND]:

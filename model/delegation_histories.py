@@ -23,7 +23,7 @@ ILL_DELEGATIONS = [None, {}, {"keys": {}}, {"keys": {"x": make.key_object(KEYS[0
 
 
 def offered_twice(role, text):
-    """Alone, and with a document behind it that is refused, so that nothing is kept."""
+    """Alone, and with a document after it that is refused, so that nothing is kept."""
     return [http_requests.post((role, text), ("timestamp", b"")), http_requests.post((role, text))]
 
 

@@ -20,8 +20,8 @@ BLOB, OTHER_BLOB = b"hello blob", b"abc"
 ABC = "ba7816bf8f01cfea414140de5dae2223b00361a396177a9cb410ff61f20015ad"
 COVERING = [{"paths": ["doc/*", "a/*.tgz"]}, {"prefixes": [make.digest(PATH.encode())[:length] for length in (64, 1)]}]
 NOT_COVERING = [{"paths": ["*", "a/*.txt"]}, {"prefixes": [ABC, ABC[:2]]}]
-# A delegation: a role; `!` where it terminates, `-` where it does not cover the path; behind `=` its keys, all of which
-# have to sign, or as many as stand behind `/`. Without `=` it is key A.
+# A delegation: a role; `!` where it terminates, `-` where it does not cover the path; after `=` its keys, all of which
+# have to sign, or as many as stand after `/`. Without `=` it is key A.
 DELEGATION = re.compile(r"([a-z0-9]+)(!?)(-?)(?:=([A-Z]+)(?:/([0-9]+))?)?")
 
 
@@ -68,7 +68,7 @@ SEARCHES = [
     ("terminating, and not covering", "targets: a!- b", "b: lists", "targets b", "b"),
     ("terminating, and the last", "targets: a b!", "b: lists", "targets a b", "b"),
     ("cut off at all levels", "targets: a f; a: b e; b: c! d", "e: lists; f: lists", "targets a b c", "NotFound"),
-    ("cut off behind a cut", "targets: a! b; b: c! d", "b: lists; d: lists", "targets a", "NotFound"),
+    ("cut off after a cut", "targets: a! b; b: c! d", "b: lists; d: lists", "targets a", "NotFound"),
     ("its first chain is not cut, a later one is", "targets: a b; b: c! a", "a: lists", "targets a b c", "a"),
     ("its first chain is cut", "targets: b! a; b: c", "a: lists", "targets b c", "NotFound"),
     ("a longer chain is the first", "targets: a d=B; a: b; b: c; c: d", "d: lists", "targets a b c d", "d"),
@@ -86,7 +86,7 @@ SEARCHES = [
     ("of another digest and signer", "targets: a", "a: hash expired B", "targets a", "RoleHash"),
     ("expired, and of another signer", "targets: a", "a: expired lists B", "targets a", "RoleThreshold"),
     ("expired", "targets: a b; a: c", "a: expired lists; b: lists", "targets a c b", "RoleExpired"),
-    ("bad behind a listing", "targets: a b", "a: lists; b: missing", "targets a b", "a"),
+    ("bad after a listing", "targets: a b", "a: lists; b: missing", "targets a b", "a"),
     ("bad, and cut off", "targets: a! b", "b: missing", "targets a", "NotFound"),
     ("bad, and not covering", "targets: a- b", "a: missing; b: lists", "targets b", "b"),
     ("a line of 32", line(32), "r32: lists", numbered(32), "r32"),
@@ -123,7 +123,7 @@ VOUCHERS = [
     ("over a role that is expired", "targets: a; a: b", "a: expired", "b", "A", False),
     ("over a role of another signer", "targets: a; a: b", "a: B", "b", "A", False),
     ("whatever paths are covered", "targets: a-; a: b-", "", "b", "A", True),
-    ("behind a terminating delegation", "targets: a! b; b: c! d", "", "d", "A", True),
+    ("after a terminating delegation", "targets: a! b; b: c! d", "", "d", "A", True),
     ("over terminating delegations", "targets: a!; a: b!; b: c!-", "", "c", "A", True),
     ("by the second of two", "targets: a b; a: c=B; b: c=C", "", "c", "C", True),
     ("by keys of two rules", "targets: a b; a: c=BC; b: c=CD", "", "c", "BD", False),

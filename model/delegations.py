@@ -97,7 +97,7 @@ def first_chains(chains):
 
 
 def is_cut(indexes, ends):
-    """Behind a terminating delegation, and not in what stands below it."""
+    """After a terminating delegation, and not in what stands below it."""
     return any(indexes > end and indexes[:len(end)] != end for end in ends)
 
 
@@ -123,7 +123,7 @@ def visits_of_walk(graph):
     visited = {}
 
     def goes_on_behind(edge):
-        """Visits the subtree of an edge, and says whether the search goes on behind it."""
+        """Visits the subtree of an edge, and says whether the search goes on after it."""
         visited[edge.role] = edge
         for _, delegation in graph.edges(edge.role):
             if delegation.role not in visited and not goes_on_behind(delegation):

@@ -65,7 +65,7 @@ def key_id(public):
 
 
 def top_key(public):
-    """The LMS public key by which a key is counted: that of the top level, which stands behind the number of levels."""
+    """The LMS public key by which a key is counted: that of the top level, which stands after the number of levels."""
     return public[-DIGITS_OF_SCHEME["lms-sha256"]:]
 
 

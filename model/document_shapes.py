@@ -291,7 +291,7 @@ class Cases:
 
     def spellings(self):
         for other in (b" ", b"\n", b"\t", b"\0", b"\xef\xbb\xbf", b",", b"}", b"1", b"null"):
-            self.add("bytes behind", self.good + other)
+            self.add("bytes after", self.good + other)
             self.add("bytes in front", other + self.good)
         for text in (self.good[:-1], b"", self.good + self.good, b"[" + self.good + b"]"):
             self.add("cut, empty, doubled, in a list", text)

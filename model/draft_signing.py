@@ -158,7 +158,7 @@ def has_enough(folder, name):
 
 
 def judge_order(folder, draft):
-    """A snapshot and a timestamp come behind all else that is drafted, and the timestamp behind the snapshot: a later change would cost them a leaf."""
+    """A snapshot and a timestamp come after all else that is drafted, and the timestamp after the snapshot: a later change would cost them a leaf."""
     if draft.kind not in ("snapshot", "timestamp"):
         return
     for name in sorted((it for it in folder if "/" not in it), key=place_of):
@@ -246,7 +246,7 @@ def sign_one(folder, draft, key, book):
 
 
 def sign_by(folder, key, book, named, again, now, printed):
-    """Each draft is judged behind the signature of the one before it: a timestamp is over the snapshot that the same key has just signed.
+    """Each draft is judged after the signature of the one before it: a timestamp is over the snapshot that the same key has just signed.
     Which documents of roles are to be signed is found before the first is, and of layouts and links when it is their turn; a draft in which the
     rules stand, and one that may lack the key's entry, is denied for its shape where that is ill."""
     if key.id not in book.leaves:

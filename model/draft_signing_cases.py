@@ -70,7 +70,7 @@ class Case:
         return KEYS[name].sign_with(self.books[name].reserve(KEYS[name], said), said)
 
     def said(self, role, step):
-        """The signed part of a role's document: what is held, or what is drafted behind it."""
+        """The signed part of a role's document: what is held, or what is drafted after it."""
         version, step_of = self.versions[role] + step, {it: int(bool(step) and it in self.drafted) for it in RULES}
         if role == "root":
             return make.root(version, LATER, {it: (keys_of(it), len(RULES[it])) for it in ("root", "targets", "snapshot", "timestamp")})

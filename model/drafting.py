@@ -46,7 +46,7 @@ def terms(kind, given, base, now):
 
 
 def begun_with(kind, held, begun):
-    """The signed part that a draft goes on from. Behind the last version there is none, whatever else is asked for."""
+    """The signed part that a draft goes on from. After the last version there is none, whatever else is asked for."""
     if held and held["version"] >= LAST_VERSION:
         raise Refused("nothing")
     base = begun or held or {"_type": kind, "spec_version": "1.0.31", **FIRST[kind]}

@@ -1,4 +1,4 @@
-"""The command `draft` over folders: roots, targets metadata and seals, one draft behind the other, beside the model."""
+"""The command `draft` over folders: roots, targets metadata and seals, one draft after the other, beside the model."""
 import json
 import os
 import shutil
@@ -105,7 +105,7 @@ def answered(make):
 
 
 def compare_roots(session, random, count):
-    """Roots one behind the other: rules by role, renewals, and drafts that are gone on from."""
+    """Roots one after the other: rules by role, renewals, and drafts that are gone on from."""
     for _ in range(count):
         folder = Folder(session)
         for step in range(random.randint(1, 6)):
@@ -121,7 +121,7 @@ def compare_roots(session, random, count):
 
 
 def compare_targets(session, random, count):
-    """Targets metadata one behind the other: files that are added, changed and taken away, of `targets` and of another role."""
+    """Targets metadata one after the other: files that are added, changed and taken away, of `targets` and of another role."""
     for _ in range(count):
         folder = Folder(session)
         role = random.choice(("targets", "targets", "dev"))

@@ -18,7 +18,7 @@ class History(Offers):
         self.past = {}
 
     def after_root(self, state, text):
-        """The state behind a root, where it is taken."""
+        """The state after a root, where it is taken."""
         try:
             after = repository.offer(state, "root", text, self.now)
         except Denied:
@@ -26,7 +26,7 @@ class History(Offers):
         return state if after is repository.SAME else after
 
     def whole_release(self):
-        """A timestamp, a snapshot and targets that fit, at times behind a root; at times in disorder."""
+        """A timestamp, a snapshot and targets that fit, at times after a root; at times in disorder."""
         random = self.random
         state = self.world.state
         offered = []
@@ -59,7 +59,7 @@ class History(Offers):
         return offered
 
     def roots(self):
-        """A new root, at times with the next one behind it."""
+        """A new root, at times with the next one after it."""
         first = self.make_root()
         offered = [("root", first)]
         after = self.after_root(self.world.state, first)

@@ -83,7 +83,7 @@ FILLED = [
     ("target", "GET /targets/%s HTTP/1.1\r\n\r\n", "a"), ("route", "GET /nope%s HTTP/1.1\r\n\r\n", "a"),
     ("method", "%s /targets/y HTTP/1.1\r\n\r\n", "A"), ("name", "GET /targets/y HTTP/1.1\r\n%s: a\r\n\r\n", "n"),
     ("blanks in front", "POST /batch HTTP/1.1\nContent-Length:%s0\n\n", " "),
-    ("blanks behind", "POST /batch HTTP/1.1\nContent-Length:0%s\n\n", "\t"),
+    ("blanks after", "POST /batch HTTP/1.1\nContent-Length:0%s\n\n", "\t"),
 ]
 CODINGS = ["chunked", "identity", "", "gzip, chunked"]
 CODING_NAMES = """
@@ -173,9 +173,9 @@ def bodies(requests):
     for length in range(3):
         requests.add("cut", b"PUT /blobs/zz HTTP/1.1\r\nContent-Length: 3\r\n\r\n" + b"abc"[:length])
     for more in (b"", b"extra", b"\r\n", PLAIN.encode(), b"\0" * 5000):
-        requests.add("more behind", whole + more)
-        requests.add("more behind", PLAIN.encode() + more)
-        requests.add("more behind", prune() + more)
+        requests.add("more after", whole + more)
+        requests.add("more after", PLAIN.encode() + more)
+        requests.add("more after", prune() + more)
     names = [ABC.upper(), ZEROS[1:], ZEROS + "0", "g" * 64, ZEROS, ABC, "%30" + "0" * 61, ABC + "?", "-" * 64, "   "]
     for name in names:
         for blob in (b"abc", b"", b"abd"):

@@ -91,7 +91,7 @@ verify_key = lru_cache(maxsize=8192)(verify)
 
 def verify_hss(public, message, signature):
     """Section 6.3: the key is the number of levels and the key of the top one; the signature is the number of the signed keys, each of these
-    behind the signature of the level above, and the signature of the message. No bytes may be left over."""
+    after the signature of the level above, and the signature of the message. No bytes may be left over."""
     if len(public) != HSS_PUBLIC_KEY_LENGTH or not 1 <= number_at(public, 0) <= MOST_LEVELS:
         return False
     signed_keys = number_at(public, 0) - 1

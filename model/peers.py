@@ -79,10 +79,10 @@ def compare_peers(session, _random):
     before = world.state
     peers = Peers(session, world, 15 + len(REFUSED_EARLY))
     peers.served("the first", PLAIN)
-    peers.leaves("behind one that closed", b"", socket.socket.close)
-    peers.leaves("behind one that reset", b"", reset)
-    peers.leaves("behind one that closed inside the head", b"GET /tar", socket.socket.close)
-    peers.leaves("behind one that reset inside the head", b"GET /tar", reset)
+    peers.leaves("after one that closed", b"", socket.socket.close)
+    peers.leaves("after one that reset", b"", reset)
+    peers.leaves("after one that closed inside the head", b"GET /tar", socket.socket.close)
+    peers.leaves("after one that reset inside the head", b"GET /tar", reset)
     cut = put(b"cut short")[:-1]
     peers.stays("cut short", cut, shut=True)
     peers.served("nothing was kept", put(b"cut short"))

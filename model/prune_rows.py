@@ -137,7 +137,7 @@ def compare_prunes(session, _random):
 
 
 def compare_before_and_behind(session):
-    """What is served is the same before and behind a prune, and what is gone can be put again."""
+    """What is served is the same before and after a prune, and what is gone can be put again."""
     _, state, _, _ = next(cases())
     places = ["targets/0/a", "targets/0/b", "metadata/1.targets.json", "metadata/2.targets.json"]
     places += ["metadata/timestamp.json", "metadata/1.snapshot.json", "metadata/1.root.json"]

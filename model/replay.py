@@ -105,7 +105,7 @@ class Script:
 
 
 def taken(lines, wanted):
-    """The next reply: `rows` with the indented lines behind it, or a line with those before it."""
+    """The next reply: `rows` with the indented lines after it, or a line with those before it."""
     count = 0
     if not wanted.startswith("rows"):
         while count < len(lines) and lines[count].startswith("  "):

@@ -130,7 +130,7 @@ def odd_signatures(random, key, message):
 
 
 def ends_of_levels(key):
-    """Where the levels of a signature end: behind the signature, and behind the key that it signs."""
+    """Where the levels of a signature end: after the signature, and after the key that it signs."""
     end = 4
     for level in key.levels:
         end += lms.signature_length(level.public)
@@ -167,7 +167,7 @@ def odd_levels(random, key, message):
         exchanged = [*levels[:place], other, *levels[place + 1:]]
         yield f"another key at level {place}", key.public, lms.u32(signed_keys) + signed_down(exchanged, message)
         by_others = signed_down(levels[:place + 1], message) + other.public + other.sign(message)
-        yield f"a further key behind level {place}", key.public, lms.u32(signed_keys) + by_others
+        yield f"a further key after level {place}", key.public, lms.u32(signed_keys) + by_others
     if signed_keys:
         left_out = signed_down([levels[0], *levels[2:]], message)
         yield "a level left out", key.public, lms.u32(signed_keys) + left_out
@@ -206,7 +206,7 @@ def one_key_state(key_objects, timestamp_id, signers):
 
 
 def compare_odd_signatures(session, random):
-    """Each as the one signature of a timestamp, with a root behind it that is refused, so that nothing is kept."""
+    """Each as the one signature of a timestamp, with a root after it that is refused, so that nothing is kept."""
     timestamp = make.timestamp(5, LIVE, 1)
     message = canonical_json.write(timestamp)
     for key in (KEYS[5], KEYS[3], KEYS[0], KEYS[7], KEYS[11]):

@@ -108,7 +108,7 @@ def stand_for_a_state(rows):
 
 
 def are_opened(tables):
-    """Some of the first five tables in their order and nothing else, or all five and others behind them, `root2` among these or not
+    """Some of the first five tables in their order and nothing else, or all five and others after them, `root2` among these or not
     (docs/DECISIONS.md, "Which databases are opened")."""
     five = list(TABLES)[:5]
     return list(tables)[:5] == five[:len(tables)]

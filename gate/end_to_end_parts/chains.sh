@@ -84,13 +84,13 @@ a_refused_layout_leaves_the_last_one() {
     draft targets --add c=a
     cp d/targets.json targets.json
     ends_with 1 'refused path' draft --at $now --db repository.db --in d layout --target none --owners owner.key build=first.key:a
-    same "targets metadata behind a refused layout" targets.json d/targets.json
+    same "targets metadata after a refused layout" targets.json d/targets.json
     [ ! -e d/layouts/none.layout.json ] || fail "a refused layout stands"
     same "the layout of a" before/layouts/a.layout.json d/layouts/a.layout.json
     draft targets --remove c
 }
 
-# Behind a layout that is drafted anew the reference names the links that are there.
+# After a layout that is drafted anew the reference names the links that are there.
 references_follow() {
     draft --anew layout --target a --owners owner.key build=first.key,second.key:a
     is_told 'layout of a'

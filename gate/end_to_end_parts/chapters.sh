@@ -39,7 +39,7 @@ a_timestamp_that_is_not_taken() {
     wants 0 '{"accepted":0,"same":1}\n' "warning: timestamp:$other.json: not taken, another timestamp of its version is held\n" \
         publish --db "$db" "timestamp:$other.json"
     dump "$db" "$folder/after"
-    same "the tables behind a timestamp that is not taken" "$folder/before" "$folder/after"
+    same "the tables after a timestamp that is not taken" "$folder/before" "$folder/after"
 }
 
 # A root with another key for the timestamp that is published alone: the repository has no timestamp any more, and says so.

@@ -69,7 +69,7 @@ outputs_onto_the_database() {
         wants 3 '' "release: $name: a file of the client's own database\nfault file\n" get --at=$at --db "$db" --port 1 --out "$name" hello.txt
     done
     dump "$db" "$folder/after"
-    same "the tables behind outputs onto them" "$folder/before" "$folder/after"
+    same "the tables after outputs onto them" "$folder/before" "$folder/after"
     rm -r "$folder/way"
 }
 

@@ -132,7 +132,7 @@ the_team_works_over_its_client() {
     clients_get tools/fmt.bin
 }
 
-# Another root key: two of the old three and two of the new three sign. Behind it the key that left signs no root, and the new one does.
+# Another root key: two of the old three and two of the new three sign. After it the key that left signs no root, and the new one does.
 bob_leaves() {
     machine dave
     draft root root=2@alice,carol,dave.key
@@ -172,7 +172,7 @@ cron_renews_the_timestamp() {
 }
 
 is_not_due() {
-    "$release" show --at $now --db repository.db --due 2 >"$folder/out" || fail "due behind its renewal: $(cat "$folder/out")"
+    "$release" show --at $now --db repository.db --due 2 >"$folder/out" || fail "due after its renewal: $(cat "$folder/out")"
     clients_get tool.tgz
 }
 

@@ -1,4 +1,4 @@
-# Databases that another program wrote: rows of no state, tables that are absent or others, what stands behind the six, and schema 1.
+# Databases that another program wrote: rows of no state, tables that are absent or others, what stands after the six, and schema 1.
 
 # The six tables, in the order in which they are made. Schema 1 had the first five.
 tables=(
@@ -128,7 +128,7 @@ becomes_whole() {
     fills "$1"
     dump "$1" "$folder/after"
     grep -E '^(INSERT INTO "?(root|current|shelf|blob|schema|root2)"?|CREATE TABLE "?(root|current|shelf|blob|schema|root2)"?) ' "$folder/after" >"$folder/six"
-    same "the six tables behind a beginning" "$folder/whole" "$folder/six"
+    same "the six tables after a beginning" "$folder/whole" "$folder/six"
 }
 
 # fills DB: the database takes the example's root, documents and a file.
@@ -139,7 +139,7 @@ fills() {
     wants 0 "$(sha256sum "$example/hello.txt" | cut -c1-64)\n" '' put --at=$at --db "$1" "$example/hello.txt"
 }
 
-# Each beginning of the six tables is completed, and so are the six with others behind them, which stay.
+# Each beginning of the six tables is completed, and so are the six with others after them, which stay.
 beginnings_are_completed() {
     local db=$folder/tables.db count further
     fills "$folder/alone.db"
@@ -155,7 +155,7 @@ beginnings_are_completed() {
         becomes_whole "$db"
         printf '%s;\n' "${further//; /$';\n'}" >"$folder/further"
         grep -vxFf "$folder/whole" "$folder/after" | grep -E '^(INSERT|CREATE) ' >"$folder/left"
-        same "what stands behind the six stays: $further" "$folder/further" "$folder/left"
+        same "what stands after the six stays: $further" "$folder/further" "$folder/left"
     done
 }
 
@@ -168,7 +168,7 @@ a_refused_row_takes_all_back() {
     dump "$db" "$folder/before"
     wants 3 '' 'fault database\n' publish --at=$at --db "$db" "${words[@]}"
     dump "$db" "$folder/after"
-    same "the tables behind a refused row" "$folder/before" "$folder/after"
+    same "the tables after a refused row" "$folder/before" "$folder/after"
     sqlite3 "$db" 'DROP INDEX one'
     wants 0 '{"accepted":3,"same":0}\n' '' publish --at=$at --db "$db" "${words[@]}"
 }

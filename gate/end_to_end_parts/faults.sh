@@ -45,7 +45,7 @@ logs_without_their_database() {
     rm "$folder/alone.db"*
 }
 
-# Tables, indexes and views behind the six are let be. A foreign key onto one of the six is refused.
+# Tables, indexes and views after the six are let be. A foreign key onto one of the six is refused.
 what_stands_behind_is_let_be() {
     local digest
     digest=$(sha256sum "$example/hello.txt" | cut -c1-64)

@@ -2,7 +2,7 @@
 # that has it.
 
 far=$folder/far.db
-# The processes of mirrors, which are ended behind this part.
+# The processes of mirrors, which are ended after this part.
 end_hosts() {
     local one
     for one in "${hosts[@]}"; do kill "$one" 2>/dev/null || true; done

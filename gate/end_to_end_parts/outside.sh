@@ -132,7 +132,7 @@ signatures_that_are_refused() {
     rm -r d && mv late/d d
 }
 
-# The file is the one that 'sign' makes. A second signature stands behind the first, and a key's own once more in the place of its older one.
+# The file is the one that 'sign' makes. A second signature stands after the first, and a key's own once more in the place of its older one.
 signatures_are_attached() {
     local name
     elsewhere device root >signature

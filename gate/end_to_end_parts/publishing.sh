@@ -21,7 +21,7 @@ publishing_beside_a_server() {
     served_one
     wants 0 'begun\n' '' init --at=$at --db "$served" "$example/root.json"
     wants 0 'begun\n' '' init --at=$at --db "$folder/apart.db" "$example/root.json"
-    # Sixteen requests, and eleven questions: one behind a batch of the same, beside batches with a root before each and behind the taken one,
+    # Sixteen requests, and eleven questions: one after a batch of the same, beside batches with a root before each and after the taken one,
     # and for why a batch was denied: 51 the first two roots, the first again and the snapshot, 12 the same roots.
     serve --count 27
     both 0 "$digest\n" '' put "$example/hello.txt"
@@ -45,7 +45,7 @@ publishing_beside_a_server() {
     served_one
     dump "$served" "$folder/before"
     dump "$folder/apart.db" "$folder/after"
-    same "the tables behind commands through the port" "$folder/before" "$folder/after"
+    same "the tables after commands through the port" "$folder/before" "$folder/after"
 }
 
 # What is refused before the server is asked. Nobody listens.
@@ -89,7 +89,7 @@ warnings_through_a_port() {
     server= served=$folder/db
     dump "$db" "$folder/before"
     dump "$folder/apart.db" "$folder/after"
-    same "the tables behind warnings through the port" "$folder/before" "$folder/after"
+    same "the tables after warnings through the port" "$folder/before" "$folder/after"
     servers_that_answer_no_question
 }
 
@@ -112,7 +112,7 @@ each_of() {
     wants "$status" "$out" "${err//NAME/$folder/apart.db}" publish --at=$at --db "$folder/apart.db" "$@"
 }
 
-# A root of other keys alone, also behind others of its batch; not where its timestamp stands behind it, not where it is held, and not where
+# A root of other keys alone, also after others of its batch; not where its timestamp stands after it, not where it is held, and not where
 # it is denied.
 roots_that_forget() {
     local forgets='warning: NAME: the root has other keys for the timestamp or the snapshot, and no timestamp comes after it: every target will be denied\n'

@@ -46,7 +46,7 @@ open(file, "w").write(text)
 PYTHON
 }
 
-# slips_by_hand LINE KEY ROLE CODE: so changed, the draft is refused. It stands there as before behind that.
+# slips_by_hand LINE KEY ROLE CODE: so changed, the draft is refused. It stands there as before after that.
 slips_by_hand() {
     cp "d/$3.json" "$folder/as_it_was"
     by_hand "d/$3.json" "$4"
@@ -111,7 +111,7 @@ no_document_is_signed() {
     slips_by_hand 'denied 5 BadKeyId' root root "$(id_of_a_line it 'it["roles"]["timestamp"]')"
 }
 
-# id_of_a_line TABLE RULE: the rule's key gets the id that is the hash of its object with the line end behind it.
+# id_of_a_line TABLE RULE: the rule's key gets the id that is the hash of its object with the line end after it.
 id_of_a_line() {
     cat <<PYTHON
 import hashlib
@@ -259,7 +259,7 @@ links_with_leaf() {
     rm links/links/made.json
 }
 
-# As soon as a quarter of the leaves is left a warning comes with each signature, and behind the last one there is none.
+# As soon as a quarter of the leaves is left a warning comes with each signature, and after the last one there is none.
 leaves_run_out() {
     local few='warning: other: a quarter of its leaves or fewer are left\n'
     keeps_leaves other 0 21

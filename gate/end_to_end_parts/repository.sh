@@ -103,7 +103,7 @@ a_prune_removes() {
     done
     wants 0 '{"blobs":3,"rows":0}\n' '' prune --at=0 --db "$db"
     dump "$db" "$folder/after"
-    same "the tables behind a prune" "$folder/before" "$folder/after"
+    same "the tables after a prune" "$folder/before" "$folder/after"
     wants 0 "$digest\n" '' put --at=$at --db "$db" "$folder/unlisted"
     printf '{"blobs":1,"rows":0}' >"$folder/pruned"
     replies '200 OK' json "$folder/pruned" /prune -X POST -H 'Content-Length: 0'
@@ -114,10 +114,10 @@ a_prune_removes() {
     printf '{"fault":"size"}' >"$folder/fault"
     replies '413 Content Too Large' json "$folder/fault" /prune --data-binary x
     dump "$db" "$folder/after"
-    same "the tables behind a prune over HTTP" "$folder/before" "$folder/after"
+    same "the tables after a prune over HTTP" "$folder/before" "$folder/after"
 }
 
-# A root and a timestamp that would be taken, and behind them a snapshot that is not: nothing changes, and sent again it has
+# A root and a timestamp that would be taken, and after them a snapshot that is not: nothing changes, and sent again it has
 # the same reply.
 a_batch_is_refused() {
     local name
@@ -130,7 +130,7 @@ a_batch_is_refused() {
     for _ in 1 2; do
         replies '403 Forbidden' json "$folder/denial" /batch --data-binary "@$folder/batch"
         dump "$folder/db" "$folder/after"
-        same "the tables behind a refused batch" "$folder/before" "$folder/after"
+        same "the tables after a refused batch" "$folder/before" "$folder/after"
     done
     wants 1 '' 'denied 20 SnapshotVersion at 2\n' publish --at=$at --db "$folder/db" "root:$example/refused/root.json" \
         "timestamp:$example/refused/timestamp.json" "snapshot:$example/refused/snapshot.json"

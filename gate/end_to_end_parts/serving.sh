@@ -67,7 +67,7 @@ a_port_that_is_taken() {
     wants 3 '' "release: $folder/db: in use by another process; where a server runs over it, use --port\nfault database\n" put --db "$folder/db" "$example/hello.txt"
     curl -s -S -o "$folder/body" "http://127.0.0.1:$port/targets/hello.txt"
     served_one
-    same "body: behind two faults" "$example/hello.txt" "$folder/body"
+    same "body: after two faults" "$example/hello.txt" "$folder/body"
 }
 
 # A server tells how many signatures its opening checked, which root is trusted and when the first document expires, and then one line for each connection.

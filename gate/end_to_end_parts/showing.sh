@@ -46,7 +46,7 @@ a_ready_folder_is_shown() {
         grep -q '<span class="step"><b>pack</b> 1 of 1 links packer '"$(digits_of packer)"'</span>' "$folder/dom" || fail "no chain in the page that is rendered"
         checks=$((checks + 1))
     fi
-    # Behind the expiry of the root it is denied, and the page and the object say for what.
+    # After the expiry of the root it is denied, and the page and the object say for what.
     ends_with 1 'denied 11 RootExpired at 0' show --at $((now + 400 * 86400)) --in d --db repository.db --json --html drafts.html
     it_holds 'it["answer"] == "denied 11 RootExpired at 0"'
     grep -q '<p id="answer" class="denied">denied 11 RootExpired at 0</p>' drafts.html || fail "the page does not say what denies it"

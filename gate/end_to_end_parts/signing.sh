@@ -52,7 +52,7 @@ document() {
     printf '],"signed":%s}' "$2"
 }
 
-# The six parts share these variables: the book, the seed and the words that name both, and a document before and behind a signing.
+# The six parts share these variables: the book, the seed and the words that name both, and a document before and after a signing.
 documents_are_signed() {
     local book=$folder/book seed=$folder/signing.seed signed=$folder/signed unsigned=$folder/unsigned
     local words=(--book "$book" --seed "$seed" --ots 8 --height 5)
@@ -134,7 +134,7 @@ faults_of_signing() {
     wants 3 '' 'fault database\n' sign --book "$folder/other" --seed "$seed" --ots 8 --height 5 "$signed"
 }
 
-# A table behind the two of a book is let be.
+# A table after the two of a book is let be.
 a_book_with_a_further_table() {
     dump "$book" "$folder/dump"
     sqlite3 "$folder/further" <"$folder/dump"
