@@ -55,7 +55,7 @@ the_help_is_printed() {
     done
     helps --count serve --help
     helps 'release prune --db' help prune
-    wants 0 'release 0.3.0\n' '' --version
+    wants 0 'release 0.4.0\n' '' --version
     sed -n -E 's/^\| ([0-9]+) \| `([A-Za-z]+)` \| (.*) \|$/\1 \2 \3/p' docs/REFERENCE.md | tr -d '`' >"$folder/denials.wanted"
     "$release" help denials | sed -n -E 's/^ *([0-9]+)  ([A-Za-z]+) +(.*)$/\1 \2 \3/p' >"$folder/denials"
     [ "$(wc -l <"$folder/denials")" = 53 ] || fail "not 53 denials in the help"

@@ -1,7 +1,7 @@
 //! The version, and the table of denials.
 
 /// The version of the program.
-pub const VERSION: &str = "0.3.0";
+pub const VERSION: &str = "0.4.0";
 
 /// The numbers and names of the denials, each with the first rule that fails.
 pub const DENIALS: &str = concat!(
