@@ -60,6 +60,7 @@ pages_are_printed() {
     touch "$folder/named/a file" "$folder/named/other"
     completes 'serve show sign' s
     completes 'canon' c
+    completes 'serve show sign' help s
     completes '--count' serve --c
     completes '' serve --port ''
     completes '' draft --expires ''

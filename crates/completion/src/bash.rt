@@ -6,7 +6,7 @@ use overviews::Text;
 const BEGIN: &str = "# Completion of release in bash, as 'release help bash' prints it.
 _release() {
     local word=${COMP_WORDS[COMP_CWORD]} last=${COMP_WORDS[COMP_CWORD-1]} words=
-    if [ \"$COMP_CWORD\" -eq 1 ]; then
+    if [ \"$COMP_CWORD\" -eq 1 ] || [ \"${COMP_WORDS[1]}\" = help ]; then
         mapfile -t COMPREPLY < <(compgen -W '";
 
 const NAMES: &str = "help --help --version' -- \"$word\")

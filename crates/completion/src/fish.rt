@@ -14,7 +14,9 @@ complete -c release -n __fish_use_subcommand -a help -d 'Print help'
 pub(crate) fn say(text: &mut Text) {
     text.say(BEGIN);
     for subcommand in SUBCOMMANDS {
-        text.say("complete -c release -n __fish_use_subcommand -a ");
+        text.say(
+            "complete -c release -n '__fish_use_subcommand; or __fish_seen_subcommand_from help' -a ",
+        );
         text.say(subcommand.name);
         say_help(text, subcommand.about);
         say_words(text, subcommand.name, COMMON);

@@ -12,7 +12,7 @@ _release() {
 
 const CASES: &str = "        'help:Print help'
     )
-    if (( CURRENT == 2 )); then
+    if (( CURRENT == 2 )) || [ \"$words[2]\" = help ]; then
         _describe subcommand subcommands
         return
     fi
