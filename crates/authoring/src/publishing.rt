@@ -2,7 +2,7 @@
 use crate::sealing::forgets_all;
 use command_support::{Fault, Notes, Slip};
 use drafts::{Folder, ListedFile, kind_of, offer_order, read_said};
-use metadata::{Digest, Kind, RoleName};
+use metadata::{Digest, Kind, RoleName, digest_of};
 use std::alloc::{AllocError, Global};
 use std::io::Write;
 use subcommands::{Offer, Waiting};
@@ -67,6 +67,17 @@ impl Drafted {
         has_targets
     }
 
+    // The digests of the target files that its documents list.
+    fn listed(&self, alloc: Global) -> Result<Vec<Digest>, Fault> {
+        let mut listed = Vec::new(alloc);
+        for (role, bytes) in self.roles.iter().zip(self.files.iter()) {
+            if kind_of(role.as_str()) == Kind::Targets {
+                add_digests(&read_said(alloc, role.as_str(), bytes)?.files, &mut listed)?;
+            }
+        }
+        Ok(listed)
+    }
+
     /// What is offered, in order.
     pub fn offers(&self, alloc: Global) -> Result<Vec<(Offer, &[u8])>, AllocError> {
         let mut offers = Vec::new(alloc);
@@ -102,22 +113,42 @@ pub fn complete_batch_in<E: Write>(
     Ok(batch)
 }
 
-/// Takes away what was published, and what waited with it. What is held by then stays, to be compared with.
+/// Takes away what was published: the drafts, and the target files and layouts that they list. What is held by then stays, to be compared with,
+/// and so does what nothing that was published lists, as a layout that is on its way.
 pub fn empty<E: Write>(
     alloc: Global,
     folder: Folder<'_>,
     batch: &Drafted,
     notes: &mut Notes<'_, E>,
 ) -> Result<(), Fault> {
+    let listed = batch.listed(alloc)?;
     for (role, bytes) in batch.roles.iter().zip(batch.files.iter()) {
         folder.put_held(role.as_str(), bytes, notes)?;
         folder.drop_draft(role.as_str(), notes)?;
     }
     for name in &folder.files(notes)? {
-        remove(alloc, folder, "files", name.as_str(), notes)?;
+        if Digest::read(name.as_str()).is_some_and(|digest| listed.contains(&digest)) {
+            remove(alloc, folder, "files", name.as_str(), notes)?;
+        }
     }
     for name in &folder.chain_files("layouts", notes)? {
-        remove(alloc, folder, "layouts", name.as_str(), notes)?;
+        remove_layout(alloc, folder, name.as_str(), &listed, notes)?;
+    }
+    Ok(())
+}
+
+// Takes a layout away that is listed as it stands.
+fn remove_layout<E: Write>(
+    alloc: Global,
+    folder: Folder<'_>,
+    name: &str,
+    listed: &[Digest],
+    notes: &mut Notes<'_, E>,
+) -> Result<(), Fault> {
+    let place = format!(in alloc; "layouts/{name}")?;
+    let bytes = folder.file_or_none(place.as_str(), notes)?;
+    if listed.contains(&digest_of(&bytes)) {
+        remove(alloc, folder, "layouts", name, notes)?;
     }
     Ok(())
 }

@@ -6,7 +6,7 @@ use connections::Port;
 use http_fetch::{Method, read_accepted, read_pruned};
 use http_messages::{BATCH_LIMIT, BLOB_LIMIT, stored_body};
 use metadata::digest_of;
-use std::io::Write;
+use std::io::{IsTerminal, Write};
 use subcommands::{Batch, Offer, role_of, tell_argument};
 
 /// Has the server put the target files, offers it the documents together, and prints how many were accepted and how many were held already, as
@@ -19,7 +19,11 @@ pub fn publish_at<O: Write, E: Write>(
     out: &mut O,
     notes: &mut Notes<'_, E>,
 ) -> Result<(), Fault> {
-    for digest in batch.files.digests {
+    let is_watched = rt.stderr().is_terminal();
+    for (index, digest) in batch.files.digests.iter().enumerate() {
+        if is_watched {
+            batch.files.tell_put(index, notes);
+        }
         let bytes = batch.files.read(digest, notes)?;
         let digits = digest.digits();
         let name = str::from_utf8(&digits).unwrap_or("-");

@@ -10,7 +10,7 @@ use command_support::{Fault, Notes};
 use connections::{FILE_SECONDS, Timer};
 use fetch::{FetchFault, Source};
 use http_fetch::{Refusal, fetch_over, read_refusal};
-use mirrors::{Mirror, is_settled, read_mirror, together};
+use mirrors::{Mirror, is_settled, together};
 use std::alloc::{AllocError, Global};
 use std::fmt;
 use std::io::{IsTerminal, Write};
@@ -153,7 +153,7 @@ impl<'a, 'n, 'e, E: Write> Remote<'a, 'n, 'e, E> {
     ) -> Result<Option<Vec<u8>>, FetchFault> {
         let answer = match peer {
             Peer::Port(port) => self.ask_port(alloc, port, name, limit),
-            Peer::Mirror(url) => self.ask_mirror(alloc, url, Asked { peer, name, limit }),
+            Peer::Mirror(_, mirror) => self.ask_one(alloc, &mirror, Asked { peer, name, limit }),
             Peer::Folder(folder) => self.ask_folder(folder, Asked { peer, name, limit }),
         };
         if let Ok(Some(_)) = &answer {
@@ -221,21 +221,6 @@ impl<'a, 'n, 'e, E: Write> Remote<'a, 'n, 'e, E> {
             self.tell(asked, &answer, None);
         }
         answer
-    }
-
-    fn ask_mirror(
-        &mut self,
-        alloc: Global,
-        url: &str,
-        asked: Asked<'_>,
-    ) -> Result<Option<Vec<u8>>, FetchFault> {
-        match read_mirror(url) {
-            Some(mirror) => self.ask_one(alloc, &mirror, asked),
-            None => {
-                self.notes.fault(&asked.peer, &"not the URL of a mirror");
-                Err(FetchFault::Broken)
-            }
-        }
     }
 
     // Fetches a file over a connection, as long as there is time.

@@ -2,6 +2,7 @@
 use command_line::Server;
 use command_support::{Fault, Folder, Notes};
 use connections::Port;
+use mirrors::{Mirror, read_mirror};
 use std::fmt;
 use std::io::Write;
 
@@ -27,8 +28,9 @@ pub fn peer_at(server: &Server, place: usize) -> Option<Peer<'_>> {
 }
 
 fn mirror_at(urls: &[String], place: usize) -> Option<Peer<'_>> {
-    let url = urls.get(place)?;
-    Some(Peer::Mirror(url.as_str()))
+    let url = urls.get(place)?.as_str();
+    let mirror = read_mirror(url)?;
+    Some(Peer::Mirror(url, mirror))
 }
 
 /// Each of the folders is there.
@@ -76,11 +78,11 @@ fn write_each<W: fmt::Write>(
     Ok(())
 }
 
-/// One of them: the port, a mirror's URL, or a folder.
+/// One of them: the port, a mirror by its URL, or a folder.
 #[derive(Clone, Copy)]
 pub enum Peer<'a> {
     Port(u16),
-    Mirror(&'a str),
+    Mirror(&'a str, Mirror<'a>),
     Folder(&'a str),
 }
 
@@ -88,7 +90,7 @@ impl fmt::Display for Peer<'_> {
     fn fmt<W: fmt::Write>(&self, f: &mut fmt::Formatter<W>) -> fmt::Result {
         match self {
             Peer::Port(port) => write!(f, "{}", Port(*port)),
-            Peer::Mirror(name) | Peer::Folder(name) => write!(f, "{name}"),
+            Peer::Mirror(name, _) | Peer::Folder(name) => write!(f, "{name}"),
         }
     }
 }
@@ -106,7 +108,7 @@ impl fmt::Display for Asked<'_> {
         let name = self.name;
         match self.peer {
             Peer::Port(_) => write!(f, "{name}"),
-            Peer::Mirror(place) | Peer::Folder(place) => write!(f, "{place}: {name}"),
+            Peer::Mirror(place, _) | Peer::Folder(place) => write!(f, "{place}: {name}"),
         }
     }
 }

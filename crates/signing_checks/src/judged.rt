@@ -6,7 +6,7 @@ use drafts::{
     see_link,
 };
 use judging::{Refusal, follows};
-use metadata::{Kind, Moment};
+use metadata::{Kind, Moment, live};
 use reasons::place_of;
 use signer::Book;
 use sqlite::Alter;
@@ -180,7 +180,7 @@ impl<'a> Judged<'a> {
         said: &Said,
         notes: &mut Notes<'_, E>,
     ) -> Result<(), Fault> {
-        if said.expires.is_some_and(|expires| expires <= self.now) {
+        if said.expires.is_some_and(|expires| !live(expires, self.now)) {
             notes.warn(&role, &"it expires at the moment or before it");
             return Err(Fault::Slip(Slip::Past));
         }

@@ -5,6 +5,7 @@ use metadata::Digest;
 use reasons::{HeldFiles, reason};
 use repository_work::Offer;
 use std::alloc::{AllocError, Global};
+use std::fmt;
 use std::io::Write;
 
 /// What is published: the target files that are put first, and the documents that are offered together after them, in order. Each document
@@ -23,7 +24,18 @@ pub struct Waiting<'a> {
     pub digests: &'a [Digest],
 }
 
+// After so many target files it is told again how many are put.
+const FILES_BETWEEN: usize = 16;
+
 impl Waiting<'_> {
+    /// Tells on a terminal how many of them are put, before the one at this place is.
+    pub fn tell_put<E: Write>(&self, place: usize, notes: &mut Notes<'_, E>) {
+        if place > 0 && place % FILES_BETWEEN == 0 {
+            let count = self.digests.len();
+            notes.progress(&Put { place, count });
+        }
+    }
+
     /// The bytes of one of them. It is read with its digest in hand: another file is refused.
     pub fn read<E: Write>(
         &self,
@@ -40,6 +52,20 @@ impl Waiting<'_> {
             &"its file in the folder is another one than its name says",
         );
         Err(Fault::Slip(Slip::File))
+    }
+}
+
+// How many target files of all are put.
+#[derive(Clone, Copy)]
+struct Put {
+    place: usize,
+    count: usize,
+}
+
+impl fmt::Display for Put {
+    fn fmt<W: fmt::Write>(&self, f: &mut fmt::Formatter<W>) -> fmt::Result {
+        let Put { place, count } = self;
+        write!(f, "{place} of {count} target files are put")
     }
 }
 

@@ -1,6 +1,6 @@
 //! What is told of a repository before it is served, and of a client's own state: what is trusted, and when the first of its documents expires.
 use command_support::{Notes, expiry_of};
-use metadata::{Body, Kind, Listing, Moment, ShapeFault, read_document};
+use metadata::{Body, Kind, Listing, Moment, ShapeFault, live, read_document};
 use path_patterns::metadata_name;
 use repository_work::Held;
 use served_files::{FileVisitor, visit_files};
@@ -81,7 +81,7 @@ impl Versions {
     /// Whether the timestamp has expired, if there is one.
     pub fn has_expired(&self, now: Moment) -> bool {
         match self.expires {
-            Some(expires) => expires <= now,
+            Some(expires) => !live(expires, now),
             None => false,
         }
     }
