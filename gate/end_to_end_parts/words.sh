@@ -269,9 +269,30 @@ words_of_drafts() {
     says "'word' cannot be used with 'targets'" draft --in "$folder/files" targets a
     says required draft --in "$folder/files" take
     says 'db <FILE>' show
+    words_of_show
     usage show --db "$db" --due x
     says 'port <P>' update --db "$db"
     says "'--port <P>' cannot be used with '--mirror <URL>'" update --db "$db" --port 80 --mirror http://a
+}
+
+# What 'show' would not read is a fault: what is said of a repository alone next to a folder, and of documents next to a list of targets.
+words_of_show() {
+    local db=$folder/db files=$folder/files both=(--in "$folder/files" --db "$folder/db")
+    says "'path' cannot be used with '--in <DIR>'" show --in "$files" hello.txt
+    says "'path' cannot be used with '--in <DIR>'" show "${both[@]}" --json hello.txt
+    says "'due' cannot be used with '--in <DIR>'" show --in "$files" --due 3
+    says "'due' cannot be used with '--in <DIR>'" show "${both[@]}" --due 0
+    says "'key' cannot be used with '--in <DIR>'" show --in "$files" --key a --key b
+    says "'key' cannot be used with '--in <DIR>'" show "${both[@]}" --html "$files" --key a
+    says "'list' cannot be used with '--in <DIR>'" show "${both[@]}" --list
+    says "'list' cannot be used with '--in <DIR>'" show --list --in "$files"
+    says "'path' cannot be used with '--list'" show --db "$db" --list hello.txt
+    says "'due' cannot be used with '--list'" show --db "$db" --list --due 3
+    says "'key' cannot be used with '--list'" show --db "$db" --list --json --key a
+    says "'html' cannot be used with '--list'" show --db "$db" --list --html "$files"
+    says 'db <FILE>' show --list
+    usage show --db "$db" --list=1
+    helps --list show --help
 }
 
 # Faults of usage make no database and no folder.

@@ -219,15 +219,32 @@ HasParams rows p = HasNumber rows (codes "ots") 1 8 (width p.ots) × HasNumber r
 
 -- ---- what is shown
 
+-- nothing that is said of the documents that a repository holds, or of one target
+pub record LacksTree (rows : List Row) : Type 0 where
+  pub due : Lacks rows (codes "due")
+  pub keys : Lacks rows (codes "key")
+  pub path : Lacks rows (codes "path")
+
+-- no folder, or nothing that is said of a repository alone
+abbrev pub ShowsAlone : List Row → Type 0
+ShowsAlone rows = Lacks rows (codes "in") ⊎ (LacksTree rows × (false ≡ is_used rows (codes "list")))
+
+-- no list of targets, or nothing that is said of documents, and no page
+abbrev pub ListsAlone : List Row → Type 0
+ListsAlone rows = (false ≡ is_used rows (codes "list")) ⊎ (LacksTree rows × Lacks rows (codes "html"))
+
 pub record HasShowing (rows : List Row) (s : Showing) : Type 0 where
   pub db : MayHaveText rows (codes "db") s.db
   pub folder : MayHaveText rows (codes "in") s.folder
   pub one : IsSome s.db ⊎ IsSome s.folder
   pub due : MayHaveNumber rows (codes "due") 0 most_days s.due
+  pub list : s.list ≡ is_used rows (codes "list")
   pub keys : MayHaveTexts rows (codes "key") most_documents s.keys.items
   pub json : s.json ≡ is_used rows (codes "json")
   pub html : MayHaveText rows (codes "html") s.html
   pub paths : MayHaveTexts rows (codes "path") 1 s.paths.items
+  pub of_folder : ShowsAlone rows
+  pub of_list : ListsAlone rows
 
 -- ---- tasks
 

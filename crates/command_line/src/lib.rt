@@ -1,9 +1,9 @@
 //! The command line of the program `release`, read with `clap`: the words, and the task that they ask for.
 #![tactic(auto)]
 
-ghost use Rattle.std.specs.Prelude.{◌≡◌, ◌⊎◌, ◌∷◌, [], Err, IfOk, codes, map, string_bytes};
+ghost use Rattle.std.specs.Prelude.{◌≡◌, ◌⊎◌, ◌∷◌, [], Err, IfOk, codes, false, map, string_bytes};
 ghost use Rattle.clap.specs.Words.{found_of, kind_of, rows_of, subcommand_rows_of};
-ghost use Rattle.command_line.specs.CommandLine.{AsksForHelp, HasAnchor, HasKeys, HasNames, HasShowing, HasTexts, IsAsked, IsTask, IsTaskOf, Lacks, LacksFolder, LacksPair, Says};
+ghost use Rattle.command_line.specs.CommandLine.{AsksForHelp, HasAnchor, HasKeys, HasNames, HasShowing, HasTexts, IsAsked, IsTask, IsTaskOf, Lacks, LacksFolder, LacksPair, LacksTree, ListsAlone, Says, ShowsAlone, is_used};
 
 mod drafts;
 mod given;
@@ -264,7 +264,10 @@ fn showing_of(alloc: Global, given: &ArgMatches<'_>) -> Result<Showing, Unread>
     if db.is_none() && folder.is_none() {
         return Err(fault(alloc, NOTHING_SHOWN));
     }
+    see_folder_alone(alloc, given)?;
+    see_list_alone(alloc, given)?;
     let due = due_of(alloc, given)?;
+    let list = is_given(given, "list");
     let keys = texts_or_none(alloc, given, "key", MOST_DOCUMENTS)?;
     let html = text_or_none(alloc, given, "html")?;
     let paths = texts_or_none(alloc, given, "path", 1)?;
@@ -272,11 +275,55 @@ fn showing_of(alloc: Global, given: &ArgMatches<'_>) -> Result<Showing, Unread>
         db,
         folder,
         due,
+        list,
         keys,
         json: is_given(given, "json"),
         html,
         paths,
     })
+}
+
+// Next to a folder stands nothing that is said of a repository alone.
+fn see_folder_alone(alloc: Global, given: &ArgMatches<'_>) -> Result<(), Unread>
+    ensures { IfOk result (λ _. ShowsAlone (rows_of (found_of given.now))) }
+{
+    if is_left_out(given, "in") {
+        return Ok(());
+    }
+    refuse_repository(alloc, given)
+}
+
+fn refuse_repository(alloc: Global, given: &ArgMatches<'_>) -> Result<(), Unread>
+    ensures { IfOk result (λ _. LacksTree (rows_of (found_of given.now)) × (false ≡ is_used (rows_of (found_of given.now)) (codes "list"))) }
+{
+    refuse_tree(alloc, given, "--in <DIR>")?;
+    refuse_flag(alloc, given, "list", "--in <DIR>")
+}
+
+// Next to a list of targets stands nothing that is said of documents, and no page.
+fn see_list_alone(alloc: Global, given: &ArgMatches<'_>) -> Result<(), Unread>
+    ensures { IfOk result (λ _. ListsAlone (rows_of (found_of given.now))) }
+{
+    if !is_given(given, "list") {
+        return Ok(());
+    }
+    refuse_tree_and_page(alloc, given)
+}
+
+fn refuse_tree_and_page(alloc: Global, given: &ArgMatches<'_>) -> Result<(), Unread>
+    ensures { IfOk result (λ _. LacksTree (rows_of (found_of given.now)) × Lacks (rows_of (found_of given.now)) (codes "html")) }
+{
+    refuse_tree(alloc, given, "--list")?;
+    refuse(alloc, given, "html", "--list")
+}
+
+// Nothing is said of the documents that a repository holds, or of one target.
+fn refuse_tree(alloc: Global, given: &ArgMatches<'_>, with: &str) -> Result<(), Unread>
+    ensures { IfOk result (λ _. LacksTree (rows_of (found_of given.now))) }
+{
+    refuse(alloc, given, "due", with)?;
+    refuse(alloc, given, "key", with)?;
+    refuse(alloc, given, "path", with)
 }
 
 fn sign_asked(alloc: Global, given: &ArgMatches<'_>) -> Result<Subcommand, Unread>

@@ -194,13 +194,14 @@ pub struct FolderSigning {
     pub again: bool,
 }
 
-/// What is shown: what a database holds, a folder of drafts, or both; and how: so many days ahead, with these keys' leaves, as JSON, as a
-/// page in a file, and of one path, if one is given.
+/// What is shown: what a database holds, a folder of drafts, or both; and how: so many days ahead, the targets alone, with these keys'
+/// leaves, as JSON, as a page in a file, and of one path, if one is given.
 #[derive(Drop)]
 pub struct Showing {
     pub db: Option<String>,
     pub folder: Option<String>,
     pub due: Option<u64>,
+    pub list: bool,
     pub keys: Vec<String>,
     pub json: bool,
     pub html: Option<String>,
@@ -280,8 +281,8 @@ pub enum Subcommand {
     /// `serve --db FILE --port P [--count N] [--read-only]`: answers HTTP requests on 127.0.0.1, over so many connections or without end,
     /// and where it is said so, only those that change nothing.
     Serve(Serving),
-    /// `show [--db FILE] [--in DIR] [--due DAYS] [--key NAME ..] [--json] [--html FILE] [PATH]`: shows what a database holds, or a folder of
-    /// drafts, over a database where both are given.
+    /// `show [--db FILE] [--in DIR] [--due DAYS] [--key NAME ..] [--json] [--html FILE] [PATH]` or `show --db FILE --list [--json]`: shows what a
+    /// database holds, or a folder of drafts, over a database where both are given; or the targets of a database.
     Show(Showing),
     /// `sign --book B --seed S --ots W --height H [--known] DOC`: signs a file with a leaf that the book keeps for it, and where it is said
     /// so, only by a book and a key that are known.

@@ -157,7 +157,8 @@ abbrev pub shown_line : App
 shown_line = with_rule (with_rule (with_rule (begun_line (codes "show")) (option_rule (codes "db"))) (option_rule (codes "in"))) due_rule
 
 abbrev pub show_line : App
-show_line = with_rule (with_rule (with_rule (with_rule shown_line (many_rule (codes "key"))) (flag_rule (codes "json"))) (option_rule (codes "html"))) (operands_rule (codes "path"))
+show_line = with_rule (with_rule (with_rule (with_rule (with_rule shown_line (flag_rule (codes "list"))) (many_rule (codes "key"))) (flag_rule (codes "json")))
+    (option_rule (codes "html"))) (operands_rule (codes "path"))
 
 -- `sign` by a book and a seed, and by the three files of each key, or of one of several, over a folder of drafts
 abbrev pub by_book_line : App

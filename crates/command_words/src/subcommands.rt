@@ -341,8 +341,8 @@ pub(crate) const SERVE: Subcommand<'static> = Subcommand {
     ],
 };
 
-/// `show [--at SECONDS] [--verbose] [--db FILE] [--in DIR] [--due DAYS] [--key NAME ..] [--json] [--html FILE] [PATH]`, of which `--db` or
-/// `--in` has to be there
+/// `show [--at SECONDS] [--verbose] [--db FILE] [--in DIR] [--due DAYS] [--list] [--key NAME ..] [--json] [--html FILE] [PATH]`, of which
+/// `--db` or `--in` has to be there
 pub(crate) const SHOW: Subcommand<'static> = Subcommand {
     name: "show",
     about: "Show what is held, or drafts and what is to be done next",
@@ -360,6 +360,10 @@ pub(crate) const SHOW: Subcommand<'static> = Subcommand {
             "End with status 1 where something expires within so many days",
             0,
             3650,
+        ),
+        Word::Flag(
+            "list",
+            "Print a line for each target: its path, length, digest and role, and what denies it",
         ),
         Word::Many(
             "key",
