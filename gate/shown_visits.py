@@ -5,7 +5,8 @@
 
 'targets' delegates every path to 34 roles, and the last of them alone lists a file. A search makes 32 visits at most, so it does not come to
 that role: the 32 roles are shown that it visits, no listing, and the denial that a request for the file gets. The third of these roles
-expires first: from then on it ends each search, and is told of. Where the root has expired no search is made, and no role is shown.
+expires first: from then on it ends each search, and is told of. Where the root has expired no search is made, and no role is shown. In the list of
+targets the file stands as one that no search finds, with the same denial.
 """
 import os
 import subprocess
@@ -56,6 +57,14 @@ def lines_of(program, db, moment):
     return lines[lines.index("target x.txt") + 1:] if "target x.txt" in lines else lines
 
 
+def list_of(program, db, moment):
+    """The list of the targets at the moment."""
+    status, lines, errors = said(program, "show", "--at", str(moment), "--db", db, "--list")
+    if status:
+        sys.exit(f"show --list at {moment}: status {status}, {errors}")
+    return lines
+
+
 def main(program):
     with tempfile.TemporaryDirectory() as folder:
         db, at = f"{folder}/r.db", ["--at", str(NOW)]
@@ -67,6 +76,7 @@ def main(program):
         offered = [f"{role}:{folder}/{role}.json" for role in files if role != "root"]
         published = said(program, "publish", *at, "--db", db, *offered)
         shown = {moment: lines_of(program, db, moment) for moment in (NOW, SOONER, EXPIRES)}
+        lists = {moment: list_of(program, db, moment) for moment in shown}
     wanted = {
         NOW: [*visits_of(["targets", *ROLES[:31]]), "  denied 34 TooManyRoles"],
         SOONER: [*visits_of(["targets", *ROLES[:3]]), f"  ended by {ROLES[2]}: it has expired", "  denied 31 RoleExpired"],
@@ -76,10 +86,11 @@ def main(program):
         ("init", begun, (0, ["begun"], [])),
         ("publish", published, (0, [f'{{"accepted":{len(offered)},"same":0}}'], [])),
         *[(f"show at {moment}", shown[moment], wanted[moment]) for moment in wanted],
+        *[(f"show --list at {moment}", lists[moment], [f"x.txt - - -{wanted[moment][-1][1:]}"]) for moment in wanted],
     ):
         if found != right:
             sys.exit(f"{what}: {found}\nand not {right}")
-    print(2 + sum(map(len, wanted.values())))
+    print(2 + len(lists) + sum(map(len, wanted.values())))
 
 
 main(*sys.argv[1:])

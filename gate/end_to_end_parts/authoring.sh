@@ -251,6 +251,7 @@ it_is_shown() {
     grep -q '^timestamp *[0-9]* *[0-9]* days  1 of 1  timestamp2 2[0-9]' "$folder/out" || fail "no leaves: $(cat "$folder/out")"
     ends_with 3 'fault file' show --at $now --db repository.db --key none
     "$release" show --at $now --db repository.db --json >"$folder/out"
+    it_is_data
     python3 -c 'import json, sys; it = json.load(open(sys.argv[1])); assert [r["role"] for r in it["rows"]] == ["root", "targets", "tools", "snapshot", "timestamp"], it' "$folder/out"
     "$release" show --at $now --db repository.db tools/fmt.bin >"$folder/out"
     is_told '  visit targets'
@@ -260,6 +261,8 @@ it_is_shown() {
     is_told '  its layout: product of step pack'
     is_told '  granted, 8 bytes'
     a_chain_is_shown
+    targets_are_listed
+    what_has_expired_is_told
     visits_are_those_of_a_search
     ends_with 1 'denied 35 NotFound' show --at $now --db repository.db --html page.html tools/none
     is_told '  denied 35 NotFound'

@@ -32,7 +32,12 @@ PYTHON
 
 # step ID8 KEY: the first digits of a key's ID, as the name of a link has them.
 digits_of() {
-    head -c -1 "$1.key" | sha256sum | cut -c1-8
+    id_of "$1" | cut -c1-8
+}
+
+# id_of NAME: all digits of it.
+id_of() {
+    head -c -1 "$1.key" | sha256sum | cut -c1-64
 }
 
 # A link whose step two layouts have needs its target to be told, and one of a step that the target's layout has not is refused.

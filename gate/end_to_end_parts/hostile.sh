@@ -97,7 +97,8 @@ names_are_printed_plainly() {
     on_a_terminal show --at $now --in d
     grep -qF '[ ] x\x0aready\x1b[2J\u{202e}; touch PWNED '"$id" "$folder/out" || fail "a name is not spelled: $(cat "$folder/out")"
     "$release" show --at $now --in d --json >"$folder/out"
-    it_holds 'it["drafts"][0]["rules"][0]["unsigned"] == ["x\\x0aready\\x1b[2J\\u{202e}; touch PWNED '"$id"'"]'
+    it_is_data
+    it_holds '[(key["name"], key["id"][:8]) for key in it["drafts"][0]["rules"][0]["unsigned"]] == [("x\\x0aready\\x1b[2J\\u{202e}; touch PWNED", "'"$id"'")]'
     rm d/targets.json
     draft targets --add b
     slips key sign --at $now --key 00000000 --in d --yes

@@ -94,6 +94,7 @@ leaves_are_counted_together() {
     [ "$(grep -c '^\(snapshot\|timestamp\) .* 1 of 4  .*  together 31 of 96$' "$folder/out")" = 2 ] || fail "the leaves of three keys: $(cat "$folder/out")"
     ! grep -q '!' "$folder/out" || fail "a key is marked that signs together with others: $(cat "$folder/out")"
     shows_leaves "${all[@]}" --json || fail "due as JSON: $(cat "$folder/out")"
+    it_is_data
     python3 - "$folder/out" <<'PYTHON' || fail "the leaves of three keys as JSON: $(cat "$folder/out")"
 import json, sys
 rows = {row["role"]: row for row in json.load(open(sys.argv[1]))["rows"]}

@@ -5,15 +5,16 @@ use command_support::{Fault, Notes, OWNER_ALONE, moment, print, put_told, see_da
 use drafts::Folder;
 use keys_roles::KeyId;
 use metadata::Moment;
-use overview_rows::{drafts_in, show_standing};
-use overviews::{Drafts, drafts_as_json, drafts_as_lines, drafts_as_page};
+use overview_rows::{denial_row, drafts_in, show_standing, show_targets};
+use overviews::{Answer, Drafts, drafts_as_json, drafts_as_lines, drafts_as_page};
 use sqlite::Alter;
-use std::alloc::{AllocError, Global};
+use std::alloc::Global;
 use std::io::{IsTerminal, Write};
 use subcommands::{BatchRefusal, Offer, Store, Work, worked, would_take};
 
 /// Shows what a database holds, or what a folder of drafts has and what is to be done next; where both are given, also whether it is ready:
-/// what `publish` would be answered. Where something held expires within the days that are given, that is told last.
+/// what `publish` would be answered. Where something held expires within the days that are given, that is told last. Of a database the targets
+/// alone are listed, where that is asked for.
 pub fn show<O: Write, E: Write>(
     rt: &HostRuntime,
     asked: &Showing,
@@ -38,6 +39,7 @@ pub fn show<O: Write, E: Write>(
             folder.see(notes)?;
             show_judged(rt, asked, folder, db, now, out, notes)
         }
+        (None, Some(db)) if asked.list => show_targets(rt, db, asked.json, now, out, notes),
         (None, Some(db)) => show_standing(rt, db, asked, leaves, now, out, notes),
         (None, None) => Ok(()),
     }
@@ -93,19 +95,16 @@ fn show_judged<O: Write, E: Write>(
         return show_drafts(rt, asked, &shown, out, notes);
     }
     let judged = judge(rt, folder, db, now, notes);
-    shown.answer = answer_of(rt.alloc(), &judged)?;
+    shown.answer = answer_of(&judged);
     show_drafts(rt, asked, &shown, out, notes)?;
     judged
 }
 
-fn answer_of(alloc: Global, judged: &Result<(), Fault>) -> Result<Option<String>, AllocError> {
+fn answer_of(judged: &Result<(), Fault>) -> Option<Answer> {
     match judged {
-        Ok(()) => Ok(Some(String::from_str(alloc, "ready")?)),
-        Err(Fault::Denied(denial, Some(index))) => {
-            let (number, name) = (denial.number(), denial.name());
-            Ok(Some(format!(in alloc; "denied {number} {name} at {index}")?))
-        }
-        Err(_) => Ok(None),
+        Ok(()) => Some(Answer::Ready),
+        Err(Fault::Denied(denial, Some(index))) => Some(Answer::Denied(denial_row(denial), *index)),
+        Err(_) => None,
     }
 }
 

@@ -31,13 +31,16 @@ pub struct ListedFile {
     pub has_layout: bool,
 }
 
-/// The rule of a role: how many of which keys have to sign, and of a delegation what it covers, as text.
+/// The rule of a role: how many of which keys have to sign, and of a delegation what it covers, patterns of paths or prefixes of their
+/// digests, and whether it is terminating.
 #[derive(Drop)]
 pub struct SaidRule {
     pub role: String,
     pub threshold: u8,
     pub keyids: Vec<KeyId>,
-    pub covers: String,
+    pub covers: Vec<String>,
+    pub has_prefixes: bool,
+    pub is_terminating: bool,
 }
 
 /// What a role's document says. Bytes that are none are denied by the first check that fails.
@@ -203,35 +206,31 @@ fn rules_in(alloc: Global, delegations: &[Delegation]) -> Result<Vec<SaidRule>, 
 
 fn delegated_rule(alloc: Global, delegation: &Delegation) -> Result<SaidRule, AllocError> {
     let mut rule = said_rule(alloc, delegation.name.as_str(), &delegation.rule)?;
+    rule.is_terminating = delegation.terminating;
     match &delegation.scope {
-        Scope::Patterns(patterns) => add_patterns(&mut rule.covers, patterns)?,
-        Scope::Prefixes(prefixes) => add_prefixes(&mut rule.covers, prefixes)?,
-    }
-    if delegation.terminating {
-        rule.covers.push_str(" (terminating)")?;
+        Scope::Patterns(patterns) => rule.covers = texts_of_patterns(alloc, patterns)?,
+        Scope::Prefixes(prefixes) => {
+            rule.has_prefixes = true;
+            rule.covers = copied(alloc, prefixes)?;
+        }
     }
     Ok(rule)
 }
 
-fn add_patterns(covers: &mut String, patterns: &[Pattern]) -> Result<(), AllocError> {
+fn texts_of_patterns(alloc: Global, patterns: &[Pattern]) -> Result<Vec<String>, AllocError> {
+    let mut texts = Vec::new(alloc);
     for pattern in patterns {
-        add_word(covers, pattern.as_str())?;
+        texts.push(String::from_str(alloc, pattern.as_str())?)?;
     }
-    Ok(())
+    Ok(texts)
 }
 
-fn add_prefixes(covers: &mut String, prefixes: &[String]) -> Result<(), AllocError> {
-    for prefix in prefixes {
-        add_word(covers, prefix.as_str())?;
+fn copied(alloc: Global, texts: &[String]) -> Result<Vec<String>, AllocError> {
+    let mut copies = Vec::new(alloc);
+    for text in texts {
+        copies.push(String::from_str(alloc, text.as_str())?)?;
     }
-    Ok(())
-}
-
-fn add_word(covers: &mut String, word: &str) -> Result<(), AllocError> {
-    if !covers.is_empty() {
-        covers.push(' ')?;
-    }
-    covers.push_str(word)
+    Ok(copies)
 }
 
 fn rules_in_steps(alloc: Global, steps: &[Step]) -> Result<Vec<SaidRule>, AllocError> {
@@ -249,7 +248,9 @@ fn said_rule(alloc: Global, role: &str, rule: &RoleRule) -> Result<SaidRule, All
         role,
         threshold: rule.threshold,
         keyids,
-        covers: String::new(alloc),
+        covers: Vec::new(alloc),
+        has_prefixes: false,
+        is_terminating: false,
     })
 }
 

@@ -1,13 +1,15 @@
 //! What a folder of drafts has.
+use crate::keys::signing_key;
+use crate::next::NextWords;
 use command_support::{Fault, Notes};
 use drafts::{
     FIRST_DIGITS, Folder, Names, Said, SaidRule, TargetsRead, Vouching, changes_of, has_signed,
-    key_text, layout_in, links_in, listed_otherwise, name_of_key, read_said, read_said_of,
-    sign_order, signed_in, target_of_layout, version_in,
+    layout_in, links_in, listed_otherwise, name_of_key, read_said, read_said_of, sign_order,
+    signed_in, target_of_layout, version_in,
 };
 use keys_roles::KeyId;
 use metadata::{Kind, Moment, SignedFile, read_signed};
-use overviews::{DraftRow, Drafts, Growing, LayoutRow, RuleRow, StepRow};
+use overviews::{DraftRow, Drafts, Growing, LayoutRow, Next, RuleOf, RuleRow, StepRow};
 use path_patterns::Digest;
 use plain_text::{is_plain_name, plain};
 use std::alloc::{AllocError, Global};
@@ -31,12 +33,14 @@ pub fn drafts_in<E: Write>(
         is_sealed: false,
         is_waiting: false,
         lacks_targets: false,
+        wanted: Vec::new(alloc),
         next: Growing::new(alloc),
         shown: Drafts {
             now: now.seconds(),
             drafts: Vec::new(alloc),
             layouts: Vec::new(alloc),
             links: Vec::new(alloc),
+            is_idle: false,
             next: Vec::new(alloc),
             answer: None,
         },
@@ -66,7 +70,8 @@ struct Looking<'a> {
     is_sealed: bool,
     is_waiting: bool,
     lacks_targets: bool,
-    next: Growing<String>,
+    wanted: Vec<String>,
+    next: Growing<Next>,
     shown: Drafts,
 }
 
@@ -86,8 +91,8 @@ impl Looking<'_> {
         }
         self.lacks_targets = lacks_targets(self.folder, notes)?;
         if self.are_met && self.begins(notes)? {
-            let folder = self.folder.path();
-            self.next.put(format!(in self.alloc; "next: release init --db DB {folder}/root.json"));
+            let next = self.init_next();
+            self.next.put(next);
         }
         self.tell_next();
         Ok(())
@@ -146,10 +151,11 @@ impl Looking<'_> {
             return Ok(());
         }
         self.are_met = false;
-        let folder = self.folder.path();
-        self.next.put(format!(in self.alloc;
-            "next: release draft --in {folder} targets --role {role}"
-        ));
+        let mut next = NextWords::new(self.alloc, "draft");
+        next.option("--in", self.folder.path());
+        next.word("targets");
+        next.option("--role", role);
+        self.next.put(next.done());
         Ok(())
     }
 
@@ -166,7 +172,7 @@ impl Looking<'_> {
             role,
             version: said.version,
             held,
-            expires: said.expires.map_or(0, |expires| expires.seconds()),
+            expires: said.expires.map(|expires| expires.seconds()),
             changes,
             rules,
         })?;
@@ -254,46 +260,72 @@ impl Looking<'_> {
         for id in &vouching.rule.keyids {
             if !has_signed(self.alloc, vouching, id, file)? {
                 let word = key_word(self.alloc, &vouching.said, id)?;
-                self.want(word.as_str());
+                self.want(word.as_str())?;
             }
         }
         Ok(())
     }
 
     // A key that is wanted, once.
-    fn want(&mut self, word: &str) {
-        let folder = self.folder.path();
-        let line = format!(in self.alloc; "next: release sign --key {word} --in {folder}");
-        let is_said = match &line {
-            Ok(line) => self.next.parts().contains(line),
-            Err(_) => false,
-        };
-        if !is_said {
-            self.next.put(line);
+    fn want(&mut self, word: &str) -> Result<(), AllocError> {
+        if self.wanted.iter().any(|wanted| wanted.as_str() == word) {
+            return Ok(());
         }
+        self.wanted.push(String::from_str(self.alloc, word)?)?;
+        let mut next = NextWords::new(self.alloc, "sign");
+        next.option("--key", word);
+        next.option("--in", self.folder.path());
+        self.next.put(next.done());
+        Ok(())
     }
 
     // What is to be done where no signature is wanted.
     fn tell_next(&mut self) {
-        if self.are_met {
-            let line = self.next_line();
-            self.next.put(line);
+        if !self.are_met {
+            return;
         }
+        if self.shown.drafts.is_empty() {
+            self.shown.is_idle = true;
+            return;
+        }
+        let next = if self.lacks_targets || !self.is_sealed {
+            self.draft_next()
+        } else {
+            self.publish_next()
+        };
+        self.next.put(next);
     }
 
-    fn next_line(&self) -> Result<String, AllocError> {
+    // The first root begins a trust: DB stands for a database file.
+    fn init_next(&self) -> Result<Next, AllocError> {
         let folder = self.folder.path();
-        if self.shown.drafts.is_empty() {
-            String::from_str(self.alloc, "no draft")
-        } else if self.lacks_targets {
-            format!(in self.alloc; "next: release draft --in {folder} targets --add FILE")
-        } else if !self.is_sealed {
-            format!(in self.alloc; "next: release draft --in {folder} seal")
-        } else if let Some(db) = self.db {
-            format!(in self.alloc; "next: release publish --db {db} --in {folder}")
+        let root = format!(in self.alloc; "{folder}/root.json")?;
+        let mut next = NextWords::new(self.alloc, "init");
+        next.option("--db", "DB");
+        next.word(root.as_str());
+        next.done()
+    }
+
+    // The first targets metadata are to be drafted, where FILE stands for a target file, or else the seal.
+    fn draft_next(&self) -> Result<Next, AllocError> {
+        let mut next = NextWords::new(self.alloc, "draft");
+        next.option("--in", self.folder.path());
+        if self.lacks_targets {
+            next.word("targets");
+            next.option("--add", "FILE");
         } else {
-            format!(in self.alloc; "next: release publish --in {folder}")
+            next.word("seal");
         }
+        next.done()
+    }
+
+    fn publish_next(&self) -> Result<Next, AllocError> {
+        let mut next = NextWords::new(self.alloc, "publish");
+        if let Some(db) = self.db {
+            next.option("--db", db);
+        }
+        next.option("--in", self.folder.path());
+        next.done()
     }
 }
 
@@ -304,10 +336,14 @@ fn rule_row(
     file: &SignedFile<'_>,
     rules: usize,
 ) -> Result<RuleRow, AllocError> {
+    let names = Names {
+        held: vouching.held.as_deref(),
+        draft: &vouching.said,
+    };
     let mut signed = Growing::new(alloc);
     let mut unsigned = Growing::new(alloc);
     for id in &vouching.rule.keyids {
-        let name = vouching.key_text(alloc, id);
+        let name = signing_key(alloc, names, id);
         if has_signed(alloc, vouching, id, file)? {
             signed.put(name);
         } else {
@@ -317,16 +353,24 @@ fn rule_row(
     let signed = signed.done()?;
     let unsigned = unsigned.done()?;
     let by = if rules > 1 {
-        let (of, version) = (vouching.of.as_str(), vouching.version);
-        format!(in alloc; "{of} {version}")?
+        Some(rule_of(alloc, vouching)?)
     } else {
-        String::new(alloc)
+        None
     };
     Ok(RuleRow {
         by,
         threshold: vouching.rule.threshold,
         signed,
         unsigned,
+    })
+}
+
+// The document that has a rule.
+fn rule_of(alloc: Global, vouching: &Vouching) -> Result<RuleOf, AllocError> {
+    let role = String::from_str(alloc, vouching.of.as_str())?;
+    Ok(RuleOf {
+        role,
+        version: vouching.version,
     })
 }
 
@@ -344,7 +388,7 @@ pub fn step_row(
     };
     let mut keys = Growing::new(alloc);
     for id in &rule.keyids {
-        keys.put(key_text(alloc, names, id, false));
+        keys.put(signing_key(alloc, names, id));
     }
     let keys = keys.done()?;
     let name = plain(alloc, rule.role.as_str())?;

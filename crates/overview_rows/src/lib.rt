@@ -3,10 +3,15 @@
 
 mod drafted;
 mod following;
+mod keys;
+mod listing;
+mod next;
 mod standing;
 mod tree;
 mod visits;
 
 pub use drafted::{drafts_in, lacks_targets};
 pub use following::follow;
+pub use keys::denial_row;
+pub use listing::show_targets;
 pub use standing::show_standing;

@@ -6,7 +6,7 @@ use command_line::Showing;
 use command_support::{Denial, Fault, Notes, OWNER_ALONE, print, put_told};
 use keys_roles::KeyId;
 use metadata::Moment;
-use overviews::{Overview, as_bars, as_columns, as_json, as_page};
+use overviews::{Days, Overview, as_bars, as_columns, as_json, as_page};
 use repository_work::{Store, Work, worked};
 use sqlite::Alter;
 use std::alloc::{AllocError, Global};
@@ -105,8 +105,7 @@ fn end<E: Write>(alloc: Global, shown: &Overview, notes: &mut Notes<'_, E>) -> R
     for row in &shown.rows {
         if shown.is_due(row) {
             is_due = true;
-            let days = shown.days(row);
-            let told = format!(in alloc; "it expires in {days} days")?;
+            let told = why_due(alloc, shown.days(row))?;
             notes.fault(&row.role, &told);
         }
         if row.is_low() {
@@ -115,4 +114,13 @@ fn end<E: Write>(alloc: Global, shown: &Overview, notes: &mut Notes<'_, E>) -> R
         }
     }
     if is_due { Err(Fault::Due) } else { Ok(()) }
+}
+
+// Why a document is due, by the days that it has left.
+fn why_due(alloc: Global, days: Days) -> Result<String, AllocError> {
+    match days {
+        Days::Left(days) => format!(in alloc; "it expires in {days} days"),
+        Days::Past(days) => format!(in alloc; "it expired {days} days ago"),
+        Days::Unknown => String::from_str(alloc, "it is not held"),
+    }
 }

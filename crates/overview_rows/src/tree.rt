@@ -1,11 +1,11 @@
 //! The documents that a repository holds, in the order of a search.
 use crate::following::file_of;
+use crate::keys::named_key;
 use command_support::{Denial, Fault};
-use drafts::{Said, SaidRule, name_of_key, read_said};
+use drafts::{Said, SaidRule, read_said};
 use keys_roles::KeyId;
-use metadata::{Digest, Moment, read_signed};
-use overviews::{Growing, KeyRow, Overview, Row};
-use plain_text::plain;
+use metadata::{Moment, read_signed};
+use overviews::{Covers, Growing, KeyRow, Overview, Row};
 use repository_work::Store;
 use sqlite::Alter;
 use std::alloc::{AllocError, Global};
@@ -141,7 +141,7 @@ impl<'a> Looking<'a> {
         let name = self.name_at(row.role.as_str(), version)?;
         match file_of(repository, name.as_str(), self.now) {
             Some(bytes) => self.put_role(row, &bytes, waiting),
-            None => self.put_missing(row),
+            None => Ok(self.shown.rows.push(row)?),
         }
     }
 
@@ -161,32 +161,14 @@ impl<'a> Looking<'a> {
         Ok(())
     }
 
-    fn put_missing(&mut self, row: Row) -> Result<(), Fault> {
-        let mut row = row;
-        row.facts = String::from_str(self.alloc, "not held")?;
-        self.shown.rows.push(row)?;
-        Ok(())
-    }
-
     fn put(&mut self, row: Row, said: &Said) -> Result<(), AllocError> {
         let mut row = row;
         row.version = said.version;
-        row.expires = said.expires.map_or(0, |expires| expires.seconds());
-        row.facts = self.facts_of(said)?;
-        self.shown.rows.push(row)?;
-        Ok(())
-    }
-
-    fn facts_of(&self, said: &Said) -> Result<String, AllocError> {
-        let count = said.files.len();
-        if count == 0 {
-            return Ok(String::new(self.alloc));
-        }
-        let layouts = said.files.iter().filter(|file| file.has_layout).count();
-        if layouts == 0 {
-            return format!(in self.alloc; "{count} targets");
-        }
-        format!(in self.alloc; "{count} targets, {layouts} with a layout")
+        row.expires = said.expires.map(|expires| expires.seconds());
+        row.is_held = true;
+        row.targets = said.files.len();
+        row.layouts = said.files.iter().filter(|file| file.has_layout).count();
+        self.shown.rows.push(row)
     }
 
     // The row of a role by its rule, in the document that has it.
@@ -200,17 +182,31 @@ impl<'a> Looking<'a> {
 
     fn begun(&self, keys: Vec<KeyRow>, rule: &SaidRule, depth: usize) -> Result<Row, AllocError> {
         let role = String::from_str(self.alloc, rule.role.as_str())?;
-        let covers = String::from_str(self.alloc, rule.covers.as_str())?;
+        let words = self.copied(&rule.covers)?;
         Ok(Row {
             role,
             depth,
             version: 0,
-            expires: 0,
+            expires: None,
             threshold: rule.threshold,
             keys,
-            covers,
-            facts: String::new(self.alloc),
+            covers: Covers {
+                words,
+                are_prefixes: rule.has_prefixes,
+                is_terminating: rule.is_terminating,
+            },
+            is_held: false,
+            targets: 0,
+            layouts: 0,
         })
+    }
+
+    fn copied(&self, texts: &[String]) -> Result<Vec<String>, AllocError> {
+        let mut copies = Vec::new(self.alloc);
+        for text in texts {
+            copies.push(String::from_str(self.alloc, text.as_str())?)?;
+        }
+        Ok(copies)
     }
 
     fn keys_of(&self, signed: &[u8], rule: &SaidRule) -> Result<Vec<KeyRow>, AllocError> {
@@ -223,15 +219,8 @@ impl<'a> Looking<'a> {
 
     fn key_of(&self, signed: &[u8], id: &KeyId) -> Result<KeyRow, AllocError> {
         let (left, most) = self.leaves_of(id);
-        let name = self.name_of(signed, id)?;
-        Ok(KeyRow { name, left, most })
-    }
-
-    // What the document calls a key, or else the first digits of its id.
-    fn name_of(&self, signed: &[u8], id: &KeyId) -> Result<String, AllocError> {
-        let digits = Digest::new(id.0).digits();
-        let first = str::from_utf8(&digits[..8]).unwrap_or("-");
-        plain(self.alloc, name_of_key(signed, id).unwrap_or(first))
+        let key = named_key(self.alloc, signed, id)?;
+        Ok(KeyRow { key, left, most })
     }
 
     fn leaves_of(&self, id: &KeyId) -> (Option<u32>, u32) {

@@ -1,10 +1,12 @@
 //! What becomes of a target: the roles that a search visits, who lists it, and how it ended.
 use crate::drafted::step_row;
+use crate::keys::denial_row;
+use crate::listing::listed_row;
 use canonical_json::member;
 use command_support::{Denial, Fault};
 use drafts::{SaidRule, read_said_of};
 use metadata::{Kind, LayoutReference, Listing, Moment, SignedFile, TargetPath, read_signed};
-use overviews::{Growing, PathRow, StepRow};
+use overviews::{DenialRow, Growing, ListedRow, PathRow, ReferenceRow, StepRow};
 use repository_work::{Command, Reply, Search, SearchDenial, Store, search_of};
 use sqlite::Alter;
 use std::alloc::{AllocError, Global};
@@ -25,6 +27,7 @@ pub fn look_for<S: Alter>(
         now,
         visits: Vec::new(alloc),
         found: Growing::new(alloc),
+        listed: None,
         steps: Growing::new(alloc),
     };
     let mut layout = None;
@@ -34,24 +37,36 @@ pub fn look_for<S: Alter>(
     if let Some(layout) = &layout {
         seeing.look_at_steps(repository, layout)?;
     }
-    let End {
-        text,
-        is_granted,
-        denial,
-    } = end_of(alloc, repository, path, now)?;
-    Ok((row_of(alloc, path, seeing, text, is_granted)?, denial))
+    let end = end_of(alloc, repository, path, now)?;
+    Ok(seen(alloc, path, seeing, layout, end)?)
 }
 
-fn row_of(
+// The target as it is shown, and what denies it, if anything does.
+fn seen(
     alloc: Global,
     path: &str,
     seeing: Seeing,
-    end: String,
-    is_granted: bool,
-) -> Result<PathRow, AllocError> {
+    layout: Option<ReferenceRow>,
+    end: End,
+) -> Result<(PathRow, Option<Denial>), AllocError> {
+    let End {
+        text,
+        is_granted,
+        denied,
+        denial,
+    } = end;
+    let mut row = row_of(alloc, path, seeing, text)?;
+    row.layout = layout;
+    row.is_granted = is_granted;
+    row.denied = denied;
+    Ok((row, denial))
+}
+
+fn row_of(alloc: Global, path: &str, seeing: Seeing, end: String) -> Result<PathRow, AllocError> {
     let Seeing {
         visits,
         found,
+        listed,
         steps,
         ..
     } = seeing;
@@ -62,9 +77,12 @@ fn row_of(
         path,
         visits,
         found,
+        listed,
+        layout: None,
         steps,
         end,
-        is_granted,
+        is_granted: false,
+        denied: None,
     })
 }
 
@@ -73,6 +91,7 @@ fn row_of(
 struct End {
     text: String,
     is_granted: bool,
+    denied: Option<DenialRow>,
     denial: Option<Denial>,
 }
 
@@ -83,30 +102,38 @@ fn end_of<S: Alter>(
     path: &str,
     now: Moment,
 ) -> Result<End, AllocError> {
-    let (text, is_granted, denial) = match repository.apply(Command::Target(path, None), now) {
-        Ok(Reply::Bytes(bytes)) => {
-            let count = bytes.len();
-            (format!(in alloc; "granted, {count} bytes")?, true, None)
-        }
-        Ok(Reply::Denied(denial, _)) => {
-            let (number, name) = (denial.number(), denial.name());
-            let text = format!(in alloc; "denied {number} {name}")?;
-            (text, false, Some(denial))
-        }
-        _ => (String::from_str(alloc, "not answered")?, false, None),
-    };
+    match repository.apply(Command::Target(path, None), now) {
+        Ok(Reply::Bytes(bytes)) => granted(alloc, bytes.len()),
+        Ok(Reply::Denied(denial, _)) => denied(alloc, denial),
+        _ => Ok(End {
+            text: String::from_str(alloc, "not answered")?,
+            is_granted: false,
+            denied: None,
+            denial: None,
+        }),
+    }
+}
+
+fn granted(alloc: Global, length: usize) -> Result<End, AllocError> {
+    let text = format!(in alloc; "granted, {length} bytes")?;
     Ok(End {
         text,
-        is_granted,
-        denial,
+        is_granted: true,
+        denied: None,
+        denial: None,
     })
 }
 
-// The paths of a target's layout and of its links.
-#[derive(Drop)]
-struct Layout {
-    path: String,
-    links: Vec<String>,
+fn denied(alloc: Global, denial: Denial) -> Result<End, AllocError> {
+    let row = denial_row(&denial);
+    let (number, name) = (row.number, row.name);
+    let text = format!(in alloc; "denied {number} {name}")?;
+    Ok(End {
+        text,
+        is_granted: false,
+        denied: Some(row),
+        denial: Some(denial),
+    })
 }
 
 // The roles that a search visited, what it found, and the steps of the layout.
@@ -116,18 +143,19 @@ struct Seeing {
     now: Moment,
     visits: Vec<String>,
     found: Growing<String>,
+    listed: Option<ListedRow>,
     steps: Growing<StepRow>,
 }
 
 impl Seeing {
     // Tells the visits of a search in their order, and how it ended: by a listing, whose layout is answered, or by the last role.
-    fn tell(&mut self, search: &Search<'_>) -> Result<Option<Layout>, AllocError> {
+    fn tell(&mut self, search: &Search<'_>) -> Result<Option<ReferenceRow>, AllocError> {
         let roles = search.visited.roles();
         for role in roles.iter().rev() {
             self.visits.push(String::from_str(self.alloc, role)?)?;
         }
         match &search.answer {
-            Ok(found) => self.tell_listed(found.listing),
+            Ok(found) => self.tell_listed(found.role, found.listing),
             Err(denial) => {
                 if let Some(last) = roles.first() {
                     self.tell_ended(last, *denial);
@@ -146,18 +174,21 @@ impl Seeing {
     }
 
     // Tells the listing, and what its layout needs.
-    fn tell_listed(&mut self, listing: &Listing) -> Result<Option<Layout>, AllocError> {
-        let length = listing.length;
-        let digits = listing.digest.text(self.alloc)?;
-        self.found
-            .put(format!(in self.alloc; "listed: {length} bytes, {digits}"));
+    fn tell_listed(
+        &mut self,
+        role: &str,
+        listing: &Listing,
+    ) -> Result<Option<ReferenceRow>, AllocError> {
+        let listed = listed_row(self.alloc, role, listing)?;
+        self.found.put(listed_text(self.alloc, &listed));
+        self.listed = Some(listed);
         match &listing.layout {
             Some(layout) => Ok(Some(self.tell_layout(layout)?)),
             None => Ok(None),
         }
     }
 
-    fn tell_layout(&mut self, layout: &LayoutReference) -> Result<Layout, AllocError> {
+    fn tell_layout(&mut self, layout: &LayoutReference) -> Result<ReferenceRow, AllocError> {
         let step = layout.step.as_str();
         self.found.put(format!(in self.alloc; "its layout: product of step {step}"));
         let mut links = Vec::new(self.alloc);
@@ -167,14 +198,15 @@ impl Seeing {
             links.push(String::from_str(self.alloc, link)?)?;
         }
         let path = String::from_str(self.alloc, layout.path.as_str())?;
-        Ok(Layout { path, links })
+        let step = String::from_str(self.alloc, step)?;
+        Ok(ReferenceRow { path, step, links })
     }
 
     // The steps of the layout, if it is granted, with how many links each has of its keys.
     fn look_at_steps<S: Alter>(
         &mut self,
         repository: &mut Store<S>,
-        layout: &Layout,
+        layout: &ReferenceRow,
     ) -> Result<(), Fault> {
         let Some(bytes) = self.target_of(repository, layout.path.as_str()) else {
             return Ok(());
@@ -227,6 +259,12 @@ impl Seeing {
             _ => None,
         }
     }
+}
+
+// What is listed of a target, as it is told.
+fn listed_text(alloc: Global, listed: &ListedRow) -> Result<String, AllocError> {
+    let (length, digits) = (listed.length, listed.digest.as_str());
+    format!(in alloc; "listed: {length} bytes, {digits}")
 }
 
 // Why the last visit ended a search; none where more visits were needed, or none was left.

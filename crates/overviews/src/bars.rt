@@ -1,7 +1,8 @@
 //! Bars and colour, as a terminal gets them.
 use crate::chain::draw_steps;
-use crate::columns::{say_part, say_path};
-use crate::rows::{KeyRow, Leaves, Overview, Row};
+use crate::columns::say_path;
+use crate::days::say_days;
+use crate::rows::{KeyRow, Leaves, Overview, Row, say_rest};
 use crate::writing::{GREEN, PLAIN, RED, Text, in_order};
 use std::alloc::{AllocError, Global};
 
@@ -32,11 +33,11 @@ pub fn as_bars(alloc: Global, shown: &Overview) -> Result<Vec<u8>, AllocError> {
     text.done()
 }
 
-/// The moments at which the rows expire.
+/// The moments at which the rows expire, 0 of what is not held.
 pub(crate) fn expiries(alloc: Global, shown: &Overview) -> Result<Vec<u64>, AllocError> {
     let mut moments = Vec::new(alloc);
     for row in &shown.rows {
-        moments.push(row.expires)?;
+        moments.push(row.expires.unwrap_or(0))?;
     }
     Ok(moments)
 }
@@ -45,9 +46,9 @@ fn say_row(text: &mut Text, shown: &Overview, row: &Row) {
     text.repeat("  ", row.depth);
     let width = 20usize.saturating_sub(row.depth.saturating_mul(2));
     let role = row.role.as_str();
-    let (version, days) = (row.version, shown.days(row));
-    text.formed(format!(in text.alloc; "{role:<width$} {version:>5} {days:>5} d  "));
-    say_bar(text, parts_of_days(days), shown.is_due(row));
+    let version = row.version;
+    text.formed(format!(in text.alloc; "{role:<width$} {version:>5} "));
+    say_days_left(text, shown, row);
     let (threshold, count) = (row.threshold, row.keys.len());
     text.formed(format!(in text.alloc; "  {threshold} of {count}"));
     let together = row.together();
@@ -59,18 +60,22 @@ fn say_row(text: &mut Text, shown: &Overview, row: &Row) {
         say_bar(text, parts_of_leaves(leaves), leaves.are_few());
         text.number(" ", leaves.left);
     }
-    say_part(text, &row.covers);
-    say_part(text, &row.facts);
+    say_rest(text, row);
     text.say("\n");
 }
 
-fn say_expiry(text: &mut Text, shown: &Overview, row: &Row) {
+// The days that are left, and their bar.
+fn say_days_left(text: &mut Text, shown: &Overview, row: &Row) {
     let days = shown.days(row);
-    let role = row.role.as_str();
-    text.formed(format!(in text.alloc; "{days:>5} d  "));
-    say_bar(text, parts_of_days(days), shown.is_due(row));
+    say_days(text, 5, " d", days);
     text.say("  ");
-    text.say(role);
+    say_bar(text, parts_of_days(days.number()), shown.is_due(row));
+}
+
+fn say_expiry(text: &mut Text, shown: &Overview, row: &Row) {
+    say_days_left(text, shown, row);
+    text.say("  ");
+    text.say(row.role.as_str());
     if shown.is_due(row) {
         text.say("  DUE");
     }
@@ -80,7 +85,7 @@ fn say_expiry(text: &mut Text, shown: &Overview, row: &Row) {
 // Few leaves of a key are red where they are not counted together with those of others.
 fn say_leaves(text: &mut Text, key: &KeyRow, is_alone: bool) {
     text.say("  ");
-    text.say(key.name.as_str());
+    text.say(key.key.words.as_str());
     if let Some(left) = key.left {
         text.say(" ");
         say_bar(

@@ -1,4 +1,5 @@
 //! The chain of a layout: its steps, each with its keys and links.
+use crate::names::{KeyWords, json_keys, say_keys};
 use crate::writing::{GREEN, PLAIN, RED, Text};
 
 /// A step of a layout: its name, how many links of which keys it has to have, and how many are there.
@@ -6,7 +7,7 @@ use crate::writing::{GREEN, PLAIN, RED, Text};
 pub struct StepRow {
     pub name: String,
     pub threshold: u8,
-    pub keys: Vec<String>,
+    pub keys: Vec<KeyWords>,
     pub links: usize,
 }
 
@@ -40,10 +41,7 @@ fn draw_step(text: &mut Text, step: &StepRow) {
     text.say(if step.is_short() { RED } else { GREEN });
     let (name, links, threshold) = (step.name.as_str(), step.links, step.threshold);
     text.formed(format!(in text.alloc; "  [{name}]  {links} of {threshold} links "));
-    for key in &step.keys {
-        text.say(" ");
-        text.say(key.as_str());
-    }
+    say_keys(text, " ", &step.keys);
     text.say(PLAIN);
     text.say("\n");
 }
@@ -70,7 +68,7 @@ fn page_step(text: &mut Text, step: &StepRow) {
     text.number(" of ", u64::from(step.threshold));
     text.say(" links");
     for key in &step.keys {
-        text.escaped(" ", key.as_str());
+        text.escaped(" ", key.words.as_str());
     }
     text.say("</span>");
 }
@@ -86,7 +84,7 @@ pub(crate) fn json_steps(text: &mut Text, steps: &[StepRow]) {
 }
 
 fn json_step(text: &mut Text, step: &StepRow) {
-    text.list("{\"keys\":", &step.keys);
+    json_keys(text, "{\"keys\":", &step.keys);
     text.number(",\"links\":", step.links as u64);
     text.quoted(",\"name\":", step.name.as_str());
     text.number(",\"threshold\":", u64::from(step.threshold));

@@ -1,6 +1,7 @@
 //! Plain columns, as a pipe gets them.
 use crate::chain::say_steps;
-use crate::rows::{KeyRow, Leaves, Overview, PathRow, Row};
+use crate::days::say_days;
+use crate::rows::{KeyRow, Leaves, Overview, PathRow, Row, say_rest};
 use crate::writing::Text;
 use std::alloc::{AllocError, Global};
 
@@ -21,11 +22,11 @@ fn say_row(text: &mut Text, shown: &Overview, row: &Row) {
     text.repeat("  ", row.depth);
     let width = 24usize.saturating_sub(row.depth.saturating_mul(2));
     let role = row.role.as_str();
-    let (version, days) = (row.version, shown.days(row));
+    let version = row.version;
+    text.formed(format!(in text.alloc; "{role:<width$} {version:>6} "));
+    say_days(text, 6, " days", shown.days(row));
     let (threshold, count) = (row.threshold, row.keys.len());
-    text.formed(format!(in text.alloc;
-        "{role:<width$} {version:>6} {days:>6} days  {threshold} of {count}"
-    ));
+    text.formed(format!(in text.alloc; "  {threshold} of {count}"));
     let together = row.together();
     for key in &row.keys {
         say_key(text, key, together.is_none());
@@ -33,24 +34,14 @@ fn say_row(text: &mut Text, shown: &Overview, row: &Row) {
     if let Some(leaves) = together {
         say_together(text, leaves);
     }
-    say_part(text, &row.covers);
-    say_part(text, &row.facts);
+    say_rest(text, row);
     text.say("\n");
-}
-
-/// A part of a line, where there is any.
-pub(crate) fn say_part(text: &mut Text, part: &str) {
-    if part.is_empty() {
-        return;
-    }
-    text.say("  ");
-    text.say(part);
 }
 
 // The name of a key with its leaves, and a mark where few are left that are not counted together with those of others.
 fn say_key(text: &mut Text, key: &KeyRow, is_alone: bool) {
     text.say("  ");
-    text.say(key.name.as_str());
+    text.say(key.key.words.as_str());
     if let Some(left) = key.left {
         text.number(" ", u64::from(left));
         if is_alone && key.is_low() {

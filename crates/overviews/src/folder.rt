@@ -1,14 +1,24 @@
 //! What a folder of drafts has.
 use crate::chain::StepRow;
+use crate::days::Days;
+use crate::names::{DenialRow, KeyWords, say_denial};
+use crate::writing::Text;
 
-/// A rule that a document has to meet: the document that has the rule, where there is more than one rule and else nothing; how many of its
+/// The document that has a rule: its role and its version.
+#[derive(Drop)]
+pub struct RuleOf {
+    pub role: String,
+    pub version: u32,
+}
+
+/// A rule that a document has to meet: the document that has the rule, where there is more than one rule and else none; how many of its
 /// keys have to sign: those that have, and those that have not.
 #[derive(Drop)]
 pub struct RuleRow {
-    pub by: String,
+    pub by: Option<RuleOf>,
     pub threshold: u8,
-    pub signed: Vec<String>,
-    pub unsigned: Vec<String>,
+    pub signed: Vec<KeyWords>,
+    pub unsigned: Vec<KeyWords>,
 }
 
 impl RuleRow {
@@ -18,14 +28,14 @@ impl RuleRow {
     }
 }
 
-/// A draft: its role, its version and the held one, when it expires in seconds since 1970-01-01T00:00:00Z, what it changes, a line each, and
-/// the rules over it.
+/// A draft: its role, its version and the held one, 0 where none is held, when it expires in seconds since 1970-01-01T00:00:00Z, what it
+/// changes, a line each, and the rules over it.
 #[derive(Drop)]
 pub struct DraftRow {
     pub role: String,
     pub version: u32,
     pub held: u32,
-    pub expires: u64,
+    pub expires: Option<u64>,
     pub changes: Vec<String>,
     pub rules: Vec<RuleRow>,
 }
@@ -38,29 +48,55 @@ pub struct LayoutRow {
     pub rules: Vec<RuleRow>,
 }
 
-/// A folder of drafts: the moment, the drafts in the order in which they are signed, layouts, names of links, what is to be done next, a line
-/// each, and what `publish` would be answered, if a database was looked at.
+/// What is to be done next: the words of a command, the program's own name first.
+#[derive(Drop)]
+pub struct Next {
+    pub words: Vec<String>,
+}
+
+/// What `publish` would be answered: that the folder is taken, or what denies it, with the place of the document in the batch, counted from 0.
+#[derive(Clone, Copy)]
+pub enum Answer {
+    Ready,
+    Denied(DenialRow, usize),
+}
+
+/// A folder of drafts: the moment, the drafts in the order in which they are signed, layouts, names of links, whether nothing is drafted and
+/// nothing waits for a signature, what is to be done next, and what `publish` would be answered, if a database was looked at.
 #[derive(Drop)]
 pub struct Drafts {
     pub now: u64,
     pub drafts: Vec<DraftRow>,
     pub layouts: Vec<LayoutRow>,
     pub links: Vec<String>,
-    pub next: Vec<String>,
-    pub answer: Option<String>,
+    pub is_idle: bool,
+    pub next: Vec<Next>,
+    pub answer: Option<Answer>,
 }
 
 impl Drafts {
-    /// The whole days that a draft has left, 0 where it has expired.
-    pub fn days(&self, draft: &DraftRow) -> u64 {
-        draft.expires.saturating_sub(self.now) / 86_400
+    /// The whole days that a draft has left, or for how many it has expired.
+    pub fn days(&self, draft: &DraftRow) -> Days {
+        Days::between(self.now, draft.expires)
     }
+}
 
-    /// Whether a database was looked at, and `publish` would be taken.
-    pub fn is_ready(&self) -> bool {
-        match &self.answer {
-            Some(answer) => answer.as_str() == "ready",
-            None => false,
+/// Says the words of a command with a space between.
+pub(crate) fn say_next(text: &mut Text, next: &Next) {
+    text.say("next:");
+    for word in &next.words {
+        text.say(" ");
+        text.say(word.as_str());
+    }
+}
+
+/// Says what `publish` would be answered.
+pub(crate) fn say_answer(text: &mut Text, answer: Answer) {
+    match answer {
+        Answer::Ready => text.say("ready"),
+        Answer::Denied(denial, index) => {
+            say_denial(text, "", denial);
+            text.number(" at ", index as u64);
         }
     }
 }

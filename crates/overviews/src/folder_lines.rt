@@ -1,12 +1,13 @@
 //! A folder of drafts as lines.
 use crate::chain::{draw_steps, say_steps};
-use crate::folder::{DraftRow, Drafts, LayoutRow, RuleRow};
+use crate::days::say_expiry;
+use crate::folder::{Answer, DraftRow, Drafts, LayoutRow, RuleRow, say_next};
+use crate::names::say_keys;
 use crate::writing::{GREEN, PLAIN, RED, Text, YELLOW};
 use std::alloc::{AllocError, Global};
 
 /// The drafts with what they change and how many have signed, the layouts with their steps, the links, what is to be done next, and `ready` where
-/// `publish` would be taken. On a
-/// terminal what is new is green, what is gone red and what is another yellow, who has signed stands behind a mark and who has not behind a gap, and a layout is drawn as its chain.
+/// `publish` would be taken. On a terminal what is new is green, what is gone red and what is another yellow, who has signed stands behind a mark and who has not behind a gap, and a layout is drawn as its chain.
 pub fn drafts_as_lines(
     alloc: Global,
     shown: &Drafts,
@@ -22,21 +23,31 @@ pub fn drafts_as_lines(
     for link in &shown.links {
         text.line("link ", link.as_str());
     }
-    for next in &shown.next {
-        text.line("", next.as_str());
-    }
-    if shown.is_ready() {
-        text.line("", "ready");
-    }
+    say_end(&mut text, shown);
     text.done()
+}
+
+// What is to be done next, and whether the folder is ready.
+fn say_end(text: &mut Text, shown: &Drafts) {
+    if shown.is_idle {
+        text.line("", "no draft");
+    }
+    for next in &shown.next {
+        say_next(text, next);
+        text.say("\n");
+    }
+    match shown.answer {
+        Some(Answer::Ready) => text.line("", "ready"),
+        Some(Answer::Denied(_, _)) | None => {}
+    }
 }
 
 fn say_draft(text: &mut Text, shown: &Drafts, draft: &DraftRow, on_terminal: bool) {
     let role = draft.role.as_str();
-    let (version, held, days) = (draft.version, draft.held, shown.days(draft));
-    text.formed(format!(in text.alloc;
-        "{role} {version} (held: {held}), expires in {days} days\n"
-    ));
+    let (version, held) = (draft.version, draft.held);
+    text.formed(format!(in text.alloc; "{role} {version} (held: {held}), "));
+    say_expiry(text, shown.days(draft));
+    text.say("\n");
     for change in &draft.changes {
         say_change(text, change.as_str(), on_terminal);
     }
@@ -86,22 +97,16 @@ fn say_rules(text: &mut Text, rules: &[RuleRow], on_terminal: bool) {
 fn say_rule(text: &mut Text, rule: &RuleRow, on_terminal: bool) {
     let (count, threshold) = (rule.signed.len(), rule.threshold);
     text.formed(format!(in text.alloc; "  {count} of {threshold} have signed"));
-    if !rule.by.is_empty() {
+    if let Some(by) = &rule.by {
         text.say(" by the rule of ");
-        text.say(rule.by.as_str());
+        text.say(by.role.as_str());
+        text.number(" ", u64::from(by.version));
     }
     if on_terminal {
         text.say(if rule.is_met() { GREEN } else { RED });
-        say_names(text, "  [x] ", &rule.signed);
-        say_names(text, "  [ ] ", &rule.unsigned);
+        say_keys(text, "  [x] ", &rule.signed);
+        say_keys(text, "  [ ] ", &rule.unsigned);
         text.say(PLAIN);
     }
     text.say("\n");
-}
-
-fn say_names(text: &mut Text, mark: &str, names: &[String]) {
-    for name in names {
-        text.say(mark);
-        text.say(name.as_str());
-    }
 }

@@ -1,6 +1,8 @@
 //! A folder of drafts as a page that stands alone.
 use crate::chain::page_steps;
-use crate::folder::{DraftRow, Drafts, LayoutRow, RuleRow};
+use crate::days::say_days;
+use crate::folder::{Answer, DraftRow, Drafts, LayoutRow, Next, RuleRow, say_answer};
+use crate::names::KeyWords;
 use crate::page::HEAD;
 use crate::writing::Text;
 use std::alloc::{AllocError, Global};
@@ -21,10 +23,13 @@ pub fn drafts_as_page(alloc: Global, shown: &Drafts) -> Result<Vec<u8>, AllocErr
     for layout in &shown.layouts {
         say_layout(&mut text, layout);
     }
-    say_list(&mut text, "links", &shown.links);
-    say_list(&mut text, "next", &shown.next);
-    if let Some(answer) = &shown.answer {
-        say_answer(&mut text, answer.as_str(), shown.is_ready());
+    say_links(&mut text, &shown.links);
+    say_all_next(&mut text, &shown.next);
+    if shown.is_idle {
+        text.say("<p>no draft</p>\n");
+    }
+    if let Some(answer) = shown.answer {
+        page_answer(&mut text, answer);
     }
     text.say("</body></html>\n");
     text.done()
@@ -32,13 +37,10 @@ pub fn drafts_as_page(alloc: Global, shown: &Drafts) -> Result<Vec<u8>, AllocErr
 
 fn say_draft(text: &mut Text, shown: &Drafts, draft: &DraftRow) {
     text.escaped("<tr><td>", draft.role.as_str());
-    for number in [
-        u64::from(draft.version),
-        u64::from(draft.held),
-        shown.days(draft),
-    ] {
-        text.number("</td><td>", number);
-    }
+    text.number("</td><td>", u64::from(draft.version));
+    text.number("</td><td>", u64::from(draft.held));
+    text.say("</td><td>");
+    say_days(text, 0, "", shown.days(draft));
     text.say("</td><td>");
     for change in &draft.changes {
         say_change(text, change.as_str());
@@ -74,18 +76,19 @@ fn say_rule(text: &mut Text, rule: &RuleRow) {
     });
     text.number("", rule.signed.len() as u64);
     text.number(" of ", u64::from(rule.threshold));
-    if !rule.by.is_empty() {
-        text.escaped(" by ", rule.by.as_str());
+    if let Some(by) = &rule.by {
+        text.escaped(" by ", by.role.as_str());
+        text.number(" ", u64::from(by.version));
     }
     text.say("</div>");
     say_names(text, "&#9745; ", &rule.signed);
     say_names(text, "&#9744; ", &rule.unsigned);
 }
 
-fn say_names(text: &mut Text, mark: &str, names: &[String]) {
-    for name in names {
+fn say_names(text: &mut Text, mark: &str, keys: &[KeyWords]) {
+    for key in keys {
         text.say("<div>");
-        text.escaped(mark, name.as_str());
+        text.escaped(mark, key.words.as_str());
         text.say("</div>");
     }
 }
@@ -97,24 +100,37 @@ fn say_layout(text: &mut Text, layout: &LayoutRow) {
     say_rules(text, &layout.rules);
 }
 
-// A list with this identifier, where there is anything.
-fn say_list(text: &mut Text, id: &str, items: &[String]) {
-    if items.is_empty() {
+// The names of links, where there are any.
+fn say_links(text: &mut Text, links: &[String]) {
+    if links.is_empty() {
         return;
     }
-    text.say("<ul id=\"");
-    text.say(id);
-    text.say("\">\n");
-    text.items(items);
+    text.say("<ul id=\"links\">\n");
+    text.items(links);
     text.say("</ul>\n");
 }
 
-fn say_answer(text: &mut Text, answer: &str, is_ready: bool) {
-    text.say(if is_ready {
-        "<p id=\"answer\" class=\"granted\">"
-    } else {
-        "<p id=\"answer\" class=\"denied\">"
-    });
-    text.escaped("", answer);
+// The commands that are next, where there are any.
+fn say_all_next(text: &mut Text, all: &[Next]) {
+    if all.is_empty() {
+        return;
+    }
+    text.say("<ul id=\"next\">\n");
+    for next in all {
+        text.say("<li>next:");
+        for word in &next.words {
+            text.escaped(" ", word.as_str());
+        }
+        text.say("</li>\n");
+    }
+    text.say("</ul>\n");
+}
+
+fn page_answer(text: &mut Text, answer: Answer) {
+    match answer {
+        Answer::Ready => text.say("<p id=\"answer\" class=\"granted\">"),
+        Answer::Denied(_, _) => text.say("<p id=\"answer\" class=\"denied\">"),
+    }
+    say_answer(text, answer);
     text.say("</p>\n");
 }

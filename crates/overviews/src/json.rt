@@ -1,6 +1,9 @@
 //! The same facts as JSON.
 use crate::chain::json_steps;
-use crate::rows::{KeyRow, Overview, PathRow, Row};
+use crate::days::json_days;
+use crate::names::json_denial;
+use crate::rows::{KeyRow, Overview, PathRow, ReferenceRow, Row};
+use crate::targets::json_listed;
 use crate::writing::Text;
 use std::alloc::{AllocError, Global};
 
@@ -22,16 +25,19 @@ pub fn as_json(alloc: Global, shown: &Overview) -> Result<Vec<u8>, AllocError> {
 }
 
 fn say_row(text: &mut Text, shown: &Overview, row: &Row) {
-    text.quoted("{\"covers\":", row.covers.as_str());
-    text.number(",\"days\":", shown.days(row));
+    text.list("{\"covers\":", &row.covers.words);
+    json_days(text, ",\"days\":", shown.days(row));
     text.number(",\"depth\":", row.depth as u64);
-    text.number(",\"expires\":", row.expires);
-    text.say(",\"keys\":[");
-    for (index, key) in row.keys.iter().enumerate() {
-        text.comma(index);
-        say_key(text, key);
-    }
-    text.quoted("],\"role\":", row.role.as_str());
+    text.flag(",\"due\":", shown.is_due(row));
+    text.number_or_null(",\"expires\":", row.expires);
+    text.flag(",\"held\":", row.is_held);
+    say_keys(text, &row.keys);
+    text.number(",\"layouts\":", row.layouts as u64);
+    text.flag(",\"low\":", row.is_low());
+    text.flag(",\"prefixes\":", row.covers.are_prefixes);
+    text.quoted(",\"role\":", row.role.as_str());
+    text.number(",\"targets\":", row.targets as u64);
+    text.flag(",\"terminating\":", row.covers.is_terminating);
     text.number(",\"threshold\":", u64::from(row.threshold));
     if let Some(leaves) = row.together() {
         text.number(",\"together\":{\"left\":", leaves.left);
@@ -42,25 +48,46 @@ fn say_row(text: &mut Text, shown: &Overview, row: &Row) {
     text.say("}")
 }
 
-fn say_key(text: &mut Text, key: &KeyRow) {
-    text.say("{");
-    if let Some(left) = key.left {
-        text.number("\"left\":", u64::from(left));
-        text.number(",\"most\":", u64::from(key.most));
-        text.say(",");
+fn say_keys(text: &mut Text, keys: &[KeyRow]) {
+    text.say(",\"keys\":[");
+    for (index, key) in keys.iter().enumerate() {
+        text.comma(index);
+        say_key(text, key);
     }
-    text.quoted("\"name\":", key.name.as_str());
+    text.say("]");
+}
+
+fn say_key(text: &mut Text, key: &KeyRow) {
+    text.quoted("{\"id\":", key.key.id.as_str());
+    if let Some(left) = key.left {
+        text.number(",\"left\":", u64::from(left));
+        text.number(",\"most\":", u64::from(key.most));
+    }
+    text.quoted_or_null(",\"name\":", key.key.name.as_deref());
     text.say("}")
 }
 
 fn say_path(text: &mut Text, path: &PathRow) {
-    text.quoted(",\"target\":{\"end\":", path.end.as_str());
-    text.list(",\"found\":", &path.found);
+    json_denial(text, ",\"target\":{\"denied\":", path.denied);
+    text.flag(",\"granted\":", path.is_granted);
+    say_layout(text, &path.layout);
+    json_listed(text, ",\"listed\":", &path.listed);
     text.quoted(",\"path\":", path.path.as_str());
-    if !path.steps.is_empty() {
-        text.say(",\"steps\":");
-        json_steps(text, &path.steps);
-    }
+    text.say(",\"steps\":");
+    json_steps(text, &path.steps);
     text.list(",\"visits\":", &path.visits);
     text.say("}")
+}
+
+fn say_layout(text: &mut Text, layout: &Option<ReferenceRow>) {
+    text.say(",\"layout\":");
+    match layout {
+        Some(layout) => {
+            text.list("{\"links\":", &layout.links);
+            text.quoted(",\"path\":", layout.path.as_str());
+            text.quoted(",\"step\":", layout.step.as_str());
+            text.say("}");
+        }
+        None => text.say("null"),
+    }
 }

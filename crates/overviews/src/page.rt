@@ -1,7 +1,8 @@
 //! A page that stands alone: no script, nothing that is fetched.
 use crate::bars::{expiries, parts_of_days, parts_of_leaves};
 use crate::chain::page_steps;
-use crate::rows::{KeyRow, Leaves, Overview, PathRow, Row};
+use crate::days::say_days;
+use crate::rows::{Covers, KeyRow, Leaves, Overview, PathRow, Row};
 use crate::writing::{Text, in_order};
 use std::alloc::{AllocError, Global};
 
@@ -53,7 +54,7 @@ fn say_row(text: &mut Text, shown: &Overview, row: &Row) {
     text.escaped("px\">", row.role.as_str());
     text.number("</td><td>", u64::from(row.version));
     text.say("</td><td>");
-    say_days(text, shown, row);
+    say_days_left(text, shown, row);
     text.number("</td><td>", u64::from(row.threshold));
     text.number(" of ", row.keys.len() as u64);
     text.say("</td><td>");
@@ -64,14 +65,26 @@ fn say_row(text: &mut Text, shown: &Overview, row: &Row) {
     if let Some(leaves) = together {
         say_together(text, leaves);
     }
-    text.escaped("</td><td>", row.covers.as_str());
+    text.say("</td><td>");
+    say_covers(text, &row.covers);
     text.say("</td></tr>\n");
 }
 
-fn say_days(text: &mut Text, shown: &Overview, row: &Row) {
+fn say_covers(text: &mut Text, covers: &Covers) {
+    let mut lead = "";
+    for word in &covers.words {
+        text.escaped(lead, word.as_str());
+        lead = " ";
+    }
+    if covers.is_terminating {
+        text.say(" (terminating)");
+    }
+}
+
+fn say_days_left(text: &mut Text, shown: &Overview, row: &Row) {
     let days = shown.days(row);
-    say_bar(text, parts_of_days(days), shown.is_due(row));
-    text.number("", days);
+    say_bar(text, parts_of_days(days.number()), shown.is_due(row));
+    say_days(text, 0, "", days);
 }
 
 fn say_bar(text: &mut Text, parts: u64, is_due: bool) {
@@ -96,7 +109,7 @@ fn say_key(text: &mut Text, key: &KeyRow, is_alone: bool) {
         text.number("", u64::from(left));
         text.say(" ");
     }
-    text.escaped("", key.name.as_str());
+    text.escaped("", key.key.words.as_str());
     text.say("</div>");
 }
 
@@ -109,7 +122,7 @@ fn say_together(text: &mut Text, leaves: Leaves) {
 
 fn say_expiry(text: &mut Text, shown: &Overview, row: &Row) {
     text.say("<tr><td>");
-    say_days(text, shown, row);
+    say_days_left(text, shown, row);
     text.escaped("</td><td>", row.role.as_str());
     text.say("</td></tr>\n");
 }

@@ -1,38 +1,63 @@
 //! What is shown of a repository.
 use crate::chain::StepRow;
+use crate::days::Days;
+use crate::names::{DenialRow, KeyWords};
+use crate::targets::ListedRow;
+use crate::writing::Text;
 
-/// A key of a rule: what it is called, and how many of its leaves are left, of how many, where its book was looked at.
+/// A key of a rule: how many of its leaves are left, of how many, where its book was looked at.
 #[derive(Drop)]
 pub struct KeyRow {
-    pub name: String,
+    pub key: KeyWords,
     pub left: Option<u32>,
     pub most: u32,
 }
 
+/// What is delegated to a role: patterns of paths, or prefixes of their digests, and whether a search ends there.
+#[derive(Drop)]
+pub struct Covers {
+    pub words: Vec<String>,
+    pub are_prefixes: bool,
+    pub is_terminating: bool,
+}
+
 /// A document: its role, how deep it stands below `targets`, its version, when it expires in seconds since 1970-01-01T00:00:00Z, how many of
-/// which keys have to sign, what is delegated to it, and what else is said of it.
+/// which keys have to sign, what is delegated to it, whether it is held, and how many targets it lists, and with a layout.
 #[derive(Drop)]
 pub struct Row {
     pub role: String,
     pub depth: usize,
     pub version: u32,
-    pub expires: u64,
+    pub expires: Option<u64>,
     pub threshold: u8,
     pub keys: Vec<KeyRow>,
-    pub covers: String,
-    pub facts: String,
+    pub covers: Covers,
+    pub is_held: bool,
+    pub targets: usize,
+    pub layouts: usize,
 }
 
-/// What becomes of a target: the roles that a search visits, in order, what is found on the way, the steps of its layout, if it has one, and
-/// how it ends.
+/// What the listing of a target says of its layout: its path, the step of which the target is a product, and the paths of the links.
+#[derive(Drop)]
+pub struct ReferenceRow {
+    pub path: String,
+    pub step: String,
+    pub links: Vec<String>,
+}
+
+/// What becomes of a target: the roles that a search visits, in order, what is found on the way, as lines and as it is listed, with its layout
+/// and the steps of that, if it has one, and how it ends.
 #[derive(Drop)]
 pub struct PathRow {
     pub path: String,
     pub visits: Vec<String>,
     pub found: Vec<String>,
+    pub listed: Option<ListedRow>,
+    pub layout: Option<ReferenceRow>,
     pub steps: Vec<StepRow>,
     pub end: String,
     pub is_granted: bool,
+    pub denied: Option<DenialRow>,
 }
 
 /// What is shown: the moment, the rows in the order of the search, and the target that is asked for, if one is. What expires within so many
@@ -46,14 +71,17 @@ pub struct Overview {
 }
 
 impl Overview {
-    /// The whole days that a row has left, 0 where it has expired.
-    pub fn days(&self, row: &Row) -> u64 {
-        row.expires.saturating_sub(self.now) / 86_400
+    /// The whole days that a row has left, or for how many it has expired.
+    pub fn days(&self, row: &Row) -> Days {
+        Days::between(self.now, row.expires)
     }
 
-    /// Whether a row expires within the days.
+    /// Whether a row expires within the days, or is not held.
     pub fn is_due(&self, row: &Row) -> bool {
-        row.expires <= self.now.saturating_add(self.due.saturating_mul(86_400))
+        match row.expires {
+            Some(expires) => { expires <= self.now.saturating_add(self.due.saturating_mul(86_400)) }
+            None => true,
+        }
     }
 }
 
@@ -115,5 +143,26 @@ impl Row {
             Some(leaves) => leaves.are_few(),
             None => self.keys.iter().any(|key| key.is_low()),
         }
+    }
+}
+
+/// Says at the end of a line what is delegated to a role, and what else is to be said of its document.
+pub(crate) fn say_rest(text: &mut Text, row: &Row) {
+    let mut lead = "  ";
+    for word in &row.covers.words {
+        text.say(lead);
+        text.say(word.as_str());
+        lead = " ";
+    }
+    if row.covers.is_terminating {
+        text.say(" (terminating)");
+    }
+    let (targets, layouts) = (row.targets, row.layouts);
+    if !row.is_held {
+        text.say("  not held");
+    } else if layouts > 0 {
+        text.formed(format!(in text.alloc; "  {targets} targets, {layouts} with a layout"));
+    } else if targets > 0 {
+        text.formed(format!(in text.alloc; "  {targets} targets"));
     }
 }

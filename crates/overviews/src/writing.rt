@@ -116,6 +116,33 @@ impl Text {
         self.say("]");
     }
 
+    /// Says whether something is so as JSON has it, and before it what leads to it.
+    pub(crate) fn flag(&mut self, lead: &str, is_so: bool) {
+        self.say(lead);
+        self.say(if is_so { "true" } else { "false" });
+    }
+
+    /// Says a number, or that there is none, as JSON has it, and before it what leads to it.
+    pub(crate) fn number_or_null(&mut self, lead: &str, number: Option<u64>) {
+        match number {
+            Some(number) => self.number(lead, number),
+            None => self.null(lead),
+        }
+    }
+
+    /// Says a text, or that there is none, as JSON has it, and before it what leads to it.
+    pub(crate) fn quoted_or_null(&mut self, lead: &str, text: Option<&str>) {
+        match text {
+            Some(text) => self.quoted(lead, text),
+            None => self.null(lead),
+        }
+    }
+
+    fn null(&mut self, lead: &str) {
+        self.say(lead);
+        self.say("null");
+    }
+
     /// Says the comma that stands before each item of a list but the first.
     pub(crate) fn comma(&mut self, index: usize) {
         if index > 0 {
