@@ -168,7 +168,8 @@ impl<'a> Looking<'a> {
         row.is_held = true;
         row.targets = said.files.len();
         row.layouts = said.files.iter().filter(|file| file.has_layout).count();
-        self.shown.rows.push(row)
+        self.shown.rows.push(row)?;
+        Ok(())
     }
 
     // The row of a role by its rule, in the document that has it.
