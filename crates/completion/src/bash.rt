@@ -1,5 +1,5 @@
 //! Completion in bash.
-use crate::words::{Named, Told, told};
+use crate::words::{Named, Told, told_of};
 use command_words::{COMMON, SUBCOMMANDS, Word};
 use overviews::Text;
 
@@ -55,7 +55,7 @@ pub(crate) fn say(text: &mut Text) {
 // The names of options, a space after each.
 fn say_names(text: &mut Text, words: &[Word<'_>]) {
     for word in words {
-        let told = told(*word);
+        let told = told_of(*word);
         if !told.is_operand {
             text.say("--");
             text.say(told.name);
@@ -67,7 +67,7 @@ fn say_names(text: &mut Text, words: &[Word<'_>]) {
 // What comes after an option, where that is not any file.
 fn say_values(text: &mut Text, subcommand: &str, words: &[Word<'_>]) {
     for word in words {
-        let told = told(*word);
+        let told = told_of(*word);
         if told.has_value() {
             say_value(text, subcommand, &told);
         }

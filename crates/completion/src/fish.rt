@@ -1,5 +1,5 @@
 //! Completion in fish.
-use crate::words::{Named, Told, told};
+use crate::words::{Named, Told, told_of};
 use command_words::{COMMON, SUBCOMMANDS, Word};
 use overviews::Text;
 
@@ -26,7 +26,7 @@ pub(crate) fn say(text: &mut Text) {
 
 fn say_words(text: &mut Text, subcommand: &str, words: &[Word<'_>]) {
     for word in words {
-        let told = told(*word);
+        let told = told_of(*word);
         text.say("complete -c release -n '__fish_seen_subcommand_from ");
         text.say(subcommand);
         text.say("'");

@@ -1,5 +1,5 @@
 //! The manual page, in the language of roff.
-use crate::words::{Told, told};
+use crate::words::{Told, told_of};
 use command_words::{COMMON, PROGRAM, SUBCOMMANDS, VERSION, Word};
 use overviews::Text;
 
@@ -38,7 +38,7 @@ pub(crate) fn say(text: &mut Text) {
 
 fn say_words(text: &mut Text, words: &[Word<'_>]) {
     for word in words {
-        say_word(text, &told(*word));
+        say_word(text, &told_of(*word));
     }
 }
 

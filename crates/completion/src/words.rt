@@ -39,7 +39,7 @@ impl Told<'_> {
 }
 
 /// What a word is.
-pub(crate) fn told<'a>(word: Word<'a>) -> Told<'a> {
+pub(crate) fn told_of<'a>(word: Word<'a>) -> Told<'a> {
     match word {
         Word::Option(name, value, help) => once(name, value, help),
         Word::Required(name, value, help) => once(name, value, help),

@@ -1,5 +1,5 @@
 //! Completion in zsh.
-use crate::words::{Named, Told, told};
+use crate::words::{Named, Told, told_of};
 use command_words::{COMMON, SUBCOMMANDS, Word};
 use overviews::Text;
 
@@ -55,7 +55,7 @@ pub(crate) fn say(text: &mut Text) {
 
 fn say_words(text: &mut Text, words: &[Word<'_>]) {
     for word in words {
-        let told = told(*word);
+        let told = told_of(*word);
         text.say("            '");
         say_word(text, &told);
         text.say("' \\\n");
