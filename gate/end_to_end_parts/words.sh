@@ -45,7 +45,7 @@ each_canonical_form() {
 
 # The table of denials is that of docs/REFERENCE.md.
 the_help_is_printed() {
-    local name text
+    local name text version
     helps canon --help
     for name in canon draft export get init key prune publish put serve show sign update; do
         for text in "Example:" "release $name" "Exit status:" "--verbose" "help denials" "HTTP" OPERATING.md; do
@@ -55,7 +55,10 @@ the_help_is_printed() {
     done
     helps --count serve --help
     helps 'release prune --db' help prune
-    wants 0 'release 0.4.0\n' '' --version
+    version=$(sed -n 's/^pub const VERSION: &str = "\(.*\)";$/\1/p' crates/command_words/src/texts.rt)
+    [ "$(grep -m 1 -o '^## [0-9.]*' CHANGELOG.md)" = "## $version" ] || fail "the newest changes are not those of $version"
+    case $release in */unproved/*) version+=', NOT PROVED' ;; esac
+    wants 0 "release $version\n" '' --version
     sed -n -E 's/^\| ([0-9]+) \| `([A-Za-z]+)` \| (.*) \|$/\1 \2 \3/p' docs/REFERENCE.md | tr -d '`' >"$folder/denials.wanted"
     "$release" help denials | sed -n -E 's/^ *([0-9]+)  ([A-Za-z]+) +(.*)$/\1 \2 \3/p' >"$folder/denials"
     [ "$(wc -l <"$folder/denials")" = 53 ] || fail "not 53 denials in the help"
