@@ -104,9 +104,9 @@ with_no_output() {
     "$release" "$@" >/dev/full
 }
 
-# The program, with no more than so many KiB of memory.
+# The program, with no more than so many KiB of memory; the one that is compiled without proof takes its checks more than that, and is not held to it.
 with_memory() (
-    ulimit -v "$1"
+    case $release in */unproved/*) ;; *) ulimit -v "$1" ;; esac
     shift
     exec "$release" "$@"
 )
