@@ -1,6 +1,6 @@
 //! Completion in bash.
 use crate::words::{Named, Told, told_of};
-use command_words::{COMMON, SUBCOMMANDS, Word};
+use command_words::{COMMON, Subcommand, Word};
 use overviews::Text;
 
 const BEGIN: &str = "# Completion of release in bash, as 'release help bash' prints it.
@@ -29,14 +29,14 @@ complete -o filenames -F _release release
 ";
 
 /// Says what bash reads.
-pub(crate) fn say(text: &mut Text) {
+pub(crate) fn say(text: &mut Text, subcommands: &[Subcommand<'_>]) {
     text.say(BEGIN);
-    for subcommand in SUBCOMMANDS {
+    for subcommand in subcommands {
         text.say(subcommand.name);
         text.say(" ");
     }
     text.say(NAMES);
-    for subcommand in SUBCOMMANDS {
+    for subcommand in subcommands {
         text.say("    ");
         text.say(subcommand.name);
         text.say(") words='");
@@ -45,7 +45,7 @@ pub(crate) fn say(text: &mut Text) {
         text.say("--help' ;;\n");
     }
     text.say(VALUES);
-    for subcommand in SUBCOMMANDS {
+    for subcommand in subcommands {
         say_values(text, subcommand.name, COMMON);
         say_values(text, subcommand.name, subcommand.words);
     }

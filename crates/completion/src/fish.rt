@@ -1,6 +1,6 @@
 //! Completion in fish.
 use crate::words::{Named, Told, told_of};
-use command_words::{COMMON, SUBCOMMANDS, Word};
+use command_words::{COMMON, Subcommand, Word};
 use overviews::Text;
 
 const BEGIN: &str = "# Completion of release in fish, as 'release help fish' prints it.
@@ -11,9 +11,9 @@ complete -c release -n __fish_use_subcommand -a help -d 'Print help'
 ";
 
 /// Says what fish reads.
-pub(crate) fn say(text: &mut Text) {
+pub(crate) fn say(text: &mut Text, subcommands: &[Subcommand<'_>]) {
     text.say(BEGIN);
-    for subcommand in SUBCOMMANDS {
+    for subcommand in subcommands {
         text.say(
             "complete -c release -n '__fish_use_subcommand; or __fish_seen_subcommand_from help' -a ",
         );

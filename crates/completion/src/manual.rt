@@ -1,6 +1,6 @@
 //! The manual page, in the language of roff.
 use crate::words::{Told, told_of};
-use command_words::{COMMON, PROGRAM, SUBCOMMANDS, VERSION, Word};
+use command_words::{COMMON, PROGRAM, Subcommand, VERSION, Word};
 use overviews::Text;
 
 const NAME: &str = ".SH NAME
@@ -16,14 +16,14 @@ by LMS and HSS keys, of which no leaf signs twice.
 ";
 
 /// Says the manual page.
-pub(crate) fn say(text: &mut Text) {
+pub(crate) fn say(text: &mut Text, subcommands: &[Subcommand<'_>]) {
     text.say(".\\\" As 'release help man' prints it.\n.TH RELEASE 1 \"\" \"release ");
     text.say(VERSION);
     text.say("\"\n");
     text.say(NAME);
     say_words(text, COMMON);
     text.say(".SH SUBCOMMANDS\n");
-    for subcommand in SUBCOMMANDS {
+    for subcommand in subcommands {
         text.say(".SS ");
         text.say(subcommand.name);
         text.say("\n");

@@ -1,6 +1,6 @@
 //! Completion in zsh.
 use crate::words::{Named, Told, told_of};
-use command_words::{COMMON, SUBCOMMANDS, Word};
+use command_words::{COMMON, Subcommand, Word};
 use overviews::Text;
 
 const BEGIN: &str = "#compdef release
@@ -32,9 +32,9 @@ fi
 ";
 
 /// Says what zsh reads.
-pub(crate) fn say(text: &mut Text) {
+pub(crate) fn say(text: &mut Text, subcommands: &[Subcommand<'_>]) {
     text.say(BEGIN);
-    for subcommand in SUBCOMMANDS {
+    for subcommand in subcommands {
         text.say("        '");
         text.say(subcommand.name);
         text.say(":");
@@ -42,7 +42,7 @@ pub(crate) fn say(text: &mut Text) {
         text.say("'\n");
     }
     text.say(CASES);
-    for subcommand in SUBCOMMANDS {
+    for subcommand in subcommands {
         text.say("    ");
         text.say(subcommand.name);
         text.say(")\n        _arguments \\\n");
