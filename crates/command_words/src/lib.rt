@@ -14,7 +14,7 @@ use clap::Command;
 use options::with;
 pub use options::{VERBOSE, Word};
 use std::alloc::{AllocError, Global};
-pub use subcommands::{COMMON, PROGRAM, SUBCOMMANDS, Subcommand};
+pub use subcommands::{COMMON, PROGRAM, SUBCOMMANDS, Subcommand, subcommand_at};
 use subcommands::{
     CANON, DRAFT, EXPORT, GET, INIT, KEY, PRUNE, PUBLISH, PUT, SERVE, SHOW, SIGN, UPDATE,
 };

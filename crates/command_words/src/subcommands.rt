@@ -14,10 +14,28 @@ pub struct Subcommand<'a> {
     pub words: &'a [Word<'a>],
 }
 
-/// The subcommands, in the order of their names.
-pub const SUBCOMMANDS: &[Subcommand<'static>] = &[
-    CANON, DRAFT, EXPORT, GET, INIT, KEY, PRUNE, PUBLISH, PUT, SERVE, SHOW, SIGN, UPDATE,
-];
+/// How many subcommands there are.
+pub const SUBCOMMANDS: usize = 13;
+
+/// The subcommand at a place in the order of their names, from 0 on.
+pub fn subcommand_at(place: usize) -> Option<Subcommand<'static>> {
+    match place {
+        0 => Some(CANON),
+        1 => Some(DRAFT),
+        2 => Some(EXPORT),
+        3 => Some(GET),
+        4 => Some(INIT),
+        5 => Some(KEY),
+        6 => Some(PRUNE),
+        7 => Some(PUBLISH),
+        8 => Some(PUT),
+        9 => Some(SERVE),
+        10 => Some(SHOW),
+        11 => Some(SIGN),
+        12 => Some(UPDATE),
+        _ => None,
+    }
+}
 
 // What help ends with, after an example.
 macro_rules! after {

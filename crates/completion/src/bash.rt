@@ -1,6 +1,6 @@
 //! Completion in bash.
 use crate::words::{Named, Told, told_of};
-use command_words::{COMMON, Subcommand, Word};
+use command_words::{COMMON, SUBCOMMANDS, Word, subcommand_at};
 use overviews::Text;
 
 const BEGIN: &str = "# Completion of release in bash, as 'release help bash' prints it.
@@ -29,25 +29,31 @@ complete -o filenames -F _release release
 ";
 
 /// Says what bash reads.
-pub(crate) fn say(text: &mut Text, subcommands: &[Subcommand<'_>]) {
+pub(crate) fn say(text: &mut Text) {
     text.say(BEGIN);
-    for subcommand in subcommands {
-        text.say(subcommand.name);
-        text.say(" ");
+    for place in 0..SUBCOMMANDS {
+        if let Some(subcommand) = subcommand_at(place) {
+            text.say(subcommand.name);
+            text.say(" ");
+        }
     }
     text.say(NAMES);
-    for subcommand in subcommands {
-        text.say("    ");
-        text.say(subcommand.name);
-        text.say(") words='");
-        say_names(text, COMMON);
-        say_names(text, subcommand.words);
-        text.say("--help' ;;\n");
+    for place in 0..SUBCOMMANDS {
+        if let Some(subcommand) = subcommand_at(place) {
+            text.say("    ");
+            text.say(subcommand.name);
+            text.say(") words='");
+            say_names(text, COMMON);
+            say_names(text, subcommand.words);
+            text.say("--help' ;;\n");
+        }
     }
     text.say(VALUES);
-    for subcommand in subcommands {
-        say_values(text, subcommand.name, COMMON);
-        say_values(text, subcommand.name, subcommand.words);
+    for place in 0..SUBCOMMANDS {
+        if let Some(subcommand) = subcommand_at(place) {
+            say_values(text, subcommand.name, COMMON);
+            say_values(text, subcommand.name, subcommand.words);
+        }
     }
     text.say(END);
 }

@@ -1,6 +1,6 @@
 //! Completion in fish.
 use crate::words::{Named, Told, told_of};
-use command_words::{COMMON, Subcommand, Word};
+use command_words::{COMMON, SUBCOMMANDS, Word, subcommand_at};
 use overviews::Text;
 
 const BEGIN: &str = "# Completion of release in fish, as 'release help fish' prints it.
@@ -11,16 +11,18 @@ complete -c release -n __fish_use_subcommand -a help -d 'Print help'
 ";
 
 /// Says what fish reads.
-pub(crate) fn say(text: &mut Text, subcommands: &[Subcommand<'_>]) {
+pub(crate) fn say(text: &mut Text) {
     text.say(BEGIN);
-    for subcommand in subcommands {
-        text.say(
-            "complete -c release -n '__fish_use_subcommand; or __fish_seen_subcommand_from help' -a ",
-        );
-        text.say(subcommand.name);
-        say_help(text, subcommand.about);
-        say_words(text, subcommand.name, COMMON);
-        say_words(text, subcommand.name, subcommand.words);
+    for place in 0..SUBCOMMANDS {
+        if let Some(subcommand) = subcommand_at(place) {
+            text.say(
+                "complete -c release -n '__fish_use_subcommand; or __fish_seen_subcommand_from help' -a ",
+            );
+            text.say(subcommand.name);
+            say_help(text, subcommand.about);
+            say_words(text, subcommand.name, COMMON);
+            say_words(text, subcommand.name, subcommand.words);
+        }
     }
 }
 

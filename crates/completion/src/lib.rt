@@ -7,7 +7,6 @@ mod manual;
 mod words;
 mod zsh;
 
-use command_words::SUBCOMMANDS;
 use overviews::Text;
 use std::alloc::{AllocError, Global};
 
@@ -16,10 +15,10 @@ use std::alloc::{AllocError, Global};
 pub fn page(alloc: Global, word: &str) -> Result<Option<Vec<u8>>, AllocError> {
     let mut text = Text::new(alloc);
     match word {
-        "bash" => bash::say(&mut text, SUBCOMMANDS),
-        "fish" => fish::say(&mut text, SUBCOMMANDS),
-        "man" => manual::say(&mut text, SUBCOMMANDS),
-        "zsh" => zsh::say(&mut text, SUBCOMMANDS),
+        "bash" => bash::say(&mut text),
+        "fish" => fish::say(&mut text),
+        "man" => manual::say(&mut text),
+        "zsh" => zsh::say(&mut text),
         _ => return Ok(None),
     }
     Ok(Some(text.done()?))

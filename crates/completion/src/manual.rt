@@ -1,6 +1,6 @@
 //! The manual page, in the language of roff.
 use crate::words::{Told, told_of};
-use command_words::{COMMON, PROGRAM, Subcommand, VERSION, Word};
+use command_words::{COMMON, PROGRAM, SUBCOMMANDS, VERSION, Word, subcommand_at};
 use overviews::Text;
 
 const NAME: &str = ".SH NAME
@@ -16,20 +16,22 @@ by LMS and HSS keys, of which no leaf signs twice.
 ";
 
 /// Says the manual page.
-pub(crate) fn say(text: &mut Text, subcommands: &[Subcommand<'_>]) {
+pub(crate) fn say(text: &mut Text) {
     text.say(".\\\" As 'release help man' prints it.\n.TH RELEASE 1 \"\" \"release ");
     text.say(VERSION);
     text.say("\"\n");
     text.say(NAME);
     say_words(text, COMMON);
     text.say(".SH SUBCOMMANDS\n");
-    for subcommand in subcommands {
-        text.say(".SS ");
-        text.say(subcommand.name);
-        text.say("\n");
-        say_plain(text, subcommand.about);
-        text.say(".\n");
-        say_words(text, subcommand.words);
+    for place in 0..SUBCOMMANDS {
+        if let Some(subcommand) = subcommand_at(place) {
+            text.say(".SS ");
+            text.say(subcommand.name);
+            text.say("\n");
+            say_plain(text, subcommand.about);
+            text.say(".\n");
+            say_words(text, subcommand.words);
+        }
     }
     text.say(".SH AN EXAMPLE, AND EXIT STATUSES\n.nf\n");
     say_plain(text, PROGRAM);

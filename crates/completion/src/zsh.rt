@@ -1,6 +1,6 @@
 //! Completion in zsh.
 use crate::words::{Named, Told, told_of};
-use command_words::{COMMON, Subcommand, Word};
+use command_words::{COMMON, SUBCOMMANDS, Word, subcommand_at};
 use overviews::Text;
 
 const BEGIN: &str = "#compdef release
@@ -32,23 +32,27 @@ fi
 ";
 
 /// Says what zsh reads.
-pub(crate) fn say(text: &mut Text, subcommands: &[Subcommand<'_>]) {
+pub(crate) fn say(text: &mut Text) {
     text.say(BEGIN);
-    for subcommand in subcommands {
-        text.say("        '");
-        text.say(subcommand.name);
-        text.say(":");
-        say_plain(text, subcommand.about);
-        text.say("'\n");
+    for place in 0..SUBCOMMANDS {
+        if let Some(subcommand) = subcommand_at(place) {
+            text.say("        '");
+            text.say(subcommand.name);
+            text.say(":");
+            say_plain(text, subcommand.about);
+            text.say("'\n");
+        }
     }
     text.say(CASES);
-    for subcommand in subcommands {
-        text.say("    ");
-        text.say(subcommand.name);
-        text.say(")\n        _arguments \\\n");
-        say_words(text, COMMON);
-        say_words(text, subcommand.words);
-        text.say("            '--help[Print help]'\n        ;;\n");
+    for place in 0..SUBCOMMANDS {
+        if let Some(subcommand) = subcommand_at(place) {
+            text.say("    ");
+            text.say(subcommand.name);
+            text.say(")\n        _arguments \\\n");
+            say_words(text, COMMON);
+            say_words(text, subcommand.words);
+            text.say("            '--help[Print help]'\n        ;;\n");
+        }
     }
     text.say(END);
 }

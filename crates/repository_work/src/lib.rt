@@ -7,6 +7,5 @@ mod repository;
 pub use faults::{fault_of_store, refused};
 pub use repository::{Work, applied, worked};
 pub use store::{
-    BatchRefusal, Command, Held, Offer, Reply, Search, SearchDenial, Store, search_of,
-    would_take,
+    BatchRefusal, Command, Held, Offer, Reply, Search, SearchDenial, Store, search_of, would_take,
 };
