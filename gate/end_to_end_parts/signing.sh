@@ -211,7 +211,8 @@ two_trees_stand_there() {
     cp "$two" "$folder/trees/k.book"
     cp "$seed" "$folder/trees/k.seed"
     "$release" key --seed "$seed" --ots 8 --height 5 >"$folder/trees/k.key"
-    wants 1 '' "warning: $folder/trees/k: $both --ots 4 --height 5, $then" show --at "$at" --in "$folder/trees" --key "$folder/trees/k"
+    wants 0 'begun\n' '' init --at "$at" --db "$folder/trees/r.db" "$example/root.json"
+    wants 1 '' "warning: $folder/trees/k: $both --ots 4 --height 5, $then" show --at "$at" --db "$folder/trees/r.db" --key "$folder/trees/k"
 }
 
 # Three of 32 leaves are taken so far. When all are, a document that has one is signed again, and no other.
