@@ -254,10 +254,12 @@ impl Work for Publishing<'_> {
         notes: &mut Notes<'_, E>,
     ) -> Result<Reply, Fault> {
         let files = self.files;
-        for (index, digest) in files.digests.iter().enumerate() {
+        let mut place = 0usize;
+        for digest in files.digests {
             if self.is_watched {
-                files.tell_put(index, notes);
+                files.tell_put(place, notes);
             }
+            place = place.saturating_add(1);
             let bytes = files.read(digest, notes)?;
             self.offering.put(*digest, &bytes, repository, notes)?;
         }
