@@ -15,7 +15,7 @@ use metadata::Moment;
 use repository_work::{Work, fault_of_store, refused, worked};
 use sqlite::Alter;
 use std::alloc::Global;
-use std::io::{IsTerminal, Write};
+use std::io::Write;
 use store::{Command, Digest, Reply, Store};
 use subcommands::{Batch, Holding, Waiting, batch_of, documents_of, read_all, tell_argument};
 
@@ -129,8 +129,8 @@ fn hand_over<O: Write, E: Write>(
             }
             let alloc = rt.alloc();
             let mut publishing = Publishing {
-                files: batch.files,
-                is_watched: rt.stderr().is_terminal(),
+                folder: batch.files.folder,
+                waiting: batch.files.digests,
                 offering: Offering {
                     alloc,
                     db,
@@ -240,8 +240,8 @@ impl Work for Offering<'_> {
 // What is done over the repository where target files wait: they are put, one after the other, and then the batch is offered.
 #[derive(Clone, Copy)]
 struct Publishing<'a> {
-    files: Waiting<'a>,
-    is_watched: bool,
+    folder: Folder<'a>,
+    waiting: &'a [Digest],
     offering: Offering<'a>,
 }
 
@@ -253,13 +253,11 @@ impl Work for Publishing<'_> {
         repository: &mut Store<S>,
         notes: &mut Notes<'_, E>,
     ) -> Result<Reply, Fault> {
-        let files = self.files;
-        let mut place = 0usize;
-        for digest in files.digests {
-            if self.is_watched {
-                files.tell_put(place, notes);
-            }
-            place = place.saturating_add(1);
+        let files = Waiting {
+            folder: self.folder,
+            digests: self.waiting,
+        };
+        for digest in self.waiting {
             let bytes = files.read(digest, notes)?;
             self.offering.put(*digest, &bytes, repository, notes)?;
         }
