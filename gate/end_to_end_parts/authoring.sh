@@ -119,7 +119,8 @@ an_index_is_published() {
 
 # serves_target PATH [FILE]: the repository grants the target, whose file is this.
 serves_target() {
-    local port=$(((RANDOM % 20000) + 30000)) pid
+    local port pid
+    port=$(free_port)
     rm -f "$folder/listening"
     "$release" serve --at $now --db repository.db --port $port --count 1 >"$folder/listening" &
     pid=$!
@@ -177,7 +178,8 @@ the_timestamps_key_changes() {
 
 # The team of a delegated role works over a client's database, and sends its document and its files.
 a_team_sends_its_release() {
-    local port=$(((RANDOM % 20000) + 30000)) pid
+    local port pid
+    port=$(free_port)
     wants 0 'begun\n' '' init --at $now --db client.db d/held/root.json
     rm -f "$folder/listening"
     "$release" serve --at $now --db repository.db --port $port --count 20 >"$folder/listening" &
