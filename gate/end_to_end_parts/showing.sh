@@ -83,18 +83,18 @@ a_chain_is_shown() {
     checks=$((checks + 2))
 }
 
-# listed PATH FILE ROLE: the line of a target in a list.
-listed() {
+# list_line PATH FILE ROLE: the line of a target in a list.
+list_line() {
     echo "$1 $(wc -c <"$2") $(sha256sum <"$2" | cut -c1-64) $3"
 }
 
 # The targets of the index, with length, digest and role, in the order of their paths; and what denies one.
 targets_are_listed() {
     "$release" show --at $now --db repository.db --list >"$folder/out"
-    is_told "$(listed hello.txt hello.txt targets)"
-    is_told "$(listed files/deep/two tree/deep/two targets)"
-    is_told "$(listed tools/fmt.bin fmt.bin tools)"
-    is_told "$(listed tool.tgz tool.tgz targets)"
+    is_told "$(list_line hello.txt hello.txt targets)"
+    is_told "$(list_line files/deep/two tree/deep/two targets)"
+    is_told "$(list_line tools/fmt.bin fmt.bin tools)"
+    is_told "$(list_line tool.tgz tool.tgz targets)"
     [ "$(wc -l <"$folder/out")" = 7 ] || fail "other targets than four, a layout and two links: $(cat "$folder/out")"
     same "the order of the targets" <(LC_ALL=C sort "$folder/out") "$folder/out"
     "$release" show --at $now --db repository.db --list --json >"$folder/out"
@@ -119,8 +119,8 @@ a_file_is_missing() {
     "$release" put --at "$at" --db half.db "$example/hello.txt" >"$folder/out"
     "$release" show --at "$at" --db half.db --list >"$folder/out"
     same "a list without a file" <(
-        echo "$(listed empty.txt "$example/empty.txt" targets) denied 37 BlobMissing"
-        listed hello.txt "$example/hello.txt" targets
+        echo "$(list_line empty.txt "$example/empty.txt" targets) denied 37 BlobMissing"
+        list_line hello.txt "$example/hello.txt" targets
     ) "$folder/out"
     "$release" show --at "$at" --db half.db --list --json >"$folder/out"
     it_is_data
