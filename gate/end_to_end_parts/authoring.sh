@@ -62,6 +62,7 @@ an_index_by_drafts() {
     a_team_sends_its_release
     a_layout_is_drafted
     it_is_shown
+    what_is_on_its_way_stays
     slips_cost_no_leaf
     cd "$here"
 }
@@ -243,6 +244,26 @@ a_layout_is_drafted() {
     wants 0 '{"accepted":3,"same":0}\n' '' publish --at $now --db repository.db --in d
     [ -z "$(ls d/layouts)" ] || fail "layouts stay in the folder of drafts"
     serves_target tool.tgz
+}
+
+# A root that is published alone takes away nothing that it does not list: neither a layout on its way nor a file that waits for its draft. A
+# layout is drafted where drafted targets metadata list its target; these are taken away by hand, since they are not sealed.
+what_is_on_its_way_stays() {
+    local name digits
+    cp -r d way && cp repository.db way.db
+    "$release" draft --at $now --db way.db --in way targets --expires 80d >"$folder/out"
+    "$release" draft --at $now --db way.db --in way layout --target tool.tgz --owners owner.key build=builder.key:tool.sh pack=packer.key:tool.tgz >"$folder/out"
+    rm way/targets.json
+    "$release" draft --at $now --db way.db --in way root --expires 300d >"$folder/out"
+    for name in alice bob; do "$release" sign --at $now --key $name --in way --yes root >"$folder/out"; done
+    digits=$(sha256sum <builder.key | cut -c1-64)
+    cp builder.key "way/files/$digits"
+    cp way/layouts/tool.tgz.layout.json on-its-way
+    wants 0 '{"accepted":1,"same":0}\n' '' publish --at $now --db way.db --in way
+    same "a layout on its way" on-its-way way/layouts/tool.tgz.layout.json
+    same "a file that waits" builder.key "way/files/$digits"
+    [ ! -e way/root.json ] || fail "what was published stands in the folder"
+    rm -r way way.db* on-its-way
 }
 
 # What is held, as columns, as JSON, as a page, and a target with its search.
