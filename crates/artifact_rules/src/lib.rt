@@ -1,7 +1,7 @@
 //! Whether a list of artifact rules holds of a link (in-toto 1.0, section 4.3.3).
 //!
 //! A list is judged on the paths of one side of the link. A rule takes some of the paths that are left, and what it takes is gone for the
-//! rules behind it; what is left at the end is allowed.
+//! rules after it; what is left at the end is allowed.
 #![tactic(auto)]
 
 mod checking;

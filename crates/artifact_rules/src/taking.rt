@@ -59,7 +59,7 @@ impl<'a> Judged<'a> {
     }
 }
 
-// Whether the pattern matches what stands behind the folder in the path.
+// Whether the pattern matches what stands after the folder in the path.
 fn concerns(rule: &Match, path: &TargetPath) -> bool
     ensures { MatchBool result (Concerns (match_view rule.now) path.now) (Concerns (match_view rule.now) path.now → ⊥) }
 {
@@ -142,7 +142,7 @@ fn takes_with(rule: &Match, links: &[&Link], path: &TargetPath, digest: &Digest)
     }
 }
 
-// What stands behind the folder in the path; the path itself where there is no folder.
+// What stands after the folder in the path; the path itself where there is no folder.
 fn rest_of<'a>(folder: Option<&TargetPath>, path: &'a str) -> Option<&'a str>
     ensures { MatchOption result ((rest : List ℕ) → path.now ≡ path_in (option_map (λ f. f.now) folder.entry) rest → ⊥) (λ rest. path.now ≡ path_in (option_map (λ f. f.now) folder.entry) rest.now) }
 {

@@ -5,7 +5,7 @@
 //!
 //! - No white space stands outside texts, and nothing stands before or after the value.
 //! - An integer has no plus sign, no leading zero and no minus zero.
-//! - A text is UTF-8 between quotation marks. A quotation mark and a backslash stand behind a backslash. Every other
+//! - A text is UTF-8 between quotation marks. A quotation mark and a backslash stand after a backslash. Every other
 //!   character stands for itself, line feeds and other control characters too (RFC 8259, section 7, would escape them).
 //!   There is no other escape.
 //! - The names of an object rise strictly in the order of their UTF-8 bytes, so no name stands twice.
@@ -95,7 +95,7 @@ pub enum WriteFault {
     /// A list or an object stands inside 32 others.
     #[error("more than 32 levels of nesting")]
     TooDeep,
-    /// The name of a member does not stand behind the name before it, in the order of their UTF-8 bytes: it is the same
+    /// The name of a member does not stand after the name before it, in the order of their UTF-8 bytes: it is the same
     /// or a lesser one.
     #[error("member names out of order")]
     Unordered,
@@ -144,7 +144,7 @@ pub fn write(value: &Value, out: &mut Vec<u8>) -> Result<(), WriteFault>
 /// accepts, and `None` where there is no such member or the outermost value is no object. Members of objects further
 /// inside do not count. The name is given without marks and escapes.
 ///
-/// Bytes that `read` refuses may be asked too: the answer is then `None` or some part that stands behind such a name.
+/// Bytes that `read` refuses may be asked too: the answer is then `None` or some part that stands after such a name.
 ///
 /// It takes no memory, and time linear in the number of bytes.
 pub fn member<'a>(bytes: &'a [u8], name: &str) -> Option<&'a [u8]>
@@ -169,8 +169,8 @@ pub fn one_fault()
 {}
 
 /// A law, which does nothing: a canonical text has one value, and a value one canonical text. A value of the code has
-/// one exactly where `write` finds no fault; it is then what `read` answers for that text. Nothing may be put behind a
-/// canonical text but further digits behind an integer.
+/// one exactly where `write` finds no fault; it is then what `read` answers for that text. Nothing may be put after a
+/// canonical text but further digits after an integer.
 pub fn one_spelling()
     ensures one_value { (v w : Json) (bytes : List ℕ) → IsCanonical v bytes → IsCanonical w bytes → v ≡ w }
     ensures one_text { (v : Json) (a b : List ℕ) → IsCanonical v a → IsCanonical v b → a ≡ b }

@@ -37,7 +37,7 @@ fn value_front(bytes: &[u8]) -> &[u8]
     &bytes[..bytes.len() - rest.len()]
 }
 
-// What stands behind the value, or the member, at the front: a comma, a closing bracket or nothing.
+// What stands after the value, or the member, at the front: a comma, a closing bracket or nothing.
 fn skip(bytes: &[u8]) -> &[u8]
     ensures value { result.now ≡ behind_value 0 Place.Outside bytes.now }
     ensures back { EndsWith bytes.now result.now }
@@ -56,7 +56,7 @@ fn skip(bytes: &[u8]) -> &[u8]
     rest
 }
 
-// Where the byte behind this one stands and inside how many brackets. None where the value ended before this one.
+// Where the byte after this one stands and inside how many brackets. None where the value ended before this one.
 fn step(place: Place, inside: usize, b: u8) -> Option<(Place, usize)>
     requires { inside + 1 < 2 ^ 64 }
     ensures value { result ≡ step_over inside place b }
@@ -103,7 +103,7 @@ fn outside(inside: usize, b: u8) -> Option<(Place, usize)>
     }
 }
 
-// What stands behind a member's name and its colon, if it is this name.
+// What stands after a member's name and its colon, if it is this name.
 fn behind_name<'a>(bytes: &'a [u8], name: &str) -> Option<&'a [u8]>
     ensures some { IfSome result (λ r. bytes.now ≡ member_front name.now ++ r.now) }
     ensures none { IsNone result → (rest : List ℕ) → bytes.now ≡ member_front name.now ++ rest → ⊥ }
@@ -118,7 +118,7 @@ fn behind_name<'a>(bytes: &'a [u8], name: &str) -> Option<&'a [u8]>
     behind(colon, b':')
 }
 
-// What stands behind a byte of a text.
+// What stands after a byte of a text.
 fn behind_byte(bytes: &[u8], b: u8) -> Option<&[u8]>
     ensures some { IfSome result (λ r. bytes.now ≡ byte_spelling b ++ r.now) }
     ensures none { IsNone result → (rest : List ℕ) → bytes.now ≡ byte_spelling b ++ rest → ⊥ }
@@ -130,7 +130,7 @@ fn behind_byte(bytes: &[u8], b: u8) -> Option<&[u8]>
     }
 }
 
-// What stands behind this byte.
+// What stands after this byte.
 fn behind(bytes: &[u8], wanted: u8) -> Option<&[u8]>
     ensures some { IfSome result (λ r. bytes.now ≡ wanted ∷ r.now) }
     ensures none { IsNone result → (rest : List ℕ) → bytes.now ≡ wanted ∷ rest → ⊥ }

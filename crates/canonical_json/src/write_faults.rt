@@ -73,7 +73,7 @@ fn members_fault(members: &[(String, Value)], outer: usize) -> Option<WriteFault
     None
 }
 
-// A name stands behind the name before it.
+// A name stands after the name before it.
 fn name_fault(before: Option<&str>, name: &str) -> Option<WriteFault>
     ensures { result ≡ first_fault (name_mark (option_map (λ b. b.now) before.entry) name.now) }
 {

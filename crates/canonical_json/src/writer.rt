@@ -1,4 +1,4 @@
-// The text of a value, put behind what is written already.
+// The text of a value, put after what is written already.
 ghost use Rattle.std.specs.Prelude.{◌≡◌, ◌++◌, ◌+◌, ◌≤◌, ◌<◌, List, ℕ, OnOk, OnErr, length, vec_len, vec_capacity};
 ghost use Rattle.canonical_json.specs.Spelling.{spelling, numeral, integer_spelling, byte_spelling, text_spelling};
 ghost use Rattle.canonical_json.specs.Json.{array, object};
@@ -8,7 +8,7 @@ ghost use Rattle.canonical_json.specs.steps.Writing.{GoesOn, comma_before};
 use super::Value;
 use std::alloc::AllocError;
 
-// Where memory is wanting, a part of the text stands behind what was there.
+// Where memory is wanting, a part of the text stands after what was there.
 #[cycle(append)]
 pub(crate) fn value(value: &Value, out: &mut Vec<u8>) -> Result<(), AllocError>
     ensures ok { OnOk result (out.new.items ≡ out.old.items ++ spelling (view value.now)) }
@@ -99,7 +99,7 @@ fn text(text: &str, out: &mut Vec<u8>) -> Result<(), AllocError>
     Ok(())
 }
 
-// A byte of a text, behind a backslash where it needs one.
+// A byte of a text, after a backslash where it needs one.
 fn byte(b: u8, out: &mut Vec<u8>) -> Result<(), AllocError>
     ensures ok { OnOk result (out.new.items ≡ out.old.items ++ byte_spelling b) }
     ensures front { GoesOn out.old.items out.new.items }

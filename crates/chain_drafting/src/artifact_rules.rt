@@ -12,7 +12,7 @@ use crate::lists::{list_value, push_text, rules_value};
 use canonical_json::Value;
 use std::alloc::{AllocError, Global};
 
-/// The rules of what a step may use: those that are given, or the usual ones behind the step of this name.
+/// The rules of what a step may use: those that are given, or the usual ones after the step of this name.
 pub(crate) fn material_rules(
     alloc: Global,
     before: Option<&str>,
@@ -26,7 +26,7 @@ pub(crate) fn material_rules(
     }
 }
 
-/// The rules of what a step leaves: those that are given, or the usual ones behind the step of this name.
+/// The rules of what a step leaves: those that are given, or the usual ones after the step of this name.
 pub(crate) fn product_rules(
     alloc: Global,
     before: Option<&str>,

@@ -20,7 +20,7 @@ use drafting::{
 use metadata::Kind;
 use std::alloc::{AllocError, Global};
 
-/// A delegation: the role, its rule, the patterns of what it covers, whether nothing behind it is searched for that, and before the
+/// A delegation: the role, its rule, the patterns of what it covers, whether nothing after it is searched for that, and before the
 /// delegation of which role it stands; where none is given, in the place of the role's own, or last.
 #[derive(Clone, Copy)]
 pub struct Delegated<'a> {

@@ -131,7 +131,7 @@ fn find_behind(
     }
 }
 
-// The rows behind a place.
+// The rows after a place.
 fn rows_behind(rows: &[(KeyId, Key)], at: usize) -> &[(KeyId, Key)]
     requires { at < length rows.now }
     ensures { result.now ≡ drop (suc at) rows.now }

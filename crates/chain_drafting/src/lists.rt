@@ -11,7 +11,7 @@ use canonical_json::Value;
 use drafting::text_value;
 use std::alloc::{AllocError, Global};
 
-/// Puts a text behind a list.
+/// Puts a text after a list.
 pub(crate) fn push_text(alloc: Global, list: &mut Vec<Value>, said: &str) -> Result<(), AllocError>
     ensures { OnOk result (map view list.new.items ≡ map view list.old.items ++ text said.now ∷ []) }
 {
@@ -47,7 +47,7 @@ pub(crate) fn rules_value(alloc: Global, rules: &[Vec<String>]) -> Result<Value,
     Ok(list_value(list))
 }
 
-/// Puts a member behind those of an object.
+/// Puts a member after those of an object.
 pub(crate) fn push_member(
     alloc: Global,
     members: &mut Vec<(String, Value)>,

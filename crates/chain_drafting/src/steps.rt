@@ -27,7 +27,7 @@ pub(crate) fn steps_value(alloc: Global, steps: &[StepDraft<'_>]) -> Result<Valu
     Ok(list_value(list))
 }
 
-// The step behind the one of this name, or the first one.
+// The step after the one of this name, or the first one.
 fn step_value(
     alloc: Global,
     before: Option<&str>,

@@ -260,7 +260,7 @@ impl<'n> Lines<'n> {
         }
     }
 
-    /// The lines of one change, whose place stands behind these words.
+    /// The lines of one change, whose place stands after these words.
     pub(crate) fn put_change<'v>(
         &mut self,
         head: &str,
@@ -279,7 +279,7 @@ impl<'n> Lines<'n> {
         }
     }
 
-    // What one side has alone, at a place of the document or behind these words.
+    // What one side has alone, at a place of the document or after these words.
     fn put_one<'v>(
         &mut self,
         mark: char,

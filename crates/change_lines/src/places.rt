@@ -56,7 +56,7 @@ pub(crate) fn items_of<'v>(value: Option<&'v Value>, name: &str) -> &'v [Value] 
     }
 }
 
-/// The place behind these words, as a person reads it: `HEAD NAME.NAME[INDEX]`.
+/// The place after these words, as a person reads it: `HEAD NAME.NAME[INDEX]`.
 pub(crate) fn label(
     alloc: Global,
     head: &str,

@@ -58,7 +58,7 @@ impl Lines<'_> {
         Ok(())
     }
 
-    /// The lines of each scalar in a value, and of what has nothing in it, whose places stand behind these words.
+    /// The lines of each scalar in a value, and of what has nothing in it, whose places stand after these words.
     pub(crate) fn put_parts<'v>(
         &mut self,
         mark: char,

@@ -24,7 +24,7 @@ const MAX_ROOTS: usize = 64;
 
 /// Brings a client's state up to date (TUF 1.0, sections 5.3 to 5.5): fetches and offers the root that follows the trusted one, at
 /// most 64 times and until the source has none; then the timestamp; then the snapshot that the timestamp names, unless it is the
-/// held one. A source that has no timestamp or no snapshot ends the update without a fault. No root is fetched behind version
+/// held one. A source that has no timestamp or no snapshot ends the update without a fault. No root is fetched after version
 /// 4,294,967,295. Nothing that the source gives is trusted before it is judged, and what was accepted before a fault stays.
 ///
 /// - `Denied`: a file was denied; where no root is trusted, it is `NoRoot`.

@@ -157,7 +157,7 @@ impl<'a> Folder<'a> {
         read_regular(self.rt, place, FILE_LIMIT, notes)
     }
 
-    // A folder in this one is no link: what stands behind one is not of this folder.
+    // A folder in this one is no link: what stands after one is not of this folder.
     fn see_folder_of<E: Write>(&self, place: &str, notes: &mut Notes<'_, E>) -> Result<(), Fault> {
         match place.rsplit_once('/') {
             Some((inner, _)) if inner != self.path => self.see_inner(inner, notes),

@@ -56,7 +56,7 @@ pub fn search_grows()
 {}
 
 /// A law, which does nothing: the visits of five small graphs, each by the list of indices that leads to it. A role is visited with
-/// all that is behind it before the next, once, and by the first edge that leads to it; and a terminating delegation ends what is
+/// all that is after it before the next, once, and by the first edge that leads to it; and a terminating delegation ends what is
 /// left at every level, also where its role was visited before, or is the very role that delegates.
 pub fn worked_visits()
     ensures nested { visits nested ≡ [] ∷ (0 ∷ []) ∷ (0 ∷ 0 ∷ []) ∷ (0 ∷ 0 ∷ 0 ∷ []) ∷ [] }

@@ -16,7 +16,7 @@ use path_patterns::TargetPath;
 
 /// The target at the path: the role that lists it first, in the order in which the delegations are visited, with its listing,
 /// or the first check that fails. From `targets` on, the delegations of a role that cover the path are followed in their order,
-/// each with all that is behind it before the next; a role is visited once, by the first edge that leads to it; behind a
+/// each with all that is after it before the next; a role is visited once, by the first edge that leads to it; after a
 /// terminating delegation that covers the path, nothing outside of it is visited any more. At most 32 roles are visited, and at
 /// most 512 signatures are checked. It takes no memory.
 pub fn search<'a>(

@@ -60,7 +60,7 @@ fn compare_path(path: &str, folder: &str, rest: &str) -> Ordering
     path.bytes().cmp(other)
 }
 
-// Whether each path stands before all behind it.
+// Whether each path stands before all after it.
 fn are_in_order(rows: &[(TargetPath, Digest)]) -> bool
     ensures { result ≡ rises (map (λ r. r.0) rows.now) }
 {

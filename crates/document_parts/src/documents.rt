@@ -156,7 +156,7 @@ pub enum Scope {
     Prefixes(Vec<String>),
 }
 
-/// A delegation (TUF 1.0, section 4.5, ROLENAME): a role, its rule over the keys of its list, whether nothing behind it is
+/// A delegation (TUF 1.0, section 4.5, ROLENAME): a role, its rule over the keys of its list, whether nothing after it is
 /// searched for a path that it covers, and what it covers.
 #[derive(Drop)]
 pub struct Delegation {

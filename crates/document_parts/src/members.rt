@@ -95,7 +95,7 @@ pub fn number_of(value: &Value, low: u32, high: u32) -> Option<u32>
     }
 }
 
-/// The value of the first of the members, which has this name, and the members behind it.
+/// The value of the first of the members, which has this name, and the members after it.
 pub fn next_member<'a>(
     members: &'a [(String, Value)],
     name: &str,

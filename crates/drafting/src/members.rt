@@ -63,7 +63,7 @@ pub fn put(
     Ok(())
 }
 
-// How many members at the front do not stand behind this name.
+// How many members at the front do not stand after this name.
 fn place_for(members: &[(String, Value)], name: &str) -> usize
     ensures bound { result ≤ length members.now }
     ensures front { (k : ℕ) → k < result → (d : String Global × Value) → IsBefore name.now (string_bytes (slice_index_or members.now k d).0) → ⊥ }

@@ -11,7 +11,7 @@ use metadata::Digest;
 use path_patterns::one_digest;
 
 /// The name that a document has for a key, if it has one: the text under the digits of its id in the member `names`, where
-/// nothing in it stands behind a backslash.
+/// nothing in it stands after a backslash.
 pub fn name_of_key<'a>(signed: &'a [u8], id: &KeyId) -> Option<&'a str>
     ensures some { (part : Json) → IsCanonical part signed.now → IfSome result (λ name. Calls part (id_text id.now) name.now) }
     ensures none { (part : Json) → IsCanonical part signed.now → IfNone result ((name : List ℕ) → Calls part (id_text id.now) name → ⊥) }

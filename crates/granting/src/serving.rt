@@ -42,7 +42,7 @@ pub trait Blobs {
     /// What is so of it once bytes were loaded.
     ghost HasLoaded: { Self → Type 0 };
 
-    /// Puts bytes that have this digest behind what is there. On a fault, what is there is as before.
+    /// Puts bytes that have this digest after what is there. On a fault, what is there is as before.
     fn load(&mut self, digest: &Digest, out: &mut Vec<u8>) -> Result<(), LoadFault>
         ensures leaves { Leaves (IsHonest self.new) (Holds self.old) digest.now.0 out.old.items result out.new.items }
         ensures stays { IsHonest self.new → (digest bytes : Bytes) → Holds self.old digest bytes ↔ Holds self.new digest bytes }

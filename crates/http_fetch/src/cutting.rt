@@ -12,7 +12,7 @@ pub fn is_same(a: &[u8], b: &[u8]) -> bool
     a == b
 }
 
-// What stands behind this front, if the text begins with it.
+// What stands after this front, if the text begins with it.
 pub fn after<'a>(text: &'a [u8], front: &[u8]) -> Option<&'a [u8]>
     ensures { MatchOption result ((rest : List ℕ) → text.now ≢ front.now ++ rest) (λ rest. text.now ≡ front.now ++ rest.now) }
 {
@@ -26,7 +26,7 @@ pub fn before<'a>(text: &'a [u8], end: &[u8]) -> Option<&'a [u8]>
     text.strip_suffix(end)
 }
 
-// The number in decimal that stands before a byte, and what stands behind the byte.
+// The number in decimal that stands before a byte, and what stands after the byte.
 pub fn number_before(text: &[u8], byte: u8) -> Option<(usize, &[u8])>
     requires { is_ascii_digit byte ≡ false }
     ensures some { IfSome result (λ r. (n : ℕ) (rest : List ℕ) → n < 2 ^ 64 → text.now ≡ decimal n ++ byte ∷ rest → (n ≡ r.0) × (rest ≡ r.1.now)) }
@@ -51,7 +51,7 @@ fn number_of(digits: &[u8]) -> Option<usize>
     }
 }
 
-// What stands before the first of these bytes, and what stands behind it.
+// What stands before the first of these bytes, and what stands after it.
 fn cut(text: &[u8], byte: u8) -> Option<(&[u8], &[u8])>
     ensures some { IfSome result (λ r. (text.now ≡ r.0.now ++ byte ∷ r.1.now) × Lacks byte r.0.now) }
     ensures none { IfNone result (Lacks byte text.now) }

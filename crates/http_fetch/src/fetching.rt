@@ -15,7 +15,7 @@ use http_messages::{FIELD_LIMIT, HEAD_LIMIT, Receive, Transmit, read_head, send_
 use httparse::spans::EMPTY_HEADER_SPAN;
 use std::alloc::Global;
 
-/// Reads a reply to its end: the body where the status is 200, `None` where it is 403 or 404. The body is all that stands behind the
+/// Reads a reply to its end: the body where the status is 200, `None` where it is 403 or 404. The body is all that stands after the
 /// head up to the end of the connection, whatever length the head declares. At most 8,192 bytes are read for the head, and of the
 /// body no more than one byte past the limit, unless more came with the head.
 ///

@@ -6,7 +6,7 @@ ghost use Rattle.http_fetch.specs.Message.{message_head};
 use http_messages::Method;
 use std::alloc::{AllocError, Global};
 
-/// A request with a body: its method, the host that it is for, the name behind the first `/` of its target, taken as it is, and the body.
+/// A request with a body: its method, the host that it is for, the name after the first `/` of its target, taken as it is, and the body.
 #[derive(Clone, Copy, Debug)]
 pub struct Message<'a> {
     pub method: Method,

@@ -32,7 +32,7 @@ pub enum SendFault {
 }
 
 /// Sends a request with a body over one connection and reads the reply to its end, whatever its status is. The body of the reply is all
-/// that stands behind its head up to the end of the connection, whatever length the head declares. At most 8,192 bytes are read for the
+/// that stands after its head up to the end of the connection, whatever length the head declares. At most 8,192 bytes are read for the
 /// head, and of the body no more than one byte past the limit, unless more came with the head.
 ///
 /// - `Unsent`: the writer took no more of the request (`Broken`), or memory was refused before (`OutOfMemory`).

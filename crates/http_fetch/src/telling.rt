@@ -103,7 +103,7 @@ fn name_in(text: &[u8]) -> Option<&str>
     Some(name)
 }
 
-// The index that a denial has before its rule, if it has one, and what stands behind it.
+// The index that a denial has before its rule, if it has one, and what stands after it.
 fn index_in(text: &[u8]) -> Option<(Option<usize>, &[u8])>
     ensures some { IfSome result (λ r. (index : Option ℕ) (rest : List ℕ) → IfSome index (λ i. i < 2 ^ 64) → text.now ≡ index_before index (codes "\"rule\":\"" ++ rest)
         → (index ≡ r.0) × (codes "\"rule\":\"" ++ rest ≡ r.1.now)) }

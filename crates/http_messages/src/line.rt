@@ -210,7 +210,7 @@ pub fn send_both<W: Transmit>(writer: &mut W, front: &[u8], back: &[u8]) -> Resu
     Ok(())
 }
 
-// What is left of two texts behind so many bytes.
+// What is left of two texts after so many bytes.
 fn behind<'a>(front: &'a [u8], back: &'a [u8], n: usize) -> (&'a [u8], &'a [u8])
     requires { n ≤ length (front.now ++ back.now) }
     ensures { result.0.now ++ result.1.now ≡ drop n (front.now ++ back.now) }

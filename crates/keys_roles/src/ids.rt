@@ -13,7 +13,7 @@ use crate::{Key, KeyId, NoMemory};
 use sha2::{Digest, Sha256};
 use std::alloc::Global;
 
-// The key object, before the digits of its public key, and behind those of each scheme.
+// The key object, before the digits of its public key, and after those of each scheme.
 const FRONT: &[u8; 37] = b"{\"keytype\":\"lms\",\"keyval\":{\"public\":\"";
 
 const LMS_BACK: &[u8; 25] = b"\"},\"scheme\":\"lms-sha256\"}";
@@ -54,7 +54,7 @@ fn hss_object(alloc: Global, public: &[u8; 60]) -> Result<Vec<u8>, NoMemory>
     object_around(alloc, FRONT, &hss_digits(public), HSS_BACK)
 }
 
-// The digits between what stands before them and what stands behind them.
+// The digits between what stands before them and what stands after them.
 fn object_around(
     alloc: Global,
     front: &[u8],
@@ -111,7 +111,7 @@ fn hss_digest(public: &[u8; 60]) -> [u8; 32]
     digest_around(FRONT, &hss_digits(public), HSS_BACK)
 }
 
-// The SHA-256 of the digits between what stands before them and what stands behind them.
+// The SHA-256 of the digits between what stands before them and what stands after them.
 fn digest_around(front: &[u8], digits: &[u8], back: &[u8]) -> [u8; 32]
     ensures { result ≡ sha256 ((front.now ++ digits.now) ++ back.now) }
 {
@@ -133,7 +133,7 @@ pub fn top_key(key: &Key) -> &[u8; 56]
     }
 }
 
-// The public key of the top level, behind the number of levels.
+// The public key of the top level, after the number of levels.
 fn top_level(public: &[u8; 60]) -> &[u8; 56]
     ensures { result.now ≡ drop 4 public.now }
 {

@@ -209,7 +209,7 @@ fn counted(
     }
 }
 
-// Puts the key behind the first `count` of the list, where it is none of them. How many they are then.
+// Puts the key after the first `count` of the list, where it is none of them. How many they are then.
 fn take_in(tops: &mut [[u8; 56]], count: usize, top: &[u8; 56]) -> usize
     requires { count < length tops.old }
     ensures taken { IsTaken top.now (take count tops.old) (take result tops.new) }

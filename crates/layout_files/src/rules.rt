@@ -64,7 +64,7 @@ fn rule_by(keyword: &str, pattern: Pattern) -> Option<Rule>
     }
 }
 
-// The rule of MATCH, a pattern, and the words behind it.
+// The rule of MATCH, a pattern, and the words after it.
 fn read_match(alloc: Global, pattern: &str, words: &[String]) -> Result<Option<Rule>, NoMemory>
     ensures { IfOk result (λ o. MatchOption o ((r : ArtifactRule) → AreWordsOf (codes "MATCH" ∷ pattern.now ∷ map string_bytes words.now) r → ⊥) (λ r. AreWordsOf (codes "MATCH" ∷ pattern.now ∷ map string_bytes words.now) (rule_view r))) }
 {
@@ -82,7 +82,7 @@ fn read_match(alloc: Global, pattern: &str, words: &[String]) -> Result<Option<R
     }
 }
 
-// The folder behind IN, where that is the first word, and the words behind it.
+// The folder after IN, where that is the first word, and the words after it.
 fn cut_folder(words: &[String]) -> (Option<&str>, &[String])
     ensures { IsCut (map string_bytes words.now) (option_map (λ t. t.now) result.0) (map string_bytes result.1.now) }
 {
@@ -95,7 +95,7 @@ fn cut_folder(words: &[String]) -> (Option<&str>, &[String])
     (None, words)
 }
 
-// The side behind WITH, and the words behind it.
+// The side after WITH, and the words after it.
 fn cut_side(words: &[String]) -> Option<(Side, &[String])>
     ensures { MatchOption result ((s : plain.Side) (ws : List (List ℕ)) → map string_bytes words.now ≡ codes "WITH" ∷ side_word s ∷ ws → ⊥)
         (λ p. map string_bytes words.now ≡ codes "WITH" ∷ side_word (side_view p.0) ∷ map string_bytes p.1.now) }
@@ -113,7 +113,7 @@ fn cut_side(words: &[String]) -> Option<(Side, &[String])>
     }
 }
 
-// The step behind FROM, where nothing stands behind it.
+// The step after FROM, where nothing stands after it.
 fn cut_step(words: &[String]) -> Option<&str>
     ensures { MatchOption result ((s : List ℕ) → map string_bytes words.now ≡ codes "FROM" ∷ s ∷ [] → ⊥) (λ s. map string_bytes words.now ≡ codes "FROM" ∷ s.now ∷ []) }
 {

@@ -49,7 +49,7 @@ pub(crate) fn two_tables() -> [Described<'static>; 2]
     ]
 }
 
-/// How many of the two tables there are, where they are the first in their order, and nothing else, or both. Behind both may stand
+/// How many of the two tables there are, where they are the first in their order, and nothing else, or both. After both may stand
 /// further tables, indexes and views, if no foreign key is onto one of the two.
 pub(crate) fn beginning_of(schema: &Schema) -> Option<usize>
     ensures { MatchOption result (IsBeginning two schema.now → ⊥) (λ count. HasFirst two count schema.now) }

@@ -27,7 +27,7 @@ pub struct Unopened<S: Alter> {
 
 impl<S: Alter + Drop> Book<S> {
     /// Opens a book over a connection: what it holds is read from its tables, and where there is no table, both are made, in one
-    /// transaction. Behind the two may stand further tables, indexes and views. What was not committed over the connection is undone;
+    /// transaction. After the two may stand further tables, indexes and views. What was not committed over the connection is undone;
     /// where there was such a thing, its clock and step limit are lost.
     ///
     /// - `Damaged`: the tables are those of a book, and their rows are those of none: a key that is not 64 hex digits of lower case,

@@ -54,7 +54,7 @@ fn signer_of(row: &Row) -> Option<Signer>
     Some(Signer { key, params })
 }
 
-// Puts a signer behind the others, unless it is one of them.
+// Puts a signer after the others, unless it is one of them.
 fn add_signer(signers: &mut Vec<Signer>, signer: Signer) -> Result<(), BookFault>
     ensures added { OnOk result (IsAddedSigner (map signer_view signers.old.items) (signer_view signer) (map signer_view signers.new.items)) }
     ensures damaged { result ≡ Err BookFault.Damaged → (t : plain.Signer) × Has (map signer_view signers.old.items) t × (t.key ≡ (signer_view signer).key) × (t ≢ signer_view signer) }
@@ -162,7 +162,7 @@ fn place_of(leaves: &[LeafRow], kept: &LeafRow) -> Place
     Place::New
 }
 
-// Puts an entry behind the others, unless it is one of them.
+// Puts an entry after the others, unless it is one of them.
 fn add_leaf(leaves: &mut Vec<LeafRow>, kept: LeafRow) -> Result<(), BookFault>
     ensures added { OnOk result (IsAddedLeaf (map kept_view leaves.old.items) (kept_view kept) (map kept_view leaves.new.items)) }
     ensures damaged { result ≡ Err BookFault.Damaged → IsPlace (map kept_view leaves.old.items) (kept_view kept) Place.Clash }

@@ -37,7 +37,7 @@ fn checksum_sum(ots: OtsType, hash: &[u8; 32]) -> u16
     sum
 }
 
-/// A hash with its checksum behind it, which the chains of a leaf are cut by.
+/// A hash with its checksum after it, which the chains of a leaf are cut by.
 pub fn with_checksum(ots: OtsType, hash: &[u8; 32]) -> [u8; 34]
     ensures { result ≡ hash.now ++ checksum ots hash.now }
 {

@@ -12,7 +12,7 @@ use crate::verifying::verify_counted;
 // The most keys that may be signed, one less than the levels.
 const MOST_SIGNED_KEYS: u32 = 7;
 
-// How many keys are signed, the top key, and what stands behind the signature's first word, or None where the first words are
+// How many keys are signed, the top key, and what stands after the signature's first word, or None where the first words are
 // not L, from 1 to 8, and L - 1.
 fn read_levels<'a>(
     public: &'a [u8; 60],

@@ -137,7 +137,7 @@ fn are_those(members: &[(String, Value)]) -> bool
     rest.is_empty()
 }
 
-// What stands behind the first four of them.
+// What stands after the first four of them.
 fn behind_four(members: &[(String, Value)]) -> Option<&[(String, Value)]>
     ensures { MatchOption result ((ns : List (List ℕ)) → names (members_view members.now) ≡ first_members ++ ns → ⊥)
         (λ rest. names (members_view members.now) ≡ first_members ++ names (members_view rest.now)) }
@@ -149,7 +149,7 @@ fn behind_four(members: &[(String, Value)]) -> Option<&[(String, Value)]>
     Some(rest)
 }
 
-// What stands behind the last three of them.
+// What stands after the last three of them.
 fn behind_three(members: &[(String, Value)]) -> Option<&[(String, Value)]>
     ensures { MatchOption result ((ns : List (List ℕ)) → names (members_view members.now) ≡ last_members ++ ns → ⊥)
         (λ rest. names (members_view members.now) ≡ last_members ++ names (members_view rest.now)) }
@@ -162,7 +162,7 @@ fn behind_three(members: &[(String, Value)]) -> Option<&[(String, Value)]>
     Some(rest)
 }
 
-// What stands behind the first of the members, which has this name.
+// What stands after the first of the members, which has this name.
 fn behind<'a>(members: &'a [(String, Value)], name: &str) -> Option<&'a [(String, Value)]>
     ensures { MatchOption result ((ns : List (List ℕ)) → names (members_view members.now) ≡ name.now ∷ ns → ⊥)
         (λ rest. names (members_view members.now) ≡ name.now ∷ names (members_view rest.now)) }

@@ -15,7 +15,7 @@ const PORT: u16 = 80;
 const LONGEST_HOST: usize = 253;
 
 /// A mirror: the host's name or IPv4 address, the port, both as the URL and the field `Host` of a request write them, and the
-/// folder of the files, without a slash before or behind it.
+/// folder of the files, without a slash before or after it.
 #[derive(Clone, Copy, Debug)]
 pub struct Mirror<'a> {
     pub host: &'a str,
@@ -26,7 +26,7 @@ pub struct Mirror<'a> {
 
 /// The mirror that a text says: `http://`, in lower case; the host, 1 to 253 bytes of `A-Z a-z 0-9 . -`; where the port is not 80, a
 /// colon and the port, 1 to 65535 without zeros in front; where the files are not at the top, a slash and the folder, of the grammar
-/// of target paths; and a slash behind it or none. Of another text, as one with a user, a query or `https://`, nothing is told. It
+/// of target paths; and a slash after it or none. Of another text, as one with a user, a query or `https://`, nothing is told. It
 /// takes no memory.
 pub fn read_mirror(text: &str) -> Option<Mirror<'_>>
     ensures some { IfSome result (λ m. IsMirror text.now m.host.now m.port m.authority.now m.prefix.now) }
@@ -45,7 +45,7 @@ pub fn read_mirror(text: &str) -> Option<Mirror<'_>>
 }
 
 impl Mirror<'_> {
-    /// What a file of this name is asked for by: the name, behind the folder's. The error is want of memory.
+    /// What a file of this name is asked for by: the name, after the folder's. The error is want of memory.
     pub fn name(&self, alloc: Global, name: &str) -> Result<String, AllocError>
         ensures { IfOk result (λ text. string_bytes text ≡ name_below self.now.prefix.now name.now) }
     {

@@ -17,7 +17,7 @@ pub fn is_settled(answer: &Result<Option<Vec<u8>>, FetchFault>) -> bool
     }
 }
 
-/// What the mirrors answer together that were asked so far, of which none settled it, and one more behind them. `Broken` is what none
+/// What the mirrors answer together that were asked so far, of which none settled it, and one more after them. `Broken` is what none
 /// answers.
 pub fn together(
     before: Result<Option<Vec<u8>>, FetchFault>,

@@ -7,7 +7,7 @@ use crate::writing::{GREEN, PLAIN, RED, Text, YELLOW};
 use std::alloc::{AllocError, Global};
 
 /// The drafts with what they change and how many have signed, the layouts with their steps, the links, what is to be done next, and `ready` where
-/// `publish` would be taken. On a terminal what is new is green, what is gone red and what is another yellow, who has signed stands behind a mark and who has not behind a gap, and a layout is drawn as its chain.
+/// `publish` would be taken. On a terminal what is new is green, what is gone red and what is another yellow, who has signed stands after a mark and who has not after a gap, and a layout is drawn as its chain.
 pub fn drafts_as_lines(
     alloc: Global,
     shown: &Drafts,

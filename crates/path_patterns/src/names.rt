@@ -10,7 +10,7 @@ use std::alloc::Global;
 /// The path that a text asks for, and the digest that it names (TUF 1.0, section 6.2, consistent snapshots): where the last
 /// segment of the text is 64 hex digits of lower case, a dot and at least one byte, the digits are the digest and the path
 /// is the text without the digits and the dot. Otherwise the path is the text, and no digest is asked for. The last segment
-/// is what stands behind the last slash, or the whole text where there is none.
+/// is what stands after the last slash, or the whole text where there is none.
 ///
 /// Any text may be asked. Whether the path is a target path is not judged.
 pub fn read_asked(alloc: Global, text: &str) -> Result<(String, Option<Digest>), NoMemory>
@@ -70,7 +70,7 @@ fn cut_at_last(text: &str) -> (&str, &str)
     }
 }
 
-// The digest whose digits the segment begins with, and what stands behind the dot.
+// The digest whose digits the segment begins with, and what stands after the dot.
 fn cut_off_digest(last: &str) -> Option<(Digest, &str)>
     ensures some { IfSome result (λ r. IsDigest r.0.0 × (last.now ≡ encode_lower r.0.0 ++ 46 ∷ r.1.now) × (0 < length r.1.now)) }
     ensures none { IfNone result ((d name : List ℕ) → IsDigest d → 0 < length name → last.now ≢ encode_lower d ++ 46 ∷ name) }

@@ -1,5 +1,5 @@
 // The matcher of patterns. It goes along pattern and text once; where they differ, the run that the last `*` stands for
-// becomes one byte longer, and it goes on behind it. Earlier runs are never looked at again, so it takes at most as many
+// becomes one byte longer, and it goes on after it. Earlier runs are never looked at again, so it takes at most as many
 // steps as the product of the two lengths, each one more.
 ghost use Rattle.std.specs.Prelude.{◌≡◌, ◌∷◌, ℕ, true, false, IfSome, IfNone};
 ghost use Rattle.path_patterns.specs.Tests as tests;

@@ -45,7 +45,7 @@ fn fill<S: Alter>(tx: &mut Transaction<'_, S>, count: usize) -> Result<bool, Err
     Ok(true)
 }
 
-// Makes the tables behind the first ones, and puts the row of `schema`, in one transaction, where none of the first has a
+// Makes the tables after the first ones, and puts the row of `schema`, in one transaction, where none of the first has a
 // row. Else nothing is made. Answers whether none has a row.
 pub(crate) fn complete<S: Alter>(conn: &mut Connection<S>, count: usize) -> Result<bool, Error>
     requires autocommit { conn.old.in_transaction ≡ false }

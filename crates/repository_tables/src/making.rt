@@ -37,7 +37,7 @@ pub(crate) fn put_version<S: Alter>(tx: &mut Transaction<'_, S>) -> Result<(), E
     Ok(())
 }
 
-// Makes `root2` behind all that is there, where it is absent: so many of the six tables are there.
+// Makes `root2` after all that is there, where it is absent: so many of the six tables are there.
 pub(crate) fn make_root2<S: Alter>(tx: &mut Transaction<'_, S>, count: usize) -> Result<(), Error>
     ensures wrote { HasCleanDisk (state S.Store tx.new.conn.now) → (c : Cells) → IsEarly count (state S.Store tx.old.conn.now) c → OnOk result (IsInside (state S.Store tx.new.conn.now) c) }
     ensures uncommitted { IsUncommitted S.Store tx.old tx.new }

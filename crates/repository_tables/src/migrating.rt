@@ -106,7 +106,7 @@ fn bring_over<S: Alter>(
 /// the roots move there with profile 1, and the row of `schema` is 2. A crash leaves what was there whole or schema 2 whole.
 ///
 /// - `Database`: a call of the database answered a fault, and the tables are as they were, if the connection is still open; or there are
-///   others than the five tables of schema 1, or all six, or `root2` cannot be made behind what is there: then nothing is made.
+///   others than the five tables of schema 1, or all six, or `root2` cannot be made after what is there: then nothing is made.
 /// - `OutOfMemory`: memory was refused.
 pub fn migrate<S: Alter>(conn: &mut Connection<S>, roots: &[(u32, &[u8])]) -> Result<(), StoreFault>
     requires { conn.old.in_transaction ≡ false }

@@ -119,7 +119,7 @@ fn complete_bare<S: Alter>(
 ///   value of another type than its column's, a version or profile outside 32 bits, a role that is not UTF-8, a digest that is not 64 hex
 ///   digits of lower case or not that of its bytes, and a third slot in `current` do not fit. Nothing is made.
 /// - `Database`: a call of the database answered a fault, or the database has other tables than the first of these six in
-///   their order and nothing else, or the first five, or all six (no other is tried; behind the first five, before `root2` and behind
+///   their order and nothing else, or the first five, or all six (no other is tried; after the first five, before `root2` and after
 ///   it, may stand further tables, indexes and views, if none has the name `root2` and no foreign key is onto one of the six), or the
 ///   rowids that it answered are not integers that come once, which by its own laws they are.
 /// - `OutOfMemory`: memory was refused.

@@ -279,7 +279,7 @@ fn visit_listings<V: FileVisitor>(listings: &[Listing], visitor: &mut V) -> Resu
     Ok(())
 }
 
-// The roots behind a version, from the last down to the first that is not held.
+// The roots after a version, from the last down to the first that is not held.
 fn visit_roots<V: FileVisitor>(
     alloc: Global,
     after: u32,

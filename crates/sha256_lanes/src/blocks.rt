@@ -29,7 +29,7 @@ pub fn block_count(message: &[u8]) -> usize
     (message.len() + 8) / 64 + 1
 }
 
-// The bytes of a message behind its last whole block, the byte 0x80, and zeros.
+// The bytes of a message after its last whole block, the byte 0x80, and zeros.
 #[inline(always)]
 fn marked(rest: &[u8]) -> [u8; 64]
     requires { length rest.now < 64 }

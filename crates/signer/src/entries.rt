@@ -46,7 +46,7 @@ pub(crate) fn with_entry(
     Ok(out)
 }
 
-// Appends each entry that is not of this key, and a comma behind it.
+// Appends each entry that is not of this key, and a comma after it.
 fn put_others(out: &mut Vec<u8>, entries: &[Signature], id: &KeyId) -> Result<(), NoMemory>
     ensures { OnOk result (out.new.items ≡ out.old.items ++ entries_text (others_of (id_text id.now) (entries_view entries.now))) }
 {

@@ -28,7 +28,7 @@ use std::alloc::Global;
 
 /// The file with a signature of the seed's key over its signed part, in canonical JSON: the key's entry stands last, and an older one of
 /// the key is taken out. The leaf is the one that the book keeps for this signed part; the book keeps it before anything is signed. The
-/// same file, signed or not, gives the same bytes. A crash inside the call, or behind it, leaves the whole database of a book as far as
+/// same file, signed or not, gives the same bytes. A crash inside the call, or after it, leaves the whole database of a book as far as
 /// the signing may have come.
 ///
 /// - `Denied`: `TooLong`, `NotCanonical` or `WrongShape` of the file's envelope, in this order; then `WrongShape` where the result would

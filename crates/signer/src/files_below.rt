@@ -34,7 +34,7 @@ use std::alloc::Global;
 ///   the top tree is kept for a public key with another root than the tree has. Nothing is registered then and no leaf reserved.
 /// - `OutOfMemory`: memory was refused. Leaves may be reserved: the same file gets the same ones.
 ///
-/// A crash inside the call, or behind it, leaves the whole database of a book as far as the signing may have come. It hashes each leaf of one
+/// A crash inside the call, or after it, leaves the whole database of a book as far as the signing may have come. It hashes each leaf of one
 /// tree below, where the signer has not hashed this tree last.
 pub fn sign_file_below<S: Alter>(
     alloc: Global,

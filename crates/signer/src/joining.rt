@@ -15,7 +15,7 @@ use limits::{FILE_LIMIT, MOST_SIGNATURES};
 use metadata::{ShapeFault, SignedFile, read_signed};
 use std::alloc::Global;
 
-/// One file of two that have the same signed part, byte for byte: the entries of the first, and behind them those of the other whose key
+/// One file of two that have the same signed part, byte for byte: the entries of the first, and after them those of the other whose key
 /// ids have none there, so that each id stands once. It is canonical, and within the limits of a file. No signature is checked.
 ///
 /// - `First`, `Second`: `TooLong`, `NotCanonical` or `WrongShape` of a file's envelope; the first file's is found first.

@@ -42,7 +42,7 @@ fn is_for(kept: &LeafRow, key: &KeyId, leaf: u32, message: &[u8]) -> bool
 }
 
 /// The leaf that an LMS signature in hex digits of lower case is by: q, which stands in its first eight digits (RFC 8554, section 5.4).
-/// `None` where the text does not begin with eight such digits; of what stands behind them it says nothing. It takes no memory.
+/// `None` where the text does not begin with eight such digits; of what stands after them it says nothing. It takes no memory.
 pub fn leaf_of(sig: &str) -> Option<u32>
     ensures { MatchOption result ((leaf : ℕ) → BeginsWithLeaf sig.now leaf → ⊥) (λ leaf. BeginsWithLeaf sig.now leaf) }
 {

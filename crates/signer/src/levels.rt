@@ -26,7 +26,7 @@ use std::alloc::Global;
 ///
 /// Errors: as `sign_message` says it of either tree. `Damaged` besides where the leaf is not `q`; it is spent then, for this public key.
 ///
-/// A crash inside the call, or behind it, leaves the whole database of a book as far as the signing may have come.
+/// A crash inside the call, or after it, leaves the whole database of a book as far as the signing may have come.
 pub fn sign_below<S: Alter>(
     alloc: Global,
     book: &mut Book<S>,

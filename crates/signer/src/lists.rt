@@ -38,7 +38,7 @@ fn has_entry(entries: &[Signature], id: &KeyId) -> bool
     false
 }
 
-/// The file with the entries, and behind them those further ones whose keys have none among them, over the signed part.
+/// The file with the entries, and after them those further ones whose keys have none among them, over the signed part.
 pub(crate) fn whole_file(
     alloc: Global,
     entries: &[Signature],
@@ -58,7 +58,7 @@ pub(crate) fn whole_file(
     Ok(out)
 }
 
-// Appends each further entry whose key has none among the entries, and a comma behind it.
+// Appends each further entry whose key has none among the entries, and a comma after it.
 fn put_missing(
     out: &mut Vec<u8>,
     entries: &[Signature],

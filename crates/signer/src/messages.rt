@@ -24,7 +24,7 @@ use std::alloc::Global;
 /// Errors: as `Book::register_pair` and `Book::reserve` say it, and `OutOfMemory` where the signature had no memory. A leaf may then
 /// be kept for the message: the same message gets this leaf again.
 ///
-/// A crash inside the call, or behind it, leaves the whole database of a book as far as the signing may have come.
+/// A crash inside the call, or after it, leaves the whole database of a book as far as the signing may have come.
 pub fn sign_message<S: Alter>(
     alloc: Global,
     book: &mut Book<S>,

@@ -29,9 +29,9 @@ use std::alloc::Global;
 ///
 /// - `Other`: the leaf that is kept for another document of this kind and version. The file's envelope is in order. Nothing is registered
 ///   and no leaf reserved.
-/// - `Unsigned`: as `sign_file_with` says it. What is wrong with the file's envelope comes before `Other`, all else behind it.
+/// - `Unsigned`: as `sign_file_with` says it. What is wrong with the file's envelope comes before `Other`, all else after it.
 ///
-/// A crash inside the call, or behind it, leaves the whole database of the book before it or of one that it makes: the event
+/// A crash inside the call, or after it, leaves the whole database of the book before it or of one that it makes: the event
 /// `crash_in_sign_once` of `one_document_a_version`.
 pub fn sign_file_once<S: Alter>(
     alloc: Global,

@@ -31,9 +31,9 @@ use std::alloc::Global;
 ///
 /// - `Other`: the leaf, within its tree, that is kept for another document of this kind and version, in a tree below, or in the top tree,
 ///   whose seed may have signed documents as a key of one level. The file's envelope is in order. Nothing is registered and no leaf reserved.
-/// - `Unsigned`: as `sign_file_below` says it. What is wrong with the file's envelope comes before `Other`, all else behind it.
+/// - `Unsigned`: as `sign_file_below` says it. What is wrong with the file's envelope comes before `Other`, all else after it.
 ///
-/// A crash inside the call, or behind it, leaves the whole database of the book before it or of one that it makes: the event
+/// A crash inside the call, or after it, leaves the whole database of the book before it or of one that it makes: the event
 /// `crash_in_sign_below_once` of `one_document_in_all_trees`.
 pub fn sign_file_below_once<S: Alter>(
     alloc: Global,

@@ -163,7 +163,7 @@ fn is_described(of: &Table, described: &Described<'_>, tree: u32) -> bool
         && are_columns(of.columns.as_slice(), described.columns)
 }
 
-// The tree behind those of the table and of its indexes.
+// The tree after those of the table and of its indexes.
 fn past(described: &Described<'_>, tree: u32) -> u32
     requires { past_table (described_view described.now) tree < 2 ^ 32 }
     ensures { result ≡ past_table (described_view described.now) tree }
@@ -236,7 +236,7 @@ fn after_all_indexes<'a>(
     }
 }
 
-// The tree behind those of all tables described.
+// The tree after those of all tables described.
 fn past_last(described: &[Described<'_>], tree: u32) -> u32
     requires { past_all tree (map described_view described.now) < 2 ^ 32 }
     ensures { result ≡ past_all tree (map described_view described.now) }
@@ -271,7 +271,7 @@ fn are_apart(references: &[Reference], described: &[Described<'_>]) -> bool
     }
 }
 
-// Whether the tables may stand behind those described, whose trees are below this one.
+// Whether the tables may stand after those described, whose trees are below this one.
 fn are_further(tables: &[Table], described: &[Described<'_>], past: u32) -> bool
     requires { past ≡ past_all 0 (map described_view described.now) }
     ensures same { IsTrue result → AllByRecursion (IsFurther (map described_view described.now)) tables.now }
@@ -287,7 +287,7 @@ fn are_further(tables: &[Table], described: &[Described<'_>], past: u32) -> bool
     }
 }
 
-// What stands behind the tables described and their indexes, if these come first.
+// What stands after the tables described and their indexes, if these come first.
 fn further<'a>(
     described: &[Described<'_>],
     schema: &'a Schema,
@@ -334,7 +334,7 @@ fn has_all(described: &[Described<'_>], schema: &Schema) -> bool
 }
 
 /// How many of the tables there are, where they are the first of those described, in their order, and nothing else, or all of
-/// them. Behind all of them may stand further tables, indexes and views, if no foreign key is onto one of those described.
+/// them. After all of them may stand further tables, indexes and views, if no foreign key is onto one of those described.
 pub fn beginning_of(described: &[Described<'_>], schema: &Schema) -> Option<usize>
     requires { past_all 0 (map described_view described.now) < 2 ^ 32 }
     ensures { MatchOption result (IsBeginning (map described_view described.now) schema.now → ⊥) (λ count. HasFirst (map described_view described.now) count schema.now) }

@@ -27,7 +27,7 @@ pub trait TakeRows {
 
 /// Hands each row of a query to what takes them, in their order and each once. The rows are read by a cursor where
 /// the database can give them in their order without a sort: by the rowid, by a key, or in no order. It reads ahead as many rows as
-/// would have 256 KiB together if each were as long as the last, so long rows behind short ones are held together. A fault ends it at any row.
+/// would have 256 KiB together if each were as long as the last, so long rows after short ones are held together. A fault ends it at any row.
 pub fn each_row<S: Alter, T: TakeRows>(
     conn: &mut Connection<S>,
     sql: &str,

@@ -115,7 +115,7 @@ fn is_place_before(role: &str, version: u32, row: &Row) -> bool
     is_before(role.as_bytes(), held.as_bytes()) || (role == held && version < row.version)
 }
 
-// The index of the first shelf row that stands behind a new one.
+// The index of the first shelf row that stands after a new one.
 fn later_row(shelf: &[Row], role: &str, version: u32) -> Option<usize>
     ensures { result ≡ position (λ r. place_before (role.now, version) (r.role, r.version)) shelf.now }
 {
@@ -135,7 +135,7 @@ fn row_place(shelf: &[Row], role: &str, version: u32) -> usize
     }
 }
 
-// The index of the first blob that stands behind a new one.
+// The index of the first blob that stands after a new one.
 fn later_blob(blobs: &[Blob], digest: &Digest) -> Option<usize>
     ensures { result ≡ position (λ b. before digest.now.0 b.digest.0) blobs.now }
 {
@@ -195,7 +195,7 @@ pub fn take_blobs(blobs: &mut Vec<Blob>, more: Vec<Blob>)
     }
 }
 
-// The index of the first length that stands behind a new one.
+// The index of the first length that stands after a new one.
 fn later_length(lengths: &[BlobLength], digest: &Digest) -> Option<usize>
     ensures { result ≡ position (λ b. before digest.now.0 b.digest.0) lengths.now }
 {

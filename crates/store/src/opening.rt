@@ -37,7 +37,7 @@ impl<S: Alter + Drop> Store<S> {
     /// - `Damaged`: the tables are those of a store, or the first of them, and their rows are those of no state.
     /// - `Database`: a call of the database answered a fault, or its tables are other than the first of the six of a store and
     ///   nothing else, or all six, in the order in which they are made, or the rowids that it answered are not integers that
-    ///   come once, which by its own laws they are. Behind all six may stand further tables, indexes and views, if no foreign
+    ///   come once, which by its own laws they are. After all six may stand further tables, indexes and views, if no foreign
     ///   key is onto one of the six.
     /// - `OutOfMemory`: memory was refused.
     ///

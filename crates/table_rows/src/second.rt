@@ -1,4 +1,4 @@
-// Where the table `root2` stands, or may stand, behind the five tables of schema 1.
+// Where the table `root2` stands, or may stand, after the five tables of schema 1.
 ghost use Rattle.std.specs.Prelude.{◌≡◌, ◌<◌, ◌≤◌, ◌^◌, ℕ, [], ◌∷◌, codes, true, false, IsTrue, None, Some, slice_get};
 ghost use Rattle.std.specs.List.{list_any};
 ghost use Rattle.sqlite.specs.Kind.TheVariants as kind;
@@ -106,7 +106,7 @@ fn is_unused(schema: &Schema) -> bool
         && schema.view_named(b"root2").is_none()
 }
 
-// Whether the tree of the next table is behind those of the five, is that of no table, and is none of a statement's own.
+// Whether the tree of the next table is after those of the five, is that of no table, and is none of a statement's own.
 fn has_room(schema: &Schema) -> bool
     ensures same { IsTrue result → (spec.first_at schema.now.tables (plain.next_tree schema.now) ≡ None) × (8 ≤ plain.next_tree schema.now) × (plain.next_tree schema.now < 2 ^ 31) }
     ensures other { (spec.first_at schema.now.tables (plain.next_tree schema.now) ≡ None) × (8 ≤ plain.next_tree schema.now) × (plain.next_tree schema.now < 2 ^ 31) → IsTrue result }

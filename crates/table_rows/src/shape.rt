@@ -33,8 +33,8 @@ pub fn beginning_of(schema: &Schema) -> Option<usize>
     }
 }
 
-/// Whether the tables are the five of schema 1, which an opening brings to schema 2 where they have rows: `root2` can be made behind them
-/// and behind what else is there.
+/// Whether the tables are the five of schema 1, which an opening brings to schema 2 where they have rows: `root2` can be made after them
+/// and after what else is there.
 #[tactic(auto, using(crate::proofs::Firsts::free_five, crate::proofs::Firsts::free_begins))]
 pub fn has_first_schema(schema: &Schema) -> bool
     ensures same { IsTrue result → IsFree schema.now }

@@ -66,7 +66,7 @@ pub fn stays_coherent()
     ensures { StaysCoherent }
 {}
 
-/// A law, which does nothing: new roots leave the rows of those before as they are, and stand behind them.
+/// A law, which does nothing: new roots leave the rows of those before as they are, and stand after them.
 pub fn rows_stay()
     ensures { (S : State) (E : Effects) → IsState S → IsState (applied S E)
         → (contents_of (applied S E)).roots ≡ (contents_of S).roots ++ root_rows (applied S E).trusted (length S.trusted.roots) (map kept_root E.roots) }

@@ -75,7 +75,7 @@ impl Held {
         Held::of(trusted, blobs, verdicts)
     }
 
-    /// Of how many pairs of a signature and a key it is known whether the one verifies under the other, at most 2,048. Behind an
+    /// Of how many pairs of a signature and a key it is known whether the one verifies under the other, at most 2,048. After an
     /// opening these are the signatures that it checked.
     pub fn known_signatures(&self) -> usize
         ensures { result ≡ verdict_count self.now.verdicts }

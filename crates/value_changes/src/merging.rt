@@ -9,7 +9,7 @@ ghost use Rattle.value_changes.specs.steps.Turns.{merged, turn_view};
 use canonical_json::Value;
 use std::cmp::Ordering;
 
-/// What stands at a name in two objects, and the members behind it.
+/// What stands at a name in two objects, and the members after it.
 #[derive(Clone, Copy)]
 pub(crate) struct Turn<'v> {
     pub name: &'v str,
