@@ -1,7 +1,7 @@
 //! `publish` of a folder of drafts.
 use crate::sealing::forgets_all;
 use command_support::{Fault, Notes, Slip};
-use drafts::{Folder, ListedFile, kind_of, offer_order, read_said};
+use drafts::{Folder, ListedFile, offer_order, read_said};
 use metadata::{Digest, Kind, RoleName, digest_of};
 use std::alloc::{AllocError, Global};
 use std::io::Write;
@@ -71,7 +71,7 @@ impl Drafted {
     fn listed(&self, alloc: Global) -> Result<Vec<Digest>, Fault> {
         let mut listed = Vec::new(alloc);
         for (role, bytes) in self.roles.iter().zip(self.files.iter()) {
-            if kind_of(role.as_str()) == Kind::Targets {
+            if Kind::of_role(role.as_str()) == Kind::Targets {
                 add_digests(&read_said(alloc, role.as_str(), bytes)?.files, &mut listed)?;
             }
         }
@@ -204,7 +204,7 @@ fn listed_files<E: Write>(
 ) -> Result<Vec<Digest>, Fault> {
     let mut listed = Vec::new(alloc);
     for role in &folder.roles(notes)? {
-        if kind_of(role.as_str()) == Kind::Targets {
+        if Kind::of_role(role.as_str()) == Kind::Targets {
             let bytes = folder.draft_or_none(role.as_str(), notes)?;
             add_digests(&read_said(alloc, role.as_str(), &bytes)?.files, &mut listed)?;
         }

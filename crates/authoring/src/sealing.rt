@@ -3,9 +3,7 @@ use command_line::Drafting;
 use command_support::{Fault, Notes, Slip};
 use drafting::{draft_snapshot, draft_timestamp};
 use drafting_commands::{Before, drafted, terms_of};
-use drafts::{
-    Folder, Said, TargetsRead, held_said, kind_of, layout_in, target_of_layout, version_in,
-};
+use drafts::{Folder, Said, TargetsRead, held_said, layout_in, target_of_layout, version_in};
 use metadata::{Kind, Moment};
 use overview_rows::lacks_targets;
 use std::alloc::Global;
@@ -73,7 +71,7 @@ pub fn forgets_all<E: Write>(
 fn bring_in<E: Write>(folder: Folder<'_>, notes: &mut Notes<'_, E>) -> Result<(), Fault> {
     for role in &folder.held_roles(notes)? {
         let role = role.as_str();
-        if kind_of(role) == Kind::Targets && folder.draft(role, notes)?.is_none() {
+        if Kind::of_role(role) == Kind::Targets && folder.draft(role, notes)?.is_none() {
             if let Some(bytes) = folder.held(role, notes)? {
                 folder.put_draft(role, &bytes, notes)?;
             }
@@ -194,7 +192,7 @@ fn listed_versions<E: Write>(
 ) -> Result<Vec<(String, u32)>, Fault> {
     let mut listed = Vec::new(alloc);
     for role in &folder.roles(notes)? {
-        if kind_of(role.as_str()) == Kind::Targets {
+        if Kind::of_role(role.as_str()) == Kind::Targets {
             let draft = folder.draft_or_none(role.as_str(), notes)?;
             let version = version_in(alloc, role.as_str(), &draft)?;
             let name = String::from_str(alloc, role.as_str())?;

@@ -7,9 +7,7 @@ use drafting_commands::{
     Before, Known, RuleRead, TARGETS_DAYS, addition_of, digest_in, drafted, items_in, kept_terms,
     rule_of, see_unsigned, terms_of, usage,
 };
-use drafts::{
-    Folder, chain_name, kind_of, layout_in, layout_name, layout_path, link_path, read_said,
-};
+use drafts::{Folder, chain_name, layout_in, layout_name, layout_path, link_path, read_said};
 use keys_roles::key_id;
 use metadata::{Kind, Moment};
 use std::alloc::{AllocError, Global};
@@ -66,7 +64,7 @@ pub fn role_of<E: Write>(
     notes: &mut Notes<'_, E>,
 ) -> Result<Option<String>, Fault> {
     for role in folder.roles(notes)? {
-        if kind_of(role.as_str()) == Kind::Targets {
+        if Kind::of_role(role.as_str()) == Kind::Targets {
             let bytes = folder.draft_or_none(role.as_str(), notes)?;
             if lists(rt.alloc(), role.as_str(), &bytes, target)? {
                 return Ok(Some(role));

@@ -4,7 +4,7 @@ use chain_drafting::{Artifact, draft_link};
 use command_line::LinkDraft;
 use command_support::{Fault, Notes, Slip, read};
 use drafting_commands::{drafted, see_unsigned};
-use drafts::{Folder, Said, kind_of, layout_said, link_name, read_said, signed_step};
+use drafts::{Folder, Said, layout_said, link_name, read_said, signed_step};
 use metadata::{Kind, digest_of};
 use std::io::Write;
 
@@ -139,7 +139,7 @@ struct Looking<'a> {
 impl Looking<'_> {
     fn look<E: Write>(&mut self, notes: &mut Notes<'_, E>) -> Result<(), Fault> {
         for role in &self.folder.roles(notes)? {
-            if kind_of(role.as_str()) == Kind::Targets {
+            if Kind::of_role(role.as_str()) == Kind::Targets {
                 let bytes = self.folder.draft_or_none(role.as_str(), notes)?;
                 let said = read_said(self.rt.alloc(), role.as_str(), &bytes)?;
                 self.look_in(&said, notes)?;

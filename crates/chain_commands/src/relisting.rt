@@ -6,8 +6,7 @@ use command_support::{Fault, Notes};
 use drafting::{Addition, NamedKey, Rule};
 use drafting_commands::{Before, see_unsigned};
 use drafts::{
-    Folder, Referred, Said, Vouching, chain_name, kind_of, layout_path, path_of, read_said,
-    reference_of,
+    Folder, Referred, Said, Vouching, chain_name, layout_path, path_of, read_said, reference_of,
 };
 use metadata::Kind;
 use path_patterns::are_hex_digits;
@@ -53,7 +52,7 @@ fn over_folder<E: Write>(
         return Ok(());
     }
     for role in &folder.roles(notes)? {
-        if kind_of(role.as_str()) == Kind::Targets {
+        if Kind::of_role(role.as_str()) == Kind::Targets {
             over_draft(rt, folder, role.as_str(), &names, task, notes)?;
         }
     }

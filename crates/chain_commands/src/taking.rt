@@ -3,8 +3,8 @@ use crate::linking::take_link;
 use command_support::{Denial, FILE_LIMIT, Fault, Notes, Slip, read_regular};
 use drafting_commands::last_segment;
 use drafts::{
-    Folder, ListedFile, Vouching, kind_of, owners_of, read_said, rules_for, signatures_in,
-    target_of_layout, version_in, without_false_entries,
+    Folder, ListedFile, Vouching, owners_of, read_said, rules_for, signatures_in, target_of_layout,
+    version_in, without_false_entries,
 };
 use limits::BLOB_LIMIT;
 use metadata::{Digest, Kind, RoleName, digest_of};
@@ -63,7 +63,7 @@ fn take_document<E: Write>(
     }
     match folder.draft(role, notes)? {
         Some(draft) => join_in(rt, folder, role, &draft, bytes, file, notes),
-        None if kind_of(role) == Kind::Targets && role != "targets" => {
+        None if Kind::of_role(role) == Kind::Targets && role != "targets" => {
             take_whole(rt, folder, role, beside, bytes, notes)
         }
         None => Err(different(file, notes)),

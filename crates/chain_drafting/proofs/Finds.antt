@@ -19,7 +19,7 @@ Entry = KeyId × Key
 abbrev pub row_of : Entry → List ℕ × plain.Key
 row_of e = (id_text e.0, key_view e.1)
 
--- the row at a place, with what is before it and behind it
+-- the row at a place, with what is before it and after it
 split_at : (P : Entry → Type 0) (rows : List Entry) (i : ℕ) → i < length rows → ((d : Entry) → P (get_or rows i d))
     → (r : Entry) × (rows ≡ take i rows ++ r ∷ drop (suc i) rows) × P r
 split_at P [] i lt at = absurd (omega (arith, lt))

@@ -1,4 +1,4 @@
--- Values that are put behind a list.
+-- Values that are put after a list.
 use Rattle.std.proofs.Common.{◌≡◌, List, [], ◌∷◌, ◌++◌, append_assoc, map, ap, ◌∙◌}
 use Rattle.std.proofs.lemmas.List.{map-append}
 use Rattle.canonical_json.specs.Json.{Json}

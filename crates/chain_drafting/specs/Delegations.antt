@@ -15,7 +15,7 @@ use Rattle.drafting.specs.declared.faults.DraftFault.TheVariants.{Unlisted}
 
 -- ---- what is said
 
--- a delegation: the role, its rule, the patterns of what it covers, whether nothing behind it is searched for that, and before the
+-- a delegation: the role, its rule, the patterns of what it covers, whether nothing after it is searched for that, and before the
 -- delegation to which role it stands
 pub record Delegated : Type 0 where
   pub role : List ℕ

@@ -63,7 +63,7 @@ texts words = array (items_of (map (λ w. text w) words))
 abbrev pub rule_list : RuleWords → Json
 rule_list rules = array (items_of (map texts rules))
 
--- the step behind the one of this name, or the first one
+-- the step after the one of this name, or the first one
 abbrev pub step_object : Option (List ℕ) → Step → Json
 step_object before s =
     object (member (codes "expected_materials") (rule_list (said_or s.material_rules (usual_materials before)))

@@ -109,7 +109,7 @@ module _ {Src : Type 0} (gives : Gives Src) where
 
     -- ---- a fetch
 
-    -- names that are new behind these, and each once
+    -- names that are new after these, and each once
     record AsksNew (names : Names) (s t : Src) : Type 0 where
       list : List (Bytes × ℕ)
       asked : Asked gives s list t

@@ -12,7 +12,7 @@ rests A P h = record { moves = λ S at. (S, at, h S at); clean = λ clean. clean
 pub becomes : {A B : Standing} (P Q : State → State → Type 0) → Changes A B P → ((C D : State) → P C D → Q C D) → Changes A B Q
 becomes P Q h f = record { moves = λ S at. let (T, to, p) = h.moves S at in (T, to, f S T p); clean = h.clean }
 
--- one call behind another
+-- one call after another
 pub follows : {A B E : Standing} (P Q R : State → State → Type 0) → Changes A B P → Changes B E Q → ((C D F : State) → P C D → Q D F → R C F) → Changes A E R
 follows P Q R h k f = record {
   moves = λ S at. let (T, to, p) = h.moves S at in let (U, there, q) = k.moves T to in (U, there, f S T U p q);

@@ -330,7 +330,7 @@ module _ (news : NewLaws) (grant : GrantLaws) (step : StepLaws) (shapes : Shapes
               subst (λ (n : Name). row_at S.trusted.shelf n entry.version ≡ Some f) s.0 (subst (λ (v : ℕ). row_at S.trusted.shelf role v ≡ Some f) s.1 (its.1 ∙ ap (λ (x : File Targets). Some x) is))
           by (inr was) = part.rows snap e r entry f l was
 
-      -- with it the client is level behind one name more
+      -- with it the client is level after one name more
       pub role_level : IsState put_here → Level S put_here path now (names ++ (codes "metadata/" ++ dotted version role) ∷ [])
       role_level good = record {
         valid = good;

@@ -49,7 +49,7 @@ pub no_chain : {bs : List (Profile × Bytes)} {r : File Root} → IsRootChain bs
 no_chain (first {b = b} {root = root} doc is meets) k = let h : ◌≡◌ {A = List (Profile × Bytes)} ((root.body.profile, b) ∷ []) [] = k in cc
 no_chain (then {bs = bs} {new = new} chain doc follows) k = no_end bs [] (kept_root new) k
 
--- a list that goes on behind a beginning, and is not empty
+-- a list that goes on after a beginning, and is not empty
 not_empty : (xs front more : List (Profile × Bytes)) → xs ≡ front ++ more → front ≢ [] → xs ≢ []
 not_empty xs [] more e some none = some refl
 not_empty xs (c ∷ front) more e some none = let k : ◌≡◌ {A = List (Profile × Bytes)} [] (c ∷ (front ++ more)) = sym none ∙ e in cc
@@ -152,7 +152,7 @@ module _ (roots_law : RootLaws) (steps_law : StepLaws) (S : State) (sure : IsSta
     abbrev pub Roots : State → List (Profile × Bytes) → Src → State → Result (Unit {0}) Fault → Type 0
     Roots C later t D r = IsWanting r ⊎ ((r ≡ Ok tt) × Is t × Followed S C later D)
 
-    -- a root that is asked for behind the last one
+    -- a root that is asked for after the last one
     none_left : (C D : State) (root : File Root) (s t : Src) (r : Result Bool Fault) → Is s → IsState C → C.trusted.root ≡ Some root → root.body.version < max_version
         → S.trusted.roots ≡ C.trusted.roots ++ [] → Takes from now (wanted_root (root.body.version + 1)) s C t D r → (IsWanting r ⊎ ((r ≡ Ok false) × (D ≡ C))) × Is t
     none_left C D root s t r is valid known below e h =

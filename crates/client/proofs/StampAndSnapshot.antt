@@ -1,4 +1,4 @@
--- The timestamp and the snapshot of an update from an honest source, behind its roots: it ends in want; or both states deny every
+-- The timestamp and the snapshot of an update from an honest source, after its roots: it ends in want; or both states deny every
 -- target; or the client has the server's timestamp and snapshot, and beside them what it had.
 use Rattle.std.proofs.Common.{◌≡◌, ◌≢◌, ◌⊎◌, inl, inr, ℕ, ◌<◌, ◌≤◌, Bool, true, false, List, [], ◌∷◌, Option, Some, None, option_map, Result, Ok, Err, refl, sym, ap, ◌∙◌, subst, arith}
 use Rattle.path_patterns.specs.Names.{dotted}
@@ -113,7 +113,7 @@ older_rows new (m ∷ rows) h = let more = older_rows new rows h.1 in let one = 
 pub some_ap : {A : Type 0} (a b : A) → Some a ≡ Some b → a ≡ b
 some_ap a b e = cc
 
--- how an update goes on behind its roots
+-- how an update goes on after its roots
 abbrev pub IsCalm : Result (Unit {0}) Fault → Type 0
 IsCalm (Ok u) = Unit {0}
 IsCalm (Err (views.Denied d)) = Unit {0}

@@ -96,7 +96,7 @@ IsKnown trusted C path now d = IsTrue (is_by_layout d) → HasLayout C.trusted p
 abbrev pub DeniesAt : State → Bytes → ℕ → orders.Denial → Type 0
 DeniesAt C path now d = grants C path None now (Err (orders.Denied d))
 
--- A fetch behind these names: it asks for the target, takes the file that is missing, and asks again. The bytes of a target, and those of its
+-- A fetch after these names: it asks for the target, takes the file that is missing, and asks again. The bytes of a target, and those of its
 -- layout, are read from the disk when they are asked for, so where its answers are not to be trusted, it is not known that the state grants
 -- them, or denies them.
 module _ (trusted : Type 0) {Src : Type 0} (gives : Gives Src) (now : ℕ) where
@@ -118,7 +118,7 @@ module _ (trusted : Type 0) {Src : Type 0} (gives : Gives Src) (now : ℕ) where
 
   pub data Fetches (path : Bytes) : Names → Src → State → Src → State → Result Bytes Fault → Type 0 where
     ends : {names : Names} {s t : Src} {C D : State} {r : Result Bytes Fault} → Ends path names s C t D r → Fetches path names s C t D r
-    -- the missing file is taken, and the fetch goes on behind one name more
+    -- the missing file is taken, and the fetch goes on after one name more
     further : {names : Names} {s t u : Src} {C D E : State} {d : orders.Denial} {w : Wanted} {r : Result Bytes Fault}
         → DeniesAt C path now d → Misses d w → has_name names w.name ≡ false → length names < max_names
         → Takes gives now w s C t D (Ok true) → Fetches path (names ++ w.name ∷ []) t D u E r → Fetches path names s C u E r

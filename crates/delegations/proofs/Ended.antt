@@ -94,7 +94,7 @@ all_good : (V : Shelf) (path : Bytes) (now : ℕ) (es : List Edge) → AllByRecu
 all_good V path now [] h = tt
 all_good V path now (e ∷ es) h = (((visits_good V e now h.0.file).0 h.0.visits).0, all_good V path now es h.1)
 
--- the edge at which a search stands behind visits that pass
+-- the edge at which a search stands after visits that pass
 pub led_here : (V : Shelf) (path : Bytes) (now : ℕ) (taken rest : List Edge) (e : Edge) → visited V path ≡ taken ++ e ∷ rest → AllByRecursion (PassesBy V path now) taken → Led V (here V path) now e
 led_here V path now taken rest e split on =
     let g = here V path in

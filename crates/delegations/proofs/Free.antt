@@ -17,7 +17,7 @@ use Rattle.delegations.specs.Verdicts.{Table, IsEdge, IsComplete, AreFew, Costs,
 use Rattle.delegations.proofs.Complete.{has_hop}
 use Rattle.delegations.proofs.Gathered.{looked_in}
 
--- a delegation behind a hop
+-- a delegation after a hop
 record IsHop (ds : Delegations) (e : Edge) : Type 0 where
   pub d : Delegation
   pub listed : IsIn ds.roles d

@@ -19,7 +19,7 @@ eight_bytes (a ∷ b ∷ []) l = absurd (omega (arith, l))
 eight_bytes (a ∷ []) l = absurd (omega (arith, l))
 eight_bytes [] l = absurd (omega (arith, l))
 
--- a text of twenty bytes is its first two, the eight behind them, one, the next eight and the last
+-- a text of twenty bytes is its first two, the eight after them, one, the next eight and the last
 pub twenty_bytes : (t : List ℕ) → length t ≡ 20 → t ≡ get_or t 0 0 ∷ (get_or t 1 0 ∷ (take 8 (drop 2 t) ++ (get_or t 10 0 ∷ (take 8 (drop 11 t) ++ get_or t 19 0 ∷ []))))
 twenty_bytes t l =
     let first : t ≡ get_or t 0 0 ∷ drop 1 t = drop-cons t 0 0 (omega arith) in

@@ -38,7 +38,7 @@ pub no_names : (ms : List (String Global × Value)) → names (members_view ms) 
 no_names [] h = refl
 no_names (m ∷ ms) h = absurd (cc)
 
--- each is of the grammar, and so the first and those behind it
+-- each is of the grammar, and so the first and those after it
 pub each_proper : (rest later : Members) (n : List ℕ) (v : Json) → rest ≡ member n v later → EachMember IsSound rest → IsProper v × EachMember IsSound later
 each_proper rest later n v at p = subst (λ (ms : Members). EachMember IsSound ms) at p
 

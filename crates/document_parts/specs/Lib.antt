@@ -5,6 +5,7 @@ pub mod Documents
 pub mod Links
 pub mod Members
 pub mod Parts
+pub mod RoleRules
 pub mod RuleViews
 pub mod Rules
 pub mod Sorted

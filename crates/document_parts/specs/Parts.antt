@@ -31,7 +31,7 @@ abbrev pub IsSpecVersion : Json → Type 0
 IsSpecVersion v = (digits : List ℕ) × IsText v (codes "1.0." ++ digits)
     × (0 < length digits) × (length digits ≤ 3) × IsTrue (list_all is_digit digits)
 
--- the same of a root, which has `+p2` behind it where the root is of the second profile
+-- the same of a root, which has `+p2` after it where the root is of the second profile
 abbrev pub IsSpecVersionOf : Profile → Json → Type 0
 IsSpecVersionOf first_profile v = IsSpecVersion v
 IsSpecVersionOf second_profile v = (digits : List ℕ) × IsText v (codes "1.0." ++ (digits ++ codes "+p2"))

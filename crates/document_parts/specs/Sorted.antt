@@ -9,6 +9,6 @@ use Rattle.std.specs.declared.cmp.Ordering.{Ordering}
 abbrev pub compared : List ℕ → List ℕ → Ordering
 compared a b = slice_cmp nat_cmp a b
 
--- each name is before those behind it
+-- each name is before those after it
 abbrev pub AreInOrder : List (List ℕ) → Type 0
 AreInOrder names = IsStrictlySortedBy compared names

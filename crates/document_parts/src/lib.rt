@@ -18,6 +18,7 @@ pub mod moment;
 pub mod names;
 pub mod parts;
 pub mod required;
+mod role_rules;
 pub mod rules;
 pub mod scopes;
 pub mod trail;

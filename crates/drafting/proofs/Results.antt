@@ -17,7 +17,7 @@ pub no_rows : {X : Type 0} (xs : List X) → length xs ≡ 0 → xs ≡ []
 no_rows [] h = refl
 no_rows (x ∷ xs) h = absurd (cc)
 
--- ---- the element at a place and those behind it
+-- ---- the element at a place and those after it
 
 drop_next : {X : Type 0} (xs : List X) (i : ℕ) (x : X) → i < length xs → x ≡ get_or xs i x → drop i xs ≡ x ∷ drop (suc i) xs
 drop_next [] i x lt is = absurd (omega (arith, lt))

@@ -1,10 +1,9 @@
 //! How many keys of a rule have signed.
-use crate::roles::kind_of;
 use crate::vouching::Vouching;
 use command_support::Fault;
 use drafting::{Look, look_at};
 use keys_roles::{KeyId, RoleRule, meets, signed_count};
-use metadata::{Document, SignedFile};
+use metadata::{Document, Kind, SignedFile};
 use std::alloc::{AllocError, Global};
 use std::fmt;
 
@@ -73,7 +72,7 @@ pub(crate) fn meets_in(
     bytes: &[u8],
 ) -> Result<bool, Fault> {
     let mut meeting = Meeting { rules };
-    Ok(look_at(alloc, kind_of(role), bytes, &mut meeting)?)
+    Ok(look_at(alloc, Kind::of_role(role), bytes, &mut meeting)?)
 }
 
 // Looks whether a document meets rules.

@@ -24,7 +24,7 @@ pub use counting::{Count, count_of, has_signed};
 pub use drafting::name_of_key;
 pub use entries::{signatures_in, without_false_entries};
 pub use key_files::{KEY_FILE_LIMIT, key_in};
-pub use roles::{kind_of, offer_order, sign_order};
+pub use roles::{offer_order, sign_order};
 pub use said::{
     ListedFile, Said, SaidRule, held_said, read_said, read_said_of, typed_kind, version_in,
 };

@@ -1,15 +1,4 @@
-//! The kinds of documents by their roles, and their orders.
-use metadata::Kind;
-
-/// The kind of a role's metadata.
-pub fn kind_of(role: &str) -> Kind {
-    match role {
-        "root" => Kind::Root,
-        "snapshot" => Kind::Snapshot,
-        "timestamp" => Kind::Timestamp,
-        _ => Kind::Targets,
-    }
-}
+//! The orders in which documents are signed and offered, by their roles.
 
 /// Where a role's document stands in the order in which documents are signed: root, targets metadata, snapshot, timestamp.
 pub fn sign_order(role: &str) -> u8 {

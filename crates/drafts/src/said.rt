@@ -1,5 +1,4 @@
 //! What a document says, as far as drafts are about it.
-use crate::roles::kind_of;
 use canonical_json::member;
 use command_support::{Fault, Folder, Notes, expiry_of};
 use drafting::{Look, look_at, version_of};
@@ -45,7 +44,7 @@ pub struct SaidRule {
 
 /// What a role's document says. Bytes that are none are denied by the first check that fails.
 pub fn read_said(alloc: Global, role: &str, bytes: &[u8]) -> Result<Said, Fault> {
-    read_said_of(alloc, kind_of(role), bytes)
+    read_said_of(alloc, Kind::of_role(role), bytes)
 }
 
 /// What a document of a kind says; of a layout the rules of its steps.
@@ -185,13 +184,10 @@ pub(crate) fn delegated_by(body: &Body) -> &[Delegation] {
 
 fn rules_in_root(alloc: Global, root: &Root) -> Result<Vec<SaidRule>, AllocError> {
     let mut rules = Vec::new(alloc);
-    for (role, rule) in [
-        ("root", &root.root),
-        ("targets", &root.targets),
-        ("snapshot", &root.snapshot),
-        ("timestamp", &root.timestamp),
-    ] {
-        rules.push(said_rule(alloc, role, rule)?)?;
+    for role in ["root", "targets", "snapshot", "timestamp"] {
+        if let Some(rule) = root.rule(role) {
+            rules.push(said_rule(alloc, role, rule)?)?;
+        }
     }
     Ok(rules)
 }

@@ -2,7 +2,6 @@
 use crate::chains::{layout_in, links_in};
 use crate::changes::signed_in;
 use crate::counting::{count_of, meets_in};
-use crate::roles::kind_of;
 use crate::said::{Said, read_said_of};
 use crate::vouching::{Vouching, copied, rules_in_roots, vouching_of};
 use command_support::{Fault, Folder, Notes, Slip};
@@ -286,7 +285,7 @@ fn known_of(
 ) -> Result<Vec<Known>, AllocError> {
     let mut list = Vec::new(alloc);
     for role in roles {
-        if kind_of(role.as_str()) == Kind::Targets {
+        if Kind::of_role(role.as_str()) == Kind::Targets {
             let is_drafted = beside.is_some_and(|drafts| drafts
                 .iter()
                 .any(|known| known.role == *role));

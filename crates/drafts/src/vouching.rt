@@ -73,11 +73,8 @@ impl Look for InRoot<'_> {
         let Body::Root(root) = &document.body else {
             return Ok(None);
         };
-        let rule = match self.role {
-            "targets" => &root.targets,
-            "snapshot" => &root.snapshot,
-            "timestamp" => &root.timestamp,
-            _ => &root.root,
+        let Some(rule) = root.rule(self.role) else {
+            return Ok(None);
         };
         let mut vouching = vouching_of(alloc, rule, &root.keys, document.signed)?;
         vouching.held = copied(alloc, self.held.map(signed_in))?;

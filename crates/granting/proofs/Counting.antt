@@ -1,4 +1,4 @@
--- What a request for a target checks in searches, behind its listing.
+-- What a request for a target checks in searches, after its listing.
 use Rattle.std.proofs.Common.{◌≡◌, ◌∙◌, ℕ, ◌+◌, ◌-◌, ◌≤◌, arith, refl, subst, sym}
 use Rattle.metadata.specs.File.{Bytes}
 use Rattle.delegations.specs.Verdicts.{Table}

@@ -28,7 +28,7 @@ use Rattle.granting.proofs.ServedFrom.{none_missing}
 
 -- ---- answers
 
--- a denial in a part of an order is one of the whole, and so is one behind a line that passes
+-- a denial in a part of an order is one of the whole, and so is one after a line that passes
 pub finds_in : {A B X Y : Type 0} {m : Order A} {k : A → Order B} {view : X → A} {wide : Y → B} {f : GetFault} → Finds m view (Err f) → Finds (m >>= k) wide (Err f)
 finds_in (denies h) = denies (decide h)
 finds_in (fails n) = fails n

@@ -37,7 +37,7 @@ pub refused_as : {A X : Type 0} {m : Order A} {view : X → A} {d : orders.Denia
 refused_as h (denies stopped) = denies h
 refused_as h forgoes = forgoes
 
--- what is given behind a line that passes
+-- what is given after a line that passes
 pub gives_behind : {A B X : Type 0} {m : Order A} {f : A → Order B} {view : X → B} (a : A) {r : Result X Refusal} → m (Ok a) → Gives (f a) view r → Gives (m >>= f) view r
 gives_behind a p (gives g) = gives (pass p g)
 gives_behind a p (denies g) = denies (pass p g)

@@ -18,7 +18,7 @@ use Rattle.granting.specs.declared.serving.LoadFault.TheVariants.{Missing}
 use Rattle.granting.specs.declared.serving.GetFault.{GetFault}
 use Rattle.granting.specs.declared.serving.GetFault.TheVariants.{Denied, Load, OutOfMemory}
 
--- a call for the bytes of a digest: bytes that have it stand behind what was there. They are those that are held, and where they are
+-- a call for the bytes of a digest: bytes that have it stand after what was there. They are those that are held, and where they are
 -- missing none are, unless an answer was a wrong one. On a fault, what was there is as before
 abbrev pub Leaves : Type 0 → (Bytes → Bytes → Type 0) → Bytes → Bytes → Result (Unit {0}) LoadFault → Bytes → Type 0
 Leaves honest Holds digest old (Ok _) new = (bytes : Bytes) × (new ≡ old ++ bytes) × (sha256 bytes ≡ digest) × (honest → Holds digest bytes)
@@ -54,7 +54,7 @@ pub record CountsFew (T : Trusted) (known : Table) (path : Bytes) (now old new :
   pub few : (HasLayout T path now → ⊥) → ChecksFew T.root T.snapshot T.shelf known path now (new - old)
   pub free : WantsFew T → new ≡ old
 
--- the denials by what a layout and its links are and say, and by the digest that is asked for, which is judged behind these
+-- the denials by what a layout and its links are and say, and by the digest that is asked for, which is judged after these
 abbrev pub is_by_layout : orders.Denial → Bool
 is_by_layout (orders.Plain n) = (n == no.digest_mismatch) || (nat_le no.layout_shape n && nat_le n no.product_mismatch)
 is_by_layout d = false

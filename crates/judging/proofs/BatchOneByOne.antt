@@ -1,4 +1,4 @@
--- A batch goes on behind each document.
+-- A batch goes on after each document.
 use Rattle.std.proofs.Common.{◌≡◌, ℕ, zero, suc, ◌+◌, ◌<◌, Bool, true, false, cond, not, List, [], ◌∷◌, length, drop, slice_index_or, Result, Ok, Err, refl, sym, ap, ◌∙◌, subst, arith, ◌≤◌, Bor}
 use Rattle.metadata.specs.File.{Bytes}
 use Rattle.denials.specs.Orders as orders
@@ -27,7 +27,7 @@ moved : (U : Trusted) (a b s t i j : ℕ) (os : List (commands.Offer × Bytes)) 
 moved U a b s t i j os now r e f g h =
     subst (λ (n : ℕ). batch_from (so_far U n t) j os now r) e (subst (λ (n : ℕ). batch_from (so_far U a n) j os now r) f (subst (λ (n : ℕ). batch_from (so_far U a s) n os now r) g h))
 
--- behind a document that was taken, or was there
+-- after a document that was taken, or was there
 pub counted_on : (T U : Trusted) (a s i b t j : ℕ) (o : commands.Offer × Bytes) (os : List (commands.Offer × Bytes)) (now : ℕ) (is : Bool) (r : Outcome)
     → b ≡ a + cond is 1 0 → t ≡ s + cond (not is) 1 0 → j ≡ i + 1
     → Ends (offer T o.0 o.1 now) T U (Ok is) → batch_from (so_far U b t) j os now r → batch_from (so_far T a s) i (o ∷ os) now r

@@ -6,7 +6,7 @@ use Rattle.trusted_state.specs.Answers.{Gives, denies, forgoes}
 use Rattle.trusted_state.specs.declared.refusal.Refusal.{Refusal}
 use Rattle.trusted_state.specs.steps.Judging.{Judges, accepts, keeps, rejects, stops}
 
--- behind a line that gave a value, the order is judged as its rest is
+-- after a line that gave a value, the order is judged as its rest is
 pub judged_behind : {A B : Type 0} {m : Order A} {f : A → Order B} {after : B} (a : A) {r : Result Bool Refusal} → m (Ok a) → Judges (f a) after r → Judges (m >>= f) after r
 judged_behind a ok (accepts h) = accepts (pass ok h)
 judged_behind a ok (keeps h) = keeps (pass ok h)

@@ -8,7 +8,7 @@ pub none_left : {A : Type 0} (xs : List A) → length xs ≡ 0 → xs ≡ []
 none_left [] h = refl
 none_left (x ∷ xs) h = absurd (omega (arith, h))
 
--- what the rest is paired with, behind what is paired, is what all are paired with
+-- what the rest is paired with, after what is paired, is what all are paired with
 module _ {A B : Type 0} (R : A → B → Type 0) where
   abbrev pub Paired : List A → List A → List B → Type 0
   Paired all rest done = (more : List B) → AllZip R rest more → AllZip R all (done ++ more)

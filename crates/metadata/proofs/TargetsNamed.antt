@@ -15,7 +15,7 @@ use Rattle.metadata.specs.steps.Entries.{AreNamed, HasIds, IsOwned}
 use Rattle.document_parts.specs.steps.Faults.{IsMisnamed, IsFaulty}
 use Rattle.metadata.specs.steps.Spelled.{spelled_delegations, AreAllOver}
 
--- what holds of each of two lists holds of one behind the other, and the other way round
+-- what holds of each of two lists holds of one after the other, and the other way round
 both : {A : Type 0} (P : A → Type 0) (xs ys : List A) → AllByRecursion P xs → AllByRecursion P ys → AllByRecursion P (xs ++ ys)
 both P [] ys h k = k
 both P (x ∷ xs) ys h k = (h.0, both P xs ys h.1 k)

@@ -76,7 +76,7 @@ pub at_folder_with_slash : (path inner folder : List ℕ) → path ≡ 47 ∷ in
 at_folder_with_slash path inner folder split e is =
     subst (λ (p : List ℕ). FolderPath folder p) (sym (split ∙ ap (λ (l : List ℕ). 47 ∷ l) e)) (below is (inr refl))
 
--- what stands behind the slash of a path
+-- what stands after the slash of a path
 abbrev IsInner : List ℕ → Type 0
 IsInner inner = (inner ≡ []) ⊎ (IsTargetPath inner) ⊎ ((p : List ℕ) × IsTargetPath p × (inner ≡ p ++ (47 ∷ [])))
 

@@ -22,7 +22,7 @@ pub data Authority (host : List ℕ) : ℕ → List ℕ → Type 0 where
 abbrev pub IsEnding : List ℕ → Type 0
 IsEnding text = (text ≡ []) ⊎ (text ≡ codes "/")
 
--- the path of a URL that names a folder by its prefix: the folder at the top, or one below it; a slash may stand behind either
+-- the path of a URL that names a folder by its prefix: the folder at the top, or one below it; a slash may stand after either
 pub data FolderPath : List ℕ → List ℕ → Type 0 where
   top : {ending : List ℕ} → IsEnding ending → FolderPath [] ending
   below : {prefix ending : List ℕ} → IsTargetPath prefix → IsEnding ending → FolderPath prefix (47 ∷ (prefix ++ ending))
@@ -35,7 +35,7 @@ pub record IsMirror (text host : List ℕ) (port : ℕ) (authority prefix : List
   pub is_path : FolderPath prefix path
   pub spelt : text ≡ codes "http://" ++ (authority ++ path)
 
--- the name, behind the first slash of a request's target, of a file in the folder of this prefix
+-- the name, after the first slash of a request's target, of a file in the folder of this prefix
 abbrev pub name_below : List ℕ → List ℕ → List ℕ
 name_below [] name = name
 name_below (b ∷ prefix) name = (b ∷ prefix) ++ (47 ∷ name)

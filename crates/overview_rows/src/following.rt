@@ -1,6 +1,6 @@
 //! What a folder of drafts follows: the documents that a database holds.
 use command_support::{Denial, Fault, Notes, see_database};
-use drafts::{Folder, kind_of, read_said, version_in};
+use drafts::{Folder, read_said, version_in};
 use metadata::{Kind, Moment, read_signed};
 use path_patterns::metadata_name;
 use repository_work::{Command, Reply, Store, Work, worked};
@@ -159,7 +159,7 @@ fn is_held<E: Write>(
         return Ok(false);
     };
     let draft = folder.draft_or_none(role, notes)?;
-    let is_new = kind_of(role) == Kind::Targets && draft == held;
+    let is_new = Kind::of_role(role) == Kind::Targets && draft == held;
     if is_new && folder.draft("root", notes)?.is_some() {
         return Ok(false);
     }

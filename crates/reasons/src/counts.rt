@@ -1,6 +1,6 @@
 //! How many keys of a rule have signed.
 use keys_roles::{KeyTable, RoleRule, signed_count};
-use metadata::{Body, Delegations, Kind, Root, ShapeFault, SignedFile, read_document, read_signed};
+use metadata::{Body, Kind, ShapeFault, SignedFile, read_document, read_signed};
 use std::alloc::{AllocError, Global};
 
 /// How many distinct keys of a rule have signed, and how many it asks for.
@@ -33,34 +33,13 @@ fn counted_by(
     offered: &[u8],
 ) -> Result<Option<Tally>, AllocError> {
     match body {
-        Body::Root(root) => counted_over(alloc, root_rule(root, role), &root.keys, offered),
+        Body::Root(root) => counted_over(alloc, root.rule(role), &root.keys, offered),
         Body::Targets(targets) => match &targets.delegations {
-            Some(found) => counted_over(alloc, delegated_rule(found, role), &found.keys, offered),
+            Some(found) => counted_over(alloc, found.rule(role), &found.keys, offered),
             None => Ok(None),
         },
         _ => Ok(None),
     }
-}
-
-// The root's rule for a role of its own.
-fn root_rule<'a>(root: &'a Root, role: &str) -> Option<&'a RoleRule> {
-    match role {
-        "root" => Some(&root.root),
-        "targets" => Some(&root.targets),
-        "snapshot" => Some(&root.snapshot),
-        "timestamp" => Some(&root.timestamp),
-        _ => None,
-    }
-}
-
-// The rule of the delegation to the role.
-fn delegated_rule<'a>(delegations: &'a Delegations, role: &str) -> Option<&'a RoleRule> {
-    for delegation in &delegations.roles {
-        if delegation.name.as_str() == role {
-            return Some(&delegation.rule);
-        }
-    }
-    None
 }
 
 fn counted_over(

@@ -70,9 +70,9 @@ fn reason_of<H: HeldFiles>(
     bytes: &[u8],
 ) -> Found {
     let found = match question {
-        Question::Length => return place_of(alloc, kind_of(role), bytes),
+        Question::Length => return place_of(alloc, Kind::of_role(role), bytes),
         Question::Shape => {
-            return match place_of(alloc, kind_of(role), bytes)? {
+            return match place_of(alloc, Kind::of_role(role), bytes)? {
                 Some(place) => Ok(Some(format!(in alloc; "at {place}")?)),
                 None => Ok(None),
             };
@@ -86,14 +86,4 @@ fn reason_of<H: HeldFiles>(
         Question::Whole | Question::Other => None,
     };
     worded(alloc, found)
-}
-
-// The kind of a role's documents.
-fn kind_of(role: &str) -> Kind {
-    match role {
-        "root" => Kind::Root,
-        "timestamp" => Kind::Timestamp,
-        "snapshot" => Kind::Snapshot,
-        _ => Kind::Targets,
-    }
 }

@@ -1,7 +1,7 @@
 //! Why what a batch leaves does not belong together.
 use crate::held::HeldFiles;
 use crate::path::Found;
-use crate::standing::{Standing, file_at, listed, named_at, snapshot_at, standing_behind};
+use crate::standing::{Standing, file_at, listed, named_at, snapshot_at, standing_after};
 use std::alloc::Global;
 
 /// The documents that the snapshot lists and that are neither held nor offered, as `missing: tools 3, dev 1`, or the version of the
@@ -11,7 +11,7 @@ pub(crate) fn incoherent<H: HeldFiles>(
     held: &mut H,
     documents: &[(&str, &[u8])],
 ) -> Found {
-    let standing = standing_behind(alloc, held, documents)?;
+    let standing = standing_after(alloc, held, documents)?;
     let Some(named) = named_at(alloc, held, standing) else {
         return Ok(None);
     };

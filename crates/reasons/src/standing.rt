@@ -18,7 +18,7 @@ pub(crate) struct Standing<'a> {
 }
 
 /// What stands after these documents.
-pub(crate) fn standing_behind<'a, H: HeldFiles>(
+pub(crate) fn standing_after<'a, H: HeldFiles>(
     alloc: Global,
     held: &mut H,
     documents: &'a [(&'a str, &'a [u8])],

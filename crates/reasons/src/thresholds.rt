@@ -3,7 +3,7 @@ use crate::counts::{Tally, counted};
 use crate::held::HeldFiles;
 use crate::path::Found;
 use crate::standing::{
-    Standing, file_at, held_root, last_of, listed, named_at, snapshot_at, standing_behind,
+    Standing, file_at, held_root, last_of, listed, named_at, snapshot_at, standing_after,
 };
 use metadata::Kind;
 use std::alloc::{AllocError, Global};
@@ -44,7 +44,7 @@ pub(crate) fn by_delegation<H: HeldFiles>(
     role: &str,
     offered: &[u8],
 ) -> Result<Option<Tally>, AllocError> {
-    let standing = standing_behind(alloc, held, documents)?;
+    let standing = standing_after(alloc, held, documents)?;
     let Some(named) = named_at(alloc, held, standing) else {
         return Ok(None);
     };

@@ -114,7 +114,7 @@ deleted place few sql terms means old new params count has h =
     let a = deletes (followed five further) place here.name (columns_of here.columns) (rowid_of here.key) (primary_of here.key here.uniques) (places_of here.uniques) (tree_from 0 five place) (found_at 0 five further.tables place few) (unreferenced five further place few has.2) old new params _ count _ has.1 w in
     (a.3 ∙ sym has.1, subst (λ (x : Schema). Leaves (tree_from 0 five place) old new x.tables) (sym has.1) a.2.tables)
 
--- so all six are there behind it, and the rows of `root2`
+-- so all six are there after it, and the rows of `root2`
 abbrev pub Stays : State → List Row → Type 0
 Stays s rows = HasSix s.now.schema × AreRows root2_cells (root2_rows s.now.schema s.now.trees) rows
 

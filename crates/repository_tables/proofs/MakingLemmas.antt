@@ -88,12 +88,12 @@ made_bare rows s is bare =
     subst (λ (x : Schema). AreBare (held x s.now.trees)) (sym is.schema_is)
     (held_alone s.now.trees (all_then (λ (t : Table). s.now.trees t.tree ≡ rows t.tree) (λ (t : Table). rows t.tree ≡ []) (λ (t : Table). s.now.trees t.tree ≡ []) the_schema.tables is.holds bare (λ t same none. same ∙ none)))
 
--- ---- `root2` is made behind all that is there
+-- ---- `root2` is made after all that is there
 
 abbrev with_root2 : Schema → Schema
 with_root2 s = created s (table_of root2_table 0)
 
--- a list with one more behind it
+-- a list with one more after it
 
 position_push : {X : Type 0} (p : X → Bool) (at n : ℕ) (xs : List X) (x : X) → n ≡ at + length xs → position_from p at xs ≡ None → p x ≡ true → position_from p at (xs ++ x ∷ []) ≡ Some n
 position_push p at n [] x is none hit = rw hit (ap Some (omega (arith, is)))

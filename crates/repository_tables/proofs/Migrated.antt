@@ -76,7 +76,7 @@ adds_second old new count c is h = record {
 
 -- ---- the roots, one after the other
 
--- the cells with these roots behind those of `root2`
+-- the cells with these roots after those of `root2`
 abbrev pub with_roots : Cells → List (ℕ × (ℕ × List ℕ)) → Cells
 with_roots c roots = record c { root2 = c.root2 ++ map root_row roots }
 

@@ -69,7 +69,7 @@ early_store count old new t is_first same settled some holds early = record {
     lacks false (inl set) h = absurd (let f = set in cc)
     lacks false (inr is) h = absent some is
 
--- ---- the row of `schema` is put behind a look at the tables
+-- ---- the row of `schema` is put after a look at the tables
 
 abbrev pub Begins : ℕ → State → Trees → Type 0
 Begins count s trees = HasSome count s.now.schema → IsTrue s.is_open × AreBare (held s.now.schema s.now.trees) × HoldsWhole trees no_rows

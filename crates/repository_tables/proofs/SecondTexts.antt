@@ -1,4 +1,4 @@
--- What the texts of the migration mean, whatever stands behind the five tables.
+-- What the texts of the migration mean, whatever stands after the five tables.
 use Rattle.std.proofs.Common.{◌≡◌, List, ℕ, pos, [], ◌∷◌, codes, refl}
 use Rattle.sqlite_tied.specs.Compute.{everything}
 use Rattle.sqlite.specs.Listing.{understood}

@@ -1,4 +1,4 @@
--- What the texts mean, whatever stands behind the five tables.
+-- What the texts mean, whatever stands after the five tables.
 use Rattle.std.proofs.Common.{List, ℕ, [], ◌∷◌, codes, refl}
 use Rattle.sqlite_tied.specs.Compute.{everything}
 use Rattle.sql_tables.proofs.Editing.{Means}

@@ -5,7 +5,7 @@ use Rattle.repository_rows.specs.Contents.{Contents}
 use Rattle.repository_tables.specs.declared.change.Change.{Change}
 use Rattle.repository_tables.specs.declared.change.Change.TheVariants.{PutRoot, Emptied, PutTimestamp, PutSnapshot, PutRow, PutBlob, RowGone, BlobGone}
 
--- a put stands behind the rows that are there
+-- a put stands after the rows that are there
 abbrev pub with_root : ℕ × (ℕ × List ℕ) → Contents → Contents
 with_root r t = record t { roots = t.roots ++ r ∷ [] }
 

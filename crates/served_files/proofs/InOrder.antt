@@ -31,7 +31,7 @@ nothing_around : (before later : List ServedFile) (f : ServedFile) → ◌≡◌
 nothing_around [] later f e = absurd (cc)
 nothing_around (x ∷ before) later f e = absurd (cc)
 
--- where a file stands that stands in two lists, one behind the other
+-- where a file stands that stands in two lists, one after the other
 stands_in : (xs ys before later : List ServedFile) (f : ServedFile) → xs ++ ys ≡ before ++ f ∷ later
     → ((rest : List ServedFile) × (xs ≡ before ++ f ∷ rest)) ⊎ ((more : List ServedFile) × (before ≡ xs ++ more) × (ys ≡ more ++ f ∷ later))
 stands_in [] ys before later f e = inr (before, refl, e)
@@ -286,7 +286,7 @@ there before later f = Contains-append_right before (f ∷ later) f (Contains-ap
     first : (x : ServedFile) → Contains (x ∷ []) x
     first x = Contains-push [] x
 
--- behind files of which none is a timestamp comes the timestamp, and nothing more
+-- after files of which none is a timestamp comes the timestamp, and nothing more
 last_of : (xs ys : List ServedFile) (name bytes : Bytes) → NoTimestamp xs → ys ≡ metadata kinds.Timestamp name bytes ∷ []
     → (before later : List ServedFile) (n b : Bytes) → xs ++ ys ≡ before ++ metadata kinds.Timestamp n b ∷ later → later ≡ []
 last_of xs ys name bytes none told before later n b e =

@@ -59,7 +59,7 @@ pub became_one : {V : Type 0} (S : Files → List ServedFile → V → Type 0) (
     → ((files : Files) (told : List ServedFile) → S files told a → S files (told ++ x ∷ []) b) → Became S a b (λ _ more. more ≡ x ∷ [])
 became_one S a b x step = record { so = λ files told at. (x ∷ [], step files told at, refl) }
 
--- a target behind others
+-- a target after others
 pub listed_push : (ls : List Listing) (l : Listing) (xs : List ServedFile) → AreJust (IsListedIn ls) xs
     → AreJust (IsListedIn (ls ++ l ∷ [])) (xs ++ target l.path l.digest ∷ [])
 listed_push ls l xs just = just_both (IsListedIn ls) (λ f. f ≡ target l.path l.digest) (IsListedIn (ls ++ l ∷ [])) xs (target l.path l.digest ∷ []) just
@@ -68,7 +68,7 @@ listed_push ls l xs just = just_both (IsListedIn ls) (λ f. f ≡ target l.path 
     (λ f is. (l, Contains-push ls l, is))
     (λ f is. elim (Contains-push_cases ls l is.0 is.1) [ inl before ↦ inl (is.0, before, is.2) | inr same ↦ inr (subst (λ y. f ≡ target y.path y.digest) (sym same) is.2) ])
 
--- a role behind others
+-- a role after others
 pub roles_push : (files : Files) (rows : List (Bytes × MetaFile)) (role : Bytes) (m : MetaFile) (xs ys : List ServedFile) → AreJust (IsOfRolesIn files rows) xs
     → AreJust (IsOfRole files (dotted m.version role)) ys → AreJust (IsOfRolesIn files (rows ++ (role, m) ∷ [])) (xs ++ ys)
 roles_push files rows role m xs ys just of_role = just_both (IsOfRolesIn files rows) (IsOfRole files (dotted m.version role)) (IsOfRolesIn files (rows ++ (role, m) ∷ [])) xs ys just of_role
@@ -93,7 +93,7 @@ none_listed = just_none (IsListedIn []) (λ f (l, (k, below, is), same). absurd 
 pub none_of_roles : (files : Files) → AreJust (IsOfRolesIn files []) []
 none_of_roles files = just_none (IsOfRolesIn files []) (λ f (role, m, (k, below, is), of_role). absurd (omega arith))
 
--- a listing behind those before the place
+-- a listing after those before the place
 pub listings_more : (items : List code.Listing) (i : ℕ) (x : code.Listing) (xs ys : List ServedFile) → i < length items → x ≡ get_or items i x
     → AreJust (IsListedIn (map listing_view (take i items))) xs → ys ≡ target x.path x.digest.0 ∷ []
     → AreJust (IsListedIn (map listing_view (take (i + 1) items))) (xs ++ ys)
@@ -107,7 +107,7 @@ listings_more items i x xs ys below is just told =
 abbrev pub rows_view : List (Bytes × Meta) → List (Bytes × MetaFile)
 rows_view rows = map (λ e. (e.0, meta_view e.1)) rows
 
--- a role behind those before the place
+-- a role after those before the place
 pub rows_more : (files : Files) (items : List (Bytes × Meta)) (i : ℕ) (x : Bytes × Meta) (xs ys : List ServedFile) → i < length items → x ≡ get_or items i x
     → AreJust (IsOfRolesIn files (rows_view (take i items))) xs → AreJust (IsOfRole files (dotted x.1.version x.0)) ys
     → AreJust (IsOfRolesIn files (rows_view (take (i + 1) items))) (xs ++ ys)
@@ -127,7 +127,7 @@ became_behind S a b c name o P Q found p means = record {
       (rest.0, rest.1, means files rest.0 first.0 rest.2);
 }
 
--- three parts were told, one behind the other
+-- three parts were told, one after the other
 pub became_three : {V : Type 0} (S : Files → List ServedFile → V → Type 0) (a b c d : V) (P Q R T : Files → List ServedFile → Type 0)
     → Became S a b P → Became S b c Q → Became S c d R
     → ((files : Files) (xs ys zs : List ServedFile) → P files xs → Q files ys → R files zs → T files ((xs ++ ys) ++ zs)) → Became S a d T

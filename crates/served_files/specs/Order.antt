@@ -4,7 +4,7 @@ use Rattle.metadata.specs.File.{Bytes}
 use Rattle.document_parts.specs.declared.documents.Kind.TheVariants as kinds
 use Rattle.served_files.specs.Served.{Files, IsHeldFile, IsOfRole, IsOfRoots, IsOfSnapshot, ServedFile, metadata, root_name}
 
--- A client that reads the first of these files may ask for the other one behind it: targets metadata lead to what is of them, a snapshot to
+-- A client that reads the first of these files may ask for the other one after it: targets metadata lead to what is of them, a snapshot to
 -- what is of it, and a root to the later ones, up to the version `last`.
 pub data LeadsTo (files : Files) (last : ℕ) (f g : ServedFile) : Type 0 where
   of_role : (name : Bytes) → IsHeldFile files kinds.Targets name f → IsOfRole files name g → g ≢ f → LeadsTo files last f g

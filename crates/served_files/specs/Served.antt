@@ -37,7 +37,7 @@ pub record Says (files : Files) (kind : Kind) (name : Bytes) (body : Body) : Typ
 abbrev pub IsHeldFile : Files → Kind → Bytes → ServedFile → Type 0
 IsHeldFile files kind name f = (bytes : Bytes) × (files name ≡ Some bytes) × (f ≡ metadata kind name bytes)
 
--- of a root behind the version `after`, from which on each is held up to the last
+-- of a root after the version `after`, from which on each is held up to the last
 pub record IsOfRoots (files : Files) (after last : ℕ) (f : ServedFile) : Type 0 where
   pub version : ℕ
   pub is_behind : after < version

@@ -36,7 +36,7 @@ pub left_early : (trees : Trees) (b : Book) (seed : Seed) (params : Params) (mes
 left_early trees b seed params message (inl before) = (b, inl refl, before)
 left_early trees b seed params message (inr (r, c, does, whole)) = (c, registers_begun b c seed params message r does, whole)
 
--- and of the reservation behind it
+-- and of the reservation after it
 pub left_late : (trees : Trees) (b c : Book) (seed : Seed) (params : Params) (key message : List ℕ) → Registers b seed params (Ok key) c
     → HoldsWhole trees c ⊎ ((r : Result Reserved BookFault) × (d : Book) × Reserves c key message r d × HoldsWhole trees d)
     → (d : Book) × IsBegun b seed params message d × HoldsWhole trees d

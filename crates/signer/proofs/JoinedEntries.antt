@@ -1,4 +1,4 @@
--- Entries behind those of another file, each id once, and their text.
+-- Entries after those of another file, each id once, and their text.
 use Rattle.std.proofs.Common.{◌≡◌, ◌≢◌, ℕ, List, [], ◌∷◌, ◌++◌, Bool, true, false, not, cond, ◌||◌, refl, sym, ap, ◌∙◌, arith, bytes_eq, append_assoc}
 use Rattle.std.specs.List.{AllByRecursion}
 use Rattle.std.proofs.lemmas.List.{append-nil}
@@ -101,7 +101,7 @@ text_both [] fs = refl
 text_both (e ∷ es) fs =
     ap (λ (t : List ℕ). entry_text e.keyid e.sig ++ (44 ∷ t)) (text_both es fs) ∙ sym (append_assoc (entry_text e.keyid e.sig) (44 ∷ entries_text es) (entries_text fs))
 
--- a comma behind each is one between each two, and one more
+-- a comma after each is one between each two, and one more
 with_comma : (e : Signature) (es : List Signature) → entries_text (e ∷ es) ≡ list_text (e ∷ es) ++ 44 ∷ []
 with_comma e [] = refl
 with_comma e (f ∷ es) =

@@ -77,7 +77,7 @@ distinct_more (f ∷ es) e d n = (apart_more f.keyid es e d.0 n.0, distinct_more
 pub distinct_with : (key digits : List ℕ) (es : List Signature) → AreDistinct (ids_of es) → AreDistinct (ids_of (others key es ++ record { keyid = key; sig = digits } ∷ []))
 distinct_with key digits es d = distinct_more (others key es) (record { keyid = key; sig = digits }) (distinct_others key es d) (not_key key es)
 
--- ---- behind them one more
+-- ---- after them one more
 
 pub all_more : (P : Signature → Type 0) (es : List Signature) (e : Signature) → AllByRecursion P es → P e → AllByRecursion P (es ++ e ∷ [])
 all_more P [] e all p = (p, tt)

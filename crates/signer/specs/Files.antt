@@ -22,7 +22,7 @@ use Rattle.signer.specs.declared.faults.SignFileFault.TheVariants.{Denied, Book 
 abbrev pub others : List ℕ → List Signature → List Signature
 others key entries = filter (λ e. not (bytes_eq e.keyid key)) entries
 
--- the same, and behind them an entry of the key, in the place of an older one
+-- the same, and after them an entry of the key, in the place of an older one
 abbrev pub with_signature : List ℕ → List ℕ → List Signature → List Signature
 with_signature key signature entries = others key entries ++ record { keyid = key; sig = encode_lower signature } ∷ []
 

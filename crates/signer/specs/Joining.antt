@@ -21,11 +21,11 @@ has_entry entries key = list_any (λ e. bytes_eq e.keyid key) entries
 abbrev pub missing : List Signature → List Signature → List Signature
 missing entries further = filter (λ e. not (has_entry entries e.keyid)) further
 
--- the entries, and behind them those that they lack
+-- the entries, and after them those that they lack
 abbrev pub joined : List Signature → List Signature → List Signature
 joined entries further = entries ++ missing entries further
 
--- The result has the entries of the first file, and behind them those of the other whose keys have none there, over the part that both
+-- The result has the entries of the first file, and after them those of the other whose keys have none there, over the part that both
 -- have. It is canonical, and within the limits of a file.
 pub record JoinsFiles (file other out : List ℕ) : Type 0 where
   pub entries : List Signature

@@ -36,7 +36,7 @@ IsUnsigned before seed params message UnknownKey after = ⊥
 IsUnsigned before seed params message Database after = IsBegun before seed params message after
 IsUnsigned before seed params message OutOfMemory after = IsBegun before seed params message after
 
--- What a crash inside a call leaves, or one behind it, is the whole database of a book that the call makes.
+-- What a crash inside a call leaves, or one after it, is the whole database of a book that the call makes.
 abbrev pub CrashLeavesOf : State → State → (Book → Type 0) → Type 0
 CrashLeavesOf old new IsMade =
     HasCleanDisk new → IsTrue old.is_open → (trees : Trees) → new.may_leave trees → (c : Book) × IsMade c × HoldsWhole trees c

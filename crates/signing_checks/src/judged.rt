@@ -2,8 +2,7 @@
 use crate::guarding::{Guard, Seen, Signer};
 use command_support::{Denial, Fault, Notes, Slip};
 use drafts::{
-    Folder, Said, TargetsRead, held_said, kind_of, listed_otherwise, read_said, read_said_of,
-    see_link,
+    Folder, Said, TargetsRead, held_said, listed_otherwise, read_said, read_said_of, see_link,
 };
 use judging::{Refusal, follows};
 use metadata::{Kind, Moment, live};
@@ -96,7 +95,7 @@ impl<'a> Judged<'a> {
         match read_said(self.alloc, role, bytes) {
             Ok(said) => self.judge_said(book, role, bytes, &said, notes),
             Err(fault) => {
-                self.tell_place(kind_of(role), role, bytes, notes);
+                self.tell_place(Kind::of_role(role), role, bytes, notes);
                 let name = format!(in self.alloc; "{role}.json")?;
                 Err(self.folder.fault_of(name.as_str(), fault, notes))
             }
@@ -210,7 +209,7 @@ impl<'a> Judged<'a> {
         let Some(held) = self.folder.held(role, notes)? else {
             return Ok(());
         };
-        let denial = match follows(self.alloc, kind_of(role), &held, bytes) {
+        let denial = match follows(self.alloc, Kind::of_role(role), &held, bytes) {
             Ok(true) => return Ok(()),
             Ok(false) => Denial::TimestampRollback,
             Err(Refusal::Denied(denial)) => denial,

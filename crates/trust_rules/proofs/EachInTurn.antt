@@ -6,7 +6,7 @@ use Rattle.std.proofs.Math.Seq.{append_snoc}
 use Rattle.denials.specs.Orders.{Order, Stop, each, decide, given, pass}
 
 module _ {A B : Type 0} (f : A → Order B) where
-  -- what the rest gives stands behind what was given, and what it ends in is what the whole ends in
+  -- what the rest gives stands after what was given, and what it ends in is what the whole ends in
   pub record Follows (whole rest : List A) (done : List B) : Type 0 where
     pub gives : (ys : List B) → each f rest (Ok ys) → each f whole (Ok (done ++ ys))
     pub ends : (s : Stop) → each f rest (Err s) → each f whole (Err s)

@@ -84,7 +84,7 @@ same_name n m a = rw (bytes_itself a) refl
 other_name : (n m : ℕ) (a b : Bytes) → (a ≡ b → ⊥) → same_place (a, n) (b, m) ≡ false
 other_name n m a b none = rw (unlike a b none) refl
 
--- ---- what stands behind a place does not matter
+-- ---- what stands after a place does not matter
 
 alone : {A : Type 0} (xs ys : List (Bytes × A)) (name : Bytes) → look_up ys name ≡ None → look_up (xs ++ ys) name ≡ look_up xs name
 alone [] ys name h = h

@@ -1,4 +1,4 @@
--- What is found by a name in two lists, one behind the other.
+-- What is found by a name in two lists, one after the other.
 use Rattle.std.proofs.Common.{◌≡◌, List, [], ◌∷◌, ◌++◌, Some, None, refl}
 use Rattle.std.specs.Prelude.{bytes_eq}
 use Rattle.keys_roles.specs.Plain.{look_up}

@@ -29,7 +29,7 @@ pub ends_in : {A X : Type 0} {m : Order A} {f : A → Order Trusted} {view : X �
 ends_in (denies g) = ends (decide g)
 ends_in forgoes = gives_up
 
--- and so is one behind a line that passes
+-- and so is one after a line that passes
 pub denied_behind : {A B Y : Type 0} {m : Order A} {f : A → Order B} {wide : Y → B} (a : A) {r : Refusal} → m (Ok a) → Gives (f a) wide (Err r) → Gives (m >>= f) wide (Err r)
 denied_behind a p (denies g) = denies (pass p g)
 denied_behind a p forgoes = forgoes
@@ -86,7 +86,7 @@ pub kept_same : {A : Type 0} {m : Order A} {given : A} {b : Bool} → b ≡ fals
 kept_same e (keeps g) = g
 kept_same e (accepts g) = absurd (subst (λ (b : Bool). cond b (Unit {0}) ⊥) e tt)
 
--- what is left behind a new root
+-- what is left after a new root
 pub by_rotation : {T : Trusted} {old new : File Root} (keeps : Bool) → (IsTrue keeps → KeepsRoles old.body new.body) × (KeepsRoles old.body new.body → IsTrue keeps)
     → after_root T old new (Ok (cond keeps (with_root T new) (emptied (with_root T new))))
 by_rotation true h = kept (yes h)

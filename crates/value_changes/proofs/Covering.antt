@@ -13,7 +13,7 @@ use Rattle.value_changes.proofs.Places.{same_differs_nowhere, empty_when_same, s
 abbrev pub behind : Step → Change → Change
 behind s c = record c { place = s ∷ c.place }
 
--- the entries are the changes of these parts, behind their steps
+-- the entries are the changes of these parts, after their steps
 pub record ChangesOf (turns : List Turn) (ds : List Change) : Type 0 where
   pub sound : (d : Change) → Has ds d → (t : Turn) × (c : Change) × Has turns t × IsChange t.one t.other c × (d ≡ behind t.step c)
   pub complete : (t : Turn) (c : Change) → Has turns t → IsChange t.one t.other c → Has ds (behind t.step c)
@@ -115,7 +115,7 @@ module _ (one other : Option Json) (turns : List Turn) (ds : List Change) (v : C
 
 -- ---- what a walk has added
 
--- the changes so far, and behind them those of these parts of what stands at this place
+-- the changes so far, and after them those of these parts of what stands at this place
 pub record PartsTold (turns : List Turn) (front : List Step) (old new : List Change) : Type 0 where
   pub more : List Change
   pub changes : ChangesOf turns more

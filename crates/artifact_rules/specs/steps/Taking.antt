@@ -15,7 +15,7 @@ IsDeleted link path = Lists link.materials path × (Lists link.products path →
 abbrev pub IsChanged : Link → List ℕ → Type 0
 IsChanged link path = (d : List ℕ) × (e : List ℕ) × HasDigest link.materials path d × HasDigest link.products path e × (d ≢ e)
 
--- the pattern matches what stands behind the folder in the path
+-- the pattern matches what stands after the folder in the path
 abbrev pub Concerns : Match → List ℕ → Type 0
 Concerns m path = (rest : List ℕ) × (path ≡ path_in m.from rest) × MatchesFlat m.pattern rest
 

@@ -1,4 +1,4 @@
--- One round of an update's roots, and one of a fetch: how the whole ends, or that the rest behind it makes the whole.
+-- One round of an update's roots, and one of a fetch: how the whole ends, or that the rest after it makes the whole.
 use Rattle.std.specs.Prelude.{◌≡◌, ◌≤◌, ℕ, suc, Bool, true, false, length, Option, Some, None, Result, Ok, Err}
 use Rattle.std.proofs.Common.{Vec, Global}
 use Rattle.metadata.specs.File.{Bytes, Names}
@@ -17,7 +17,7 @@ RootTaken {Src} A B gives now s t (Ok true) =
 RootTaken A B gives now s t (Ok false) = Changes A B (λ C D. (n : ℕ) → TakesRoots gives now (suc n) s C t D (Ok tt))
 RootTaken A B gives now s t (Err fault) = Changes A B (λ C D. (n : ℕ) → TakesRoots gives now (suc n) s C t D (Err (fault_view fault)))
 
--- a file was taken, whatever the rest behind one name more comes to, wherever the store then stands
+-- a file was taken, whatever the rest after one name more comes to, wherever the store then stands
 pub record GoesOn {Src : Type 0} (A B : Standing) (gives : Gives Src) (now : ℕ) (path : Bytes) (names more : Names) (s t : Src) : Type 0 where
   pub grows : length more ≡ suc (length names)
   pub few : length more ≤ 194

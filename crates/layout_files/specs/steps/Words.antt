@@ -1,4 +1,4 @@
--- Which words of a rule stand behind which.
+-- Which words of a rule stand after which.
 use Rattle.std.specs.Prelude.{◌≡◌, ℕ, List, ◌∷◌, codes, Option, Some, None}
 use Rattle.path_patterns.specs.Grammar.{IsPattern, IsName}
 use Rattle.document_parts.specs.Rules.{Side, Match, IsFolder}

@@ -35,6 +35,6 @@ bare_cells = record { root = []; current = []; shelf = []; blob = []; version = 
 abbrev pub first_cells : Contents → Cells
 first_cells t = record (cells_of t) { root = map first_row t.roots; version = version_row 1 ∷ []; root2 = [] }
 
--- the rows of schema 2 in the place of those of schema 1, with these roots behind those of `root2`
+-- the rows of schema 2 in the place of those of schema 1, with these roots after those of `root2`
 abbrev pub brought : Cells → List (ℕ × (ℕ × List ℕ)) → Cells
 brought c roots = record c { root = []; version = version_row 2 ∷ []; root2 = c.root2 ++ map root_row roots }

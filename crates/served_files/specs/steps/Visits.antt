@@ -58,7 +58,7 @@ abbrev pub TellsRoot : Files → ℕ → Bool → List ServedFile → Type 0
 TellsRoot files version true more = (bytes : Bytes) × (files (root_name version) ≡ Some bytes) × (more ≡ metadata kinds.Root (root_name version) bytes ∷ [])
 TellsRoot files version false more = (files (root_name version) ≡ None) × (more ≡ [])
 
--- the roots behind the version, each of which is held
+-- the roots after the version, each of which is held
 pub record TellsRoots (files : Files) (after last : ℕ) (more : List ServedFile) : Type 0 where
   pub are_just : AreJust (IsOfRoots files after last) more
   pub are_held : (v : ℕ) → after < v → v ≤ last → IsSome (files (root_name v))

@@ -6,12 +6,12 @@ use Rattle.keys_roles.specs.Plain.{Signature}
 abbrev pub entry_text : List ℕ → List ℕ → List ℕ
 entry_text key digits = codes "{\"keyid\":\"" ++ (key ++ (codes "\",\"sig\":\"" ++ (digits ++ codes "\"}")))
 
--- each entry with a comma behind it
+-- each entry with a comma after it
 abbrev pub entries_text : List Signature → List ℕ
 entries_text [] = []
 entries_text (e ∷ es) = entry_text e.keyid e.sig ++ (44 ∷ entries_text es)
 
--- these entries, and one more behind them, over the signed part
+-- these entries, and one more after them, over the signed part
 abbrev pub parts_text : List Signature → List ℕ → List ℕ → List ℕ → List ℕ
 parts_text entries key digits signed =
     codes "{\"signatures\":[" ++ (entries_text entries ++ (entry_text key digits ++ (codes "],\"signed\":" ++ (signed ++ codes "}"))))

@@ -16,7 +16,7 @@ new_roots last (root ∷ roots) = (last - length roots, (profile_number root.bod
 abbrev pub last_version : List (File Root) → ℕ
 last_version roots = unwrap_or (option_map (λ root. root.body.version) (last_or None roots)) 0
 
--- what changes make of rows: new ones stand behind those that are there
+-- what changes make of rows: new ones stand after those that are there
 abbrev pub more_roots : List (ℕ × (ℕ × Bytes)) → Contents → Contents
 more_roots new t = record t { roots = t.roots ++ new }
 

@@ -7,7 +7,7 @@ use Rattle.value_changes.specs.Changes.{Step, Change, AreChanges}
 abbrev pub below : List Step → Change → Change
 below front c = record c { place = front ++ c.place }
 
--- the changes so far, and behind them those of what stands at this place
+-- the changes so far, and after them those of what stands at this place
 pub record Told (one other : Option Json) (front : List Step) (old new : List Change) : Type 0 where
   pub more : List Change
   pub changes : AreChanges one other more

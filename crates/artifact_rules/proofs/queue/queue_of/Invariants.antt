@@ -4,7 +4,7 @@ use Rattle.artifact_rules.specs.Views.{links_view}
 use Rattle.artifact_rules.specs.steps.Queue.{IsQueue, Queue, queue_view}
 use Rattle.artifact_rules.proofs.queue.queue_of.Given as goal
 
--- what the rest is queued as, behind what is queued, is what all rows are
+-- what the rest is queued as, after what is queued, is what all rows are
 abbrev pub invariant-rows : goal.invariant-rows
 invariant-rows l =
     let Queued = IsQueue (side_view l.judged.side) (link_view l.judged.link.now) (links_view l.judged.links.now) (map rule_view l.fn.rules) in

@@ -7,7 +7,7 @@ use Rattle.client.specs.Session.{Fetches}
 use Rattle.client.specs.Views.{Fault}
 use Rattle.client.proofs.fetching.rounds.Given as goal
 
--- whatever the rest of the call comes to, behind the names that were fetched, the whole comes to
+-- whatever the rest of the call comes to, after the names that were fetched, the whole comes to
 abbrev pub invariant-rounds : goal.invariant-rounds
 invariant-rounds g l = record {
   few : vec_len l.names ≤ 194;

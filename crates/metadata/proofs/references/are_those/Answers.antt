@@ -9,7 +9,7 @@ use Rattle.document_parts.proofs.Elements.{none_left}
 use Rattle.document_parts.proofs.Found.{no_names}
 use Rattle.metadata.proofs.references.are_those.Goals as goal
 
--- what the members behind the first four are called
+-- what the members after the first four are called
 behind_first : (all rest : List (List ℕ)) → all ≡ first_members ++ rest → all ≡ reference_members → rest ≡ last_members
 behind_first all rest is h =
     let e : first_members ++ rest ≡ reference_members = sym is ∙ h in

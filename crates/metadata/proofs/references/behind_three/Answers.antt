@@ -3,7 +3,7 @@ use Rattle.canonical_json.specs.Json.{names}
 use Rattle.canonical_json.specs.View.{members_view}
 use Rattle.metadata.proofs.references.behind_three.Goals as goal
 
--- what the members behind two are called
+-- what the members after two are called
 behind_two : (a b : List ℕ) (all rest later ns : List (List ℕ)) → all ≡ a ∷ rest → rest ≡ b ∷ later → all ≡ a ∷ b ∷ ns → later ≡ ns
 behind_two a b all rest later ns first second h =
     let e : a ∷ rest ≡ a ∷ b ∷ ns = sym first ∙ h in
