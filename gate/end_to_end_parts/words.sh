@@ -55,7 +55,7 @@ the_help_is_printed() {
     done
     helps --count serve --help
     helps 'release prune --db' help prune
-    version=$(sed -n 's/^pub const VERSION: &str = "\(.*\)";$/\1/p' crates/command_words/src/texts.rt)
+    version=$(sed -n 's/^pub const VERSION: &str = "\(.*\)";$/\1/p' crates/cli_words/src/texts.rt)
     [ "$(grep -m 1 -o '^## [0-9.]*' CHANGELOG.md)" = "## $version" ] || fail "the newest changes are not those of $version"
     case $release in */unproved/*) version+=', NOT PROVED' ;; esac
     wants 0 "release $version\n" '' --version

@@ -6,11 +6,11 @@ use Rattle.trust_rules.specs.Runs as runs
 use Rattle.store.specs.Applies.{Replies}
 use Rattle.store.specs.Views.{reply_view}
 use Rattle.store.specs.declared.command.Reply.{Reply}
-use Rattle.command_support.specs.declared.fault.Fault.{Fault}
-use Rattle.command_support.specs.Statuses.{status_of}
-use Rattle.repository_work.specs.Faults.{refused_of}
-use Rattle.repository_work.specs.Works.{Ends, EndsBy, IsReply}
-use Rattle.repository_work.proofs.Ending.{ends, printed, refused_by}
+use Rattle.cli_faults.specs.declared.fault.Fault.{Fault}
+use Rattle.cli_faults.specs.Statuses.{status_of}
+use Rattle.cli_repository.specs.Faults.{refused_of}
+use Rattle.cli_repository.specs.Works.{Ends, EndsBy, IsReply}
+use Rattle.cli_repository.proofs.Ending.{ends, printed, refused_by}
 
 -- a reply to such a command is always that of the step
 abbrev pub IsPlain : runs.Command → ℕ → Type 1

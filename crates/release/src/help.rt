@@ -1,7 +1,7 @@
 //! What help has besides that of `clap`: `help N` and `help NAME`, what a denial says and what to do next; and the pages that are made from the
 //! table of the subcommands.
-use completion::page;
-use denial_help::asked;
+use cli_completion::page;
+use cli_denial_help::asked;
 use std::alloc::{AllocError, Global};
 
 /// What `help N` and `help NAME` print, where a denial has this number or this name: the line with which a command is denied so, and the

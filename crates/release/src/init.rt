@@ -1,14 +1,14 @@
 //! `init`: begins the trust with a first root.
 ghost use Rattle.std.specs.Prelude.{◌≡◌};
 ghost use Rattle.trust_rules.specs.Runs.{Begun, Init};
-ghost use Rattle.repository_work.specs.Works.{Ends};
+ghost use Rattle.cli_repository.specs.Works.{Ends};
 
-use command_support::{FILE_LIMIT, Fault, Notes, moment, print, read_at_most};
+use cli_faults::{Fault, Notes, moment};
+use cli_files::{FILE_LIMIT, print, read_at_most};
+use cli_repository::{applied, refused, tell_first_root};
 use metadata::Moment;
-use repository_work::{applied, refused};
 use std::io::Write;
 use store::{Command, Reply};
-use subcommands::tell_first_root;
 
 /// Begins the trust of the repository in the database file with the root metadata in the other file, and prints `begun`.
 pub fn init<O: Write, E: Write>(

@@ -11,7 +11,7 @@ mod run;
 mod serve;
 mod trusting;
 
-use command_support::Fault;
+use cli_faults::Fault;
 use run::{report, run};
 use std::env::{self, Env};
 use std::io;

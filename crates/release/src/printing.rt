@@ -1,8 +1,9 @@
 //! What a subcommand prints of what was done.
 ghost use Rattle.std.specs.Prelude.{◌≡◌, IfErr};
-ghost use Rattle.command_support.specs.Statuses.{status_of};
+ghost use Rattle.cli_faults.specs.Statuses.{status_of};
 
-use command_support::{Fault, Notes, print};
+use cli_faults::{Fault, Notes};
+use cli_files::print;
 use std::io::Write;
 
 /// Prints these bytes as a line. A write that fails is a fault of a file.

@@ -1,15 +1,15 @@
 //! `prune`: takes away what the listed documents do not ask for.
 ghost use Rattle.std.specs.Prelude.{◌≡◌, ℕ};
 ghost use Rattle.trust_rules.specs.Runs.{Prune, Pruned};
-ghost use Rattle.repository_work.specs.Works.{Ends};
+ghost use Rattle.cli_repository.specs.Works.{Ends};
 
 use crate::printing::print_line;
-use client_commands::prune_at;
-use command_line::Place;
-use command_support::{Fault, Notes, moment};
+use cli_client::prune_at;
+use cli_faults::{Fault, Notes, moment};
+use cli_repository::{applied, refused};
+use cli_tasks::Place;
 use http_messages::pruned_body;
 use metadata::Moment;
-use repository_work::{applied, refused};
 use std::io::Write;
 use store::{Command, Reply};
 

@@ -2,22 +2,24 @@
 ghost use Rattle.std.specs.Prelude.{◌≡◌, ℕ};
 ghost use Rattle.trust_rules.specs.Runs.{BatchDone};
 ghost use Rattle.store.specs.Views.{command_view, reply_view};
-ghost use Rattle.repository_work.specs.Works.{Ends, EndsBy};
+ghost use Rattle.cli_repository.specs.Works.{Ends, EndsBy};
 
 use crate::printing::print_line;
-use authoring::{Drafted, complete_batch_in, empty, waiting_files};
-use client_commands::publish_at;
-use command_line::Place;
-use command_support::{Fault, Notes, moment};
-use drafts::Folder;
+use cli_client::publish_at;
+use cli_drafts::{Drafted, complete_batch_in, empty, waiting_files};
+use cli_faults::{Fault, Notes, moment};
+use cli_repository::{
+    Batch, Holding, Waiting, Work, batch_of, documents_of, fault_of_store, read_all, refused,
+    tell_argument, worked,
+};
+use cli_tasks::Place;
+use draft_folder::Folder;
 use http_messages::accepted_body;
 use metadata::Moment;
-use repository_work::{Work, fault_of_store, refused, worked};
 use sqlite::Alter;
 use std::alloc::Global;
 use std::io::Write;
 use store::{Command, Digest, Reply, Store};
-use subcommands::{Batch, Holding, Waiting, batch_of, documents_of, read_all, tell_argument};
 
 /// Offers the documents to the repository in the database file or at the port, and prints how many were accepted and how many were
 /// held already. Each argument is a role's name, a colon and a file.
@@ -202,7 +204,7 @@ struct Offering<'a> {
 impl Work for Offering<'_> {
     ghost use Rattle.store.specs.Views.{command_view};
     ghost use Rattle.store.specs.declared.command.Command.TheVariants.{Batch};
-    ghost use Rattle.repository_work.specs.Works.{MakesOne};
+    ghost use Rattle.cli_repository.specs.Works.{MakesOne};
 
     type Done = Reply;
 

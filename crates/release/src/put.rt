@@ -2,15 +2,16 @@
 ghost use Rattle.std.specs.Prelude.{◌≡◌, Bool};
 ghost use Rattle.sha2.specs.Sha256.{sha256};
 ghost use Rattle.trust_rules.specs.Runs.{PutBlob, Stored};
-ghost use Rattle.repository_work.specs.Works.{Ends};
+ghost use Rattle.cli_repository.specs.Works.{Ends};
 
 use crate::printing::print_line;
-use client_commands::put_at;
-use command_line::Place;
-use command_support::{Fault, Notes, moment, read_at_most};
+use cli_client::put_at;
+use cli_faults::{Fault, Notes, moment};
+use cli_files::read_at_most;
+use cli_repository::{applied, refused};
+use cli_tasks::Place;
 use http_messages::BLOB_LIMIT;
 use metadata::{Moment, digest_of};
-use repository_work::{applied, refused};
 use std::io::Write;
 use store::{Command, Reply};
 

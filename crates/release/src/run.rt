@@ -1,6 +1,6 @@
 //! A command from its words to its exit status.
 ghost use Rattle.std.specs.Prelude.{◌≡◌, ◌≤◌, MatchResult};
-ghost use Rattle.command_support.specs.Statuses.{EndsWith, status_of};
+ghost use Rattle.cli_faults.specs.Statuses.{EndsWith, status_of};
 
 use crate::help::{denial_asked, page_asked};
 use crate::init::init;
@@ -9,13 +9,14 @@ use crate::publish::{publish, publish_in_folder};
 use crate::put::put;
 use crate::serve::serve;
 use crate::trusting::TrustedRoot;
-use authoring::{draft, show};
-use client_commands::{get, update};
-use command_line::{FolderSigning, Showing, Subcommand, Task, task};
-use command_support::{Fault, Notes, moment, print, read};
-use exporting::export;
+use cli_client::{get, update};
+use cli_drafts::{draft, show};
+use cli_export::export;
+use cli_faults::{Fault, Notes, moment};
+use cli_files::{print, read};
+use cli_sign::{NewKey, leaves_of, make_keys, print_key, print_public_key, sign, sign_in};
+use cli_tasks::{FolderSigning, Showing, Subcommand, Task, task};
 use loose_json::canon;
-use signing_commands::{NewKey, leaves_of, make_keys, print_key, print_public_key, sign, sign_in};
 use std::io::Write;
 
 /// Does what the words ask for. What it prints goes to `out`, why it was not done to `err`, and the exit status is

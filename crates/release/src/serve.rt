@@ -3,20 +3,20 @@ ghost use Rattle.sqlite.specs.Held.{state};
 ghost use Rattle.store.specs.Standing.{seen};
 ghost use Rattle.release.specs.Serving.{ServedOver};
 
-use command_line::Serving;
-use command_support::{Fault, Notes, moment, print};
-use connections::{
+use cli_faults::{Fault, Notes, moment};
+use cli_files::print;
+use cli_repository::{Work, tell_standing, worked};
+use cli_sockets::{
     Beginning, Incoming, Outgoing, Timer, end, listen, next_stream, tell_connection,
 };
+use cli_tasks::Serving;
 use http_serve::{Answer, Routes, Status, serve_list_reading, serve_list_told, serve_unavailable};
 use metadata::Moment;
-use repository_work::{Work, worked};
 use sqlite::Alter;
 use std::io::Write;
 use std::net::{TcpListener, TcpStream};
 use std::slice;
 use store::Store;
-use subcommands::tell_standing;
 
 /// Listens, says so, and serves one connection at a time. Each connection has its own moment. A database that a fault has
 /// shut is opened again before the next connection is served.

@@ -1,11 +1,12 @@
 //! The root by which what a folder of drafts holds is judged before it is signed over: from a file, or from a repository.
-use client_commands::root_at;
-use command_line::Anchor as From;
-use command_support::{FILE_LIMIT, Fault, Notes, moment, read_at_most, see_database};
-use drafts::{Folder, version_in};
+use cli_client::root_at;
+use cli_faults::{Fault, Notes, moment};
+use cli_files::{FILE_LIMIT, read_at_most, see_database};
+use cli_repository::{Work, worked};
+use cli_sign::{Anchor, Anchoring};
+use cli_tasks::Anchor as From;
+use draft_folder::{Folder, version_in};
 use metadata::Moment;
-use repository_work::{Work, worked};
-use signing_commands::{Anchor, Anchoring};
 use sqlite::Alter;
 use std::alloc::Global;
 use std::io::Write;
@@ -134,7 +135,7 @@ impl Work for Finding {
         match repository.apply(Command::Metadata(name.as_str()), self.now) {
             Ok(Reply::Bytes(root)) => Ok(Some(root)),
             Ok(_) => Ok(None),
-            Err(fault) => Err(repository_work::fault_of_store(fault)),
+            Err(fault) => Err(cli_repository::fault_of_store(fault)),
         }
     }
 }

@@ -2,8 +2,8 @@ use Rattle.std.proofs.Common.{◌≡◌, ℕ}
 use Rattle.trust_rules.specs.Runs.{BatchDone, Reply}
 use Rattle.store.specs.Views.{command_view}
 use Rattle.store.specs.declared.command.Command.TheVariants.{Batch}
-use Rattle.repository_work.proofs.Doing.{answered}
-use Rattle.repository_work.proofs.Ending.{unmade}
+use Rattle.cli_repository.proofs.Doing.{answered}
+use Rattle.cli_repository.proofs.Ending.{unmade}
 use Rattle.release.proofs.Ending.{ended}
 use Rattle.release.proofs.publish.offer.Goals as goal
 

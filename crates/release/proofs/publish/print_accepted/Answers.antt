@@ -1,6 +1,6 @@
 use Rattle.std.proofs.Common.{◌≡◌, ℕ, refl}
 use Rattle.trust_rules.specs.Runs.{BatchDone, Reply}
-use Rattle.repository_work.proofs.Ending.{printed}
+use Rattle.cli_repository.proofs.Ending.{printed}
 use Rattle.release.proofs.publish.print_accepted.Goals as goal
 
 abbrev IsDone : Reply → Type 0

@@ -1,6 +1,6 @@
 use Rattle.std.proofs.Common.{◌≡◌, Bool, List, ℕ, Err, refl, subst}
 use Rattle.trust_rules.specs.Runs.{PutBlob, Reply, Stored}
-use Rattle.repository_work.specs.Works.{Ends}
+use Rattle.cli_repository.specs.Works.{Ends}
 use Rattle.release.proofs.Ending.{printed_ends, refused_ends}
 use Rattle.release.proofs.put.put_now.Goals as goal
 

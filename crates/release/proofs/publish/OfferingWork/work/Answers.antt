@@ -1,6 +1,6 @@
 use Rattle.store.specs.Views.{command_view}
 use Rattle.store.specs.declared.command.Command.TheVariants.{Batch}
-use Rattle.repository_work.proofs.Doing.{unmade}
+use Rattle.cli_repository.proofs.Doing.{unmade}
 use Rattle.release.proofs.publish.OfferingWork.work.Goals as goal
 
 pub returns-in-Err : goal.returns-in-Err

@@ -1,0 +1,3 @@
+pub mod Doing
+pub mod Ending
+pub mod Offering

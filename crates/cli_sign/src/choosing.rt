@@ -1,0 +1,66 @@
+//! How a key stands to a message, by which one of several is chosen.
+use crate::books::BookWork;
+use crate::files::PublicHalf;
+use crate::leaves::{trees_of, used_in};
+use cli_faults::{Fault, Notes};
+use leaf_plans::leaf_for;
+use lms::Params;
+use signer::Book;
+use sqlite::Alter;
+use std::alloc::Global;
+use std::io::Write;
+
+/// How a key stands to a message.
+#[derive(Clone, Copy)]
+pub enum Standing {
+    /// Its book keeps a leaf for the message: signed again, it gets this one.
+    Keeps,
+    /// It has a leaf left.
+    HasLeaf,
+    /// All its leaves are kept for other messages.
+    Spent,
+}
+
+/// Asks a book how its key stands to a message.
+#[derive(Clone, Copy)]
+pub struct Asking<'a> {
+    pub alloc: Global,
+    pub half: &'a PublicHalf,
+    pub lower: Option<Params>,
+    pub message: &'a [u8],
+}
+
+impl BookWork for Asking<'_> {
+    type Done = Standing;
+
+    fn work<S: Alter, E: Write>(
+        &mut self,
+        book: &mut Book<S>,
+        _is_new: bool,
+        _notes: &mut Notes<'_, E>,
+    ) -> Result<Standing, Fault> {
+        if self.is_kept(book)? {
+            return Ok(Standing::Keeps);
+        }
+        let (used, most) = used_in(self.alloc, book, self.half, self.lower)?;
+        if used < most {
+            Ok(Standing::HasLeaf)
+        } else {
+            Ok(Standing::Spent)
+        }
+    }
+}
+
+impl Asking<'_> {
+    // Whether a tree of the key keeps a leaf for the message.
+    fn is_kept<S: Alter>(&self, book: &Book<S>) -> Result<bool, Fault> {
+        for tree in &trees_of(self.alloc, book, self.half)? {
+            if let Some(key) = tree {
+                if leaf_for(book.kept(), key, self.message).is_some() {
+                    return Ok(true);
+                }
+            }
+        }
+        Ok(false)
+    }
+}

@@ -1,6 +1,0 @@
-use Rattle.store.specs.Views.{command_view}
-use Rattle.repository_work.proofs.Doing.{unmade}
-use Rattle.repository_work.proofs.repository.MakingWork.work.Goals as goal
-
-pub returns-in-Err : goal.returns-in-Err
-returns-in-Err g c = rw c.fault_of_store.ensures (unmade _ _ (command_view c.args.self.now.command) c.args.self.now.now _ c.in-Err.ensures.makes)

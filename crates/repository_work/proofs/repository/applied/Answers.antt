@@ -1,6 +1,0 @@
-use Rattle.store.specs.Views.{command_view}
-use Rattle.repository_work.proofs.Doing.{answered}
-use Rattle.repository_work.proofs.repository.applied.Goals as goal
-
-pub returns : goal.returns
-returns g c = answered (command_view c.args.command) c.args.now _ _ _ _ (λ A B q v d. d) c.worked.ensures

@@ -1,5 +1,0 @@
-use Rattle.repository_work.proofs.Doing.{store_other}
-use Rattle.repository_work.proofs.repository.opened.Goals as goal
-
-pub returns-after-has_others : goal.returns-after-has_others
-returns-after-has_others g c = rw c.fault_of_store.ensures (store_other _)
