@@ -19,7 +19,7 @@ verdicts_that_end_early() {
 beside=()
 start_beside() {
     local name
-    for name in gate/peers.py gate/answers.py gate/clients.py gate/clock.py gate/full_disk.py gate/changed.py gate/signatures.py gate/one_time_keys.py gate/hostile_folders.py gate/levels.py gate/cut.py deploy/try; do
+    for name in gate/peers.py gate/answers.py gate/clients.py gate/clock.py gate/full_disk.py gate/changed.py gate/signatures.py gate/one_time_keys.py gate/hostile_folders.py gate/levels.py gate/cut.py gate/in_toto_verifier.py deploy/try; do
         run_beside "$name" &
         beside+=("$!:$name")
     done

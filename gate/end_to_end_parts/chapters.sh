@@ -134,6 +134,34 @@ the_outside_chapter() {
     checks=$((checks + 1))
 }
 
+# A statement of in-toto's in an envelope stands for what a build service signs. It has a signature of no key: what is tried is that it comes to the
+# client as it is, next to the file whose digest it has.
+the_attestations_chapter() {
+    local attested=$folder/attested
+    mkdir "$attested"
+    echo 'echo hello' | gzip -n -c >"$attested/tool.gz"
+    cat >"$attested/attest" <<'PYTHON'
+#!/usr/bin/env python3
+import base64, hashlib, json, sys
+digest = hashlib.sha256(open(sys.argv[1], "rb").read()).hexdigest()
+subject = [{"name": sys.argv[1], "digest": {"sha256": digest}}]
+statement = {"_type": "https://in-toto.io/Statement/v1", "subject": subject, "predicateType": "https://slsa.dev/provenance/v1", "predicate": {}}
+payload = base64.b64encode(json.dumps(statement).encode()).decode()
+print(json.dumps({"payloadType": "application/vnd.in-toto+json", "payload": payload, "signatures": [{"sig": ""}]}))
+PYTHON
+    cat >"$attested/verify-attestation" <<'PYTHON'
+#!/usr/bin/env python3
+import base64, hashlib, json, sys
+statement = json.loads(base64.b64decode(json.load(open(sys.argv[2]))["payload"]))
+digest = hashlib.sha256(open(sys.argv[1], "rb").read()).hexdigest()
+sys.exit("another file" if statement["subject"][0]["digest"]["sha256"] != digest else print("attested"))
+PYTHON
+    chmod +x "$attested/attest" "$attested/verify-attestation"
+    chapter attestations "$attested" OPERATING.md
+    [ "$(tail -n 1 "$attested/out")" = attested ] || fail "the chapter on attestations: $(cat "$attested/out")"
+    same "the envelope that a client gets" "$attested/tool.gz.intoto.jsonl" "$attested/got.intoto.jsonl"
+}
+
 # Two machines, which are two folders here, each with a key of its own for the timestamp, and a third key that is used next.
 the_machines_chapter() {
     local machines=$folder/machines
