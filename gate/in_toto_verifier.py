@@ -3,7 +3,8 @@
 
     gate/in_toto_verifier.py [RELEASE]       the program, out/release where none is named
 
-It needs Python's packages in_toto 1.3.1 and securesystemslib, which Debian 12 has as 'in-toto', and ends with status 0 where they are missing.
+It needs in-toto 1.3.1 and securesystemslib, which Debian 12 has as 'in-toto', in the Python that runs it. Where they are missing, or of another
+version, it says 'skipped: ' and why, and ends with status 0: it installs nothing.
 
 A layout of two steps is drafted, of which the first asks for links by two keys, and three links. What in-toto's verifier does of itself is to pass:
 signatures over the bytes that it makes of the files, the expiry, the links of each step, that they agree, and all artifact rules. And it is to refuse
@@ -34,6 +35,8 @@ sys.path.insert(0, os.path.join(TOP, "model"))
 import canonical_json
 import lms
 
+VERSION = "1.3.1"
+
 try:
     import securesystemslib.formats
     import securesystemslib.keys
@@ -44,7 +47,7 @@ try:
     from securesystemslib.schema import String
     from securesystemslib.signer import KEY_FOR_TYPE_AND_SCHEME, Key, Signature
 except ImportError as missing:
-    print(f"skipped: {missing}; install in-toto 1.3.1 with securesystemslib ('apt-get install in-toto' in Debian 12), and run this by the Python that has them")
+    print(f"skipped: {missing}; in-toto {VERSION} with securesystemslib is wanted ('apt-get install in-toto' in Debian 12), in the Python that runs this")
     sys.exit(0)
 
 KEYS = ["root", "online", "owner", "ann", "ben", "packer"]
@@ -224,7 +227,8 @@ class Verifier:
         """in-toto signs over the text of 'signed' as it stands in each file."""
         files = [self.layout, *glob.glob(f"{self.links}/*")]
         for path in files:
-            want(read(path).endswith(b',"signed":' + Metablock.load(path).signed.signable_bytes + b"}"), f"in-toto signs over other bytes than {path} has")
+            theirs = Metablock.load(path).signed.signable_bytes
+            want(read(path).endswith(b',"signed":' + theirs + b"}"), f"in-toto signs over other bytes than {path} has")
         return len(files)
 
 
@@ -278,8 +282,9 @@ def refused_links(room, verifier):
 
 def main(words):
     release = os.path.realpath(words[0]) if words else RELEASE
-    if IN_TOTO != "1.3.1":
-        print(f"in_toto_verifier: in-toto is {IN_TOTO}, and what is said here is of 1.3.1")
+    if IN_TOTO != VERSION:
+        print(f"skipped: in-toto is {IN_TOTO}, and what is tried here is of {VERSION}")
+        return 0
     make_known()
     with tempfile.TemporaryDirectory() as folder:
         room = Room(release, folder)
