@@ -3,9 +3,9 @@
 several_keys_in_turn() {
     local here=$PWD now=$at name
     mkdir -p "$folder/turns" && cd "$folder/turns"
-    for name in root first second third other; do makes_key $name; done
+    for name in root first second third fourth fifth other; do makes_key $name; done
     "$release" key --at $at --new deep --ots 1 --height 5 --levels 2 >"$folder/id" || fail 'no key of two levels'
-    name=first.key,second.key,third.key,deep.key
+    name=first.key,second.key,third.key,deep.key,fourth.key,fifth.key
     draft_alone root root=root.key targets=root.key snapshot=$name timestamp=$name
     signs root
     wants 0 'begun\n' '' init --at $now --db repository.db d/root.json
@@ -18,6 +18,7 @@ several_keys_in_turn() {
     leaves_are_counted_together
     none_has_a_leaf
     one_of_two_levels_in_turn
+    another_document_of_a_version
     slips_of_several_keys
     cd "$here"
 }
@@ -91,7 +92,7 @@ shows_leaves() {
 leaves_are_counted_together() {
     local all=(--key first --key second --key third)
     shows_leaves "${all[@]}" || fail "due with 31 leaves of 96: $(cat "$folder/out")"
-    [ "$(grep -c '^\(snapshot\|timestamp\) .* 1 of 4  .*  together 31 of 96$' "$folder/out")" = 2 ] || fail "the leaves of three keys: $(cat "$folder/out")"
+    [ "$(grep -c '^\(snapshot\|timestamp\) .* 1 of 6  .*  together 31 of 96$' "$folder/out")" = 2 ] || fail "the leaves of three keys: $(cat "$folder/out")"
     ! grep -q '!' "$folder/out" || fail "a key is marked that signs together with others: $(cat "$folder/out")"
     shows_leaves "${all[@]}" --json || fail "due as JSON: $(cat "$folder/out")"
     it_is_data
@@ -129,6 +130,17 @@ one_of_two_levels_in_turn() {
     is_published 1
     now=$((now + 60)) && draft seal
     signs_any deep,first 'signed timestamp with leaf 1 of 1024\n'
+    is_published 1
+}
+
+# Another key of the list has signed another timestamp of this version: none signs this one, if that is not asked for.
+another_document_of_a_version() {
+    now=$((now + 60)) && draft seal
+    signs_any fourth 'signed timestamp with leaf 0 of 32\n'
+    now=$((now + 60)) && draft seal --anew
+    spares 'refused other' sign --at $now --any fifth,fourth --in d --yes
+    names 'warning: fourth: the key has signed another document of this kind and version; --again goes on'
+    signs_any fifth,fourth 'signed timestamp with leaf 0 of 32\n' --again
     is_published 1
 }
 

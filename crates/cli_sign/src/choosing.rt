@@ -1,11 +1,12 @@
 //! How a key stands to a message, by which one of several is chosen.
-use crate::books::BookWork;
+use crate::books::{BookWork, book_fault};
 use crate::files::PublicHalf;
 use crate::leaves::{trees_of, used_in};
 use cli_faults::{Fault, Notes};
+use keys_roles::KeyId;
 use leaf_plans::leaf_for;
 use lms::Params;
-use signer::Book;
+use signer::{Book, SignFileFault, other_document};
 use sqlite::Alter;
 use std::alloc::Global;
 use std::io::Write;
@@ -17,6 +18,8 @@ pub enum Standing {
     Keeps,
     /// It has a leaf left.
     HasLeaf,
+    /// Its book keeps a leaf for another document of this kind and version.
+    Other,
     /// All its leaves are kept for other messages.
     Spent,
 }
@@ -27,6 +30,9 @@ pub struct Asking<'a> {
     pub alloc: Global,
     pub half: &'a PublicHalf,
     pub lower: Option<Params>,
+    /// The id of its top tree's key.
+    pub top: &'a KeyId,
+    pub file: &'a [u8],
     pub message: &'a [u8],
 }
 
@@ -41,6 +47,11 @@ impl BookWork for Asking<'_> {
     ) -> Result<Standing, Fault> {
         if self.is_kept(book)? {
             return Ok(Standing::Keeps);
+        }
+        match other_document(self.alloc, book, self.top, self.file) {
+            Ok(None) => {}
+            Ok(Some(_)) => return Ok(Standing::Other),
+            Err(fault) => return Err(unlooked(fault)),
         }
         let (used, most) = used_in(self.alloc, book, self.half, self.lower)?;
         if used < most {
@@ -62,5 +73,14 @@ impl Asking<'_> {
             }
         }
         Ok(false)
+    }
+}
+
+// Why a book could not be asked for other documents.
+fn unlooked(fault: SignFileFault) -> Fault {
+    match fault {
+        SignFileFault::Denied(denial) => Fault::Denied(denial, None),
+        SignFileFault::Book(fault) => book_fault(fault),
+        SignFileFault::OutOfMemory => Fault::Memory,
     }
 }

@@ -77,9 +77,10 @@ impl Signing<'_> {
         Err(Fault::Slip(Slip::Stranger))
     }
 
-    /// How the key stands to a message.
+    /// How the key stands to a file, and to the message that is signed of it.
     pub fn standing<E: Write>(
         &self,
+        file: &[u8],
         message: &[u8],
         notes: &mut Notes<'_, E>,
     ) -> Result<Standing, Fault> {
@@ -87,9 +88,19 @@ impl Signing<'_> {
             alloc: self.alloc(),
             half: &self.ready.files.half,
             lower: self.ready.lower,
+            top: self.ready.signer.top(),
+            file,
             message,
         };
         self.ready.over_book(self.rt, &mut asking, notes)
+    }
+
+    /// Tells that it has signed another document of the kind and version.
+    pub fn tell_other<E: Write>(&self, notes: &mut Notes<'_, E>) {
+        notes.warn(
+            &self.ready.name,
+            &"the key has signed another document of this kind and version; --again goes on",
+        );
     }
 
     /// Tells that all its leaves are spent.

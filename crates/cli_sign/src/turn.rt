@@ -358,18 +358,35 @@ impl Turn<'_> {
         let Ok(file) = read_signed(self.alloc(), bytes) else {
             return Ok(0);
         };
-        let mut open = None;
+        let (mut open, mut other) = (None, None);
         for (index, key) in self.keys.iter().enumerate() {
-            match key.standing(file.signed, notes)? {
+            match key.standing(bytes, file.signed, notes)? {
                 Standing::Keeps => return Ok(index),
+                Standing::Other => other = Some(index),
                 Standing::HasLeaf if open.is_none() => open = Some(index),
                 Standing::HasLeaf | Standing::Spent => {}
             }
         }
-        match open {
-            Some(index) => Ok(index),
-            None => Err(self.spent(one, notes)),
+        self.see_other(other, notes)?;
+        match (open, other) {
+            (Some(index), _) | (None, Some(index)) => Ok(index),
+            (None, None) => Err(self.spent(one, notes)),
         }
+    }
+
+    // No key of the list has signed another document of the kind and version, if that is not asked for.
+    fn see_other<E: Write>(
+        &self,
+        other: Option<usize>,
+        notes: &mut Notes<'_, E>,
+    ) -> Result<(), Fault> {
+        let (Some(index), false) = (other, self.asked.again) else {
+            return Ok(());
+        };
+        if let Some(key) = self.keys.get(index) {
+            key.tell_other(notes);
+        }
+        Err(Fault::Slip(Slip::Other))
     }
 
     // Tells that no key has a leaf left, and what is to be done.

@@ -38,5 +38,6 @@ pub use messages::sign_message;
 pub use metadata::ShapeFault;
 pub use once::{one_document_a_version, sign_file_once};
 pub use once_below::{one_document_in_all_trees, sign_file_below_once};
+pub use rivals_below::other_document;
 pub use seeds::read_seed;
 pub use trees::{hss_id, kept_below, tree_for};

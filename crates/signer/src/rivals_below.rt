@@ -1,20 +1,46 @@
-//! Rivals of a message in all trees of a key of two levels.
+//! Rivals of a message in all trees of a key of two levels, and those of a file.
 ghost use Rattle.std.specs.Prelude.{◌≡◌, ℕ, List, length, map, IfOk, MatchOption};
 ghost use Rattle.sqlite_rules.specs.Lists.{Has};
 ghost use Rattle.canonical_json.specs.Json.{Json};
 ghost use Rattle.canonical_json.specs.Spelling.{IsCanonical};
+ghost use Rattle.keys_roles.specs.Plain.{Signature};
 ghost use Rattle.keys_roles.specs.Views.{id_text};
+ghost use Rattle.metadata.specs.Shape.{IsSignedBy};
 ghost use Rattle.leaf_plans.specs.Views.{kept_view};
 ghost use Rattle.signer.specs.Below.{IsRivalBelow, lms_key_of};
 ghost use Rattle.signer.specs.Versions.{IsRivalLeaf};
 
+use crate::faults::SignFileFault;
 use crate::trees::lms_id;
 use crate::versions::rival_among;
 use keys_roles::{KeyId, NoMemory, same_id};
 use leaf_book::Book;
 use leaf_plans::LeafRow;
+use metadata::read_signed;
 use sqlite::Alter;
 use std::alloc::Global;
+
+/// A leaf that the book keeps for another document of the kind and version that the file has, if there is one: a leaf of this key, or of a key that
+/// one of its leaves is kept for, as of a tree below. Where several keys sign one role, each of their books is asked so before one of them
+/// signs. The error says why the file's envelope is none, or that memory was refused. It spends nothing.
+pub fn other_document<S: Alter>(
+    alloc: Global,
+    book: &Book<S>,
+    key: &KeyId,
+    file: &[u8],
+) -> Result<Option<u32>, SignFileFault>
+    ensures { IfOk result (λ found. (entries : List Signature) × (message : List ℕ) × IsSignedBy file.now entries message
+        × MatchOption found ((leaf : ℕ) → IsRivalBelow book.now.book (id_text key.now) message leaf → ⊥)
+        (λ leaf. IsRivalBelow book.now.book (id_text key.now) message leaf)) }
+{
+    match read_signed(alloc, file) {
+        Ok(signed) => match rival_below(alloc, book, key, signed.signed) {
+            Ok(found) => Ok(found),
+            Err(_) => Err(SignFileFault::OutOfMemory),
+        },
+        Err(fault) => Err(SignFileFault::from(fault)),
+    }
+}
 
 /// A leaf of the top tree's key, or of a key that one of its leaves is kept for, that the book keeps for a rival of the message, if there is
 /// one.
