@@ -5,6 +5,7 @@ use cli_files::FILE_LIMIT;
 use cli_repository::HeldFiles;
 use cli_sockets::Port;
 use http_fetch::fetch_over;
+use path_patterns::metadata_name;
 use std::alloc::Global;
 use std::io::Write;
 
@@ -43,7 +44,7 @@ impl Asking<'_> {
     // The root of a version.
     fn root(&self, version: u32) -> Option<Option<Vec<u8>>> {
         let alloc = self.rt.alloc();
-        let name = format!(in alloc; "{version}.root.json").ok()?;
+        let name = metadata_name(alloc, version, "root").ok()?;
         self.answer(alloc, name.as_str())
     }
 

@@ -9,7 +9,7 @@ use std::io::{self, ErrorKind};
 /// What stands in a folder under the name of a metadata file or of a target, `metadata/..` or `targets/..`: of a file that is longer than it may
 /// be these bytes and one more, and none where nothing stands there. The folder may be a link; below it no link is followed, and what is
 /// no regular file in folders is an error, and is not waited for.
-pub fn below(
+pub fn read_in_folder(
     rt: &HostRuntime,
     folder: &str,
     name: &str,
@@ -47,7 +47,7 @@ fn is_folder(rt: &HostRuntime, place: &str) -> io::Result<bool> {
 }
 
 /// What a folder answers with what was found in it: a file of at most so many bytes, or none.
-pub fn within(
+pub fn source_answer(
     found: io::Result<Option<Vec<u8>>>,
     limit: usize,
 ) -> Result<Option<Vec<u8>>, FetchFault>

@@ -61,7 +61,7 @@ fn publish_body<O: Write, E: Write>(
     let Some(same) = same_of(&reply, count) else {
         return Err(sending.unknown(Fault::Network, notes));
     };
-    batch.behind(alloc, &mut asking, before, same, &Port(port), notes);
+    batch.warn_after(alloc, &mut asking, before, same, &Port(port), notes);
     print(out, &reply, notes)?;
     print(out, b"\n", notes)
 }

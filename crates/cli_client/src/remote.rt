@@ -1,6 +1,6 @@
 //! What `update` and `get` fetch files from: a repository that is served at a port of 127.0.0.1, or folders and mirrors of one, each in its
 //! turn.
-use crate::folders::{below, within};
+use crate::folders::{read_in_folder, source_answer};
 use crate::server::{Asked, Peer, count_of, peer_at};
 use crate::turns::{End, Turn, Turns};
 use crate::wire::{Hearing, Wire, connected, host};
@@ -211,12 +211,12 @@ impl<'a, 'n, 'e, E: Write> Remote<'a, 'n, 'e, E> {
             self.tell_fault(&asked, &TIME_IS_OVER);
             return Err(FetchFault::Broken);
         }
-        let found = below(self.call.rt, folder, asked.name, asked.limit);
+        let found = read_in_folder(self.call.rt, folder, asked.name, asked.limit);
         if let Err(error) = &found {
             self.tell_fault(&asked, error);
         }
         let is_read = found.is_ok();
-        let answer = within(found, asked.limit);
+        let answer = source_answer(found, asked.limit);
         if is_read {
             self.tell(asked, &answer, None);
         }

@@ -10,7 +10,7 @@ use cli_tasks::{Draft, Drafting};
 use draft_chains::{attach_signature, draft_chain, draft_step, relist, see_listable, take_all};
 use draft_commands::{draft_listing, draft_rules, print_message};
 use draft_folder::Folder;
-pub use publishing::{Drafted, complete_batch_in, empty, waiting_files};
+pub use publishing::{Drafted, clear_published, complete_batch_in, waiting_files};
 use sealing::seal;
 use show_rows::follow;
 pub use showing::show;

@@ -115,7 +115,7 @@ pub fn complete_batch_in<E: Write>(
 
 /// Takes away what was published: the drafts, and the target files and layouts that they list. What is held by then stays, to be compared with,
 /// and so does what nothing that was published lists, as a layout that is on its way.
-pub fn empty<E: Write>(
+pub fn clear_published<E: Write>(
     alloc: Global,
     folder: Folder<'_>,
     batch: &Drafted,

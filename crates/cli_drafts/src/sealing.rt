@@ -2,7 +2,7 @@
 use cli_faults::{Fault, Notes, Slip};
 use cli_repository::forgets;
 use cli_tasks::Drafting;
-use draft_commands::{Before, drafted, terms_of};
+use draft_commands::{Before, draft_or_fault, terms_of};
 use draft_folder::{Folder, Said, TargetsRead, held_said, layout_in, target_of_layout, version_in};
 use drafting::{draft_snapshot, draft_timestamp};
 use metadata::{Kind, Moment};
@@ -51,7 +51,7 @@ fn draft_next_timestamp<E: Write>(
     let given = asked.expires.as_deref();
     let terms = terms_of(alloc, given, before.latest(), TIMESTAMP_DAYS, now)?;
     let draft = draft_timestamp(alloc, before.held(), before.begun(), terms, version);
-    let draft = drafted(alloc, draft, "timestamp", notes)?;
+    let draft = draft_or_fault(alloc, draft, "timestamp", notes)?;
     folder.put_draft("timestamp", &draft, notes)
 }
 
@@ -174,7 +174,7 @@ fn draft_next_snapshot<E: Write>(
     let given = asked.expires.as_deref();
     let terms = terms_of(alloc, given, before.latest(), SNAPSHOT_DAYS, now)?;
     let draft = draft_snapshot(alloc, before.held(), before.begun(), terms, listed);
-    let draft = drafted(alloc, draft, "snapshot", notes)?;
+    let draft = draft_or_fault(alloc, draft, "snapshot", notes)?;
     folder.put_draft("snapshot", &draft, notes)?;
     version_in(alloc, "snapshot", &draft)
 }

@@ -3,6 +3,7 @@ use crate::batch::Batch;
 use cli_faults::{Fault, Notes};
 use judging::keeps_roles;
 use metadata::{Body, Document, Kind, read_document};
+use path_patterns::metadata_name;
 use reasons::{HeldFiles, listed_targets};
 use std::alloc::Global;
 use std::fmt::Display;
@@ -58,7 +59,7 @@ impl Batch<'_> {
     /// After the batch was taken, of which so many documents counted as the same: warns where the repository of this name forgot its timestamp
     /// by it and has none any more, and where it has another one than the last of the batch: one of its version was held, so that counts as the
     /// same, and was not taken. No other document counts as the same where its bytes are others.
-    pub fn behind<H: HeldFiles, N: Display, E: Write>(
+    pub fn warn_after<H: HeldFiles, N: Display, E: Write>(
         &self,
         alloc: Global,
         held: &mut H,
@@ -160,7 +161,7 @@ pub fn root_of_version<H: HeldFiles>(
     held: &H,
     version: u32,
 ) -> Option<Option<Vec<u8>>> {
-    let name = format!(in alloc; "{version}.root.json").ok()?;
+    let name = metadata_name(alloc, version, "root").ok()?;
     held.ask(alloc, name.as_str())
 }
 

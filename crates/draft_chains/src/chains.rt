@@ -4,8 +4,8 @@ use cli_faults::{Fault, Notes, Slip};
 use cli_files::{FILE_LIMIT, read_at_most};
 use cli_tasks::{Drafting, LayoutDraft};
 use draft_commands::{
-    Before, Known, RuleRead, TARGETS_DAYS, addition_of, digest_in, drafted, items_in, kept_terms,
-    rule_of, see_unsigned, terms_of, usage,
+    Before, Known, RuleRead, TARGETS_DAYS, addition_of, digest_in, draft_or_fault, items_in,
+    kept_terms, rule_of, see_unsigned, terms_of, usage,
 };
 use draft_folder::{Folder, chain_name, layout_in, layout_name, layout_path, link_path, read_said};
 use drafting::{Addition, Rule, TargetsChanges, draft_targets};
@@ -342,7 +342,7 @@ impl Chain<'_> {
         let terms = terms_of(self.alloc(), given, begun, LAYOUT_DAYS, now)?;
         let steps = lent(self.alloc(), steps)?;
         let draft = draft_layout(self.alloc(), begun, terms, &steps);
-        drafted(self.alloc(), draft, "layout", notes)
+        draft_or_fault(self.alloc(), draft, "layout", notes)
     }
 
     // Lists the layout, and refers the target to it.
@@ -426,7 +426,7 @@ impl Chain<'_> {
             remove: &[],
         };
         let draft = draft_targets(self.alloc(), before.held(), Some(begun), terms, &listed);
-        let draft = drafted(self.alloc(), draft, self.role, notes)?;
+        let draft = draft_or_fault(self.alloc(), draft, self.role, notes)?;
         self.refer_in(&draft, reference, notes)
     }
 
@@ -438,7 +438,7 @@ impl Chain<'_> {
         notes: &mut Notes<'_, E>,
     ) -> Result<(), Fault> {
         let draft = with_reference(self.alloc(), draft, self.target, reference);
-        let draft = drafted(self.alloc(), draft, self.role, notes)?;
+        let draft = draft_or_fault(self.alloc(), draft, self.role, notes)?;
         self.folder.put_draft(self.role, &draft, notes)
     }
 }

@@ -4,7 +4,7 @@ use chain_drafting::{Artifact, draft_link};
 use cli_faults::{Fault, Notes, Slip};
 use cli_files::read;
 use cli_tasks::LinkDraft;
-use draft_commands::{drafted, see_unsigned};
+use draft_commands::{draft_or_fault, see_unsigned};
 use draft_folder::{Folder, Said, layout_said, link_name, read_said, signed_step};
 use metadata::{Kind, digest_of};
 use std::io::Write;
@@ -45,7 +45,7 @@ fn link_of<E: Write>(
     let products = artifacts_of(rt, &told.products, notes)?;
     let step = told.step.as_str();
     let draft = draft_link(rt.alloc(), begun, step, &materials, &products);
-    drafted(rt.alloc(), draft, "link", notes)
+    draft_or_fault(rt.alloc(), draft, "link", notes)
 }
 
 fn artifacts_of<E: Write>(

@@ -5,7 +5,7 @@ use std::alloc::Global;
 use std::io::Write;
 
 /// The draft, or what there being none comes to. It is told with the role.
-pub fn drafted<T: Drop, E: Write>(
+pub fn draft_or_fault<T: Drop, E: Write>(
     alloc: Global,
     done: Result<T, DraftFault>,
     role: &str,

@@ -1,5 +1,5 @@
 //! Keys and rules, as words.
-use crate::drafting_faults::drafted;
+use crate::drafting_faults::draft_or_fault;
 use chain_drafting::{Found, find_key};
 use cli_faults::{Fault, Notes, Slip};
 use cli_files::read_at_most;
@@ -99,7 +99,7 @@ fn key_among<E: Write>(
     word: &str,
     notes: &mut Notes<'_, E>,
 ) -> Result<Option<NamedKey>, Fault> {
-    match drafted(alloc, find_key(alloc, bytes, kind, word), word, notes)? {
+    match draft_or_fault(alloc, find_key(alloc, bytes, kind, word), word, notes)? {
         Found::One(key) => Ok(Some(key)),
         Found::None => Ok(None),
         Found::Several => {

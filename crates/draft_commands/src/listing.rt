@@ -1,5 +1,5 @@
 //! `draft targets`.
-use crate::drafting_faults::{drafted, usage};
+use crate::drafting_faults::{draft_or_fault, usage};
 use crate::keys::{Known, RuleRead, items_in, rule_of};
 use crate::saving::Before;
 use crate::terms::terms_of;
@@ -102,7 +102,7 @@ impl Next<'_> {
         let (held, begun) = (self.before.held(), self.before.begun());
         match draft_targets(self.rt.alloc(), held, begun, self.terms, &listed) {
             Err(DraftFault::Unlisted(at)) => Err(unlisted(&self.told.remove, at, notes)),
-            draft => drafted(self.rt.alloc(), draft, self.role, notes),
+            draft => draft_or_fault(self.rt.alloc(), draft, self.role, notes),
         }
     }
 
@@ -133,7 +133,7 @@ impl Next<'_> {
         };
         let held = self.before.held();
         let next = draft_delegations(self.rt.alloc(), held, Some(draft), self.terms, &changes);
-        drafted(self.rt.alloc(), next, self.role, notes)
+        draft_or_fault(self.rt.alloc(), next, self.role, notes)
     }
 }
 

@@ -1,5 +1,5 @@
 //! `draft root`.
-use crate::drafting_faults::{drafted, usage};
+use crate::drafting_faults::{draft_or_fault, usage};
 use crate::keys::{Known, RuleRead, rule_of};
 use crate::saving::Before;
 use crate::terms::terms_of;
@@ -60,7 +60,7 @@ fn put_root<E: Write>(
     let terms = terms_of(rt.alloc(), given, before.latest(), ROOT_DAYS, now)?;
     let rules = lent(rt, read)?;
     let draft = draft_root(rt.alloc(), before.held(), before.begun(), terms, &rules);
-    let draft = drafted(rt.alloc(), draft, "root", notes)?;
+    let draft = draft_or_fault(rt.alloc(), draft, "root", notes)?;
     folder.put_draft("root", &draft, notes)
 }
 

@@ -6,7 +6,7 @@ ghost use Rattle.cli_repository.specs.Works.{Ends, EndsBy};
 
 use crate::printing::print_line;
 use cli_client::publish_at;
-use cli_drafts::{Drafted, complete_batch_in, empty, waiting_files};
+use cli_drafts::{Drafted, clear_published, complete_batch_in, waiting_files};
 use cli_faults::{Fault, Notes, moment};
 use cli_repository::{
     Batch, Holding, Waiting, Work, batch_of, documents_of, fault_of_store, read_all, refused,
@@ -73,7 +73,7 @@ pub fn publish_in_folder<O: Write, E: Write>(
         tell_unsealed(&fault, folder, &drafted, notes);
         return Err(fault);
     }
-    empty(rt.alloc(), folder, &drafted, notes)
+    clear_published(rt.alloc(), folder, &drafted, notes)
 }
 
 fn publish_drafted<'d, O: Write, E: Write>(
@@ -222,7 +222,7 @@ impl Work for Offering<'_> {
                 let held = &mut holding(repository);
                 match &reply {
                     Reply::Batch { same, .. } => {
-                        batch.behind(alloc, held, before, *same, &self.db, notes);
+                        batch.warn_after(alloc, held, before, *same, &self.db, notes);
                     }
                     Reply::Denied(denial, Some(index)) => {
                         batch.tell(alloc, held, denial.number(), *index, notes);

@@ -6,6 +6,7 @@ use cli_repository::Store;
 use draft_folder::{Said, SaidRule, read_said};
 use keys_roles::KeyId;
 use metadata::{Moment, read_signed};
+use path_patterns::metadata_name;
 use show_texts::{Covers, Growing, KeyRow, Overview, Row};
 use sqlite::Alter;
 use std::alloc::{AllocError, Global};
@@ -49,7 +50,7 @@ impl<'a> Looking<'a> {
         let Some(version) = repository.root_version() else {
             return Err(Fault::Denied(Denial::NoRoot, None));
         };
-        let name = format!(in self.alloc; "{version}.root.json")?;
+        let name = metadata_name(self.alloc, version, "root")?;
         match file_of(repository, name.as_str(), self.now) {
             Some(bytes) => self.look_below(repository, &bytes),
             None => Ok(()),
@@ -83,7 +84,7 @@ impl<'a> Looking<'a> {
         rules: &Said,
         version: u32,
     ) -> Result<(), Fault> {
-        let name = format!(in self.alloc; "{version}.snapshot.json")?;
+        let name = metadata_name(self.alloc, version, "snapshot")?;
         let Some(bytes) = file_of(repository, name.as_str(), self.now) else {
             return Ok(());
         };
@@ -146,7 +147,7 @@ impl<'a> Looking<'a> {
     }
 
     fn name_at(&self, role: &str, version: u32) -> Result<String, AllocError> {
-        format!(in self.alloc; "{version}.{role}.json")
+        metadata_name(self.alloc, version, role)
     }
 
     // Puts the row of a role, and has the roles wait that it delegates to, the first on top.
