@@ -48,7 +48,7 @@ def kit_crates():
 
 
 def version():
-    return re.search(r'VERSION: &str = "([^"]+)"', read("crates/command_words/src/texts.rt"))[1]
+    return re.search(r'VERSION: &str = "([^"]+)"', read("crates/cli_words/src/texts.rt"))[1]
 
 
 def moment():
