@@ -1,2 +1,3 @@
+pub mod AfterPuts
 pub mod Ending
 pub mod Serving

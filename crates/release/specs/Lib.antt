@@ -1,1 +1,2 @@
+pub mod AfterPuts
 pub mod Serving

@@ -2,7 +2,10 @@
 ghost use Rattle.std.specs.Prelude.{◌≡◌, ℕ};
 ghost use Rattle.trust_rules.specs.Runs.{BatchDone};
 ghost use Rattle.store.specs.Views.{command_view, reply_view};
+ghost use Rattle.sqlite.specs.Held.{state};
+ghost use Rattle.store.specs.Standing.{seen};
 ghost use Rattle.cli_repository.specs.Works.{Ends, EndsBy};
+ghost use Rattle.release.specs.AfterPuts.{AllPut, EndsAfterPuts, IsUndenied};
 
 use crate::printing::print_line;
 use cli_client::publish_at;
@@ -129,21 +132,37 @@ fn hand_over<O: Write, E: Write>(
             if batch.files.digests.is_empty() {
                 return offer(rt, db, batch, now, out, notes);
             }
-            let alloc = rt.alloc();
-            let mut publishing = Publishing {
-                folder: batch.files.folder,
-                waiting: batch.files.digests,
-                offering: Offering {
-                    alloc,
-                    db,
-                    batch,
-                    now,
-                },
-            };
-            let reply = worked(rt, db, &mut publishing, notes)?;
-            print_accepted(reply, batch.arguments, out, notes)
+            put_and_offer(rt, db, batch, now, out, notes)
         }
     }
+}
+
+// The same of a batch with target files that wait, over one opening.
+fn put_and_offer<O: Write, E: Write>(
+    rt: &HostRuntime,
+    db: &str,
+    batch: Batch<'_>,
+    now: Moment,
+    out: &mut O,
+    notes: &mut Notes<'_, E>,
+) -> Result<(), Fault>
+    ensures { EndsAfterPuts (command_view (Command.Batch batch.entry.documents)) now (λ reply. (accepted same : ℕ) × (reply ≡ BatchDone accepted same)) result }
+{
+    let mut publishing = Publishing {
+        folder: batch.files.folder,
+        waiting: batch.files.digests,
+        offering: Offering {
+            alloc: rt.alloc(),
+            db,
+            batch,
+            now,
+        },
+    };
+    let reply = match worked(rt, db, &mut publishing, notes) {
+        Ok(reply) => reply,
+        Err(fault) => return Err(fault),
+    };
+    print_accepted(reply, batch.arguments, out, notes)
 }
 
 // Offers a batch, and prints how many documents were accepted and how many were held already.
@@ -248,22 +267,63 @@ struct Publishing<'a> {
 }
 
 impl Work for Publishing<'_> {
+    ghost use Rattle.store.specs.Views.{command_view};
+    ghost use Rattle.store.specs.declared.command.Command.TheVariants.{Batch};
+    ghost use Rattle.release.specs.AfterPuts.{PublishesOver};
+
     type Done = Reply;
+
+    ghost does = { λ publishing A r B _. PublishesOver (command_view (Batch publishing.offering.batch.documents)) publishing.offering.now A r B };
 
     fn work<S: Alter, E: Write>(
         &mut self,
         repository: &mut Store<S>,
         notes: &mut Notes<'_, E>,
     ) -> Result<Reply, Fault> {
+        match self.put_all(repository, notes) {
+            Ok(()) => {}
+            Err(fault) => return Err(fault),
+        }
+        self.offering.work(repository, notes)
+    }
+}
+
+impl Publishing<'_> {
+    // Puts the files that wait, one after the other.
+    fn put_all<S: Alter, E: Write>(
+        &self,
+        repository: &mut Store<S>,
+        notes: &mut Notes<'_, E>,
+    ) -> Result<(), Fault>
+        ensures { AllPut self.now.offering.now (seen repository.old.kept (state S.Store repository.old.conn)) result (seen repository.new.kept (state S.Store repository.new.conn)) }
+    {
         let files = Waiting {
             folder: self.folder,
             digests: self.waiting,
         };
-        for digest in self.waiting {
-            let bytes = files.read(digest, notes)?;
-            self.offering.put(*digest, &bytes, repository, notes)?;
+        let mut rest = self.waiting;
+        'files: while let Some((digest, later)) = rest.split_first() {
+            let bytes = match files.read(digest, notes) {
+                Ok(bytes) => bytes,
+                Err(fault) => return Err(unread(fault)),
+            };
+            match self.offering.put(*digest, &bytes, repository, notes) {
+                Ok(()) => {}
+                Err(fault) => return Err(fault),
+            }
+            rest = later;
         }
-        self.offering.work(repository, notes)
+        Ok(())
+    }
+}
+
+// Why a file that waits was not read: that is no denial, which rules alone give.
+fn unread(fault: Fault) -> Fault
+    ensures { IsUndenied result }
+{
+    match fault {
+        Fault::Denied(_, _) => Fault::File,
+        other => other,
     }
 }
 
@@ -275,7 +335,9 @@ impl Offering<'_> {
         bytes: &[u8],
         repository: &mut Store<S>,
         notes: &mut Notes<'_, E>,
-    ) -> Result<(), Fault> {
+    ) -> Result<(), Fault>
+        ensures { AllPut self.entry.now.now (seen repository.old.kept (state S.Store repository.old.conn)) result (seen repository.new.kept (state S.Store repository.new.conn)) }
+    {
         match repository.apply(Command::PutBlob(digest, bytes), self.now) {
             Ok(Reply::Stored(_)) => Ok(()),
             Ok(other) => {
