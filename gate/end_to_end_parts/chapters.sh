@@ -188,3 +188,27 @@ the_client_chapter() {
     grep -q '^updated$' "$folder/clients/out" || fail "the chapter on clients: nothing was updated"
     same "what the chapter on clients fetches" "$example/hello.txt" "$folder/clients/hello.txt"
 }
+
+# A device: its first boot, its updates into two slots, sources that are not there, are old or have no timestamp, updates that are killed, and a
+# clock that stands at 1970. Only which of the killed updates had ended before depends on the machine.
+the_devices_chapter() {
+    local devices=$folder/devices count
+    local done='updated\nwritten\n{"blobs":0,"rows":0}\n'
+    mkdir "$devices"
+    chapter devices "$devices" DEVICES.md
+    {
+        printf 'begun\n{"accepted":3,"same":0}\nexported 9\nbegun\nupdated\n'
+        printf "${done}written\nwritten\n"
+        printf '{"accepted":3,"same":0}\nexported 5\nupdated\nwritten\n{"blobs":0,"rows":1}\nwritten\n'
+        printf "status 3\n${done}status 1\nstatus 1\n$done"
+        for count in 1 2 3 4 5; do printf 'updated\nwritten\n'; done
+        printf "${done}written\nfirmware 1\n"
+    } >"$devices/wanted"
+    grep -E '^(begun|exported|updated|written|status|firmware|\{)' "$devices/out" >"$devices/found"
+    same "what the chapter 'devices' prints" "$devices/wanted" "$devices/found"
+    printf 'fault network\ndenied 13 TimestampRollback\nnot fresh\n' >"$devices/ends.wanted"
+    grep -E '^(denied|fault|not fresh|refused)' "$devices/err" >"$devices/ends"
+    same "how updates end in the chapter 'devices'" "$devices/ends.wanted" "$devices/ends"
+    [ "$(cat "$devices/device/next")" = a ] || fail "the slot that starts next: $(cat "$devices/device/next")"
+    checks=$((checks + 1))
+}
