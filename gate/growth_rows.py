@@ -1,0 +1,173 @@
+"""The rows of gate/figures that say how a cost grows: a batch of delegated roles, commands over an index in bins, and a server under load."""
+import hashlib
+import http.client
+import os
+import re
+import shutil
+
+import figure_tools as tools
+from figure_table import CONNECTIONS, OVER_TARGETS, SIZES
+from figure_tools import figure, release
+
+SEED = "11" * 48
+
+
+def batch_roles(scene):
+    """A batch of a timestamp, a snapshot, targets metadata and so many roles that these delegate to. A snapshot names 128 roles, 'targets' among them."""
+    repositories = scene.repositories
+    key = scene.key(SEED, 4)
+    for roles in scene.sizes(SIZES["batch-roles"], (2, 4)):
+        place = scene.folder / str(roles)
+        place.mkdir()
+        documents = repositories.write(place, key, delegated(key, roles))
+        rows = [(word.partition(":")[0], open(word.partition(":")[2], "rb").read()) for word in documents]
+        found = [batch_of(scene, place, number, rows) for number in range(scene.rounds)]
+        peer = "sqlite3 with as many syncs" + (", and the verifications" if scene.rates()[1] else "")
+        took, floor = zip(*found)
+        figure(f"batch-roles-{roles}", f"a batch of {roles} delegated roles", "ms", took, peer, floor, tools.IN_PROPORTION, roles)
+
+
+def delegated(key, count):
+    """Targets metadata that delegate a folder to each of so many roles, which list one file each."""
+    import repositories
+    import signed_documents as make
+    names = [f"r{number:03}" for number in range(count)]
+    said = [make.delegation(name, [key], 1, paths=[f"{name}/*"]) for name in names]
+    roles = {"targets": make.targets(1, repositories.EXPIRES, {}, make.delegations([key], said))}
+    return roles | {name: make.targets(1, repositories.EXPIRES, repositories.listed({f"{name}/file": b"abc"})) for name in names}
+
+
+def batch_of(scene, place, number, rows):
+    """The milliseconds of the batch through a server, and those of its floor."""
+    db = place / f"{number}.db"
+    if number == 0:
+        release("init", "--db", place / "begun.db", place / "root.json")
+    shutil.copy(place / "begun.db", db)
+    port, server = scene.serve(db)
+    body = b"".join(b"%s %d\n%s" % (role.encode(), len(text), text) for role, text in rows)
+    took = tools.seconds(lambda: asked(port, body))
+    server.kill()
+    server.wait()
+    verified = scene.rates()[1]
+    floor = scene.scripts.store_rates.beside(place, number, [rows]) + (len(rows) / verified if verified else 0)
+    return 1000 * took, 1000 * floor
+
+
+def asked(port, body):
+    """Sends a batch, however long it takes."""
+    connection = http.client.HTTPConnection("127.0.0.1", port, timeout=900)
+    connection.request("POST", "/batch", body)
+    reply = connection.getresponse()
+    text = reply.read()
+    connection.close()
+    if reply.status != 200:
+        raise SystemExit(f"the batch was answered {text!r}")
+
+
+def index(scene):
+    """Commands over an index of so many targets in bins by the digests of their paths, each bin a role of its own: a target is added to the first bin."""
+    repositories = scene.repositories
+    width, bins = (1, 2) if scene.small else (4, 64)
+    key = scene.key(SEED, width)
+    steps = {}
+    sizes = scene.sizes(OVER_TARGETS, (4, 8))
+    for targets in sizes:
+        place = scene.folder / str(targets)
+        place.mkdir()
+        roles, files = in_bins(key, targets, bins)
+        repositories.database(place, key, roles, files)
+        begin_of(place)
+        for number in range(scene.rounds):
+            for name, took in daily(place, number, width, bins).items():
+                steps.setdefault((name, targets), []).append(1000 * took)
+    for name in ("draft", "seal", "sign", "show", "show-list", "export"):
+        for targets in sizes:
+            figure(f"{name}-{targets}", f"`{COMMANDS[name]}` over {targets} targets in {bins} bins", "ms", steps[name, targets], bar=tools.IN_PROPORTION, size=targets)
+
+
+COMMANDS = {
+    "draft": "draft targets --role", "seal": "draft seal", "sign": "sign --in", "show": "show --db", "show-list": "show --list", "export": "export",
+}
+
+
+def bin_of(path, bins):
+    import signed_documents as make
+    return int(make.digest(path.encode())[:2], 16) * bins // 256
+
+
+def in_bins(key, count, bins):
+    """The roles of such an index, and its files."""
+    import repositories
+    import signed_documents as make
+    each = 256 // bins
+    listed, files = [{} for _ in range(bins)], []
+    for number in range(count):
+        path, file = f"files/t{number:04}", b"%d\n" % number if number else repositories.FILE
+        listed[bin_of(path, bins)][path] = (len(file), make.digest(file))
+        files.append(file)
+    said = [make.delegation(f"bin{at:02}", [key], 1, prefixes=[f"{each * at + more:02x}" for more in range(each)]) for at in range(bins)]
+    roles = {"targets": make.targets(1, repositories.EXPIRES, {}, make.delegations([key], said))}
+    return roles | {f"bin{at:02}": make.targets(1, repositories.EXPIRES, one) for at, one in enumerate(listed)}, files[1:]
+
+
+def begin_of(place):
+    (place / "seed").write_text(SEED + "\n")
+    os.chmod(place / "seed", 0o600)
+    (place / "new").write_bytes(b"new\n")
+
+
+def daily(place, number, width, bins):
+    """The seconds of each command of a day's work, in a folder of drafts, a book and a folder of files of its own."""
+    path = next(name for name in map("files/n{}".format, range(10000)) if bin_of(name, bins) == 0)
+    drafts, db = f"drafts{number}", "repository.db"
+    follows = ["--db", db, "--in", drafts, "--expires", "90d"]
+    signs = ["--db", db, "--in", drafts, "--seed", "seed", "--book", f"book{number}", "--ots", width, "--height", "5", "--yes"]
+    took = {
+        "draft": release("draft", *follows, "targets", "--role", "bin00", "--add", f"{path}=new", folder=place),
+        "seal": release("draft", *follows, "seal", folder=place),
+        "sign": release("sign", *signs, folder=place),
+        "show": release("show", "--db", db, folder=place),
+        "show-list": release("show", "--db", db, "--list", folder=place),
+        "export": release("export", "--db", db, "--to", f"files{number}", folder=place),
+    }
+    shutil.rmtree(place / f"files{number}")
+    return took
+
+
+ASKED = {"straight": "the server, straight", "proxy": "the proxy, a name that may change", "cached": "the proxy, a consistent name, from its cache"}
+
+
+def load(scene):
+    """Connections that are kept busy, straight onto the server and by the documented proxy, beside nginx alone."""
+    tools.need("wrk", "nginx")
+    serving = scene.scripts.serve_rates
+    loads = tools.without_its_run("load_rates")
+    digest = hashlib.sha256((scene.base / tools.SMALL).read_bytes()).hexdigest()
+    inner, _ = scene.serve(scene.copy("load.db"))
+    shutil.copy(scene.base / tools.SMALL, scene.folder)
+    outer, _ = loads.proxy(scene.folder, inner)
+    alone, _ = serving.serve_nginx(scene.folder)
+    small, names = f"/targets/{tools.SMALL}", f"/targets/{digest}.{tools.SMALL}"
+    lasting = 1 if scene.small else 60 // scene.rounds
+    for name, port, path in (("straight", inner, small), ("proxy", outer, small), ("cached", outer, names)):
+        for connections in scene.sizes(CONNECTIONS, (4, 64)):
+            loaded(loads, name, port, path, alone, connections, lasting, scene.rounds)
+
+
+def loaded(loads, name, port, path, alone, connections, lasting, rounds):
+    """A figure of requests a second, and one of the slowest hundredth."""
+    found, peers = [], []
+    for _ in range(rounds):
+        found.append(loads.load(port, path, connections, lasting))
+        peers.append(loads.load(alone, f"/targets/{tools.SMALL}", connections, lasting))
+    lost = sum(it[3] for it in found)
+    what = f"{ASKED[name]}, {connections} connections" + (f", {lost} LOST" if lost else "")
+    figure(f"load-{name}-{connections}", what, "a second", [it[0] for it in found], "nginx alone", [it[0] for it in peers], size=connections)
+    slow = [[milliseconds(it[2]) for it in side] for side in (found, peers)]
+    figure(f"slowest-{name}-{connections}", f"{what}, 99th percentile", "ms", slow[0], "nginx alone", slow[1], size=connections)
+
+
+def milliseconds(text):
+    """What wrk says of a time."""
+    number, unit = re.fullmatch(r"([\d.]+)(us|ms|s|m)", text).groups()
+    return float(number) * {"us": 0.001, "ms": 1, "s": 1000, "m": 60000}[unit]
