@@ -163,7 +163,8 @@ def verify(scene):
     rates, lines = scene.scripts.verifying_rates, scene.sizes(400, 10)
     straight = scene.folder / "straight"
     source = tools.TOP / "crates/measure/straight.c"
-    subprocess.run(["cc", "-O3", "-Wno-deprecated-declarations", source, "-lcrypto", "-o", straight], check=True)
+    if subprocess.run(["cc", "-O3", "-Wno-deprecated-declarations", source, "-lcrypto", "-o", straight], capture_output=True, check=False).returncode:
+        raise tools.Skipped("straight.c does not compile: install gcc and libssl-dev")
     for name, (kind, public, signature, message) in sorted(rates.vectors().items()):
         found = []
         for _ in range(scene.rounds):

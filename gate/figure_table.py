@@ -113,17 +113,16 @@ def markdown(rows):
     lines = ["| Row | Figure | Floor or peer | Ratio | Growth | Bar | Run |", "|" + "---|" * 7]
     lines += [line(row, runs.index(tuple(row[it] for it in RUN)) + 1) for row in rows]
     lines += ["", *(told_of(number, run, runs[number - 2] if number > 1 else None) for number, run in enumerate(runs, 1))]
-    lines += [*no_figure({row["name"] for row in rows})]
+    lines += no_figure({row["name"] for row in rows})
     lines += ["", "| Row | What it is | Beside it |", "|---|---|---|", *dict.fromkeys(map(meaning, rows))]
     return "\n".join(lines) + "\n"
 
 
 def no_figure(names):
-    """The growing rows of which some sizes were not measured yet."""
-    for group, sizes in SIZES.items():
-        left = [str(size) for size in sizes if f"{group}-{size}" not in names]
-        if left:
-            yield f"- Not measured yet: `{group}-N` of {', '.join(left)}."
+    """A line for the growing rows of which some sizes were not measured yet."""
+    left = {group: [str(size) for size in sizes if f"{group}-{size}" not in names] for group, sizes in SIZES.items()}
+    said = "; ".join(f"`{group}-N` of {', '.join(sizes)}" for group, sizes in left.items() if sizes)
+    return ["", f"Not measured yet: {said}."] if said else []
 
 
 def told_of(number, run, before):

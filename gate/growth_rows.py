@@ -10,10 +10,12 @@ from figure_table import CONNECTIONS, OVER_TARGETS, SIZES
 from figure_tools import figure, release
 
 SEED = "11" * 48
+# The most roles that one document delegates to.
+MOST = 64
 
 
 def batch_roles(scene):
-    """A batch of a timestamp, a snapshot, targets metadata and so many roles that these delegate to. A snapshot names 128 roles, 'targets' among them."""
+    """A batch of a timestamp, a snapshot, targets metadata and so many delegated roles. A snapshot names 128 roles, 'targets' among them."""
     repositories = scene.repositories
     key = scene.key(SEED, 4)
     for roles in scene.sizes(SIZES["batch-roles"], (2, 4)):
@@ -28,13 +30,20 @@ def batch_roles(scene):
 
 
 def delegated(key, count):
-    """Targets metadata that delegate a folder to each of so many roles, which list one file each."""
+    """Roles that list one file each. The targets metadata delegate to the first 64, which are the most, and the first of these to the others."""
     import repositories
     import signed_documents as make
     names = [f"r{number:03}" for number in range(count)]
-    said = [make.delegation(name, [key], 1, paths=[f"{name}/*"]) for name in names]
-    roles = {"targets": make.targets(1, repositories.EXPIRES, {}, make.delegations([key], said))}
-    return roles | {name: make.targets(1, repositories.EXPIRES, repositories.listed({f"{name}/file": b"abc"})) for name in names}
+    first, others = names[:MOST], names[MOST:]
+
+    def behind(roles, further=()):
+        paths = {name: [f"{it}/*" for it in (name, *(further if name == first[0] else ()))] for name in roles}
+        return make.delegations([key], [make.delegation(name, [key], 1, paths=paths[name]) for name in roles])
+
+    roles = {name: make.targets(1, repositories.EXPIRES, repositories.listed({f"{name}/file": b"abc"})) for name in names}
+    if others:
+        roles[first[0]]["delegations"] = behind(others)
+    return {"targets": make.targets(1, repositories.EXPIRES, {}, behind(first, others))} | roles
 
 
 def batch_of(scene, place, number, rows):
@@ -80,32 +89,40 @@ def index(scene):
         for number in range(scene.rounds):
             for name, took in daily(place, number, width, bins).items():
                 steps.setdefault((name, targets), []).append(1000 * took)
-    for name in ("draft", "seal", "sign", "show", "show-list", "export"):
+    for name in COMMANDS:
         for targets in sizes:
-            figure(f"{name}-{targets}", f"`{COMMANDS[name]}` over {targets} targets in {bins} bins", "ms", steps[name, targets], bar=tools.IN_PROPORTION, size=targets)
+            figure(f"{name}-{targets}", f"{COMMANDS[name]} over {targets} targets in {bins} bins", "ms", steps[name, targets], bar=tools.IN_PROPORTION, size=targets)
 
 
 COMMANDS = {
-    "draft": "draft targets --role", "seal": "draft seal", "sign": "sign --in", "show": "show --db", "show-list": "show --list", "export": "export",
+    "draft": "`draft targets --role`", "sign": "`sign --in`, of the bin, then of snapshot and timestamp,", "seal": "`draft seal`", "show": "`show --db`",
+    "show-list": "`show --list`", "export": "`export`",
 }
 
 
 def bin_of(path, bins):
     import signed_documents as make
-    return int(make.digest(path.encode())[:2], 16) * bins // 256
+    return int(make.digest(path.encode())[:digits_of(bins)], 16) * bins // 16 ** digits_of(bins)
+
+
+def digits_of(bins):
+    """How many digits of a digest tell the bins apart: a delegation may have few prefixes."""
+    return 1 if bins <= 16 else 2
 
 
 def in_bins(key, count, bins):
     """The roles of such an index, and its files."""
     import repositories
     import signed_documents as make
-    each = 256 // bins
+    digits = digits_of(bins)
+    each = 16 ** digits // bins
     listed, files = [{} for _ in range(bins)], []
     for number in range(count):
         path, file = f"files/t{number:04}", b"%d\n" % number if number else repositories.FILE
         listed[bin_of(path, bins)][path] = (len(file), make.digest(file))
         files.append(file)
-    said = [make.delegation(f"bin{at:02}", [key], 1, prefixes=[f"{each * at + more:02x}" for more in range(each)]) for at in range(bins)]
+    prefixes = [[f"{each * at + more:0{digits}x}" for more in range(each)] for at in range(bins)]
+    said = [make.delegation(f"bin{at:02}", [key], 1, prefixes=prefixes[at]) for at in range(bins)]
     roles = {"targets": make.targets(1, repositories.EXPIRES, {}, make.delegations([key], said))}
     return roles | {f"bin{at:02}": make.targets(1, repositories.EXPIRES, one) for at, one in enumerate(listed)}, files[1:]
 
@@ -124,8 +141,11 @@ def daily(place, number, width, bins):
     signs = ["--db", db, "--in", drafts, "--seed", "seed", "--book", f"book{number}", "--ots", width, "--height", "5", "--yes"]
     took = {
         "draft": release("draft", *follows, "targets", "--role", "bin00", "--add", f"{path}=new", folder=place),
-        "seal": release("draft", *follows, "seal", folder=place),
         "sign": release("sign", *signs, folder=place),
+        "seal": release("draft", *follows, "seal", folder=place),
+    }
+    took["sign"] += release("sign", *signs, folder=place)
+    took |= {
         "show": release("show", "--db", db, folder=place),
         "show-list": release("show", "--db", db, "--list", folder=place),
         "export": release("export", "--db", db, "--to", f"files{number}", folder=place),
@@ -148,7 +168,7 @@ def load(scene):
     outer, _ = loads.proxy(scene.folder, inner)
     alone, _ = serving.serve_nginx(scene.folder)
     small, names = f"/targets/{tools.SMALL}", f"/targets/{digest}.{tools.SMALL}"
-    lasting = 1 if scene.small else 60 // scene.rounds
+    lasting = 1 if scene.small else max(1, 30 // scene.rounds)
     for name, port, path in (("straight", inner, small), ("proxy", outer, small), ("cached", outer, names)):
         for connections in scene.sizes(CONNECTIONS, (4, 64)):
             loaded(loads, name, port, path, alone, connections, lasting, scene.rounds)
