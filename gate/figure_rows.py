@@ -290,9 +290,11 @@ def signing(scene):
     one = ["--ots", width, "--height", height]
     two = ["--levels", "2", "--ots", width, "--height", "5", "--lower-height", height]
     kinds = {"one": ("one level", one), "two": ("two levels", two), "two-wide": ("two levels, --lower-ots 2", [*two, "--lower-ots", "2"])}
-    for name in scene.sizes(("one", "two", "two-wide"), ("one",)):
-        release("key", "--new", scene.folder / name, *kinds[name][1])
     found = {name: [] for name in scene.sizes(kinds, ("one",))}
+    release("key", "--new", scene.folder / "other", "--ots", "1", "--height", "5")
+    for name in found:
+        release("key", "--new", scene.folder / name, *kinds[name][1])
+        sealed(scene, name)
     for number in range(scene.rounds):
         for name in found:
             found[name].append(signed(scene.folder, name, number))
@@ -303,14 +305,29 @@ def signing(scene):
         figure(f"sign-{name}", what, "s", times, *peer, "" if name == "one" else "at most 1.1")
 
 
+def sealed(scene, name):
+    """A folder of drafts in which the timestamp alone is left to be signed, by the key of this name; another key has signed the rest."""
+    folder, other = scene.folder / f"{name}.drafts", scene.folder / "other"
+    follows, signs = ["--in", folder, "--expires", "90d"], ["sign", "--key", other, "--in", folder, "--yes"]
+    roles = [f"{role}={other}.key" for role in ("root", "targets", "snapshot")]
+    release("draft", *follows, "root", *roles, f"timestamp={scene.folder / name}.key")
+    release(*signs)
+    release("draft", *follows, "targets", "--add", f"file={scene.base / SMALL}")
+    release(*signs)
+    release("draft", *follows, "seal")
+    release(*signs)
+
+
 def signed(folder, name, number):
-    """The processor time of signing a new document, and the bytes of the file."""
-    document = folder / "document.json"
-    document.write_text('{"signatures":[],"signed":{"_type":"x","n":%d}}' % number, encoding="ascii")
+    """The processor time of signing it in copies of the folder and of the key, and the bytes of the file."""
+    drafts, key = folder / f"{name}{number}.drafts", folder / f"{name}{number}"
+    shutil.copytree(folder / f"{name}.drafts", drafts)
+    for tail in (".seed", ".key", ".book"):
+        shutil.copy(folder / f"{name}{tail}", f"{key}{tail}")
     before = resource.getrusage(resource.RUSAGE_CHILDREN)
-    done = subprocess.run([tools.RELEASE, "sign", "--key", folder / name, document], check=True, capture_output=True)
+    release("sign", "--key", key, "--in", drafts, "--yes")
     after = resource.getrusage(resource.RUSAGE_CHILDREN)
-    return after.ru_utime - before.ru_utime + after.ru_stime - before.ru_stime, len(done.stdout)
+    return after.ru_utime - before.ru_utime + after.ru_stime - before.ru_stime, os.path.getsize(drafts / "timestamp.json")
 
 
 def layout_rules(scene):

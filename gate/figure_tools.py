@@ -86,7 +86,8 @@ def figure(name, what, unit, values, peer="", others=(), bar="", size=0):
     said |= {"peer_median": None, "peer_smallest": None, "peer_largest": None}
     if others:
         said |= {"peer_median": median(others), "peer_smallest": min(others), "peer_largest": max(others)}
-        said["ratio"] = median([one / other for one, other in zip(values, others)])
+        ratios = [one / other for one, other in zip(values, others) if other]
+        said["ratio"] = median(ratios) if ratios else None
     print(json.dumps(said), flush=True)
 
 

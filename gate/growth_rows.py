@@ -1,7 +1,6 @@
 """The rows of gate/figures that say how a cost grows: a batch of delegated roles, commands over an index in bins, and a server under load."""
 import hashlib
 import http.client
-import os
 import re
 import shutil
 
@@ -77,7 +76,8 @@ def index(scene):
     """Commands over an index of so many targets in bins by the digests of their paths, each bin a role of its own: a target is added to the first bin."""
     repositories = scene.repositories
     width, bins = (1, 2) if scene.small else (4, 64)
-    key = scene.key(SEED, width)
+    release("key", "--new", scene.folder / "signer", "--ots", width, "--height", "5")
+    key = scene.key((scene.folder / "signer.seed").read_text(encoding="ascii").strip(), width)
     steps = {}
     sizes = scene.sizes(OVER_TARGETS, (4, 8))
     for targets in sizes:
@@ -85,9 +85,9 @@ def index(scene):
         place.mkdir()
         roles, files = in_bins(key, targets, bins)
         repositories.database(place, key, roles, files)
-        begin_of(place)
+        (place / "new").write_bytes(b"new\n")
         for number in range(scene.rounds):
-            for name, took in daily(place, number, width, bins).items():
+            for name, took in daily(place, number, bins).items():
                 steps.setdefault((name, targets), []).append(1000 * took)
     for name in COMMANDS:
         for targets in sizes:
@@ -127,18 +127,14 @@ def in_bins(key, count, bins):
     return roles | {f"bin{at:02}": make.targets(1, repositories.EXPIRES, one) for at, one in enumerate(listed)}, files[1:]
 
 
-def begin_of(place):
-    (place / "seed").write_text(SEED + "\n")
-    os.chmod(place / "seed", 0o600)
-    (place / "new").write_bytes(b"new\n")
-
-
-def daily(place, number, width, bins):
-    """The seconds of each command of a day's work, in a folder of drafts, a book and a folder of files of its own."""
+def daily(place, number, bins):
+    """The seconds of each command of a day's work, in a folder of drafts, with a book and a folder of files of its own."""
     path = next(name for name in map("files/n{}".format, range(10000)) if bin_of(name, bins) == 0)
     drafts, db = f"drafts{number}", "repository.db"
     follows = ["--db", db, "--in", drafts, "--expires", "90d"]
-    signs = ["--db", db, "--in", drafts, "--seed", "seed", "--book", f"book{number}", "--ots", width, "--height", "5", "--yes"]
+    signs = ["--db", db, "--in", drafts, "--key", f"signer{number}", "--yes"]
+    for tail in (".seed", ".key", ".book"):
+        shutil.copy(place.parent / f"signer{tail}", place / f"signer{number}{tail}")
     took = {
         "draft": release("draft", *follows, "targets", "--role", "bin00", "--add", f"{path}=new", folder=place),
         "sign": release("sign", *signs, folder=place),
