@@ -77,14 +77,13 @@ def index(scene):
     repositories = scene.repositories
     width, bins = (1, 2) if scene.small else (4, 64)
     release("key", "--new", scene.folder / "signer", "--ots", width, "--height", "5")
-    key = scene.key((scene.folder / "signer.seed").read_text(encoding="ascii").strip(), width)
+    keys = [scene.key(seed, width) for seed in (SEED, (scene.folder / "signer.seed").read_text(encoding="ascii").strip())]
     steps = {}
     sizes = scene.sizes(OVER_TARGETS, (4, 8))
     for targets in sizes:
         place = scene.folder / str(targets)
         place.mkdir()
-        roles, files = in_bins(key, targets, bins)
-        repositories.database(place, key, roles, files)
+        begun(repositories, place, keys, *in_bins(keys, targets, bins))
         (place / "new").write_bytes(b"new\n")
         for number in range(scene.rounds):
             for name, took in daily(place, number, bins).items():
@@ -110,7 +109,18 @@ def digits_of(bins):
     return 1 if bins <= 16 else 2
 
 
-def in_bins(key, count, bins):
+def begun(repositories, place, keys, roles, files):
+    """A repository that the first key has signed, and that the second may change: a book knows each leaf of its key."""
+    import signed_documents as make
+    documents, db = repositories.write(place, keys[0], roles), place / "repository.db"
+    rules = {role: (keys, 1) for role in ("root", "timestamp", "snapshot", "targets")}
+    (place / "root.json").write_bytes(make.signed_file(make.root(1, repositories.EXPIRES, rules), keys[:1]))
+    release("init", "--db", db, place / "root.json")
+    release("publish", "--db", db, *documents)
+    tools.insert(db, files)
+
+
+def in_bins(keys, count, bins):
     """The roles of such an index, and its files."""
     import repositories
     import signed_documents as make
@@ -122,9 +132,9 @@ def in_bins(key, count, bins):
         listed[bin_of(path, bins)][path] = (len(file), make.digest(file))
         files.append(file)
     prefixes = [[f"{each * at + more:0{digits}x}" for more in range(each)] for at in range(bins)]
-    said = [make.delegation(f"bin{at:02}", [key], 1, prefixes=prefixes[at]) for at in range(bins)]
-    roles = {"targets": make.targets(1, repositories.EXPIRES, {}, make.delegations([key], said))}
-    return roles | {f"bin{at:02}": make.targets(1, repositories.EXPIRES, one) for at, one in enumerate(listed)}, files[1:]
+    said = [make.delegation(f"bin{at:02}", keys, 1, prefixes=prefixes[at]) for at in range(bins)]
+    roles = {"targets": make.targets(1, repositories.EXPIRES, {}, make.delegations(keys, said))}
+    return roles | {f"bin{at:02}": make.targets(1, repositories.EXPIRES, one) for at, one in enumerate(listed)}, files
 
 
 def daily(place, number, bins):
