@@ -78,19 +78,15 @@ def index(scene):
     width, bins = (1, 2) if scene.small else (4, 64)
     release("key", "--new", scene.folder / "signer", "--ots", width, "--height", "5")
     keys = [scene.key(seed, width) for seed in (SEED, (scene.folder / "signer.seed").read_text(encoding="ascii").strip())]
-    steps = {}
-    sizes = scene.sizes(OVER_TARGETS, (4, 8))
-    for targets in sizes:
+    for targets in scene.sizes(OVER_TARGETS, (4, 8)):
         place = scene.folder / str(targets)
         place.mkdir()
         begun(repositories, place, keys, *in_bins(keys, targets, bins))
         (place / "new").write_bytes(b"new\n")
-        for number in range(scene.rounds):
-            for name, took in daily(place, number, bins).items():
-                steps.setdefault((name, targets), []).append(1000 * took)
-    for name in COMMANDS:
-        for targets in sizes:
-            figure(f"{name}-{targets}", f"{COMMANDS[name]} over {targets} targets in {bins} bins", "ms", steps[name, targets], bar=tools.IN_PROPORTION, size=targets)
+        days = [daily(place, number, bins) for number in range(scene.rounds)]
+        for name, command in COMMANDS.items():
+            took = [1000 * day[name] for day in days]
+            figure(f"{name}-{targets}", f"{command} over {targets} targets in {bins} bins", "ms", took, bar=tools.IN_PROPORTION, size=targets)
 
 
 COMMANDS = {
