@@ -36,6 +36,7 @@ slips_of_the_hand() {
     files_that_are_not_there
     what_is_not_sealed
     a_server_that_holds_the_database
+    a_book_that_is_in_use
     folders_that_are_held_by_a_root
     several_hands_at_one_folder
     a_key_that_is_ended_while_it_is_made
@@ -83,6 +84,20 @@ a_server_that_holds_the_database() {
     serves repository.db --read-only
     slip 3 'release: batch: status 404: a server that only reads has no writing route' 'fault network' publish --port "$port" root:d/held/root.json
     serves_no_more
+}
+
+# A book that another process has is let be.
+a_book_that_is_in_use() {
+    local holder
+    python3 -c 'import fcntl, sys, time
+book = open(sys.argv[1], "r+b")
+fcntl.lockf(book, fcntl.LOCK_EX)
+print("held", flush=True)
+time.sleep(600)' online.book >"$folder/holding" &
+    holder=$!
+    until [ -s "$folder/holding" ]; do sleep 0.1; done
+    slip 3 'release: online.book: in use by another process, which signs; try again' 'fault database' sign --at $now --key online --in d --yes
+    { kill "$holder" && wait "$holder"; } 2>/dev/null || true
 }
 
 # What a folder holds is judged by a root of the signer's own: a folder of good documents, one whose held targets metadata somebody wrote, and one
