@@ -100,7 +100,7 @@ leaves_are_counted_together() {
 import json, sys
 rows = {row["role"]: row for row in json.load(open(sys.argv[1]))["rows"]}
 assert rows["timestamp"]["together"] == {"left": 31, "most": 96}, rows
-assert sorted(key.get("left", -1) for key in rows["timestamp"]["keys"]) == [-1, 0, 0, 31], rows
+assert sorted(key.get("left", -1) for key in rows["timestamp"]["keys"]) == [-1, -1, -1, 0, 0, 31], rows
 assert "together" not in rows["targets"], rows
 PYTHON
     shows_leaves --key third || fail "due with 31 leaves of 32: $(cat "$folder/out")"
