@@ -195,15 +195,16 @@ def held_files(folder):
 
 
 def judge_files(folder, draft, document):
-    """Each file that is listed is held, or waits in the folder with its length and its bytes; layouts and links are listed as they stand by now."""
+    """Each file that is listed is held, or waits in the folder with its length and its bytes, from which it is published; layouts and links are
+    listed as they stand by now, besides."""
     chains = {name.removeprefix("layouts/"): text for name, text in folder.items() if name.startswith("layouts/")}
     held = held_files(folder)
     for path, (length, said) in document.listings.items() if draft.kind == "targets" else ():
-        standing = chains.get(chain_drafting.file_name(path), folder.get(f"files/{said}"))
-        if standing is None and (said, length) in held:
-            continue
-        if standing is None or (len(standing), digest(standing)) != (length, said):
-            raise Refused("file")
+        waiting = [] if (said, length) in held else [folder.get(f"files/{said}")]
+        standing = chains.get(chain_drafting.file_name(path))
+        for text in waiting if standing is None else [*waiting, standing]:
+            if text is None or (len(text), digest(text)) != (length, said):
+                raise Refused("file")
 
 
 def judge_other(key, book, document):
