@@ -136,6 +136,8 @@ class Terminal:
     def __init__(self, room, *words):
         self.child, self.end = pty.fork()
         if self.child == 0:
+            # a shell that runs this aside ignores it
+            signal.signal(signal.SIGINT, signal.SIG_DFL)
             os.chdir(room.at)
             os.execv(room.release, [room.release, *words])
         self.told = ""
