@@ -308,7 +308,7 @@ def signing(scene):
 def sealed(scene, name):
     """A folder of drafts in which the timestamp alone is left to be signed, by the key of this name; another key has signed the rest."""
     folder, other = scene.folder / f"{name}.drafts", scene.folder / "other"
-    follows, signs = ["--in", folder, "--expires", "90d"], ["sign", "--key", other, "--in", folder, "--yes"]
+    follows, signs = ["--in", folder, "--expires", "90d"], ["sign", "--key", other, "--in", folder, "--yes", "--again"]
     roles = [f"{role}={other}.key" for role in ("root", "targets", "snapshot")]
     release("draft", *follows, "root", *roles, f"timestamp={scene.folder / name}.key")
     release(*signs)
