@@ -22,7 +22,7 @@ def size_of(size):
 
 
 def opening(scene):
-    """Opening so many target files of 64 KiB and as many shelf rows, beside sqlite3, which reads every row, and the time that `sha2` needs for the files."""
+    """Opening so many target files of 64 KiB and as many shelf rows, next to sqlite3, which reads every row, and the time that `sha2` needs for the files."""
     store = scene.scripts.store_rates
     targets, empty = (scene.base / "targets.json").read_bytes(), scene.copy("empty.db")
     put = ["put", "--db", empty, scene.base / SMALL]
@@ -83,7 +83,7 @@ def memory(scene):
 
 
 def put(scene):
-    """Puts of 1 MiB through a port, beside sqlite3 with as many syncs and the time that `sha2` needs."""
+    """Puts of 1 MiB through a port, next to sqlite3 with as many syncs and the time that `sha2` needs."""
     store = scene.scripts.store_rates
     shutil.copy(scene.base / "root.json", scene.folder)
     found = [store.puts(scene.folder, number, scene.sizes(40, 1)) for number in range(scene.rounds)]
@@ -91,7 +91,7 @@ def put(scene):
 
 
 def batch(scene):
-    """Batches of three documents through a port, beside sqlite3 with as many syncs and three verifications."""
+    """Batches of three documents through a port, next to sqlite3 with as many syncs and three verifications."""
     tools.need("measure")
     store = scene.scripts.store_rates
     shutil.copy(scene.base / "root.json", scene.folder)
@@ -100,14 +100,14 @@ def batch(scene):
 
 
 def of_store(found, name, what, peer, bar):
-    """The rate beside its floor, and once more with a request for the root in the floor: sqlite3 has no connection to take."""
+    """The rate next to its floor, and once more with a request for the root in the floor: sqlite3 has no connection to take."""
     took = [1 / it[0] for it in found]
     figure(name, what, "a second", took, peer, [1 / it[2] for it in found], bar)
     figure(f"{name}-asked", "the same, a request for the root in the floor", "a second", took, "the same", [1 / (it[1] + it[2]) for it in found])
 
 
 def publish_in(scene):
-    """`publish --in` of a folder with so many files of 64 KiB, beside an opening of what is then held and the files' puts through a port, each in a connection
+    """`publish --in` of a folder with so many files of 64 KiB, next to an opening of what is then held and the files' puts through a port, each in a connection
     of its own."""
     count, size = scene.sizes((1000, 65536), (2, 4096))
     scene.scripts.serve_rates.repository(scene.folder, {})
@@ -158,7 +158,7 @@ def put_one_by_one(scene, db, files):
 
 
 def verify(scene):
-    """Verifications beside straight C over OpenSSL without SHA instructions, by the stored vectors."""
+    """Verifications next to straight C over OpenSSL without SHA instructions, by the stored vectors."""
     tools.need("verdicts", "cc")
     rates, lines = scene.scripts.verifying_rates, scene.sizes(400, 10)
     straight = scene.folder / "straight"
@@ -184,7 +184,7 @@ def apart(found, peer):
 
 
 def held(scene):
-    """`update` and `get` of a client that holds so many target files of 1 MiB, beside an opening by sqlite3 and `sha2`."""
+    """`update` and `get` of a client that holds so many target files of 1 MiB, next to an opening by sqlite3 and `sha2`."""
     each = 16 * KIBIBYTE if scene.small else MEBIBYTE
     port, _ = scene.serve(scene.copy("served.db"))
     asked = ["--port", port]
@@ -204,7 +204,7 @@ def held(scene):
 
 
 def client(scene):
-    """Commands of a client as whole processes, beside curl for the same bytes."""
+    """Commands of a client as whole processes, next to curl for the same bytes."""
     tools.need("curl")
     rates = scene.scripts.client_rates
     shutil.copy(scene.base / "root.json", scene.folder)
@@ -216,7 +216,7 @@ def client(scene):
 
 
 def served(scene):
-    """Targets over HTTP, one connection at a time, beside nginx."""
+    """Targets over HTTP, one connection at a time, next to nginx."""
     tools.need("nginx", "ab")
     serving = scene.scripts.serve_rates
     for name in (SMALL, LARGE):
@@ -230,7 +230,7 @@ def served(scene):
 
 
 def target(scene):
-    """A target of 1 MiB over HTTP beside its floor: sqlite3 reads it, `sha2` hashes it, and one call writes it from memory."""
+    """A target of 1 MiB over HTTP next to its floor: sqlite3 reads it, `sha2` hashes it, and one call writes it from memory."""
     data, requests = (scene.base / LARGE).read_bytes(), scene.sizes(200, 2)
     db = scene.copy("served.db")
     tools.insert(db, filler(scene.sizes(63, 1), scene.size))
@@ -239,9 +239,9 @@ def target(scene):
     found = []
     for _ in range(scene.rounds):
         ours = median([ask(port, len(data)) for _ in range(requests)])
-        floor = read_alone(other, data, requests) + write_alone(data, requests) + (len(data) / 64 + 1) / scene.rates()[0]
+        floor = read_alone(other, data, requests) + write_alone(scene, data, requests) + (len(data) / 64 + 1) / scene.rates()[0]
         found.append((1000 * ours, 1000 * floor))
-    figure("target", f"a target of {size_of(scene.size)} beside its floor", "ms", *apart(found, "sqlite3 reads it, `sha2` hashes it, one write"), "at most 1.3")
+    figure("target", f"a target of {size_of(scene.size)} next to its floor", "ms", *apart(found, "sqlite3 reads it, `sha2` hashes it, one write"), "at most 1.3")
 
 
 def ask(port, length):
@@ -265,23 +265,15 @@ def read_alone(db, data, requests):
     return took
 
 
-def write_alone(data, requests):
+def write_alone(scene, data, requests):
     """Seconds of a request that another process answers from memory by one write."""
     port = tools.free_port()
     with socket.create_server(("127.0.0.1", port)) as listener:
-        writer = multiprocessing.Process(target=write_at_once, args=(listener, requests, data))
+        writer = multiprocessing.Process(target=scene.scripts.memory.write_at_once, args=(listener, requests, data))
         writer.start()
         took = median([ask(port, len(data)) for _ in range(requests)])
         writer.join()
     return took
-
-
-def write_at_once(listener, requests, reply):
-    for _ in range(requests):
-        peer, _ = listener.accept()
-        with peer:
-            peer.recv(8192)
-            peer.sendall(reply)
 
 
 def signing(scene):
@@ -331,7 +323,7 @@ def signed(folder, name, number):
 
 
 def layout_rules(scene):
-    """The artifact rules of a layout of 16 steps, beside in-toto."""
+    """The artifact rules of a layout of 16 steps, next to in-toto."""
     tools.need("measure")
     python = "/usr/bin/python3"
     if subprocess.run([python, "-c", "import in_toto"], capture_output=True, check=False).returncode:

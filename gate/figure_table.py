@@ -1,4 +1,4 @@
-"""The figures that are kept: gate/times/figures.csv, the table that docs/FIGURES.md has of it, and two such files beside one another."""
+"""The figures that are kept: gate/times/figures.csv, the table that docs/FIGURES.md has of it, and two such files next to one another."""
 import csv
 import os
 import re
@@ -94,7 +94,7 @@ def line(row, run):
 
 
 def meaning(row):
-    """The name of a figure, what it is and what stands beside it, the same for all sizes."""
+    """The name of a figure, what it is and what stands next to it, the same for all sizes."""
     name, what = row["name"], row["what"]
     size = re.fullmatch(r"(.*-)(\d+)", name)
     if size:
@@ -114,7 +114,7 @@ def markdown(rows):
     lines += [line(row, runs.index(tuple(row[it] for it in RUN)) + 1) for row in rows]
     lines += ["", *(told_of(number, run, runs[number - 2] if number > 1 else None) for number, run in enumerate(runs, 1))]
     lines += no_figure({row["name"] for row in rows})
-    lines += ["", "| Row | What it is | Beside it |", "|---|---|---|", *dict.fromkeys(map(meaning, rows))]
+    lines += ["", "| Row | What it is | Next to it |", "|---|---|---|", *dict.fromkeys(map(meaning, rows))]
     return "\n".join(lines) + "\n"
 
 
@@ -156,7 +156,7 @@ def faults():
         yield "docs/FIGURES.md has another table than gate/times/figures.csv: gate/figures --page"
 
 
-def beside(one, other):
+def against(one, other):
     """Prints the figures that both files have, and the units of their machines."""
     ours, theirs = ({row["name"]: row for row in kept(path) if row["median"]} for path in (one, other))
     print(f"| Name | Unit | {os.path.basename(one)} | {os.path.basename(other)} | Second by first | `sha2` by `sha2` | OpenSSL by OpenSSL |")

@@ -160,7 +160,7 @@ ASKED = {"straight": "the server, straight", "proxy": "the proxy, a name that ma
 
 
 def load(scene):
-    """Connections that are kept busy, straight onto the server and by the documented proxy, beside nginx alone."""
+    """Connections that are kept busy, straight onto the server and by the documented proxy, next to nginx alone."""
     tools.need("wrk", "nginx")
     serving = scene.scripts.serve_rates
     loads = tools.without_its_run("load_rates")

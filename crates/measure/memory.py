@@ -30,22 +30,13 @@ from serve_rates import HERE, RELEASE, release, repository
 from store_rates import BLOB, MEASURE, rates
 
 sys.path.insert(0, str(HERE.parent / "gate"))
+from figure_tools import median, seconds  # noqa: E402
 from served import Server, rest  # noqa: E402
 
 MEBIBYTE = 1048576
 TARGET = "target.bin"
 REQUEST = f"GET /targets/{TARGET} HTTP/1.1\r\n\r\n".encode()
 HEAD = b"HTTP/1.1 200 OK\r\nContent-Type: application/octet-stream\r\nContent-Length: 1048576\r\nConnection: close\r\n\r\n"
-
-
-def median(values):
-    return sorted(values)[len(values) // 2]
-
-
-def seconds(call):
-    start = time.perf_counter()
-    call()
-    return time.perf_counter() - start
 
 
 def made(folder, count, size):
