@@ -1,5 +1,5 @@
 -- The command line, in the definitions of `clap`: what words say with the arguments that each subcommand has.
-use Rattle.std.specs.Prelude.{◌≡◌, ◌⊎◌, ℕ, ◌≤◌, Bool, false, List, [], ◌∷◌, Option, Some, None, IsSome, IsTrue, nat_lt, codes, length, map, string_bytes, String}
+use Rattle.std.specs.Prelude.{◌≡◌, ◌⊎◌, ℕ, ◌≤◌, Bool, true, false, List, [], ◌∷◌, Option, Some, None, IsSome, IsTrue, nat_lt, codes, length, map, string_bytes, String}
 use Rattle.std.specs.declared.alloc.Global.{Global}
 use Rattle.std.specs.Str.Parse.{digits_value, without_leading_plus}
 use Rattle.limits.specs.Limits.{most_documents}
@@ -29,8 +29,10 @@ use Rattle.cli_tasks.specs.declared.tasks.Unread.{Unread}
 use Rattle.cli_tasks.specs.declared.tasks.Unread.TheVariants as unread
 use Rattle.cli_tasks.specs.declared.tasks.Usage.{Usage}
 use Rattle.cli_tasks.specs.declared.tasks.Usage.TheVariants as usages
+use Rattle.cli_tasks.specs.declared.tasks.Which.{Which}
+use Rattle.cli_tasks.specs.declared.tasks.Which.TheVariants as which
 use Rattle.cli_tasks.specs.declared.tasks.Subcommand.{Subcommand}
-use Rattle.cli_tasks.specs.declared.tasks.Subcommand.TheVariants.{Canon, Draft as DraftOf, Export, Get, Init, Key, NewKey, PublicKey, Prune, Publish, PublishIn, Put, Serve, Show, Sign, SignIn, Update}
+use Rattle.cli_tasks.specs.declared.tasks.Subcommand.TheVariants.{Canon, Draft as DraftOf, Export, Get, GetMany, Init, Key, NewKey, PublicKey, Prune, Publish, PublishIn, Put, Serve, Show, Sign, SignIn, Update}
 
 -- ---- what is found for a subcommand's arguments
 
@@ -109,20 +111,37 @@ HasLower rows top (Some p) = HasNumber rows (codes "levels") 1 2 2 × HasNumberO
 
 -- ---- drafts
 
+-- nothing that is said of delegations
+pub record LacksDelegations (rows : List Row) : Type 0 where
+  pub delegate : Lacks rows (codes "delegate")
+  pub bins : Lacks rows (codes "bins")
+  pub terminating : false ≡ is_used rows (codes "terminating")
+  pub before : Lacks rows (codes "before")
+  pub undelegate : Lacks rows (codes "undelegate")
+
 -- no option that targets metadata alone has
 pub record LacksTargets (rows : List Row) : Type 0 where
   pub role : Lacks rows (codes "role")
   pub add : Lacks rows (codes "add")
   pub remove : Lacks rows (codes "remove")
-  pub delegate : Lacks rows (codes "delegate")
-  pub before : Lacks rows (codes "before")
-  pub undelegate : Lacks rows (codes "undelegate")
+  pub spread : false ≡ is_used rows (codes "spread")
+  pub delegations : LacksDelegations rows
+
+-- each target is listed in the role that covers it, or a role and delegations may be named
+abbrev pub LacksRole : List Row → Type 0
+LacksRole rows = Lacks rows (codes "role") × LacksDelegations rows
+
+abbrev pub SpreadsAlone : List Row → Type 0
+SpreadsAlone rows = (false ≡ is_used rows (codes "spread")) ⊎ LacksRole rows
 
 pub record HasTargets (rows : List Row) (t : TargetsDraft) : Type 0 where
   pub role : MayHaveText rows (codes "role") t.role
   pub add : MayHaveTexts rows (codes "add") most_times t.add.items
   pub remove : MayHaveTexts rows (codes "remove") most_times t.remove.items
+  pub spread : t.spread ≡ is_used rows (codes "spread")
+  pub alone : SpreadsAlone rows
   pub delegate : MayHaveTexts rows (codes "delegate") most_times t.delegate.items
+  pub bins : MayHaveTexts rows (codes "bins") most_times t.bins.items
   pub terminating : t.terminating ≡ is_used rows (codes "terminating")
   pub before : MayHaveText rows (codes "before") t.before
   pub undelegate : MayHaveTexts rows (codes "undelegate") most_times t.undelegate.items
@@ -246,6 +265,16 @@ pub record HasShowing (rows : List Row) (s : Showing) : Type 0 where
   pub of_folder : ShowsAlone rows
   pub of_list : ListsAlone rows
 
+-- ---- what a client gets
+
+-- which targets: all, of these patterns where there are any; those of a file; or those of these paths; and one of the three alone
+abbrev pub HasWhich : List Row → Which → Type 0
+HasWhich rows (which.All patterns) = (true ≡ is_used rows (codes "all")) × MayHaveTexts rows (codes "path") most_documents patterns.items
+    × Lacks rows (codes "list")
+HasWhich rows (which.Listed file) = (false ≡ is_used rows (codes "all")) × HasText rows (codes "list") file × Lacks rows (codes "path")
+HasWhich rows (which.Paths paths) = (false ≡ is_used rows (codes "all")) × HasTexts rows (codes "path") most_documents paths.items
+    × Lacks rows (codes "list")
+
 -- ---- tasks
 
 abbrev pub name_of : Subcommand → Text
@@ -253,6 +282,7 @@ name_of (Canon file) = codes "canon"
 name_of (DraftOf d) = codes "draft"
 name_of (Export db to) = codes "export"
 name_of (Get g) = codes "get"
+name_of (GetMany g) = codes "get"
 name_of (Init db root) = codes "init"
 name_of (Key seed params) = codes "key"
 name_of (NewKey names params lower) = codes "key"
@@ -274,7 +304,11 @@ HasArguments rows (DraftOf d) = HasDraft rows d
 HasArguments rows (Export db to) = HasText rows (codes "db") db × HasText rows (codes "to") to
 HasArguments rows (Get g) = HasText rows (codes "db") g.db × HasServer rows g.server
     × MayHaveNumber rows (codes "within") 1 most_seconds g.within × (g.json ≡ is_used rows (codes "json"))
-    × HasText rows (codes "out") g.out × HasText rows (codes "path") g.path
+    × HasText rows (codes "out") g.out × HasTexts rows (codes "path") 1 (g.path ∷ []) × Lacks rows (codes "to") × Lacks rows (codes "list")
+    × (false ≡ is_used rows (codes "all"))
+HasArguments rows (GetMany g) = HasText rows (codes "db") g.db × HasServer rows g.server
+    × MayHaveNumber rows (codes "within") 1 most_seconds g.within × (g.json ≡ is_used rows (codes "json"))
+    × HasText rows (codes "to") g.to × HasWhich rows g.which × Lacks rows (codes "out")
 HasArguments rows (Init db root) = HasText rows (codes "db") db × HasText rows (codes "root") root
 HasArguments rows (Key seed params) = HasText rows (codes "seed") seed × HasParams rows params × Lacks rows (codes "new") × Lacks rows (codes "name") × Lacks rows (codes "public")
     × LacksLevels rows

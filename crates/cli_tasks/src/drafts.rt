@@ -1,10 +1,11 @@
 //! What the words say of a draft.
 ghost use Rattle.std.specs.Prelude.{IfOk, codes};
 ghost use Rattle.clap.specs.Words.{found_of, rows_of};
-ghost use Rattle.cli_tasks.specs.CommandLine.{HasDraft, HasKind, HasLayout, HasLink, HasTargets, LacksChain, LacksKey, LacksLayout, LacksLink, LacksTargets};
+ghost use Rattle.cli_tasks.specs.CommandLine.{HasDraft, HasKind, HasLayout, HasLink, HasTargets, LacksChain, LacksDelegations, LacksKey, LacksLayout, LacksLink, LacksRole, LacksTargets, SpreadsAlone};
 
 use crate::given::{
-    fault, is_given, is_left_out, refuse, text_of, text_or_none, texts_of, texts_or_none,
+    fault, is_given, is_left_out, refuse, refuse_flag, text_of, text_or_none, texts_of,
+    texts_or_none,
 };
 use crate::outside::{attach_of, message_of};
 use crate::tasks::{Draft, Drafting, LayoutDraft, LinkDraft, MOST_TIMES, TargetsDraft, Unread};
@@ -161,17 +162,49 @@ fn told_of_targets(alloc: Global, given: &ArgMatches<'_>) -> Result<TargetsDraft
     let add = texts_or_none(alloc, given, "add", MOST_TIMES)?;
     let remove = texts_or_none(alloc, given, "remove", MOST_TIMES)?;
     let delegate = texts_or_none(alloc, given, "delegate", MOST_TIMES)?;
+    let bins = texts_or_none(alloc, given, "bins", MOST_TIMES)?;
     let before = text_or_none(alloc, given, "before")?;
     let undelegate = texts_or_none(alloc, given, "undelegate", MOST_TIMES)?;
+    see_spread_alone(alloc, given)?;
     Ok(TargetsDraft {
         role,
         add,
         remove,
+        spread: is_given(given, "spread"),
         delegate,
+        bins,
         terminating: is_given(given, "terminating"),
         before,
         undelegate,
     })
+}
+
+// Where each target is listed in the role that covers it, nothing is said of one role or of delegations.
+fn see_spread_alone(alloc: Global, given: &ArgMatches<'_>) -> Result<(), Unread>
+    ensures { IfOk result (λ _. SpreadsAlone (rows_of (found_of given.now))) }
+{
+    if !is_given(given, "spread") {
+        return Ok(());
+    }
+    refuse_role(alloc, given)
+}
+
+fn refuse_role(alloc: Global, given: &ArgMatches<'_>) -> Result<(), Unread>
+    ensures { IfOk result (λ _. LacksRole (rows_of (found_of given.now))) }
+{
+    refuse(alloc, given, "role", "--spread")?;
+    refuse_delegations(alloc, given, "--spread")
+}
+
+// Nothing is said of delegations.
+fn refuse_delegations(alloc: Global, given: &ArgMatches<'_>, with: &str) -> Result<(), Unread>
+    ensures { IfOk result (λ _. LacksDelegations (rows_of (found_of given.now))) }
+{
+    refuse(alloc, given, "delegate", with)?;
+    refuse(alloc, given, "bins", with)?;
+    refuse_flag(alloc, given, "terminating", with)?;
+    refuse(alloc, given, "before", with)?;
+    refuse(alloc, given, "undelegate", with)
 }
 
 // What targets metadata alone has stands beside no other kind.
@@ -185,9 +218,8 @@ pub(crate) fn refuse_targets(
     refuse(alloc, given, "role", kind)?;
     refuse(alloc, given, "add", kind)?;
     refuse(alloc, given, "remove", kind)?;
-    refuse(alloc, given, "delegate", kind)?;
-    refuse(alloc, given, "before", kind)?;
-    refuse(alloc, given, "undelegate", kind)
+    refuse_flag(alloc, given, "spread", kind)?;
+    refuse_delegations(alloc, given, kind)
 }
 
 // What layouts and links have stands beside no other kind.

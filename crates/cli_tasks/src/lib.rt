@@ -3,7 +3,7 @@
 
 ghost use Rattle.std.specs.Prelude.{◌≡◌, ◌⊎◌, ◌∷◌, [], Err, IfOk, codes, false, map, string_bytes};
 ghost use Rattle.clap.specs.Words.{found_of, kind_of, rows_of, subcommand_rows_of};
-ghost use Rattle.cli_tasks.specs.CommandLine.{AsksForHelp, HasAnchor, HasKeys, HasNames, HasShowing, HasTexts, IsAsked, IsTask, IsTaskOf, Lacks, LacksFolder, LacksPair, LacksTree, ListsAlone, Says, ShowsAlone, is_used};
+ghost use Rattle.cli_tasks.specs.CommandLine.{AsksForHelp, HasAnchor, HasKeys, HasNames, HasShowing, HasTexts, HasWhich, IsAsked, IsTask, IsTaskOf, Lacks, LacksFolder, LacksPair, LacksTree, ListsAlone, Says, ShowsAlone, is_used};
 
 mod drafts;
 mod given;
@@ -25,14 +25,22 @@ use outside::public_key_of;
 use std::alloc::{AllocError, Global};
 use tasks::Unread;
 pub use tasks::{
-    Anchor, AttachDraft, Draft, Drafting, FolderSigning, Getting, Keys, LayoutDraft, LinkDraft,
-    Place, Server, Serving, Showing, Signing, Subcommand, TargetsDraft, Task, Updating, Usage,
+    Anchor, AttachDraft, Draft, Drafting, FolderSigning, Getting, GettingMany, Keys, LayoutDraft,
+    LinkDraft, Place, Server, Serving, Showing, Signing, Subcommand, TargetsDraft, Task, Updating,
+    Usage, Which,
 };
 
 // Neither a seed nor a new name nor a public key.
 const NO_KEY: &str = concat!(
     "error: the following required arguments were not provided:\n",
     "  <--seed <S>|--new <NAME>|--public <FILE>>\n\n",
+    "For more information, try '--help'.\n",
+);
+
+// Neither a file nor a folder to write into.
+const NOTHING_WRITTEN: &str = concat!(
+    "error: the following required arguments were not provided:\n",
+    "  <--out <OUT>|--to <DIR>>\n\n",
     "For more information, try '--help'.\n",
 );
 
@@ -138,11 +146,28 @@ fn export_asked(alloc: Global, given: &ArgMatches<'_>) -> Result<Subcommand, Unr
 fn get_asked(alloc: Global, given: &ArgMatches<'_>) -> Result<Subcommand, Unread>
     ensures { IfOk result (IsAsked (codes "get") (rows_of (found_of given.now))) }
 {
+    if is_left_out(given, "out") {
+        if is_left_out(given, "to") {
+            return Err(fault(alloc, NOTHING_WRITTEN));
+        }
+        return get_many_asked(alloc, given);
+    }
+    refuse(alloc, given, "to", "--out <OUT>")?;
+    get_one_asked(alloc, given)
+}
+
+// What is got into a file.
+fn get_one_asked(alloc: Global, given: &ArgMatches<'_>) -> Result<Subcommand, Unread>
+    requires { Lacks (rows_of (found_of given.now)) (codes "to") }
+    ensures { IfOk result (IsAsked (codes "get") (rows_of (found_of given.now))) }
+{
     let db = text_of(alloc, given, "db")?;
     let server = server_of(alloc, given)?;
     let within = within_of(alloc, given)?;
     let out = text_of(alloc, given, "out")?;
-    let path = text_of(alloc, given, "path")?;
+    refuse(alloc, given, "list", "--out <OUT>")?;
+    refuse_flag(alloc, given, "all", "--out <OUT>")?;
+    let path = one_text_of(alloc, given, "path")?;
     Ok(Subcommand::Get(Getting {
         db,
         server,
@@ -151,6 +176,44 @@ fn get_asked(alloc: Global, given: &ArgMatches<'_>) -> Result<Subcommand, Unread
         out,
         path,
     }))
+}
+
+// What is got into a folder.
+fn get_many_asked(alloc: Global, given: &ArgMatches<'_>) -> Result<Subcommand, Unread>
+    requires { Lacks (rows_of (found_of given.now)) (codes "out") }
+    ensures { IfOk result (IsAsked (codes "get") (rows_of (found_of given.now))) }
+{
+    let db = text_of(alloc, given, "db")?;
+    let server = server_of(alloc, given)?;
+    let within = within_of(alloc, given)?;
+    let to = text_of(alloc, given, "to")?;
+    let which = which_of(alloc, given)?;
+    Ok(Subcommand::GetMany(GettingMany {
+        db,
+        server,
+        within,
+        json: is_given(given, "json"),
+        to,
+        which,
+    }))
+}
+
+// Which targets are got into a folder.
+fn which_of(alloc: Global, given: &ArgMatches<'_>) -> Result<Which, Unread>
+    ensures { IfOk result (HasWhich (rows_of (found_of given.now))) }
+{
+    if is_given(given, "all") {
+        refuse(alloc, given, "list", "--all")?;
+        let patterns = texts_or_none(alloc, given, "path", MOST_DOCUMENTS)?;
+        return Ok(Which::All { patterns });
+    }
+    if is_left_out(given, "list") {
+        let paths = texts_of(alloc, given, "path", MOST_DOCUMENTS)?;
+        return Ok(Which::Paths { paths });
+    }
+    refuse(alloc, given, "path", "--list <FILE>")?;
+    let file = text_of(alloc, given, "list")?;
+    Ok(Which::Listed { file })
 }
 
 fn init_asked(alloc: Global, given: &ArgMatches<'_>) -> Result<Subcommand, Unread>

@@ -153,6 +153,29 @@ pub struct Getting {
     pub path: String,
 }
 
+/// What a client gets into a folder: its own database, where it fetches from and for how many seconds at most, whether JSON is printed, the
+/// folder that is written into, and which targets.
+#[derive(Drop)]
+pub struct GettingMany {
+    pub db: String,
+    pub server: Server,
+    pub within: Option<u64>,
+    pub json: bool,
+    pub to: String,
+    pub which: Which,
+}
+
+/// Which targets a client gets.
+#[derive(Drop)]
+pub enum Which {
+    /// All that are listed, of these patterns where there are any.
+    All { patterns: Vec<String> },
+    /// Those of a file, a path a line.
+    Listed { file: String },
+    /// Those of these paths.
+    Paths { paths: Vec<String> },
+}
+
 /// What is served: a database, at a port of 127.0.0.1, over so many connections or without end, and whether only what changes nothing.
 #[derive(Drop)]
 pub struct Serving {
@@ -208,14 +231,17 @@ pub struct Showing {
     pub paths: Vec<String>,
 }
 
-/// What is told of targets metadata: its role, targets as `PATH[=FILE]`, paths, delegations as `NAME=RULE:PATTERN[,..]`, before which role
-/// these stand and whether they are terminating, and names of roles.
+/// What is told of targets metadata: its role, targets as `PATH[=FILE]`, paths, whether each target is listed in the role that covers it,
+/// delegations as `NAME=RULE:PATTERN[,..]` and as `NAME=RULE:N` for N roles, before which role these stand and whether they are terminating,
+/// and names of roles.
 #[derive(Drop)]
 pub struct TargetsDraft {
     pub role: Option<String>,
     pub add: Vec<String>,
     pub remove: Vec<String>,
+    pub spread: bool,
     pub delegate: Vec<String>,
+    pub bins: Vec<String>,
     pub terminating: bool,
     pub before: Option<String>,
     pub undelegate: Vec<String>,
@@ -238,6 +264,9 @@ pub enum Subcommand {
     /// `get --db FILE (--port P | [--from FOLDER ..] [--mirror URL ..]) [--within SECONDS] [--json] --out OUT PATH`: fetches a target, and writes
     /// the file where the client's own state grants it.
     Get(Getting),
+    /// `get --db FILE (--port P | [--from FOLDER ..] [--mirror URL ..]) [--within SECONDS] [--json] --to DIR (PATH .. | --list FILE | --all
+    /// [PATTERN ..])`: fetches targets, and writes the file of each that the client's own state grants.
+    GetMany(GettingMany),
     /// `init --db FILE ROOT`: begins the trust with a first root.
     Init {
         db: String,

@@ -91,10 +91,7 @@ most_days = 3650
 abbrev pub due_rule : Rule
 due_rule = record (option_rule (codes "due")) { parser = Some (Unsigned 0 most_days) }
 
--- `--out OUT` and `--to FOLDER`, which have to be there
-abbrev pub out_rule : Rule
-out_rule = record (option_rule (codes "out")) { required = true }
-
+-- `--to FOLDER`, which has to be there
 abbrev pub folder_rule : Rule
 folder_rule = record (option_rule (codes "to")) { required = true }
 
@@ -122,7 +119,8 @@ client_line name = with_rule (with_rule (with_rule (with_rule (with_rule (stored
     within_rule) (flag_rule (codes "json"))
 
 abbrev pub get_line : App
-get_line = with_rule (with_rule (client_line (codes "get")) out_rule) (operand_rule (codes "path"))
+get_line = with_rule (with_rule (with_rule (with_rule (with_rule (client_line (codes "get")) (option_rule (codes "out"))) (option_rule (codes "to")))
+    (option_rule (codes "list"))) (flag_rule (codes "all"))) (operands_rule (codes "path"))
 
 abbrev pub init_line : App
 init_line = with_rule (stored_line (codes "init")) (operand_rule (codes "root"))
@@ -181,11 +179,12 @@ begun_draft_line = with_rule (with_rule (with_rule (with_rule (begun_line (codes
     (option_rule (codes "expires"))) (flag_rule (codes "anew"))
 
 abbrev pub with_listings : App → App
-with_listings a = with_rule (with_rule (with_rule a (option_rule (codes "role"))) (many_rule (codes "add"))) (many_rule (codes "remove"))
+with_listings a = with_rule (with_rule (with_rule (with_rule a (option_rule (codes "role"))) (many_rule (codes "add"))) (many_rule (codes "remove")))
+    (flag_rule (codes "spread"))
 
 abbrev pub with_delegations : App → App
-with_delegations a = with_rule (with_rule (with_rule (with_rule a (many_rule (codes "delegate"))) (flag_rule (codes "terminating")))
-    (option_rule (codes "before"))) (many_rule (codes "undelegate"))
+with_delegations a = with_rule (with_rule (with_rule (with_rule (with_rule a (many_rule (codes "delegate"))) (many_rule (codes "bins")))
+    (flag_rule (codes "terminating"))) (option_rule (codes "before"))) (many_rule (codes "undelegate"))
 
 abbrev pub with_layouts : App → App
 with_layouts a = with_rule (with_rule (with_rule a (option_rule (codes "target"))) (option_rule (codes "owners"))) (option_rule (codes "rules"))

@@ -161,10 +161,19 @@ pub(crate) const DRAFT: Subcommand<'static> = Subcommand {
             "List a target; of a folder all that it has",
         ),
         Word::Many("remove", "PATH", "List a target no more"),
+        Word::Flag(
+            "spread",
+            "List each added target in the delegated role that covers it, a draft for each such role",
+        ),
         Word::Many(
             "delegate",
             "NAME=RULE:PATTERN[,..]",
-            "Delegate what the patterns match to a role",
+            "Delegate what the patterns match to a role; or with #PREFIX[,..] the paths whose SHA-256 begins with one of these hex digits",
+        ),
+        Word::Many(
+            "bins",
+            "NAME=RULE:N",
+            "Delegate to N roles, 2, 4, 8, 16, 32 or 64, each its share of all paths by their SHA-256",
         ),
         Word::Flag(
             "terminating",
@@ -223,10 +232,11 @@ pub(crate) const EXPORT: Subcommand<'static> = Subcommand {
     ],
 };
 
-/// `get [--at SECONDS] [--verbose] --db FILE (--port P | [--from FOLDER ..] [--mirror URL ..]) [--within SECONDS] [--json] --out OUT PATH`
+/// `get [--at SECONDS] [--verbose] --db FILE (--port P | [--from FOLDER ..] [--mirror URL ..]) [--within SECONDS] [--json] --out OUT PATH`,
+/// or in place of `--out OUT PATH` one of `--to DIR PATH ..`, `--to DIR --list FILE` and `--to DIR --all [PATTERN ..]`
 pub(crate) const GET: Subcommand<'static> = Subcommand {
     name: "get",
-    about: "Fetch a target, as a client",
+    about: "Fetch a target, or many, as a client",
     after: after!("release get --db client.db --port 8080 --out hello.txt hello.txt"),
     words: &[
         DB,
@@ -235,12 +245,26 @@ pub(crate) const GET: Subcommand<'static> = Subcommand {
         FROM,
         WITHIN,
         JSON,
-        Word::Required(
+        Word::Option(
             "out",
             "OUT",
             "The file that is written, in place of one that stands there",
         ),
-        Word::Operand("path", "PATH", "The path of the target"),
+        Word::Option(
+            "to",
+            "DIR",
+            "The folder that files are written into, each under its path, made where there is none; in place of --out",
+        ),
+        Word::Option("list", "FILE", "A file with the paths, a line each"),
+        Word::Flag(
+            "all",
+            "All targets that are listed, or those that one of the patterns matches which stand in place of paths",
+        ),
+        Word::Operands(
+            "path",
+            "PATH",
+            "The path of the target; of --to several, or of --all patterns",
+        ),
     ],
 };
 
