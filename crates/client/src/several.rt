@@ -107,7 +107,7 @@ fn is_last(end: &Result<(), ClientFault>) -> bool
     }
 }
 
-fn is_want(fault: &ClientFault) -> bool
+pub(crate) fn is_want(fault: &ClientFault) -> bool
     ensures { IsTrue result ↔ IsWant (fault_view fault.now) }
 {
     match fault {
@@ -133,7 +133,7 @@ fn joined(so_far: Result<(), ClientFault>, end: Result<(), ClientFault>) -> Resu
 }
 
 // Of two faults the first denial, or where there is none, the first that says more than that there is no answer.
-fn worse(fault: ClientFault, more: ClientFault) -> ClientFault
+pub(crate) fn worse(fault: ClientFault, more: ClientFault) -> ClientFault
     ensures { fault_view result ≡ worse (fault_view fault) (fault_view more) }
 {
     match fault {

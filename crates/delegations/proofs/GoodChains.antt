@@ -11,7 +11,7 @@ use Rattle.document_parts.specs.Documents.{Targets, MetaFile}
 use Rattle.metadata.specs.File.{Name, Names, File, has_name}
 use Rattle.delegations.specs.Delegation.{Edge, Hops, hops, hop_at, unmet, leads, chain_end}
 use Rattle.delegations.specs.Search.{Shelf, Good, MeetsEdge, Vouched, whole}
-use Rattle.delegations.specs.steps.Reaching.{IsAmong, Within, unmet_rows, Reaches, begins, goes_on, Arrives, Handles, IsOpen, IsLooking, Follows}
+use Rattle.delegations.specs.steps.Reaching.{IsAmong, Within, unmet_rows, Reaches, begins, goes_on, Arrives, Handles, IsDone, IsOpen, IsLooking, Follows}
 use Rattle.delegations.proofs.Complete.{HasHop, has_hop}
 use Rattle.delegations.proofs.Walk.{by_test}
 
@@ -143,14 +143,24 @@ module _ (V : Shelf) (now : ℕ) where
       handled_at : (u : Name) → has_name met u ≡ true → (i : ℕ) (next : Edge) → hop_at (whole V) u i ≡ Some next → Handles V now role new met (Some next)
       handled_at u there i next at = ⊎_elim (λ all. handled_in met (hops (whole V) u) i next all at) (λ none. absurd none) (state.looked u there)
 
-      met_or_role : (seen : Names) (e : Edge) → Reaches V now seen e → (has_name seen role ≡ true) ⊎ (Good V e now → has_name met e.role ≡ true)
+      -- a delegation of a role that is done: one that delegates nothing has none
+      handled_after : (u : Name) → IsDone V now met u → (i : ℕ) (next : Edge) → hop_at (whole V) u i ≡ Some next → Handles V now role new met (Some next)
+      handled_after u done i next at = ⊎_elim
+          (λ there. handled_at u there i next at)
+          (λ none. absurd (none_some (sym (ap (λ (hs : Hops). option_flatten (slice_get hs i)) none) ∙ at)))
+          done
+        where
+          none_some : None ≡ Some next → ⊥
+          none_some h = cc
+
+      met_or_role : (seen : Names) (e : Edge) → Reaches V now seen e → (has_name seen role ≡ true) ⊎ (Good V e now → IsDone V now met e.role)
       met_or_role seen e begins = inr state.top
       met_or_role seen e (goes_on {seen = before} {next = next} middle i h good at fresh) = ⊎_elim
           (λ l. inl (or_right (bytes_eq next.role role) (has_name before role) l))
-          (λ r. of_next (handled_at middle.role (r good) i next at))
+          (λ r. of_next (handled_after middle.role (r good) i next at))
           (met_or_role before middle h)
         where
-          of_next : Handles V now role new met (Some next) → (has_name (next.role ∷ before) role ≡ true) ⊎ (Good V next now → has_name met next.role ≡ true)
+          of_next : Handles V now role new met (Some next) → (has_name (next.role ∷ before) role ≡ true) ⊎ (Good V next now → IsDone V now met next.role)
           of_next h = by_test (bytes_eq next.role role)
               (λ t. inl (or_left (bytes_eq next.role role) (has_name before role) t))
               (λ f. inr (λ g. ⊎_elim (λ m. m) (λ same. absurd (true≢false (sym ((bytes_eq-Decides next.role role).1 same) ∙ f))) (h.1 g)))
@@ -159,7 +169,7 @@ module _ (V : Shelf) (now : ℕ) where
       never seen e begins same meets = other same
       never seen e (goes_on {seen = before} {next = next} middle i h good at fresh) same meets = ⊎_elim
           (λ l. off before role next.role (sym same) l fresh)
-          (λ r. (handled_at middle.role (r good) i next at).0 same meets)
+          (λ r. (handled_after middle.role (r good) i next at).0 same meets)
           (met_or_role before middle h)
 
       pub none_vouches : Vouched V role new now → ⊥
@@ -235,9 +245,15 @@ module _ (V : Shelf) (now : ℕ) where
   -- ---- the steps of the search
 
   module _ (role : Name) (new : File Targets) where
+    done_within : (met later : Names) → Within met later → (w : Name) → IsDone V now met w → IsDone V now later w
+    done_within met later within w done = ⊎_elim (λ l. inl (within w l)) (λ r. inr r) done
+
+    done_later : (met : Names) (u w : Name) → IsDone V now met w → IsDone V now (met ++ u ∷ []) w
+    done_later met u w done = done_within met (met ++ u ∷ []) (λ x k. has_left met u x k) w done
+
     widened : (met : Names) (u : Name) (o : Option Edge) → Handles V now role new met o → Handles V now role new (met ++ u ∷ []) o
     widened met u None h = tt
-    widened met u (Some e) h = (h.0, λ g. ⊎_elim (λ l. inl (has_left met u e.role l)) (λ r. inr r) (h.1 g))
+    widened met u (Some e) h = (h.0, λ g. ⊎_elim (λ l. inl (done_later met u e.role l)) (λ r. inr r) (h.1 g))
 
     all_wider : (met later : Names) (hs : Hops) → ((o : Option Edge) → Handles V now role new met o → Handles V now role new later o) → AllByRecursion (Handles V now role new met) hs → AllByRecursion (Handles V now role new later) hs
     all_wider met later [] wider h = tt
@@ -248,7 +264,7 @@ module _ (V : Shelf) (now : ℕ) where
       where
         each : (o : Option Edge) → Handles V now role new met o → Handles V now role new later o
         each None k = tt
-        each (Some e) k = (k.0, λ g. ⊎_elim (λ l. inl (within e.role l)) (λ r. inr r) (k.1 g))
+        each (Some e) k = (k.0, λ g. ⊎_elim (λ l. inl (done_within met later within e.role l)) (λ r. inr r) (k.1 g))
 
     reordered : (met : Names) (xs ys : List Hops) → ((hs : Hops) → IsAmong hs xs → IsAmong hs ys) → ((hs : Hops) → IsAmong hs ys → IsAmong hs xs) → IsOpen V now role new met xs → IsOpen V now role new met ys
     reordered met xs ys there back state = record {
@@ -275,14 +291,14 @@ module _ (V : Shelf) (now : ℕ) where
       top = state.top;
     }
 
-    -- the start: the top role, if its document is good
-    pub none_open : (Good V V.top now → ⊥) → IsOpen V now role new [] []
-    none_open bad = record {
+    -- the start: the top role, if its document is good and delegates something
+    pub none_open : (Good V V.top now → hops (whole V) V.top.role ≡ []) → IsOpen V now role new [] []
+    none_open none = record {
       apart = refl;
       reached = λ u h. absurd (true≢false (sym h));
       looked = λ u h. absurd (true≢false (sym h));
       from = λ hs h. absurd h;
-      top = λ g. absurd (bad g);
+      top = λ g. inr (none g);
     }
 
     top_only : (u : Name) → has_name (V.top.role ∷ []) u ≡ true → V.top.role ≡ u
@@ -300,7 +316,7 @@ module _ (V : Shelf) (now : ℕ) where
           (λ none. inl (subst (λ t. AllByRecursion (Handles V now role new (V.top.role ∷ [])) t) (sym none ∙ ap (λ w. hops (whole V) w) (top_only u h)) tt))
           (λ there. inr (subst (λ w. IsAmong (hops (whole V) w) hss) (top_only u h) there)) waits;
       from = λ hs h. (V.top.role, top_there, only hs h);
-      top = λ g. top_there;
+      top = λ g. inl top_there;
     }
 
     -- one delegation of a role that was met
@@ -327,10 +343,10 @@ module _ (V : Shelf) (now : ℕ) where
       by_meeting false tells same = not_by_it same (λ m. true≢false (sym (tells.1 m)))
 
       pub met_before : (e.role ≡ role → ⊥) → has_name met e.role ≡ true → Follows V now role new e hs met hss met hss false
-      met_before other there = (state, (λ same m. other same, λ g. inl there), λ w h. h)
+      met_before other there = (state, (λ same m. other same, λ g. inl (inl there)), λ w h. h)
 
-      pub not_good : (e.role ≡ role → ⊥) → (Good V e now → ⊥) → Follows V now role new e hs met hss met hss false
-      not_good other bad = (state, (λ same m. other same, λ g. absurd (bad g)), λ w h. h)
+      pub leads_nowhere : (e.role ≡ role → ⊥) → (Good V e now → hops (whole V) e.role ≡ []) → Follows V now role new e hs met hss met hss false
+      leads_nowhere other none = (state, (λ same m. other same, λ g. inl (inr (none g))), λ w h. h)
 
       pub opens : (e.role ≡ role → ⊥) → has_name met e.role ≡ false → Good V e now → (later : List Hops)
           → ((xs : Hops) → IsAmong xs hss → IsAmong xs later) → ((xs : Hops) → IsAmong xs later → IsAmong xs hss ⊎ (hops (whole V) e.role ≡ xs))
@@ -352,9 +368,9 @@ module _ (V : Shelf) (now : ℕ) where
           from = λ xs h. ⊎_elim
               (λ same. let f = state.from xs (inl same) in (f.0, has_left met e.role f.0 f.1, f.2))
               (λ rest. ⊎_elim (λ l. let f = state.from xs (inr l) in (f.0, has_left met e.role f.0 f.1, f.2)) (λ r. (e.role, has_last met e.role, r)) (only xs rest)) h;
-          top = λ g. has_left met e.role V.top.role (state.top g);
+          top = λ g. done_later met e.role V.top.role (state.top g);
         },
-        (λ same m. other same, λ g. inl (has_last met e.role)),
+        (λ same m. other same, λ g. inl (inl (has_last met e.role))),
         λ w h. has_left met e.role w h,
       )
         where

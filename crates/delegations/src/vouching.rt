@@ -1,8 +1,9 @@
 //! Which new documents are vouched for (TUF 1.0, section 5.6.7): by a search over the roles that chains of good documents reach.
-ghost use Rattle.std.specs.Prelude.{◌≡◌, ◌↔◌, ◌+◌, ◌≤◌, ◌∷◌, ℕ, Some, IfOk, IfSome, IfNone, IsTrue, length, map, slice_get};
+ghost use Rattle.std.specs.Prelude.{◌≡◌, ◌↔◌, ◌+◌, ◌≤◌, ◌∷◌, ℕ, Some, IfOk, IfSome, IfNone, IsTrue, [], length, map, slice_get};
 ghost use Rattle.metadata.specs.FileViews.{targets_file};
-ghost use Rattle.delegations.specs.Delegation.{Hops};
-ghost use Rattle.delegations.specs.Search.{Good, Vouched};
+ghost use Rattle.document_parts.specs.Views.{delegations_view};
+ghost use Rattle.delegations.specs.Delegation.{Hops, hops};
+ghost use Rattle.delegations.specs.Search.{Good, Vouched, whole};
 ghost use Rattle.delegations.specs.Views.{edge_view, shelf_view};
 ghost use Rattle.delegations.specs.steps.Reaching.{IsOpen, Follows, Closes, unmet_rows, waiting, whole_of};
 
@@ -12,24 +13,29 @@ use crate::verdicts::document;
 use crate::visited::is_among;
 use crate::visiting::meets_edge;
 use keys_roles::Steps;
-use metadata::{File, Moment, Targets, live};
+use metadata::{Delegations, File, Moment, Targets, live};
 use path_patterns::RoleName;
 use std::alloc::{AllocError, Global};
 
-// The document at the end of the edge, if it is good: it is there, meets the edge's rule and is live.
-fn good_file<'a>(shelf: &Shelf<'a>, edge: &Edge, now: Moment) -> Option<&'a File<Targets>>
-    ensures some { IfSome result (λ f. (g : Good (shelf_view shelf.now) (edge_view edge.now) now) × (g.file ≡ targets_file f.now)) }
-    ensures none { IfNone result (Good (shelf_view shelf.now) (edge_view edge.now) now → ⊥) }
+// The delegations of the document at the end of the edge, if it is good and has some. One without delegations leads no further, so its
+// signatures are not checked.
+fn onward<'a>(shelf: &Shelf<'a>, edge: &Edge, now: Moment) -> Option<&'a Delegations>
+    ensures some { IfSome result (λ ds. (g : Good (shelf_view shelf.now) (edge_view edge.now) now) × (g.file.body.delegations ≡ Some (delegations_view ds.now))) }
+    ensures none { IfNone result (Good (shelf_view shelf.now) (edge_view edge.now) now → hops (whole (shelf_view shelf.now)) (edge_view edge.now).role ≡ []) }
 {
     let (_, file) = document(shelf, edge.role)?;
+    let Some(delegations) = &file.body.delegations else {
+        return None;
+    };
     if meets_edge(edge, file, &[], &mut Steps::new()) && live(file.body.expires, now) {
-        Some(file)
+        Some(delegations)
     } else {
         None
     }
 }
 
-// Follows one delegation of a role that was met: whether it vouches for the document. Otherwise its role is met too, where it is good.
+// Follows one delegation of a role that was met: whether it vouches for the document. Otherwise its role is met too, where it is good and
+// delegates something.
 fn follow<'a>(
     shelf: &Shelf<'a>,
     role: &RoleName,
@@ -51,13 +57,10 @@ fn follow<'a>(
     if is_among(met, edge.role) {
         return Ok(false);
     }
-    let Some(file) = good_file(shelf, &edge, now) else {
+    let Some(delegations) = onward(shelf, &edge, now) else {
         return Ok(false);
     };
     met.push(edge.role)?;
-    let Some(delegations) = &file.body.delegations else {
-        return Ok(false);
-    };
     todo.push(Frame {
         roles: &delegations.roles,
         keys: &delegations.keys,
@@ -112,10 +115,7 @@ pub fn vouched(
     if *top.role == *role.as_str() {
         return Ok(meets_edge(&top, document, &[], &mut Steps::new()));
     }
-    let Some(file) = good_file(shelf, &top, now) else {
-        return Ok(false);
-    };
-    let Some(delegations) = &file.body.delegations else {
+    let Some(delegations) = onward(shelf, &top, now) else {
         return Ok(false);
     };
     let mut met = Vec::new(alloc);

@@ -1,8 +1,9 @@
 // Texts that are cut.
-ghost use Rattle.std.specs.Prelude.{◌≡◌, ◌≢◌, ◌<◌, ◌^◌, ◌++◌, ◌∷◌, ℕ, List, IfNone, IfSome, IsTrue, MatchOption, false, length, slice_index};
+ghost use Rattle.std.specs.Prelude.{◌≡◌, ◌≢◌, ◌<◌, ◌^◌, ◌++◌, ◌∷◌, ℕ, List, IfNone, IfSome, IsTrue, MatchOption, false};
 ghost use Rattle.std.specs.Char.{is_ascii_digit};
 ghost use Rattle.std.specs.Fmt.{decimal};
-ghost use Rattle.http_messages.specs.steps.Cutting.{Lacks};
+
+use http_messages::cut;
 
 // Whether the bytes are the same.
 pub fn is_same(a: &[u8], b: &[u8]) -> bool
@@ -49,28 +50,4 @@ fn number_of(digits: &[u8]) -> Option<usize>
         Ok(number) => Some(number),
         Err(_) => None,
     }
-}
-
-// What stands before the first of these bytes, and what stands after it.
-fn cut(text: &[u8], byte: u8) -> Option<(&[u8], &[u8])>
-    ensures some { IfSome result (λ r. (text.now ≡ r.0.now ++ byte ∷ r.1.now) × Lacks byte r.0.now) }
-    ensures none { IfNone result (Lacks byte text.now) }
-{
-    match find_byte(text, byte) {
-        Some(at) => Some((&text[..at], &text[at + 1..])),
-        None => None,
-    }
-}
-
-// The index of the first of these bytes.
-fn find_byte(text: &[u8], byte: u8) -> Option<usize>
-    ensures some { IfSome result (λ i. (i < length text.now) × (slice_index text.now i ≡ byte) × ((k : ℕ) → k < i → slice_index text.now k ≢ byte)) }
-    ensures none { IfNone result (Lacks byte text.now) }
-{
-    for (i, b) in text.iter().enumerate() {
-        if *b == byte {
-            return Some(i);
-        }
-    }
-    None
 }

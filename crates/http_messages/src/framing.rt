@@ -71,8 +71,8 @@ fn cut_document(text: &[u8]) -> Option<(&[u8], &[u8], &[u8])>
     Some((name, bytes, rest))
 }
 
-// What stands before the first of these bytes, and what stands after it.
-fn cut(text: &[u8], byte: u8) -> Option<(&[u8], &[u8])>
+/// What stands before the first of these bytes, and what stands after it.
+pub fn cut(text: &[u8], byte: u8) -> Option<(&[u8], &[u8])>
     ensures some { IfSome result (λ r. (text.now ≡ r.0.now ++ byte ∷ r.1.now) × Lacks byte r.0.now) }
     ensures none { IfNone result (Lacks byte text.now) }
 {

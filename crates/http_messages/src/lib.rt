@@ -16,7 +16,7 @@ pub use bodies::{accepted_body, denial_body, pruned_body, stored_body};
 pub use body::read_body;
 pub use faults::{Fault, write_fault};
 pub use fields::{Declared, declared_length};
-pub use framing::{one_batch, read_batch};
+pub use framing::{cut, one_batch, read_batch};
 pub use head::{FIELD_LIMIT, HEAD_LIMIT, ParseHead, read_head};
 pub use limits::{BLOB_LIMIT, MOST_DOCUMENTS};
 pub use line::{Cut, Receive, ReceiveFault, Sink, Transmit, send_all, send_both};

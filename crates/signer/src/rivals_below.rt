@@ -1,13 +1,15 @@
 //! Rivals of a message in all trees of a key of two levels, and those of a file.
-ghost use Rattle.std.specs.Prelude.{◌≡◌, ℕ, List, length, map, IfOk, MatchOption};
+ghost use Rattle.std.specs.Prelude.{◌≡◌, ◌⊎◌, ℕ, List, length, map, IfErr, IfOk, MatchOption};
 ghost use Rattle.sqlite_rules.specs.Lists.{Has};
 ghost use Rattle.canonical_json.specs.Json.{Json};
 ghost use Rattle.canonical_json.specs.Spelling.{IsCanonical};
 ghost use Rattle.keys_roles.specs.Plain.{Signature};
 ghost use Rattle.keys_roles.specs.Views.{id_text};
-ghost use Rattle.metadata.specs.Shape.{IsSignedBy};
+ghost use Rattle.metadata.specs.Shape.{IsEnvelopeFault, IsSignedBy};
+ghost use Rattle.document_parts.specs.declared.documents.ShapeFault.{ShapeFault};
 ghost use Rattle.leaf_plans.specs.Views.{kept_view};
 ghost use Rattle.signer.specs.Below.{IsRivalBelow, lms_key_of};
+ghost use Rattle.signer.specs.Faults.{of_shape};
 ghost use Rattle.signer.specs.Versions.{IsRivalLeaf};
 
 use crate::faults::SignFileFault;
@@ -29,9 +31,10 @@ pub fn other_document<S: Alter>(
     key: &KeyId,
     file: &[u8],
 ) -> Result<Option<u32>, SignFileFault>
-    ensures { IfOk result (λ found. (entries : List Signature) × (message : List ℕ) × IsSignedBy file.now entries message
+    ensures found { IfOk result (λ found. (entries : List Signature) × (message : List ℕ) × IsSignedBy file.now entries message
         × MatchOption found ((leaf : ℕ) → IsRivalBelow book.now.book (id_text key.now) message leaf → ⊥)
         (λ leaf. IsRivalBelow book.now.book (id_text key.now) message leaf)) }
+    ensures fault { IfErr result (λ fault. (fault ≡ SignFileFault.OutOfMemory) ⊎ ((e : ShapeFault) × IsEnvelopeFault file.now e × (fault ≡ of_shape e))) }
 {
     match read_signed(alloc, file) {
         Ok(signed) => match rival_below(alloc, book, key, signed.signed) {

@@ -51,18 +51,22 @@ module _ (V : Shelf) (now : ℕ) where
     pub ends : last.role ≡ role
     pub inside : Within seen met
 
+  -- the role was met, or its document delegates nothing, so that no chain leads on from it
+  abbrev pub IsDone : Names → Name → Type 0
+  IsDone met u = (has_name met u ≡ true) ⊎ (hops (whole V) u ≡ [])
+
   module _ (role : Name) (new : File Targets) where
-    -- the edge does not vouch for the new document, and where it is good, its role was met
+    -- the edge does not vouch for the new document, and where it is good, its role is done
     abbrev pub Handles : Names → Option Edge → Type 0
     Handles met None = Unit {0}
-    Handles met (Some e) = (e.role ≡ role → MeetsEdge V e new → ⊥) × (Good V e now → (has_name met e.role ≡ true) ⊎ (e.role ≡ role))
+    Handles met (Some e) = (e.role ≡ role → MeetsEdge V e new → ⊥) × (Good V e now → IsDone met e.role ⊎ (e.role ≡ role))
 
     pub record IsOpen (met : Names) (hss : List Hops) : Type 0 where
       pub apart : has_name met role ≡ false
       pub reached : (u : Name) → has_name met u ≡ true → Arrives met u
       pub looked : (u : Name) → has_name met u ≡ true → AllByRecursion (Handles met) (hops (whole V) u) ⊎ IsAmong (hops (whole V) u) hss
       pub from : (hs : Hops) → IsAmong hs hss → (u : Name) × (has_name met u ≡ true) × (hops (whole V) u ≡ hs)
-      pub top : Good V V.top now → has_name met V.top.role ≡ true
+      pub top : Good V V.top now → IsDone met V.top.role
 
     -- what comes of following an edge: it vouches for the document, or it is handled
     abbrev pub Follows : Edge → Hops → Names → List Hops → Names → List Hops → Bool → Type 0

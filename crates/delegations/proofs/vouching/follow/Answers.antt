@@ -13,7 +13,7 @@ use Rattle.delegations.specs.Search.{Shelf, doc, hops_of, whole}
 use Rattle.delegations.specs.Views.{edge_view, shelf_view}
 use Rattle.delegations.specs.steps.Reaching.{Follows, IsAmong, rest_of, waiting, whole_of}
 use Rattle.delegations.specs.declared.frames.Frame.{Frame}
-use Rattle.delegations.proofs.GoodChains.{among, among_either, among_last, among_left, by_meeting, met_before, opens, one_fewer}
+use Rattle.delegations.proofs.GoodChains.{among, among_either, among_last, among_left, by_meeting, leads_nowhere, met_before, opens, one_fewer}
 use Rattle.delegations.proofs.GoodVisits.{listed_of}
 use Rattle.delegations.proofs.Onward.{hops_of_doc}
 use Rattle.delegations.proofs.vouching.follow.Goals as goal
@@ -30,32 +30,11 @@ returns-then-is_among-clause-follows c hs i state at =
     met_before (shelf_view c.args.shelf.now) c.args.now c.args.role.now (targets_file c.args.new.now) (map (λ n. n.now) c.args.met.now.items) hs (waiting c.args.todo.now.items) state i (edge_view c.args.edge) at
     (λ same. true≢false (sym ((bytes_eq-Decides c.args.edge.role.now c.as_str.result.now).1 (same ∙ sym c.as_str.ensures.value)) ∙ sym c.eq.ensures ∙ c.if-eq.false)) there
 
-pub returns-in_default-delegations-clause-follows : goal.returns-in_default-delegations-clause-follows
-returns-in_default-delegations-clause-follows c hs i state at =
-    let V : Shelf = shelf_view c.args.shelf.now in
-    let e : Edge = edge_view c.args.edge in
-    let met : Names = map (λ n. n.now) c.args.met.now.items in
-    let fresh : has_name met e.role ≡ false =
-    sym (among c.args.met.now.items c.args.edge.role.now) ∙ ap (λ (ns : List (Bor (List ℕ))). list_any (λ n. bytes_eq n.now c.args.edge.role.now) ns) (sym c.deref.ensures.value) ∙ sym c.is_among.ensures ∙ c.if-is_among.false in
-    let g = c.in-Some.ensures.some in
-    let none : hops (whole V) e.role ≡ [] =
-    hops_of_doc V (λ d. true) e.role (targets_file c.in-Some.file.now) (subst (λ f. doc V e.role ≡ Some f) g.1 g.0.there) ∙ ap (λ (o : Option CodeDelegations). hops_of (λ d. true) (option_map delegations_view o)) c.in_default-delegations.is in
-    let items : map (λ n. n.now) c.push.new.self.items ≡ met ++ e.role ∷ [] = ap (λ (ns : List (Bor (List ℕ))). map (λ n. n.now) ns) c.in_ok-push.ensures.items ∙ map-append (λ n. n.now) c.args.met.now.items (c.args.edge.role ∷ []) in
-    subst (λ (later : Names). Follows V c.args.now c.args.role.now (targets_file c.args.new.now) e hs met (waiting c.args.todo.now.items) later (waiting c.args.todo.now.items) false) (sym items)
-    (opens V c.args.now c.args.role.now (targets_file c.args.new.now) met hs (waiting c.args.todo.now.items) state i e at
+pub returns-in_default-clause-follows : goal.returns-in_default-clause-follows
+returns-in_default-clause-follows c hs i state at =
+    leads_nowhere (shelf_view c.args.shelf.now) c.args.now c.args.role.now (targets_file c.args.new.now) (map (λ n. n.now) c.args.met.now.items) hs (waiting c.args.todo.now.items) state i (edge_view c.args.edge) at
     (λ same. true≢false (sym ((bytes_eq-Decides c.args.edge.role.now c.as_str.result.now).1 (same ∙ sym c.as_str.ensures.value)) ∙ sym c.eq.ensures ∙ c.if-eq.false))
-    fresh g.0 (waiting c.args.todo.now.items) (λ xs h. h) (λ xs h. inl h) (inl none))
-
-pub returns-in_default-delegations-clause-less : goal.returns-in_default-delegations-clause-less
-returns-in_default-delegations-clause-less c =
-    let V : Shelf = shelf_view c.args.shelf.now in
-    let e : Edge = edge_view c.args.edge in
-    let met : Names = map (λ n. n.now) c.args.met.now.items in
-    let fresh : has_name met e.role ≡ false =
-    sym (among c.args.met.now.items c.args.edge.role.now) ∙ ap (λ (ns : List (Bor (List ℕ))). list_any (λ n. bytes_eq n.now c.args.edge.role.now) ns) (sym c.deref.ensures.value) ∙ sym c.is_among.ensures ∙ c.if-is_among.false in
-    let items : map (λ n. n.now) c.push.new.self.items ≡ met ++ e.role ∷ [] = ap (λ (ns : List (Bor (List ℕ))). map (λ n. n.now) ns) c.in_ok-push.ensures.items ∙ map-append (λ n. n.now) c.args.met.now.items (c.args.edge.role ∷ []) in
-    let m = listed_of V e c.args.now c.in-Some.ensures.some.0 in
-    rw items (omega (arith, one_fewer V.listing met e.role m.0 m.1 fresh))
+    c.in_default.ensures.none
 
 -- what a new frame holds
 opened : (o : Option CodeDelegations) (ds : CodeDelegations) (roles : List CodeDelegation) → o ≡ Some ds → roles ≡ ds.roles.items
