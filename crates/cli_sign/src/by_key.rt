@@ -1,5 +1,4 @@
 //! `sign --key` and `sign --any`: signs drafts by keys that are kept in three files each.
-use crate::books::has_bytes;
 use crate::files::{KeyFiles, book_place};
 use crate::finding::{names_in_list, names_of_keys};
 use crate::ready::ReadyKey;
@@ -8,6 +7,7 @@ use cli_faults::{Fault, Notes, Slip, moment};
 use cli_tasks::{FolderSigning, Keys};
 use draft_folder::{Folder, is_held_from};
 use metadata::Moment;
+use sign_books::has_bytes;
 use std::io::{IsTerminal, Write};
 
 /// The root by which what a folder holds is judged.

@@ -1,11 +1,11 @@
 //! How a key stands to a message, by which one of several is chosen.
-use crate::books::{BookWork, book_fault};
 use crate::files::PublicHalf;
 use crate::leaves::{trees_of, used_in};
 use cli_faults::{Fault, Notes};
 use keys_roles::KeyId;
 use leaf_plans::leaf_for;
 use lms::Params;
+use sign_books::{BookLook, book_fault};
 use signer::{Book, SignFileFault, other_document};
 use sqlite::Alter;
 use std::alloc::Global;
@@ -36,13 +36,12 @@ pub struct Asking<'a> {
     pub message: &'a [u8],
 }
 
-impl BookWork for Asking<'_> {
+impl BookLook for Asking<'_> {
     type Done = Standing;
 
-    fn work<S: Alter, E: Write>(
+    fn look<S: Alter, E: Write>(
         &mut self,
-        book: &mut Book<S>,
-        _is_new: bool,
+        book: &Book<S>,
         _notes: &mut Notes<'_, E>,
     ) -> Result<Standing, Fault> {
         if self.is_kept(book)? {

@@ -1,5 +1,7 @@
 //! `sign`: signs a document by a leaf that no other document gets.
-use crate::books::{BookAt, BookWork, book_fault, tell_of_other_tree, worked_over};
+ghost use Rattle.std.specs.Prelude.{IfOk};
+ghost use Rattle.sign_books.specs.Works.{IsSigned, Leads};
+
 use crate::seeds::seed_at;
 use cli_faults::{Fault, Notes, Slip, moment};
 use cli_files::{FILE_LIMIT, print, read_at_most};
@@ -9,6 +11,7 @@ use keys_roles::{Key, KeyId, key_id};
 use lms::{KeyPair, Params, SigningHeight};
 use metadata::{Kind, read_signed};
 use reasons::place_of;
+use sign_books::{BookAt, BookWork, book_fault, tell_of_other_tree, worked_over};
 use signer::{Book, BookFault, Seed, SignFileFault, sign_file_with};
 use sqlite::Alter;
 use std::alloc::Global;
@@ -83,7 +86,12 @@ struct Appending<'a> {
 }
 
 impl BookWork for Appending<'_> {
+    ghost use Rattle.std.specs.Prelude.{IfOk};
+    ghost use Rattle.sign_books.specs.Works.{IsSigned};
+
     type Done = Vec<u8>;
+
+    ghost does = { λ _ b r c _. IfOk r (λ out. IsSigned b out.items c) };
 
     fn work<S: Alter, E: Write>(
         &mut self,
@@ -107,7 +115,10 @@ fn signed_with<S: Alter, E: Write>(
     asked: &Signing,
     bytes: &[u8],
     notes: &mut Notes<'_, E>,
-) -> Result<Vec<u8>, Fault> {
+) -> Result<Vec<u8>, Fault>
+    ensures signed { IfOk result (λ out. IsSigned book.old.book out.items book.new.book) }
+    ensures leads { Leads book.old.book book.new.book }
+{
     let pair = KeyPair::new(alloc, seed, asked.params)?;
     let id = key_id(alloc, &Key::Lms(pair.public()))?;
     let was_known = is_registered(book, &id);

@@ -1,17 +1,15 @@
 //! A key as three files: `NAME.seed`, `NAME.key` with its public object, and `NAME.book`.
-use crate::books::{BookAt, BookWork, book_fault, has_bytes, worked_over};
 use crate::documents::tell_of_tree;
-use crate::pairs::Pair;
 use crate::seeds::seed_at;
 use cli_faults::{Fault, Notes, Slip, moment};
 use cli_files::{FOR_ALL, OWNER_ALONE, print, read_at_most, unused};
 use draft_folder::{KEY_FILE_LIMIT, key_in};
 use keys_roles::{Key, KeyId, key_id, key_object, top_key};
 use leaf_plans::leaves_of;
-use lms::{HssKeyPair, KeyPair, Levels, Params};
-use signer::{Book, Seed, params_in, read_seed, sign_message};
-use sqlite::Alter;
-use std::alloc::{AllocError, Global};
+use lms::Params;
+use sign_books::{BookAt, NewKey, NewPair, Pair, Registering, has_bytes, worked_over};
+use signer::{Seed, params_in, read_seed};
+use std::alloc::AllocError;
 use std::fs::{self, File};
 use std::io::{self, Write};
 use std::os::unix::fs::OpenOptionsExt;
@@ -121,13 +119,6 @@ impl KeyFiles {
 /// Where the book of a key stands.
 pub fn book_place(rt: &HostRuntime, name: &str) -> Result<String, AllocError> {
     format!(in rt.alloc(); "{name}.book")
-}
-
-/// Of which kind new keys are: the parameters of the tree, and of the trees below in a key of two levels.
-#[derive(Clone, Copy)]
-pub struct NewKey {
-    pub params: Params,
-    pub lower: Option<Params>,
 }
 
 /// Makes the three files of each key, seed and book for their owner alone, and prints the keys' ids, a line each. Where one of them stands
@@ -267,76 +258,4 @@ fn written(rt: &HostRuntime, place: &str, bytes: &[u8], mode: u32) -> io::Result
         .open(rt, place)?;
     file.write_all(bytes)?;
     file.sync_all()
-}
-
-// A new key whose trees are hashed; of two levels with its first tree below.
-#[derive(Drop)]
-enum NewPair {
-    One(KeyPair),
-    Two(HssKeyPair, KeyPair),
-}
-
-impl NewPair {
-    fn new(alloc: Global, seed: &Seed, kind: NewKey) -> Result<NewPair, AllocError> {
-        let top = kind.params;
-        let Some(bottom) = kind.lower else {
-            return Ok(NewPair::One(KeyPair::new(alloc, seed, top)?));
-        };
-        let pair = HssKeyPair::new(alloc, seed, Levels { top, bottom })?;
-        let below = pair.below(alloc, 0)?;
-        Ok(NewPair::Two(pair, below))
-    }
-
-    fn public(&self) -> Key {
-        match self {
-            NewPair::One(pair) => Key::Lms(pair.public()),
-            NewPair::Two(pair, _) => Key::Hss(pair.public()),
-        }
-    }
-}
-
-// Registers a key in a book; one of two levels with its first tree below, for which leaf 0 of the top tree is kept.
-#[derive(Clone, Copy)]
-struct Registering<'a> {
-    alloc: Global,
-    pair: &'a NewPair,
-}
-
-impl BookWork for Registering<'_> {
-    type Done = ();
-
-    fn work<S: Alter, E: Write>(
-        &mut self,
-        book: &mut Book<S>,
-        _is_new: bool,
-        _notes: &mut Notes<'_, E>,
-    ) -> Result<(), Fault> {
-        match self.pair {
-            NewPair::One(pair) => register(book, pair),
-            NewPair::Two(pair, below) => {
-                keep_first_tree(self.alloc, book, pair.top(), below)?;
-                register(book, below)
-            }
-        }
-    }
-}
-
-fn register<S: Alter>(book: &mut Book<S>, pair: &KeyPair) -> Result<(), Fault> {
-    match book.register_pair(pair) {
-        Ok(_) => Ok(()),
-        Err(fault) => Err(book_fault(fault)),
-    }
-}
-
-// Registers the top tree of a pair, and keeps its leaf 0 for the first tree below.
-fn keep_first_tree<S: Alter>(
-    alloc: Global,
-    book: &mut Book<S>,
-    top: &KeyPair,
-    below: &KeyPair,
-) -> Result<(), Fault> {
-    match sign_message(alloc, book, top, &below.public()) {
-        Ok(_) => Ok(()),
-        Err(fault) => Err(book_fault(fault)),
-    }
 }

@@ -1,10 +1,10 @@
 //! How many leaves keys have left.
-use crate::books::{BookAt, BookWork, has_bytes, tell_of_other_tree, worked_over};
 use crate::files::{PublicHalf, book_place, leaf_count};
 use crate::seeds::seed_at;
 use cli_faults::{Fault, Notes, Slip};
 use keys_roles::{Key, KeyId, key_id};
 use lms::Params;
+use sign_books::{BookAt, BookLook, has_bytes, looked_over, tell_of_other_tree};
 use signer::{Book, Seed, lower_params};
 use sqlite::Alter;
 use std::alloc::Global;
@@ -50,7 +50,7 @@ fn used_of<E: Write>(
         half,
         seed,
     };
-    worked_over(rt, at, &mut counting, notes)
+    looked_over(rt, at, &mut counting, notes)
 }
 
 // The seed of the key of this name, which need not be where leaves are counted.
@@ -75,13 +75,12 @@ struct Counting<'a> {
     seed: Option<Seed>,
 }
 
-impl BookWork for Counting<'_> {
+impl BookLook for Counting<'_> {
     type Done = (u32, u32);
 
-    fn work<S: Alter, E: Write>(
+    fn look<S: Alter, E: Write>(
         &mut self,
-        book: &mut Book<S>,
-        _is_new: bool,
+        book: &Book<S>,
         notes: &mut Notes<'_, E>,
     ) -> Result<(u32, u32), Fault> {
         let id = &self.half.top;

@@ -2,7 +2,6 @@
 //! a key.
 #![tactic(auto)]
 
-mod books;
 mod by_key;
 mod choosing;
 mod documents;
@@ -12,7 +11,6 @@ mod key;
 mod leaves;
 mod one;
 mod outside;
-mod pairs;
 mod ready;
 mod seeds;
 mod signing;
@@ -20,7 +18,8 @@ mod turn;
 
 pub use by_key::{Anchor, Anchoring, sign_in};
 pub use documents::sign;
-pub use files::{NewKey, make_keys};
+pub use files::make_keys;
 pub use key::print_key;
 pub use leaves::leaves_of;
 pub use outside::print_public_key;
+pub use sign_books::NewKey;

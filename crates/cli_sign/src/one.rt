@@ -1,11 +1,13 @@
 //! One document of a folder, which is judged and signed over the book of a key.
-use crate::books::{BookWork, book_fault, tell_of_other_tree};
+ghost use Rattle.std.specs.Prelude.{IfOk};
+ghost use Rattle.sign_books.specs.Works.{IsSigned, Leads};
+
 use crate::files::PublicHalf;
-use crate::pairs::Pair;
 use cli_faults::{Fault, Notes, Slip};
 use leaf_plans::leaves_of;
 use lms::Params;
 use metadata::read_signed;
+use sign_books::{BookLook, BookWork, Pair, book_fault, tell_of_other_tree};
 use sign_checks::Judged;
 use signer::{Book, BookFault, SignFileFault, SignOnceFault, lower_params};
 use sqlite::Alter;
@@ -56,13 +58,12 @@ pub struct Knowing<'a> {
     pub half: &'a PublicHalf,
 }
 
-impl BookWork for Knowing<'_> {
+impl BookLook for Knowing<'_> {
     type Done = Option<Option<Params>>;
 
-    fn work<S: Alter, E: Write>(
+    fn look<S: Alter, E: Write>(
         &mut self,
-        book: &mut Book<S>,
-        _is_new: bool,
+        book: &Book<S>,
         _notes: &mut Notes<'_, E>,
     ) -> Result<Option<Option<Params>>, Fault> {
         if book.registered(&self.half.top).is_none() {
@@ -86,13 +87,12 @@ pub struct Judging<'m, 'j, 'o> {
     pub bytes: &'o [u8],
 }
 
-impl BookWork for Judging<'_, '_, '_> {
+impl BookLook for Judging<'_, '_, '_> {
     type Done = ();
 
-    fn work<S: Alter, E: Write>(
+    fn look<S: Alter, E: Write>(
         &mut self,
-        book: &mut Book<S>,
-        _is_new: bool,
+        book: &Book<S>,
         notes: &mut Notes<'_, E>,
     ) -> Result<(), Fault> {
         self.one.judge(self.judged, book, self.bytes, notes)
@@ -110,7 +110,12 @@ pub struct SigningOne<'m, 'j, 'o, 'p> {
 }
 
 impl BookWork for SigningOne<'_, '_, '_, '_> {
+    ghost use Rattle.std.specs.Prelude.{IfOk};
+    ghost use Rattle.sign_books.specs.Works.{IsSigned};
+
     type Done = Vec<u8>;
+
+    ghost does = { λ _ b r c _. IfOk r (λ out. IsSigned b out.items c) };
 
     fn work<S: Alter, E: Write>(
         &mut self,
@@ -118,7 +123,7 @@ impl BookWork for SigningOne<'_, '_, '_, '_> {
         _is_new: bool,
         notes: &mut Notes<'_, E>,
     ) -> Result<Vec<u8>, Fault> {
-        self.judging.work(book, false, notes)?;
+        self.judging.look(book, notes)?;
         if book.registered(self.judging.judged.signer.top()).is_none() {
             return Err(Fault::UnknownKey);
         }
@@ -154,7 +159,10 @@ impl SigningOne<'_, '_, '_, '_> {
         &mut self,
         book: &mut Book<S>,
         notes: &mut Notes<'_, E>,
-    ) -> Result<Vec<u8>, Fault> {
+    ) -> Result<Vec<u8>, Fault>
+        ensures signed { IfOk result (λ out. IsSigned book.old.book out.items book.new.book) }
+        ensures leads { Leads book.old.book book.new.book }
+    {
         let alloc = self.judging.judged.alloc;
         let (one, bytes) = (self.judging.one, self.judging.bytes);
         if self.again {

@@ -1,10 +1,9 @@
 //! A key whose files were read and whose book has it.
-use crate::books::{BookAt, BookWork, worked_over};
 use crate::files::{KeyFiles, book_place, leaf_count};
 use crate::one::Knowing;
-use crate::pairs::Pair;
 use cli_faults::{Fault, Notes, Slip};
 use lms::Params;
+use sign_books::{BookAt, BookLook, BookWork, Pair, looked_over, worked_over};
 use sign_checks::Signer;
 use std::io::Write;
 
@@ -34,7 +33,7 @@ impl ReadyKey {
             book: book_place(rt, name)?,
         };
         let half = &files.half;
-        match key.over_book(rt, &mut Knowing { half }, notes)? {
+        match key.look_over(rt, &mut Knowing { half }, notes)? {
             Some(lower) => key.lower = lower,
             None => return Err(key.unknown(notes)),
         }
@@ -42,20 +41,36 @@ impl ReadyKey {
     }
 
     /// Does what is to be done over the key's book, which has to be there and to have the key.
-    pub fn over_book<W: BookWork, E: Write>(
+    pub fn work_over<W: BookWork, E: Write>(
         &self,
         rt: &HostRuntime,
         work: &mut W,
         notes: &mut Notes<'_, E>,
     ) -> Result<W::Done, Fault> {
-        let at = BookAt {
+        match worked_over(rt, self.at(), work, notes) {
+            Err(Fault::UnknownKey) => Err(self.unknown(notes)),
+            done => done,
+        }
+    }
+
+    /// Looks for something in that book.
+    pub fn look_over<W: BookLook, E: Write>(
+        &self,
+        rt: &HostRuntime,
+        look: &mut W,
+        notes: &mut Notes<'_, E>,
+    ) -> Result<W::Done, Fault> {
+        match looked_over(rt, self.at(), look, notes) {
+            Err(Fault::UnknownKey) => Err(self.unknown(notes)),
+            done => done,
+        }
+    }
+
+    fn at(&self) -> BookAt<'_> {
+        BookAt {
             place: self.book.as_str(),
             name: self.name.as_str(),
             known: true,
-        };
-        match worked_over(rt, at, work, notes) {
-            Err(Fault::UnknownKey) => Err(self.unknown(notes)),
-            done => done,
         }
     }
 

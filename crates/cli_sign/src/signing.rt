@@ -1,7 +1,6 @@
 //! A key that signs documents of a folder, one after the other.
 use crate::choosing::{Asking, Standing};
 use crate::one::{Judging, One, SigningOne, What};
-use crate::pairs::Pair;
 use crate::ready::ReadyKey;
 use cli_faults::{Fault, Notes, Slip};
 use cli_files::print;
@@ -9,6 +8,7 @@ use cli_tasks::FolderSigning;
 use draft_folder::{Folder, Vouching, changes_of, owners_of, rules_for, version_in};
 use metadata::{Moment, read_signed};
 use plain_text::plain;
+use sign_books::Pair;
 use sign_checks::Judged;
 use std::alloc::{AllocError, Global};
 use std::io::{IsTerminal, Write};
@@ -92,7 +92,7 @@ impl Signing<'_> {
             file,
             message,
         };
-        self.ready.over_book(self.rt, &mut asking, notes)
+        self.ready.look_over(self.rt, &mut asking, notes)
     }
 
     /// Tells that it has signed another document of the kind and version.
@@ -155,7 +155,7 @@ impl Signing<'_> {
             one,
             bytes,
         };
-        self.ready.over_book(self.rt, &mut judging, notes)
+        self.ready.look_over(self.rt, &mut judging, notes)
     }
 
     // Signs one document, and tells by which leaf.
@@ -179,7 +179,7 @@ impl Signing<'_> {
             again: self.asked.again,
             is_watched: self.rt.stderr().is_terminal(),
         };
-        let signed = self.ready.over_book(self.rt, &mut signing, notes)?;
+        let signed = self.ready.work_over(self.rt, &mut signing, notes)?;
         self.folder.put_named(one.place, &signed, notes)?;
         self.tell(one.name(), &signed, out, notes)
     }

@@ -1,4 +1,7 @@
 //! The pair of a key of one level or of two, by which documents are signed.
+ghost use Rattle.std.specs.Prelude.{IfOk};
+ghost use Rattle.sign_books.specs.Works.{IsSigned, Leads};
+
 use lms::{HssKeyPair, KeyPair, Levels, Params};
 use signer::{
     Book, HssSigner, Seed, SignFileFault, SignOnceFault, sign_file_below, sign_file_below_once,
@@ -46,7 +49,10 @@ impl Pair {
         alloc: Global,
         book: &mut Book<S>,
         file: &[u8],
-    ) -> Result<Vec<u8>, SignOnceFault> {
+    ) -> Result<Vec<u8>, SignOnceFault>
+        ensures signed { IfOk result (λ out. IsSigned book.old.book out.items book.new.book) }
+        ensures leads { Leads book.old.book book.new.book }
+    {
         match self {
             Pair::One(pair) => sign_file_once(alloc, book, pair, file),
             Pair::Two(signer) => sign_file_below_once(alloc, book, signer, file),
@@ -59,7 +65,10 @@ impl Pair {
         alloc: Global,
         book: &mut Book<S>,
         file: &[u8],
-    ) -> Result<Vec<u8>, SignFileFault> {
+    ) -> Result<Vec<u8>, SignFileFault>
+        ensures signed { IfOk result (λ out. IsSigned book.old.book out.items book.new.book) }
+        ensures leads { Leads book.old.book book.new.book }
+    {
         match self {
             Pair::One(pair) => sign_file_with(alloc, book, pair, file),
             Pair::Two(signer) => sign_file_below(alloc, book, signer, file),

@@ -1,8 +1,11 @@
 //! The book of a key in its file. One function opens and closes it; what is done over it borrows.
+ghost use Rattle.std.specs.Prelude.{Result, ⊤};
+ghost use Rattle.leaf_plans.specs.Book.{Book as Leaves};
+ghost use Rattle.cli_faults.specs.declared.fault.Fault.{Fault as Why};
+ghost use Rattle.sign_books.specs.Works.{Leads, Worked};
+
 use cli_faults::{Fault, Notes, Slip};
 use cli_files::connected;
-use keys_roles::KeyId;
-use lms::{OtsType, Params, Seed, SigningHeight};
 use signer::{Book, BookFault, close_into_file};
 use sqlite::{Alter, Connection, FileStore};
 use sqlite_disk::Disk;
@@ -13,16 +16,34 @@ use std::io::{ErrorKind, Write};
 // What is told of a book that another process has.
 const IN_USE: &str = "in use by another process, which signs; try again";
 
-/// What is done over an open book.
+/// What is done over an open book: registrations and signings, and nothing else.
 pub trait BookWork {
     /// What comes of it.
     type Done: Drop;
+
+    /// The work as it was, the book before it, what came of it, the book then, and the work that is left: whether it does so. Without a
+    /// value of its own this claims nothing.
+    ghost does: { Self → Leaves → Result Self.Done Why → Leaves → Self → Type 0 } = { λ _ _ _ _ _. ⊤ };
 
     /// Does it. The book may be a new one, just made.
     fn work<S: Alter, E: Write>(
         &mut self,
         book: &mut Book<S>,
         is_new: bool,
+        notes: &mut Notes<'_, E>,
+    ) -> Result<Self::Done, Fault>
+        ensures does { does self.old book.old.book result book.new.book self.new }
+        ensures leads { Leads book.old.book book.new.book };
+}
+
+/// What is looked for in an open book, which it cannot change.
+pub trait BookLook {
+    /// What comes of it.
+    type Done: Drop;
+
+    fn look<S: Alter, E: Write>(
+        &mut self,
+        book: &Book<S>,
         notes: &mut Notes<'_, E>,
     ) -> Result<Self::Done, Fault>;
 }
@@ -35,14 +56,17 @@ pub struct BookAt<'a> {
     pub known: bool,
 }
 
-/// Opens the book, which is made where there is none and it need not be known, does the work over it, and closes it, so that its file alone
-/// is whole. What was done is handed out only after that: a signature leaves the program when the book's file has its leaf without the log.
+/// Opens the book, which is made where there is none and it need not be known, does the work over it once, and closes it, so that its file
+/// alone is whole. What was done is handed on only after that: a signature leaves the program when the book's file has its leaf without the
+/// log. Where no book is opened, nothing is done.
 pub fn worked_over<W: BookWork, E: Write>(
     rt: &HostRuntime,
     at: BookAt<'_>,
     work: &mut W,
     notes: &mut Notes<'_, E>,
-) -> Result<W::Done, Fault> {
+) -> Result<W::Done, Fault>
+    ensures { Worked W.does work.old result work.new }
+{
     if at.known && !has_bytes(rt, at.place) {
         notes.fault(&at.name, &"no such book");
         return Err(Fault::UnknownKey);
@@ -59,7 +83,9 @@ fn worked_in<D: Disk + Drop, W: BookWork, E: Write>(
     at: BookAt<'_>,
     work: &mut W,
     notes: &mut Notes<'_, E>,
-) -> Result<W::Done, Fault> {
+) -> Result<W::Done, Fault>
+    ensures { Worked W.does work.old result work.new }
+{
     let is_new = conn.schema().tables.is_empty();
     if is_new && at.known {
         notes.fault(&at.name, &"no book");
@@ -87,7 +113,10 @@ fn worked_and_closed<D: Disk + Drop, W: BookWork, E: Write>(
     at: BookAt<'_>,
     work: &mut W,
     notes: &mut Notes<'_, E>,
-) -> Result<W::Done, Fault> {
+) -> Result<W::Done, Fault>
+    ensures { Worked W.does work.old result work.new }
+{
+    book.rests();
     let mut book = book;
     let done = work.work(&mut book, is_new, notes);
     match (close_into_file(book), done) {
@@ -119,50 +148,36 @@ pub fn book_fault(fault: BookFault) -> Fault {
     }
 }
 
-// The widths and heights that a tree may have, as words of a command line.
-const TREES: [(OtsType, SigningHeight, &str); 8] = [
-    (OtsType::W1, SigningHeight::H5, "--ots 1 --height 5"),
-    (OtsType::W1, SigningHeight::H10, "--ots 1 --height 10"),
-    (OtsType::W2, SigningHeight::H5, "--ots 2 --height 5"),
-    (OtsType::W2, SigningHeight::H10, "--ots 2 --height 10"),
-    (OtsType::W4, SigningHeight::H5, "--ots 4 --height 5"),
-    (OtsType::W4, SigningHeight::H10, "--ots 4 --height 10"),
-    (OtsType::W8, SigningHeight::H5, "--ots 8 --height 5"),
-    (OtsType::W8, SigningHeight::H10, "--ots 8 --height 10"),
-];
-
-/// Warns of a tree that the seed of a key has in the book at another width or height, and says what is to be done. Whether there is one.
-pub fn tell_of_other_tree<S: Alter, E: Write>(
-    alloc: Global,
-    name: &str,
-    book: &Book<S>,
-    pair: (&Seed, Params, &KeyId),
-    notes: &mut Notes<'_, E>,
-) -> Result<bool, Fault> {
-    let (seed, params, id) = pair;
-    let Some(words) = other_tree(book, seed, params) else {
-        return Ok(false);
-    };
-    let told = if book.registered(id).is_some() {
-        format!(in alloc;
-            "two trees of this seed stand here, this one and that of {words}, and have the same one-time keys: replace both keys by a new root"
-        )?
-    } else {
-        format!(in alloc;
-            "the seed signs here with {words}, and at another width or height it has the same one-time keys: sign with {words}, or by a key with a seed of its own"
-        )?
-    };
-    notes.warn(&name, &told);
-    Ok(true)
+// A look as work that leaves the book as it is.
+#[derive(Drop)]
+struct Looking<'w, W: BookLook> {
+    look: &'w mut W,
 }
 
-// The words for a tree of the seed in the book other than this one, if there is one.
-fn other_tree<S: Alter>(book: &Book<S>, seed: &Seed, params: Params) -> Option<&'static str> {
-    for (ots, height, words) in TREES {
-        let other = Params { ots, height };
-        if other != params && book.has_tree(seed, other) {
-            return Some(words);
-        }
+impl<W: BookLook> BookWork for Looking<'_, W> {
+    ghost use Rattle.std.specs.Prelude.{◌≡◌};
+
+    type Done = W::Done;
+
+    ghost does = { λ _ b _ c _. c ≡ b };
+
+    fn work<S: Alter, E: Write>(
+        &mut self,
+        book: &mut Book<S>,
+        _is_new: bool,
+        notes: &mut Notes<'_, E>,
+    ) -> Result<W::Done, Fault> {
+        self.look.look(book, notes)
     }
-    None
+}
+
+/// Opens the book likewise, looks for something in it, and closes it.
+pub fn looked_over<W: BookLook, E: Write>(
+    rt: &HostRuntime,
+    at: BookAt<'_>,
+    look: &mut W,
+    notes: &mut Notes<'_, E>,
+) -> Result<W::Done, Fault> {
+    let mut looking = Looking { look };
+    worked_over(rt, at, &mut looking, notes)
 }
