@@ -1,4 +1,4 @@
-use Rattle.std.proofs.Common.{◌≡◌, ◌++◌, ◌+◌, false, true, List, [], ◌∷◌, map, Option, Some, option_map, true≢false, sym, ap, subst, ◌∙◌, arith, bytes_eq, inl, inr, length, length-append, ⊎_elim, refl, Bor, ℕ}
+use Rattle.std.proofs.Common.{◌≡◌, ◌++◌, ◌+◌, false, true, List, [], ◌∷◌, map, Option, Some, true≢false, sym, ap, subst, ◌∙◌, arith, bytes_eq, inl, inr, length, length-append, ⊎_elim, refl, Bor, ℕ}
 use Rattle.std.proofs.lemmas.List.{map-append}
 use Rattle.std.proofs.lemmas.Slice.Eq.{bytes_eq-Decides}
 use Rattle.std.specs.List.{list_any}
@@ -6,10 +6,11 @@ use Rattle.keys_roles.specs.Views as keys
 use Rattle.document_parts.specs.declared.documents.Delegation.{Delegation as CodeDelegation}
 use Rattle.metadata.specs.File.{Names, has_name}
 use Rattle.metadata.specs.FileViews.{targets_file}
+use Rattle.document_parts.specs.Documents.{Delegations}
 use Rattle.document_parts.specs.Views.{delegations_view}
 use Rattle.document_parts.specs.declared.documents.Delegations.{Delegations as CodeDelegations}
 use Rattle.delegations.specs.Delegation.{Edge, Hops, hops}
-use Rattle.delegations.specs.Search.{Shelf, doc, hops_of, whole}
+use Rattle.delegations.specs.Search.{Shelf, hops_of, whole}
 use Rattle.delegations.specs.Views.{edge_view, shelf_view}
 use Rattle.delegations.specs.steps.Reaching.{Follows, IsAmong, rest_of, waiting, whole_of}
 use Rattle.delegations.specs.declared.frames.Frame.{Frame}
@@ -37,8 +38,8 @@ returns-in_default-clause-follows c hs i state at =
     c.in_default.ensures.none
 
 -- what a new frame holds
-opened : (o : Option CodeDelegations) (ds : CodeDelegations) (roles : List CodeDelegation) → o ≡ Some ds → roles ≡ ds.roles.items
-    → hops_of (λ d. true) (option_map delegations_view o) ≡ rest_of (keys.table_view ds.keys) roles
+opened : (o : Option Delegations) (ds : CodeDelegations) (roles : List CodeDelegation) → o ≡ Some (delegations_view ds) → roles ≡ ds.roles.items
+    → hops_of (λ d. true) o ≡ rest_of (keys.table_view ds.keys) roles
 opened o ds roles is are = rw (is, are) refl
 
 pub returns-clause-follows : goal.returns-clause-follows
@@ -50,9 +51,9 @@ returns-clause-follows c hs i state at =
     let fresh : has_name met e.role ≡ false =
     sym (among c.args.met.now.items c.args.edge.role.now) ∙ ap (λ (ns : List (Bor (List ℕ))). list_any (λ n. bytes_eq n.now c.args.edge.role.now) ns) (sym c.deref.ensures.value) ∙ sym c.is_among.ensures ∙ c.if-is_among.false in
     let g = c.in-Some.ensures.some in
-    let ds : CodeDelegations = c.in-Some-delegations.delegations in
+    let ds : CodeDelegations = c.in-Some.delegations.now in
     let hops_are : hops (whole V) e.role ≡ rest_of (keys.table_view ds.keys) c.deref-2.result.now =
-    hops_of_doc V (λ d. true) e.role (targets_file c.in-Some.file.now) (subst (λ f. doc V e.role ≡ Some f) g.1 g.0.there) ∙ opened c.in-Some.file.now.body.delegations ds c.deref-2.result.now c.in-Some-delegations.is c.deref-2.ensures.value in
+    hops_of_doc V (λ d. true) e.role g.0.file g.0.there ∙ opened g.0.file.body.delegations ds c.deref-2.result.now g.1 c.deref-2.ensures.value in
     let items : map (λ n. n.now) c.push.new.self.items ≡ met ++ e.role ∷ [] = ap (λ (ns : List (Bor (List ℕ))). map (λ n. n.now) ns) c.in_ok-push.ensures.items ∙ map-append (λ n. n.now) c.args.met.now.items (c.args.edge.role ∷ []) in
     let frames : waiting c.push-2.new.self.items ≡ hss ++ rest_of (keys.table_view ds.keys) c.deref-2.result.now ∷ [] = ap (λ (fs : List Frame). waiting fs) c.in_ok-push-2.ensures.items ∙ map-append whole_of c.args.todo.now.items _ in
     subst (λ (later : Names). Follows V c.args.now c.args.role.now (targets_file c.args.new.now) e hs met hss later (waiting c.push-2.new.self.items) false) (sym items)

@@ -1,4 +1,4 @@
-use Rattle.std.proofs.Common.{◌≡◌, ◌++◌, length, arith, ℕ, Bor, List, map, true, Option, Some, option_map, refl, inr, ⊎_elim, [], ◌∷◌, true≢false, sym, ap, subst, ◌∙◌, inl}
+use Rattle.std.proofs.Common.{◌≡◌, ◌++◌, length, arith, ℕ, Bor, List, map, true, Option, Some, refl, inr, ⊎_elim, [], ◌∷◌, true≢false, sym, ap, subst, ◌∙◌, inl}
 use Rattle.std.proofs.lemmas.Slice.Eq.{bytes_eq-Decides}
 use Rattle.std.proofs.lemmas.List.{map-append}
 use Rattle.keys_roles.specs.Views as keys
@@ -7,18 +7,19 @@ use Rattle.metadata.specs.FileViews.{targets_file}
 use Rattle.document_parts.specs.declared.documents.Delegation.{Delegation as CodeDelegation}
 use Rattle.delegations.specs.declared.frames.Frame.{Frame}
 use Rattle.delegations.specs.steps.Reaching.{IsOpen, rest_of, waiting, whole_of}
+use Rattle.document_parts.specs.Documents.{Delegations}
 use Rattle.document_parts.specs.Views.{delegations_view}
 use Rattle.document_parts.specs.declared.documents.Delegations.{Delegations as CodeDelegations}
 use Rattle.delegations.specs.Delegation.{Edge, Hops, hops}
-use Rattle.delegations.specs.Search.{Shelf, Good, MeetsEdge, doc, hops_of, whole}
+use Rattle.delegations.specs.Search.{Shelf, Good, MeetsEdge, hops_of, whole}
 use Rattle.delegations.specs.Views.{shelf_view}
 use Rattle.delegations.proofs.GoodChains.{none_open, none_vouches, popped, top_open, top_vouches, vouches_top}
 use Rattle.delegations.proofs.Onward.{hops_of_doc}
 use Rattle.delegations.proofs.vouching.vouched.Goals as goal
 
 -- what a new frame holds
-opened : (o : Option CodeDelegations) (ds : CodeDelegations) (roles : List CodeDelegation) → o ≡ Some ds → roles ≡ ds.roles.items
-    → hops_of (λ d. true) (option_map delegations_view o) ≡ rest_of (keys.table_view ds.keys) roles
+opened : (o : Option Delegations) (ds : CodeDelegations) (roles : List CodeDelegation) → o ≡ Some (delegations_view ds) → roles ≡ ds.roles.items
+    → hops_of (λ d. true) o ≡ rest_of (keys.table_view ds.keys) roles
 opened o ds roles is are = rw (is, are) refl
 
 pub returns-then-eq : goal.returns-then-eq
@@ -33,25 +34,11 @@ returns-then-eq c =
 pub returns-in_default : goal.returns-in_default
 returns-in_default c =
     let V : Shelf = shelf_view c.args.shelf.now in
-    let bad : Good V V.top c.args.now → ⊥ = subst (λ (e : Edge). Good V e c.args.now → ⊥) c.top-top.ensures c.in_default.ensures.none in (
+    let bad : Good V V.top c.args.now → hops (whole V) V.top.role ≡ [] =
+    subst (λ (e : Edge). Good V e c.args.now → hops (whole V) e.role ≡ []) c.top-top.ensures c.in_default.ensures.none in (
       λ t. absurd (true≢false (sym t)),
       λ v. absurd (none_vouches V c.args.now c.args.role.now (targets_file c.args.document.now) [] (none_open V c.args.now c.args.role.now (targets_file c.args.document.now) bad)
           (λ same. true≢false (sym ((bytes_eq-Decides c.top-top.result.role.now c.as_str.result.now).1 (ap (λ (e : Edge). e.role) c.top-top.ensures ∙ same ∙ sym c.as_str.ensures.value)) ∙ sym c.eq.ensures ∙ c.if-eq.false)) v),
-    )
-
-pub returns-in_default-delegations : goal.returns-in_default-delegations
-returns-in_default-delegations c =
-    let V : Shelf = shelf_view c.args.shelf.now in
-    let other : V.top.role ≡ c.args.role.now → ⊥ =
-    λ same. true≢false (sym ((bytes_eq-Decides c.top-top.result.role.now c.as_str.result.now).1 (ap (λ (e : Edge). e.role) c.top-top.ensures ∙ same ∙ sym c.as_str.ensures.value)) ∙ sym c.eq.ensures ∙ c.if-eq.false) in
-    let there : doc V c.top-top.result.role.now ≡ Some (targets_file c.in-Some.file.now) = subst (λ f. doc V c.top-top.result.role.now ≡ Some f) c.in-Some.ensures.some.1 c.in-Some.ensures.some.0.there in
-    let good : Good V V.top c.args.now = subst (λ (e : Edge). Good V e c.args.now) c.top-top.ensures c.in-Some.ensures.some.0 in
-    let none : hops (whole V) V.top.role ≡ [] =
-    ap (λ (e : Edge). hops (whole V) e.role) (sym c.top-top.ensures) ∙ hops_of_doc V (λ d. true) c.top-top.result.role.now (targets_file c.in-Some.file.now) there
-    ∙ ap (λ (o : Option CodeDelegations). hops_of (λ d. true) (option_map delegations_view o)) c.in_default-delegations.is in (
-      λ t. absurd (true≢false (sym t)),
-      λ v. absurd (none_vouches V c.args.now c.args.role.now (targets_file c.args.document.now) (V.top.role ∷ [])
-          (top_open V c.args.now c.args.role.now (targets_file c.args.document.now) good other [] (inl none) (λ hs h. absurd h)) other v),
     )
 
 none_left : (fs : List Frame) → length fs ≡ 0 → fs ≡ []
@@ -63,12 +50,12 @@ frames-init c =
     let V : Shelf = shelf_view c.args.shelf.now in
     let other : V.top.role ≡ c.args.role.now → ⊥ =
     λ same. true≢false (sym ((bytes_eq-Decides c.top-top.result.role.now c.as_str.result.now).1 (ap (λ (e : Edge). e.role) c.top-top.ensures ∙ same ∙ sym c.as_str.ensures.value)) ∙ sym c.eq.ensures ∙ c.if-eq.false) in
-    let there : doc V c.top-top.result.role.now ≡ Some (targets_file c.in-Some.file.now) = subst (λ f. doc V c.top-top.result.role.now ≡ Some f) c.in-Some.ensures.some.1 c.in-Some.ensures.some.0.there in
-    let good : Good V V.top c.args.now = subst (λ (e : Edge). Good V e c.args.now) c.top-top.ensures c.in-Some.ensures.some.0 in
-    let ds : CodeDelegations = c.in-Some-delegations.delegations in
+    let g = c.in-Some.ensures.some in
+    let good : Good V V.top c.args.now = subst (λ (e : Edge). Good V e c.args.now) c.top-top.ensures g.0 in
+    let ds : CodeDelegations = c.in-Some.delegations.now in
     let hops_are : hops (whole V) V.top.role ≡ rest_of (keys.table_view ds.keys) c.deref.result.now =
-    ap (λ (e : Edge). hops (whole V) e.role) (sym c.top-top.ensures) ∙ hops_of_doc V (λ d. true) c.top-top.result.role.now (targets_file c.in-Some.file.now) there
-    ∙ opened c.in-Some.file.now.body.delegations ds c.deref.result.now c.in-Some-delegations.is c.deref.ensures.value in
+    ap (λ (e : Edge). hops (whole V) e.role) (sym c.top-top.ensures) ∙ hops_of_doc V (λ d. true) c.top-top.result.role.now g.0.file g.0.there
+    ∙ opened g.0.file.body.delegations ds c.deref.result.now g.1 c.deref.ensures.value in
     let items : map (λ n. n.now) c.push.new.self.items ≡ V.top.role ∷ [] =
     ap (λ (ns : List (Bor (List ℕ))). map (λ n. n.now) ns) (c.in_ok-push.ensures.items ∙ ap (λ (ns : List (Bor (List ℕ))). ns ++ c.top-top.result.role ∷ []) c.new-met.ensures.items) ∙ ap (λ (e : Edge). e.role ∷ []) c.top-top.ensures in
     let frames : waiting c.push-2.new.self.items ≡ rest_of (keys.table_view ds.keys) c.deref.result.now ∷ [] =
