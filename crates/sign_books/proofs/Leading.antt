@@ -33,9 +33,12 @@ runs_on v w x [] ds h k = subst (λ u. Runs u ds x) h k
 runs_on v w x (e ∷ es) ds (u, first, rest) k = (u, first, runs_on u w x es ds rest k)
 
 pub then : (b c d : Book) → Leads b c → Leads c d → Leads b d
-then b c d h k = (h.0 ++ k.0, λ made.
-    let (more, runs) = h.1 made in let (most, on) = k.1 more in
-    (most, runs_on (record { book = b; made = made }) (record { book = c; made = more }) (record { book = d; made = most }) h.0 k.0 runs on))
+then b c d h k = (
+  h.0 ++ k.0,
+  λ made.
+      let (more, runs) = h.1 made in let (most, on) = k.1 more in
+      (most, runs_on (record { book = b; made = made }) (record { book = c; made = more }) (record { book = d; made = most }) h.0 k.0 runs on),
+)
 
 pub registered : (b c : Book) (seed : Seed) (params : Params) (r : Result (List ℕ) BookFault) → Registers b seed params r c → Leads b c
 registered b c seed params r h = (register seed params ∷ [], λ made. (made, (record { book = c; made = made }, ((r, h), refl), refl)))
@@ -43,10 +46,12 @@ registered b c seed params r h = (register seed params ∷ [], λ made. (made, (
 -- ---- a message
 
 pub message_signed : (b c : Book) (seed : Seed) (params : Params) (message signature : List ℕ) → Signs b seed params message signature c → Leads b c
-message_signed b c seed params message signature s =
-    (sign seed params message ∷ [], λ made.
-    let more : List Signed = record { leaf = s.leaf; seed = seed; bytes = signature } ∷ made in
-    (more, (record { book = c; made = more }, inl (signature, s, refl), refl)))
+message_signed b c seed params message signature s = (
+  sign seed params message ∷ [],
+  λ made.
+      let more : List Signed = record { leaf = s.leaf; seed = seed; bytes = signature } ∷ made in
+      (more, (record { book = c; made = more }, inl (signature, s, refl), refl)),
+)
 
 pub message_unsigned : (b c : Book) (seed : Seed) (params : Params) (message : List ℕ) (fault : BookFault) → IsUnsigned b seed params message fault c → Leads b c
 message_unsigned b c seed params message fault h =
@@ -55,10 +60,12 @@ message_unsigned b c seed params message fault h =
 -- ---- a file, by a key of one level
 
 pub file_signed : (b c : Book) (seed : Seed) (params : Params) (file out : List ℕ) → SignsFile b seed params file out c → Leads b c
-file_signed b c seed params file out s =
-    (sign_file seed params file ∷ [], λ made.
-    let more : List Signed = record { leaf = s.signs.leaf; seed = seed; bytes = s.signature } ∷ made in
-    (more, (record { book = c; made = more }, inl (out, s, refl), refl)))
+file_signed b c seed params file out s = (
+  sign_file seed params file ∷ [],
+  λ made.
+      let more : List Signed = record { leaf = s.signs.leaf; seed = seed; bytes = s.signature } ∷ made in
+      (more, (record { book = c; made = more }, inl (out, s, refl), refl)),
+)
 
 pub file_unsigned : (b c : Book) (seed : Seed) (params : Params) (file : List ℕ) (fault : SignFileFault) → IsUnsignedFile b seed params file fault c → Leads b c
 file_unsigned b c seed params file fault h =
@@ -75,10 +82,12 @@ is_signed b c seed params file out s = inl (seed, params, file, s)
 -- ---- a file, by a key of two levels
 
 pub below_signed : (b c : Book) (p : HssPair) (file out : List ℕ) → SignsFileBelow b p file out c → Leads b c
-below_signed b c p file out s =
-    (sign_file_below p file ∷ [], λ made.
-    let more : List Signed = with_both b (top_of p) s.q (below_of p s.q) s.message s.signature c s.signs made in
-    (more, (record { book = c; made = more }, inl (out, s, refl), refl)))
+below_signed b c p file out s = (
+  sign_file_below p file ∷ [],
+  λ made.
+      let more : List Signed = with_both b (top_of p) s.q (below_of p s.q) s.message s.signature c s.signs made in
+      (more, (record { book = c; made = more }, inl (out, s, refl), refl)),
+)
 
 pub below_unsigned : (b c : Book) (p : HssPair) (file : List ℕ) (fault : SignFileFault) → IsUnsignedFileBelow b p file fault c → Leads b c
 below_unsigned b c p file fault h =

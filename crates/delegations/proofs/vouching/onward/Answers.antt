@@ -15,6 +15,6 @@ returns-in_default-clause-none c = λ g.
 
 pub returns-then-live-clause-some : goal.returns-then-live-clause-some
 returns-then-live-clause-some c = (
-    record { file = targets_file c.in_ok-file.file.now; there = c.in_ok-file.ensures.some; meets = c.meets_edge.ensures.met.0 c.if-meets_edge.true; live = c.live.ensures.0 c.if-live.true },
-    ap (λ (o : Option CodeDelegations). option_map delegations_view o) c.in-Some.is,
+  record { file = targets_file c.in_ok-file.file.now; there = c.in_ok-file.ensures.some; meets = c.meets_edge.ensures.met.0 c.if-meets_edge.true; live = c.live.ensures.0 c.if-live.true },
+  ap (λ (o : Option CodeDelegations). option_map delegations_view o) c.in-Some.is,
 )
