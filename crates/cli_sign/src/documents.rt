@@ -1,6 +1,7 @@
 //! `sign`: signs a document by a leaf that no other document gets.
 ghost use Rattle.std.specs.Prelude.{IfOk};
-ghost use Rattle.sign_books.specs.Works.{IsSigned, Leads};
+ghost use Rattle.signer.specs.Files.{SignsFile};
+ghost use Rattle.sign_books.specs.Works.{Leads};
 
 use crate::seeds::seed_at;
 use cli_faults::{Fault, Notes, Slip, moment};
@@ -87,11 +88,11 @@ struct Appending<'a> {
 
 impl BookWork for Appending<'_> {
     ghost use Rattle.std.specs.Prelude.{IfOk};
-    ghost use Rattle.sign_books.specs.Works.{IsSigned};
+    ghost use Rattle.signer.specs.Files.{SignsFile};
 
     type Done = Vec<u8>;
 
-    ghost does = { λ _ b r c _. IfOk r (λ out. IsSigned b out.items c) };
+    ghost does = { λ work b r c _. IfOk r (λ out. SignsFile b work.seed.now work.asked.now.params work.bytes.now out.items c) };
 
     fn work<S: Alter, E: Write>(
         &mut self,
@@ -116,7 +117,7 @@ fn signed_with<S: Alter, E: Write>(
     bytes: &[u8],
     notes: &mut Notes<'_, E>,
 ) -> Result<Vec<u8>, Fault>
-    ensures signed { IfOk result (λ out. IsSigned book.old.book out.items book.new.book) }
+    ensures signed { IfOk result (λ out. SignsFile book.old.book seed.now asked.now.params bytes.now out.items book.new.book) }
     ensures leads { Leads book.old.book book.new.book }
 {
     let pair = KeyPair::new(alloc, seed, asked.params)?;

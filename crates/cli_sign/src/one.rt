@@ -1,6 +1,6 @@
 //! One document of a folder, which is judged and signed over the book of a key.
-ghost use Rattle.std.specs.Prelude.{IfOk};
-ghost use Rattle.sign_books.specs.Works.{IsSigned, Leads};
+ghost use Rattle.std.specs.Prelude.{◌≡◌, IfOk, false};
+ghost use Rattle.sign_books.specs.Works.{IsSignedBy, IsSignedOnceBy, Leads};
 
 use crate::files::PublicHalf;
 use cli_faults::{Fault, Notes, Slip};
@@ -110,12 +110,13 @@ pub struct SigningOne<'m, 'j, 'o, 'p> {
 }
 
 impl BookWork for SigningOne<'_, '_, '_, '_> {
-    ghost use Rattle.std.specs.Prelude.{IfOk};
-    ghost use Rattle.sign_books.specs.Works.{IsSigned};
+    ghost use Rattle.std.specs.Prelude.{◌≡◌, IfOk, false};
+    ghost use Rattle.sign_books.specs.Works.{IsSignedBy, IsSignedOnceBy};
 
     type Done = Vec<u8>;
 
-    ghost does = { λ _ b r c _. IfOk r (λ out. IsSigned b out.items c) };
+    ghost does = { λ work b r c _. IfOk r (λ out. IsSignedBy work.pair.now work.judging.bytes.now b out.items c
+        × (work.again ≡ false → IsSignedOnceBy work.pair.now work.judging.bytes.now b out.items c)) };
 
     fn work<S: Alter, E: Write>(
         &mut self,
@@ -160,7 +161,8 @@ impl SigningOne<'_, '_, '_, '_> {
         book: &mut Book<S>,
         notes: &mut Notes<'_, E>,
     ) -> Result<Vec<u8>, Fault>
-        ensures signed { IfOk result (λ out. IsSigned book.old.book out.items book.new.book) }
+        ensures signed { IfOk result (λ out. IsSignedBy self.old.pair.now self.old.judging.bytes.now book.old.book out.items book.new.book) }
+        ensures once { self.old.again ≡ false → IfOk result (λ out. IsSignedOnceBy self.old.pair.now self.old.judging.bytes.now book.old.book out.items book.new.book) }
         ensures leads { Leads book.old.book book.new.book }
     {
         let alloc = self.judging.judged.alloc;

@@ -1,5 +1,6 @@
 -- What each call over a book is as events of the law of one-time keys.
-use Rattle.std.proofs.Common.{◌≡◌, ◌×◌, ◌++◌, List, [], ◌∷◌, Result, Ok, Err, ℕ, inl, inr, refl, subst}
+use Rattle.std.proofs.Common.{◌≡◌, ◌++◌, List, [], ◌∷◌, Result, Ok, Err, ℕ, inl, inr, refl, subst, sym}
+use Rattle.std.specs.Prelude.{IfErr, IfOk}
 use Rattle.lms.specs.declared.Params.{Params}
 use Rattle.lms.specs.declared.Seed.{Seed}
 use Rattle.lms.specs.HssKeys.{HssPair}
@@ -16,7 +17,12 @@ use Rattle.signer.specs.OneTime.{Event, Runs, Work, register, sign, sign_file, s
 use Rattle.signer.specs.declared.faults.SignFileFault.{SignFileFault}
 use Rattle.signer.specs.declared.faults.SignOnceFault.{SignOnceFault}
 use Rattle.signer.specs.declared.faults.SignOnceFault.TheVariants.{Other, Unsigned}
-use Rattle.sign_books.specs.Works.{IsSigned, Leads}
+use Rattle.sign_books.specs.Works.{Leads}
+
+-- whatever was answered, the one or the other is said of it
+pub by_answer : {A E : Type 0} (r : Result A E) (P : A → Type 0) (Q : E → Type 0) (L : Type 0) → IfOk r P → IfErr r Q → ((a : A) → P a → L) → ((e : E) → Q e → L) → L
+by_answer (Ok a) P Q L h k f g = f a h
+by_answer (Err e) P Q L h k f g = g e k
 
 pub rests : (b : Book) → Leads b b
 rests b = ([], λ made. (made, refl))
@@ -24,9 +30,6 @@ rests b = ([], λ made. (made, refl))
 -- a book that is as it was
 pub stays : (b c : Book) → c ≡ b → Leads b c
 stays b c same = subst (λ d. Leads b d) (sym same) (rests b)
-  where
-    sym : {A : Type 0} {x y : A} → x ≡ y → y ≡ x
-    sym h = cc
 
 runs_on : (v w x : Work) (es ds : List Event) → Runs v es w → Runs w ds x → Runs v (es ++ ds) x
 runs_on v w x [] ds h k = subst (λ u. Runs u ds x) h k
@@ -76,9 +79,6 @@ once_leads b c seed params file (Ok out) h = file_signed b c seed params file ou
 once_leads b c seed params file (Err (Other leaf)) h = stays b c h.1
 once_leads b c seed params file (Err (Unsigned fault)) h = file_unsigned b c seed params file fault h.0
 
-pub is_signed : (b c : Book) (seed : Seed) (params : Params) (file out : List ℕ) → SignsFile b seed params file out c → IsSigned b out c
-is_signed b c seed params file out s = inl (seed, params, file, s)
-
 -- ---- a file, by a key of two levels
 
 pub below_signed : (b c : Book) (p : HssPair) (file out : List ℕ) → SignsFileBelow b p file out c → Leads b c
@@ -92,9 +92,6 @@ below_signed b c p file out s = (
 pub below_unsigned : (b c : Book) (p : HssPair) (file : List ℕ) (fault : SignFileFault) → IsUnsignedFileBelow b p file fault c → Leads b c
 below_unsigned b c p file fault h =
     (sign_file_below p file ∷ [], λ made. (made, (record { book = c; made = made }, inr ((fault, h), refl), refl)))
-
-pub is_signed_below : (b c : Book) (p : HssPair) (file out : List ℕ) → SignsFileBelow b p file out c → IsSigned b out c
-is_signed_below b c p file out s = inr (p, file, s)
 
 pub below_once_leads : (b c : Book) (p : HssPair) (file : List ℕ) (r : Result (List ℕ) SignOnceFault) → SignsBelowOnce b p file r c → Leads b c
 below_once_leads b c p file (Ok out) h = below_signed b c p file out h.0

@@ -1,23 +1,28 @@
 -- What a command does over a book of leaves: registrations and signings, of which the law `signer::one_time_keys` speaks.
-use Rattle.std.specs.Prelude.{◌⊎◌, List, Result, Ok, Err, ℕ}
-use Rattle.lms.specs.declared.Params.{Params}
-use Rattle.lms.specs.declared.Seed.{Seed}
-use Rattle.lms.specs.HssKeys.{HssPair}
+use Rattle.std.specs.Prelude.{List, Result, Ok, Err, ℕ}
 use Rattle.leaf_plans.specs.Book.{Book, IsBook}
 use Rattle.leaf_book.specs.Runs.{Signed}
-use Rattle.signer.specs.BelowOnce.{SignsFileBelow}
+use Rattle.signer.specs.BelowOnce.{SignsBelowOnce, SignsFileBelow}
 use Rattle.signer.specs.Files.{SignsFile}
+use Rattle.signer.specs.Once.{SignsOnce}
 use Rattle.signer.specs.OneTime.{Event, Runs}
 use Rattle.cli_faults.specs.declared.fault.Fault.{Fault}
+use Rattle.sign_books.specs.declared.pairs.Pair.{Pair}
+use Rattle.sign_books.specs.declared.pairs.Pair.TheVariants.{One, Two}
 
 -- events of that law lead from the one book to the other, whatever was signed before
 abbrev pub Leads : Book → Book → Type 0
 Leads b c = (events : List Event) × ((made : List Signed) → (more : List Signed) × Runs (record { book = b; made = made }) events (record { book = c; made = more }))
 
--- these bytes are a file with one entry of a key of one level or of two, by a leaf that the book keeps since for its message
-abbrev pub IsSigned : Book → List ℕ → Book → Type 0
-IsSigned b out c = ((seed : Seed) × (params : Params) × (file : List ℕ) × SignsFile b seed params file out c)
-    ⊎ ((pair : HssPair) × (file : List ℕ) × SignsFileBelow b pair file out c)
+-- the second file is the first one with an entry of the pair's key, by a leaf that the book keeps since for what is signed
+abbrev pub IsSignedBy : Pair → List ℕ → Book → List ℕ → Book → Type 0
+IsSignedBy (One pair) file b out c = SignsFile b pair.seed pair.params file out c
+IsSignedBy (Two pair) file b out c = SignsFileBelow b pair file out c
+
+-- and before, the book kept no leaf of the key for another document of its kind and version
+abbrev pub IsSignedOnceBy : Pair → List ℕ → Book → List ℕ → Book → Type 0
+IsSignedOnceBy (One pair) file b out c = SignsOnce b pair.seed pair.params file (Ok out) c
+IsSignedOnceBy (Two pair) file b out c = SignsBelowOnce b pair file (Ok out) c
 
 -- the work as it was, the book before it, what came of it, the book then, and the work as it is left
 abbrev pub Does : Type 0 → Type 0 → Type 1

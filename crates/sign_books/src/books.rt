@@ -71,7 +71,10 @@ pub fn worked_over<W: BookWork, E: Write>(
         notes.fault(&at.name, &"no such book");
         return Err(Fault::UnknownKey);
     }
-    let conn = connected(rt, at.place, IN_USE, notes)?;
+    let conn = match connected(rt, at.place, IN_USE, notes) {
+        Ok(conn) => conn,
+        Err(fault) => return Err(fault),
+    };
     worked_in(rt.alloc(), conn, at, work, notes)
 }
 

@@ -1,6 +1,6 @@
 //! The pair of a key of one level or of two, by which documents are signed.
 ghost use Rattle.std.specs.Prelude.{IfOk};
-ghost use Rattle.sign_books.specs.Works.{IsSigned, Leads};
+ghost use Rattle.sign_books.specs.Works.{IsSignedBy, IsSignedOnceBy, Leads};
 
 use lms::{HssKeyPair, KeyPair, Levels, Params};
 use signer::{
@@ -50,7 +50,7 @@ impl Pair {
         book: &mut Book<S>,
         file: &[u8],
     ) -> Result<Vec<u8>, SignOnceFault>
-        ensures signed { IfOk result (λ out. IsSigned book.old.book out.items book.new.book) }
+        ensures signed { IfOk result (λ out. IsSignedOnceBy self.old file.now book.old.book out.items book.new.book) }
         ensures leads { Leads book.old.book book.new.book }
     {
         match self {
@@ -66,7 +66,7 @@ impl Pair {
         book: &mut Book<S>,
         file: &[u8],
     ) -> Result<Vec<u8>, SignFileFault>
-        ensures signed { IfOk result (λ out. IsSigned book.old.book out.items book.new.book) }
+        ensures signed { IfOk result (λ out. IsSignedBy self.old file.now book.old.book out.items book.new.book) }
         ensures leads { Leads book.old.book book.new.book }
     {
         match self {
