@@ -1,0 +1,376 @@
+//! `get` of several targets, into a folder.
+ghost use Rattle.std.specs.Prelude.{None, Ok, IfOk};
+ghost use Rattle.sqlite.specs.Held.{state};
+ghost use Rattle.trust_rules.specs.Grants.{grants};
+ghost use Rattle.store.specs.Standing.{IsClean, seen};
+ghost use Rattle.client.specs.Changes.{Changes};
+ghost use Rattle.client.specs.Taken.{IsTaking, RunsOn};
+ghost use Rattle.cli_client.specs.Clients.{Updated};
+
+use crate::below::{is_in_the_way, is_no_folder, is_of_database, put_below};
+use crate::report::{Account, End};
+use crate::wanted::{Wanted, covered, covers_some};
+use cli_client::{Call, Denied, Named, Remote, Turn, see_folders, tell_wrongs, told};
+use cli_faults::{Denial, Fault, Notes, moment};
+use cli_files::{print, unused};
+use cli_repository::{Store, Work, listed_paths, worked};
+use cli_tasks::{GettingMany, Server};
+use client::{ClientFault, fetch_by_each, fetch_roles_by_each};
+use metadata::Moment;
+use path_patterns::{Pattern, TargetPath};
+use sqlite::Alter;
+use std::alloc::{AllocError, Global};
+use std::fmt::{self, Display};
+use std::io::{IsTerminal, Write};
+use std::mem::replace;
+
+// After so many paths it is told again how many are done.
+const PATHS_BETWEEN: usize = 16;
+
+/// Fetches what the client's own state misses for each of the paths, in the order of their bytes and each once, and writes the file of each
+/// below the folder where that state grants it; prints `written PATH` of each, or all as JSON in the end. Where one is denied, has no answer, or
+/// something else stands in its place, that is told, and the others are done. In the end the first fault is answered, or else the first
+/// denial. Want of memory and a fault of the database or of the disk end it at once.
+pub fn get_many<O: Write, E: Write>(
+    rt: &HostRuntime,
+    asked: &GettingMany,
+    at: Option<u64>,
+    out: &mut O,
+    notes: &mut Notes<'_, E>,
+) -> Result<(), Fault> {
+    let now = moment(rt, at)?;
+    let wanted = Wanted::read(rt, &asked.which, notes)?;
+    see_folders(rt, &asked.server, notes)?;
+    if is_no_folder(rt, asked.to.as_str()) {
+        notes.fault(&asked.to, &"no folder");
+        return Err(Fault::File);
+    }
+    let task = Task {
+        call: Call::begun(rt, asked.within)?,
+        asked,
+        now,
+    };
+    let mut gathering = Gathering {
+        task,
+        wanted,
+        ledger: Ledger {
+            account: Account::new(rt.alloc(), asked.json),
+            out,
+        },
+    };
+    worked(rt, asked.db.as_str(), &mut gathering, notes)?;
+    let Gathering { ledger, .. } = gathering;
+    let Ledger { account, out } = ledger;
+    let (done, text) = account.done(rt.alloc(), now);
+    if asked.json {
+        print(out, &text?, notes)?;
+    }
+    done
+}
+
+// What is done over the client's own state: each path is fetched, and its file written.
+#[derive(Drop)]
+struct Gathering<'a, 'o, O: Write> {
+    task: Task<'a>,
+    wanted: Wanted,
+    ledger: Ledger<'o, O>,
+}
+
+// What is asked for, in which call, and at which moment.
+#[derive(Clone, Copy)]
+struct Task<'a> {
+    call: Call<'a>,
+    asked: &'a GettingMany,
+    now: Moment,
+}
+
+// What became of the paths so far, and where it is printed.
+#[derive(Drop)]
+struct Ledger<'o, O: Write> {
+    account: Account,
+    out: &'o mut O,
+}
+
+impl<O: Write> Work for Gathering<'_, '_, O> {
+    ghost use Rattle.cli_client.specs.Clients.{Updated};
+
+    type Done = ();
+
+    ghost does = { λ gathering A _ B _. Updated gathering.task.now A B };
+
+    fn work<S: Alter, E: Write>(
+        &mut self,
+        state: &mut Store<S>,
+        notes: &mut Notes<'_, E>,
+    ) -> Result<(), Fault> {
+        let none = Wanted::Texts(Vec::new(self.task.alloc()));
+        let wanted = replace(&mut self.wanted, none);
+        let texts = self.task.texts(wanted, state, &mut self.ledger, notes)?;
+        self.task.get_each(&texts, state, &mut self.ledger, notes)
+    }
+}
+
+impl<'a> Task<'a> {
+    fn alloc(&self) -> Global {
+        self.call.rt().alloc()
+    }
+
+    fn server(&self) -> &'a Server {
+        let asked: &'a GettingMany = self.asked;
+        &asked.server
+    }
+
+    // The texts that are wanted. Where all that is listed is, the state is brought up to date before, with the metadata of each role.
+    fn texts<S: Alter, O: Write, E: Write>(
+        &self,
+        wanted: Wanted,
+        state: &mut Store<S>,
+        ledger: &mut Ledger<'_, O>,
+        notes: &mut Notes<'_, E>,
+    ) -> Result<Vec<String>, Fault>
+        ensures { Updated self.now.now (seen state.old.kept (state S.Store state.old.conn)) (seen state.new.kept (state S.Store state.new.conn)) }
+    {
+        match wanted {
+            Wanted::Texts(texts) => Ok(texts),
+            Wanted::Listed(patterns) => {
+                self.bring(state, ledger, notes)?;
+                let listed = listed_paths(self.alloc(), state.held())?;
+                chosen(self.alloc(), &listed, &patterns, notes)
+            }
+        }
+    }
+
+    // Brings the state up to date, with the metadata of each role that the snapshot lists. A fault that is none of the database or of memory is
+    // told, and what is listed is got all the same.
+    fn bring<S: Alter, O: Write, E: Write>(
+        &self,
+        state: &mut Store<S>,
+        ledger: &mut Ledger<'_, O>,
+        notes: &mut Notes<'_, E>,
+    ) -> Result<(), Fault>
+        ensures { Updated self.now.now (seen state.old.kept (state S.Store state.old.conn)) (seen state.new.kept (state S.Store state.new.conn)) }
+    {
+        let server = self.server();
+        let (done, turns, lacks_timestamp) = {
+            let mut remote = Remote::new(self.call, server, notes);
+            let count = remote.count();
+            let done = fetch_roles_by_each(self.alloc(), state, &mut remote, count, self.now);
+            (done, remote.take_turns(), remote.lacks_timestamp())
+        };
+        let turns = turns?;
+        tell_wrongs(server, &turns, number_of(&done), notes);
+        ledger.account.take_turns(&turns);
+        if lacks_timestamp {
+            notes.warn(&Named(server), &"no timestamp");
+        }
+        match done {
+            Ok(()) => Ok(()),
+            Err(fault) => {
+                ledger.miss(&self.asked.db, fault, notes)?;
+                Ok(())
+            }
+        }
+    }
+
+    // Each of the texts in turn.
+    fn get_each<S: Alter, O: Write, E: Write>(
+        &self,
+        texts: &[String],
+        state: &mut Store<S>,
+        ledger: &mut Ledger<'_, O>,
+        notes: &mut Notes<'_, E>,
+    ) -> Result<(), Fault>
+        ensures { Updated self.now.now (seen state.old.kept (state S.Store state.old.conn)) (seen state.new.kept (state S.Store state.new.conn)) }
+    {
+        let is_watched = self.call.rt().stderr().is_terminal();
+        for (place, text) in texts.iter().enumerate() {
+            if is_watched {
+                tell_place(place, texts.len(), notes);
+            }
+            self.get_text(text.as_str(), state, ledger, notes)?;
+        }
+        Ok(())
+    }
+
+    // The file of a text, if that is a path.
+    fn get_text<S: Alter, O: Write, E: Write>(
+        &self,
+        text: &str,
+        state: &mut Store<S>,
+        ledger: &mut Ledger<'_, O>,
+        notes: &mut Notes<'_, E>,
+    ) -> Result<(), Fault>
+        ensures { Updated self.now.now (seen state.old.kept (state S.Store state.old.conn)) (seen state.new.kept (state S.Store state.new.conn)) }
+    {
+        match TargetPath::read(self.alloc(), text)? {
+            Some(path) => self.get_path(&path, state, ledger, notes),
+            None => {
+                let end = ledger.miss(&text, ClientFault::Denied(Denial::BadPath), notes)?;
+                ledger.account.take(text, end, &[]);
+                Ok(())
+            }
+        }
+    }
+
+    // The file of a path.
+    fn get_path<S: Alter, O: Write, E: Write>(
+        &self,
+        path: &TargetPath,
+        state: &mut Store<S>,
+        ledger: &mut Ledger<'_, O>,
+        notes: &mut Notes<'_, E>,
+    ) -> Result<(), Fault>
+        ensures { Updated self.now.now (seen state.old.kept (state S.Store state.old.conn)) (seen state.new.kept (state S.Store state.new.conn)) }
+    {
+        let (done, turns) = self.fetch(path, state, notes);
+        let turns = turns?;
+        tell_wrongs(self.server(), &turns, number_of(&done), notes);
+        match done {
+            Ok(bytes) => self.put(path, &bytes, &turns, ledger, notes),
+            Err(fault) => {
+                let end = ledger.miss(&path.as_str(), fault, notes)?;
+                ledger.account.take(path.as_str(), end, &turns);
+                Ok(())
+            }
+        }
+    }
+
+    // The bytes of a path that the state grants, after a fetch, and the turns of the sources.
+    fn fetch<S: Alter, E: Write>(
+        &self,
+        path: &TargetPath,
+        state: &mut Store<S>,
+        notes: &mut Notes<'_, E>,
+    ) -> (Result<Vec<u8>, ClientFault>, Result<Vec<Turn<'a>>, AllocError>)
+        ensures { Changes (seen state.old.kept (state S.Store state.old.conn)) (seen state.new.kept (state S.Store state.new.conn))
+            (λ C D. RunsOn IsTaking self.now.now C D
+            × (IsClean (seen state.new.kept (state S.Store state.new.conn)) → IfOk result.0 (λ b. grants D path.now None self.now.now (Ok b.items)))) }
+    {
+        let mut remote = Remote::joined(self.call, self.server(), notes);
+        let count = remote.count();
+        let done = fetch_by_each(self.alloc(), state, &mut remote, count, path, self.now);
+        (done, remote.take_turns())
+    }
+
+    // Writes the file of a path, and says so.
+    fn put<O: Write, E: Write>(
+        &self,
+        path: &TargetPath,
+        bytes: &[u8],
+        turns: &[Turn<'_>],
+        ledger: &mut Ledger<'_, O>,
+        notes: &mut Notes<'_, E>,
+    ) -> Result<(), Fault> {
+        let path = path.as_str();
+        if !self.is_put(path, bytes, notes)? {
+            ledger.account.fail(Fault::File);
+            ledger.account.take(path, End::Fault("file"), turns);
+            return Ok(());
+        }
+        ledger.account.take(path, End::Written(bytes), turns);
+        if self.asked.json {
+            return Ok(());
+        }
+        let line = format!(in self.alloc(); "written {path}\n")?;
+        print(ledger.out, line.as_bytes(), notes)
+    }
+
+    // Whether the file of a path comes into its place, and not something else stands there, which is told.
+    fn is_put<E: Write>(
+        &self,
+        path: &str,
+        bytes: &[u8],
+        notes: &mut Notes<'_, E>,
+    ) -> Result<bool, Fault> {
+        let (rt, to) = (self.call.rt(), self.asked.to.as_str());
+        let place = format!(in rt.alloc(); "{to}/{path}")?;
+        if is_of_database(rt, self.asked.db.as_str(), place.as_str())? {
+            notes.fault(&place, &"a file of the client's own database");
+            return Ok(false);
+        }
+        match put_below(rt, to, path, bytes) {
+            Ok(()) => Ok(true),
+            Err(error) => {
+                let fault = unused(place.as_str(), &error, notes);
+                if is_in_the_way(&error) {
+                    Ok(false)
+                } else {
+                    Err(fault)
+                }
+            }
+        }
+    }
+}
+
+impl<O: Write> Ledger<'_, O> {
+    // Tells why what has this name was not done, and takes that. What ends the call at once is a fault.
+    fn miss<N: Display, E: Write>(
+        &mut self,
+        name: &N,
+        fault: ClientFault,
+        notes: &mut Notes<'_, E>,
+    ) -> Result<End<'static>, Fault> {
+        match fault {
+            ClientFault::Denied(denial) => {
+                let denied = Denied {
+                    number: denial.number(),
+                    name: denial.name(),
+                };
+                notes.warn(name, &denied);
+                self.account.fail(Fault::Denied(denial, None));
+                Ok(End::Denied(denied))
+            }
+            other => match told(name, other, notes) {
+                Fault::Network => {
+                    self.account.fail(Fault::Network);
+                    Ok(End::Fault("network"))
+                }
+                fault => Err(fault),
+            },
+        }
+    }
+}
+
+// Those of the paths that a pattern covers, or all. A pattern that covers none is warned of.
+fn chosen<E: Write>(
+    alloc: Global,
+    listed: &[String],
+    patterns: &[Pattern],
+    notes: &mut Notes<'_, E>,
+) -> Result<Vec<String>, Fault> {
+    for pattern in patterns {
+        if !covers_some(alloc, pattern, listed)? {
+            notes.warn(&pattern.as_str(), &"no path that is listed is of this pattern");
+        }
+    }
+    Ok(covered(alloc, listed, patterns)?)
+}
+
+// The number of the denial in which a call ended.
+fn number_of<T>(done: &Result<T, ClientFault>) -> Option<u8> {
+    match done {
+        Err(ClientFault::Denied(denial)) => Some(denial.number()),
+        _ => None,
+    }
+}
+
+// Tells on a terminal how many paths are done, before the one at this place is.
+fn tell_place<E: Write>(place: usize, count: usize, notes: &mut Notes<'_, E>) {
+    if place > 0 && place % PATHS_BETWEEN == 0 {
+        notes.progress(&Done { place, count });
+    }
+}
+
+// So many of so many paths.
+#[derive(Clone, Copy)]
+struct Done {
+    place: usize,
+    count: usize,
+}
+
+impl fmt::Display for Done {
+    fn fmt<W: fmt::Write>(&self, f: &mut fmt::Formatter<W>) -> fmt::Result {
+        let Done { place, count } = self;
+        write!(f, "{place} of {count} targets are done")
+    }
+}
