@@ -241,7 +241,10 @@ impl<'a> Task<'a> {
         path: &TargetPath,
         state: &mut Store<S>,
         notes: &mut Notes<'_, E>,
-    ) -> (Result<Vec<u8>, ClientFault>, Result<Vec<Turn<'a>>, AllocError>)
+    ) -> (
+        Result<Vec<u8>, ClientFault>,
+        Result<Vec<Turn<'a>>, AllocError>,
+    )
         ensures { Changes (seen state.old.kept (state S.Store state.old.conn)) (seen state.new.kept (state S.Store state.new.conn))
             (λ C D. RunsOn IsTaking self.now.now C D
             × (IsClean (seen state.new.kept (state S.Store state.new.conn)) → IfOk result.0 (λ b. grants D path.now None self.now.now (Ok b.items)))) }
@@ -340,7 +343,10 @@ fn chosen<E: Write>(
 ) -> Result<Vec<String>, Fault> {
     for pattern in patterns {
         if !covers_some(alloc, pattern, listed)? {
-            notes.warn(&pattern.as_str(), &"no path that is listed is of this pattern");
+            notes.warn(
+                &pattern.as_str(),
+                &"no path that is listed is of this pattern",
+            );
         }
     }
     Ok(covered(alloc, listed, patterns)?)

@@ -7,7 +7,7 @@ use path_patterns::{Pattern, TargetPath, matches_segmented};
 use std::alloc::{AllocError, Global};
 use std::io::Write;
 
-// So many paths a list may have, as the command line may.
+// So many paths a list may have.
 const MOST_LISTED: usize = 4096;
 
 // What is said of a text that is no pattern.
@@ -27,7 +27,7 @@ pub enum Wanted {
 
 impl Wanted {
     /// What these words ask for. A text that is no pattern is a fault of the command line; a list that cannot be read, is longer than a
-    /// target file may be, has more paths than the command line may or is no UTF-8, a fault of a file.
+    /// target file may be, has more than 4,096 paths or is no UTF-8, a fault of a file.
     pub fn read<E: Write>(
         rt: &HostRuntime,
         which: &Which,
@@ -116,19 +116,17 @@ pub fn covered(
 
 fn is_covered(alloc: Global, text: &str, patterns: &[Pattern]) -> Result<bool, AllocError> {
     match TargetPath::read(alloc, text)? {
-        Some(path) => Ok(patterns
-            .iter()
-            .any(|pattern| matches_segmented(pattern, &path))),
+        Some(path) => Ok(
+            patterns
+                .iter()
+                .any(|pattern| matches_segmented(pattern, &path)),
+        ),
         None => Ok(false),
     }
 }
 
 /// Whether a pattern covers one of the paths.
-pub fn covers_some(
-    alloc: Global,
-    pattern: &Pattern,
-    paths: &[String],
-) -> Result<bool, AllocError> {
+pub fn covers_some(alloc: Global, pattern: &Pattern, paths: &[String]) -> Result<bool, AllocError> {
     for text in paths {
         if let Some(path) = TargetPath::read(alloc, text.as_str())? {
             if matches_segmented(pattern, &path) {
