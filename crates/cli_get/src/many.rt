@@ -9,7 +9,7 @@ ghost use Rattle.cli_client.specs.Clients.{Updated};
 
 use crate::below::{is_in_the_way, is_no_folder, is_of_database, put_below};
 use crate::report::{Account, End};
-use crate::wanted::{Wanted, covered, covers_some};
+use crate::wanted::{Wanted, covered, covers_some, see_patterns};
 use cli_client::{Call, Denied, Named, Remote, Turn, see_folders, tell_wrongs, told};
 use cli_faults::{Denial, Fault, Notes, moment};
 use cli_files::{print, unused};
@@ -38,6 +38,7 @@ pub fn get_many<O: Write, E: Write>(
     out: &mut O,
     notes: &mut Notes<'_, E>,
 ) -> Result<(), Fault> {
+    see_patterns(rt.alloc(), &asked.which)?;
     let now = moment(rt, at)?;
     let wanted = Wanted::read(rt, &asked.which, notes)?;
     see_folders(rt, &asked.server, notes)?;

@@ -3,7 +3,7 @@ use cli_faults::{Fault, Notes};
 use cli_files::read_at_most;
 use cli_tasks::Which;
 use limits::BLOB_LIMIT;
-use path_patterns::{Pattern, TargetPath, matches_segmented};
+use path_patterns::{Pattern, TargetPath, is_pattern, matches_segmented};
 use std::alloc::{AllocError, Global};
 use std::io::Write;
 
@@ -16,6 +16,18 @@ const NO_PATTERN: &str = concat!(
     "For more information, try '--help'.\n",
 );
 
+/// Each text that is to be a pattern is one: another is a fault of the command line.
+pub fn see_patterns(alloc: Global, which: &Which) -> Result<(), Fault> {
+    if let Which::All { patterns } = which {
+        for text in patterns {
+            if !is_pattern(text.as_str()) {
+                return Err(Fault::Usage(String::from_str(alloc, NO_PATTERN)?));
+            }
+        }
+    }
+    Ok(())
+}
+
 /// What is asked for.
 #[derive(Drop)]
 pub enum Wanted {
@@ -26,8 +38,8 @@ pub enum Wanted {
 }
 
 impl Wanted {
-    /// What these words ask for. A text that is no pattern is a fault of the command line; a list that cannot be read, is longer than a
-    /// target file may be, has more than 4,096 paths or is no UTF-8, a fault of a file.
+    /// What these words ask for, of which each pattern is one. A list that cannot be read, is longer than a target file may be, has more than
+    /// 4,096 paths or is no UTF-8 is a fault of a file.
     pub fn read<E: Write>(
         rt: &HostRuntime,
         which: &Which,
@@ -51,12 +63,11 @@ impl Wanted {
     }
 }
 
-fn patterns_of(alloc: Global, texts: &[String]) -> Result<Vec<Pattern>, Fault> {
+fn patterns_of(alloc: Global, texts: &[String]) -> Result<Vec<Pattern>, AllocError> {
     let mut patterns = Vec::new(alloc);
     for text in texts {
-        match Pattern::read(alloc, text.as_str())? {
-            Some(pattern) => patterns.push(pattern)?,
-            None => return Err(Fault::Usage(String::from_str(alloc, NO_PATTERN)?)),
+        if let Some(pattern) = Pattern::read(alloc, text.as_str())? {
+            patterns.push(pattern)?;
         }
     }
     Ok(patterns)
@@ -80,10 +91,10 @@ fn lines_of(alloc: Global, bytes: &[u8]) -> Result<Result<Vec<String>, &'static 
     };
     let mut lines = Vec::new(alloc);
     for line in text.lines() {
-        if lines.len() > MOST_LISTED {
-            return Ok(Err("more than 4,096 paths"));
-        }
         if !line.is_empty() {
+            if lines.len() >= MOST_LISTED {
+                return Ok(Err("more than 4,096 paths"));
+            }
             lines.push(String::from_str(alloc, line)?)?;
         }
     }
