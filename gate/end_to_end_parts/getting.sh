@@ -110,28 +110,29 @@ paths_of_a_list() {
     gets_many 3 '' 'fault file\n' --from site --list none
 }
 
-# All that is listed, by delegated roles too, also by a client that has the root alone.
+# All that is listed, by delegated roles too, whose metadata are fetched where they are missing.
 all_that_is_listed() {
     local all='written a.txt\nwritten b/c.txt\nwritten pool/deep/three.deb\nwritten pool/one.deb\nwritten pool/two.deb\n' dead
     dead=$(free_port)
-    begins_anew
+    follows_anew
     gets_many 1 "$all" 'warning: gone.txt: denied 37 BlobMissing\ndenied 37 BlobMissing\n' --from site --all
     same "a target of all" three got/pool/deep/three.deb
     same "another target of all" a got/b/c.txt
-    begins_anew
+    follows_anew
     gets_many 0 'written pool/one.deb\nwritten pool/two.deb\n' '' --from site --all 'pool/*'
     [ ! -e got/pool/deep ] || fail "a pattern covers a slash"
     gets_many 0 'written a.txt\nwritten pool/deep/three.deb\n' 'warning: none/*: no path that is listed is of this pattern\n' \
         --from site --all 'pool/*/*' 'none/*' a.txt
-    gets_many 3 'written pool/deep/three.deb\n' 'fault network\n' --port "$dead" --all 'pool/deep/*'
+    gets_many 0 'written pool/deep/three.deb\n' '' --port "$dead" --all 'pool/deep/*'
+    gets_many 3 'written pool/deep/three.deb\n' 'fault network\n' --port "$dead" --all 'pool/deep/*' gone.txt
+    wants 1 '' 'warning: client.db: denied 11 RootExpired\ndenied 11 RootExpired\n' get --at 253402300799 --db client.db --from site --to got --all
     wants 1 '' 'warning: nobody.db: denied 6 NoRoot\ndenied 6 NoRoot\n' get --at $now --db nobody.db --from site --to got --all
+    begins_anew
+    gets_many 1 '' 'warning: client.db: denied 16 NoTimestamp\ndenied 16 NoTimestamp\n' --from site --all
     cp -r site lacking
     rm lacking/metadata/1.pool.json
-    begins_anew
-    "$release" get --at $now --db client.db --to got --from lacking --all >"$folder/out" 2>"$folder/err" && fail "a role that is withheld is no denial"
-    printf 'written a.txt\nwritten b/c.txt\n' >"$folder/out.wanted"
-    same "what the other roles list" "$folder/out.wanted" "$folder/out"
-    grep -q '^denied ' "$folder/err" || fail "a role that is withheld: $(cat "$folder/err")"
+    follows_anew
+    gets_many 3 'written a.txt\nwritten b/c.txt\n' 'release: client.db: the source failed\nfault network\n' --from lacking --all a.txt 'b/*'
     gets_many 0 'written pool/one.deb\nwritten pool/two.deb\n' '' --from lacking --from site --all 'pool/*'
 }
 
@@ -208,20 +209,20 @@ many_as_json() {
     follows_anew
     none='"mirrors":[],'
     gets_many 1 "{\"answer\":\"denied 36 BadPath\",\"files\":[$(
-        ){\"denied\":{\"name\":\"BadPath\",\"number\":36},$none\"path\":\"/\\\"\",\"source\":null},$(
+        ){\"denied\":{\"name\":\"BadPath\",\"number\":36},$none\"path\":\"/a\",\"source\":null},$(
         ){\"length\":11,\"mirrors\":[{\"files\":2,\"source\":\"site\"}],\"path\":\"a.txt\",\"sha256\":\"$(sha256sum <a | cut -c 1-64)\",\"source\":\"site\"},$(
         ){\"denied\":{\"name\":\"NotFound\",\"number\":35},\"mirrors\":[{\"denied\":{\"name\":\"NotFound\",\"number\":35},\"source\":\"site\"}],$(
         )\"path\":\"none.txt\",\"source\":null}],$none\"now\":$now}\n" \
-        'warning: /": denied 36 BadPath\nwarning: none.txt: denied 35 NotFound\ndenied 36 BadPath\n' --json --from site none.txt a.txt '/"'
+        'warning: /a: denied 36 BadPath\nwarning: none.txt: denied 35 NotFound\ndenied 36 BadPath\n' --json --from site none.txt a.txt /a
     mkdir got/b got/b/c.txt
     gets_many 3 "{\"answer\":\"fault file\",\"files\":[$(
         ){\"fault\":\"file\",\"mirrors\":[{\"files\":0,\"source\":\"port $dead\"}],\"path\":\"b/c.txt\",\"source\":null},$(
         ){\"fault\":\"network\",\"mirrors\":[{\"fault\":\"no answer that can be read\",\"source\":\"port $dead\"}],\"path\":\"pool/one.deb\",\"source\":null}],$(
         )$none\"now\":$now}\n" 'fault file\n' --json --port "$dead" b/c.txt pool/one.deb
-    begins_anew
+    follows_anew
     gets_many 0 "{\"answer\":\"written\",\"files\":[$(
         ){\"length\":11,\"mirrors\":[{\"files\":1,\"source\":\"site\"}],\"path\":\"a.txt\",\"sha256\":\"$(sha256sum <a | cut -c 1-64)\",\"source\":\"site\"}],$(
-        )\"mirrors\":[{\"files\":4,\"source\":\"site\"}],\"now\":$now}\n" '' --json --from site --all a.txt
+        )\"mirrors\":[{\"files\":2,\"source\":\"site\"}],\"now\":$now}\n" '' --json --from site --all a.txt
     wants 3 '' 'fault database\n' get --at $now --db a --from site --to got --json a.txt
 }
 

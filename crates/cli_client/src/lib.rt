@@ -19,6 +19,6 @@ pub use fault::{fault_of_client, told};
 pub use publishing::{prune_at, publish_at, put_at};
 pub use remote::{Call, Remote, tell_wrongs};
 pub use report::{is_answer, say_answer, say_mirrors, say_source};
-pub use server::{Named, are_several, see_folders};
+pub use server::see_folders;
 pub use turns::{Denied, End, Turn};
 pub use updating::update;

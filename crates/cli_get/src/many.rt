@@ -10,10 +10,10 @@ ghost use Rattle.cli_client.specs.Clients.{Updated};
 use crate::below::{is_in_the_way, is_no_folder, is_of_database, put_below};
 use crate::report::{Account, End};
 use crate::wanted::{Wanted, covered, covers_some, see_patterns};
-use cli_client::{Call, Denied, Named, Remote, Turn, see_folders, tell_wrongs, told};
+use cli_client::{Call, Denied, Remote, Turn, see_folders, tell_wrongs, told};
 use cli_faults::{Denial, Fault, Notes, moment};
 use cli_files::{print, unused};
-use cli_repository::{Store, Work, listed_paths, worked};
+use cli_repository::{Store, Work, denied_to_all, listed_paths, worked};
 use cli_tasks::{GettingMany, Server};
 use client::{ClientFault, fetch_by_each, fetch_roles_by_each};
 use metadata::Moment;
@@ -121,7 +121,7 @@ impl<'a> Task<'a> {
         &asked.server
     }
 
-    // The texts that are wanted. Where all that is listed is, the state is brought up to date before, with the metadata of each role.
+    // The texts that are wanted.
     fn texts<S: Alter, O: Write, E: Write>(
         &self,
         wanted: Wanted,
@@ -133,16 +133,32 @@ impl<'a> Task<'a> {
     {
         match wanted {
             Wanted::Texts(texts) => Ok(texts),
-            Wanted::Listed(patterns) => {
-                self.bring(state, ledger, notes)?;
-                let listed = listed_paths(self.alloc(), state.held())?;
-                chosen(self.alloc(), &listed, &patterns, notes)
-            }
+            Wanted::Listed(patterns) => self.listed(&patterns, state, ledger, notes),
         }
     }
 
-    // Brings the state up to date, with the metadata of each role that the snapshot lists. A fault that is none of the database or of memory is
-    // told, and what is listed is got all the same.
+    // All that is listed, or what a pattern covers of it. Where the state grants no target at all, that is told, and nothing is.
+    fn listed<S: Alter, O: Write, E: Write>(
+        &self,
+        patterns: &[Pattern],
+        state: &mut Store<S>,
+        ledger: &mut Ledger<'_, O>,
+        notes: &mut Notes<'_, E>,
+    ) -> Result<Vec<String>, Fault>
+        ensures { Updated self.now.now (seen state.old.kept (state S.Store state.old.conn)) (seen state.new.kept (state S.Store state.new.conn)) }
+    {
+        let alloc = self.alloc();
+        if let Some(denial) = denied_to_all(alloc, state.held(), self.now)? {
+            ledger.miss(&self.asked.db, ClientFault::Denied(denial), notes)?;
+            return Ok(Vec::new(alloc));
+        }
+        self.bring(state, ledger, notes)?;
+        let listed = listed_paths(alloc, state.held())?;
+        chosen(alloc, &listed, patterns, notes)
+    }
+
+    // Fetches the metadata of each role that the snapshot names. A fault that is none of the database or of memory is told, and what is then
+    // listed is got all the same.
     fn bring<S: Alter, O: Write, E: Write>(
         &self,
         state: &mut Store<S>,
@@ -152,18 +168,15 @@ impl<'a> Task<'a> {
         ensures { Updated self.now.now (seen state.old.kept (state S.Store state.old.conn)) (seen state.new.kept (state S.Store state.new.conn)) }
     {
         let server = self.server();
-        let (done, turns, lacks_timestamp) = {
+        let (done, turns) = {
             let mut remote = Remote::new(self.call, server, notes);
             let count = remote.count();
             let done = fetch_roles_by_each(self.alloc(), state, &mut remote, count, self.now);
-            (done, remote.take_turns(), remote.lacks_timestamp())
+            (done, remote.take_turns())
         };
         let turns = turns?;
         tell_wrongs(server, &turns, number_of(&done), notes);
         ledger.account.take_turns(&turns);
-        if lacks_timestamp {
-            notes.warn(&Named(server), &"no timestamp");
-        }
         match done {
             Ok(()) => Ok(()),
             Err(fault) => {

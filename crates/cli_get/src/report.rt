@@ -77,7 +77,7 @@ impl Account {
         }
     }
 
-    /// Takes the turns in which the client's state was brought up to date.
+    /// Takes the turns in which the metadata of roles were fetched.
     pub fn take_turns(&mut self, turns: &[Turn<'_>]) {
         if self.is_json {
             say_mirrors(&mut self.mirrors, turns);

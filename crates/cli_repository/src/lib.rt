@@ -17,7 +17,7 @@ pub use batch::{Batch, Waiting, role_of};
 pub use faults::{fault_of_store, refused};
 pub use files::{InputFile, read_all};
 pub use forgetting::{forgets, root_of_version};
-pub use listed::listed_paths;
+pub use listed::{denied_to_all, listed_paths};
 pub use reasons::HeldFiles;
 pub use repository::{Work, applied, worked};
 pub use standing::{FirstExpiry, Versions, tell_standing};

@@ -1,8 +1,10 @@
 //! Which paths are listed by what a repository, or a client's own state, holds.
-use metadata::{Body, Kind, Listing};
+use cli_faults::Denial;
+use metadata::{Body, Kind, Listing, Moment};
+use path_patterns::TargetPath;
 use served_files::{FileVisitor, visit_files};
 use std::alloc::{AllocError, Global};
-use store::Held;
+use store::{Held, Refusal, search_of};
 
 /// The paths that targets metadata list which the snapshot names that the timestamp names, in order, each once. Where no root is trusted there
 /// are none. The error is want of memory.
@@ -20,6 +22,23 @@ pub fn listed_paths(alloc: Global, held: &Held) -> Result<Vec<String>, AllocErro
     paths.sort_unstable();
     paths.dedup();
     Ok(paths)
+}
+
+/// What denies a request for a target at the moment before any is searched for, if anything does: no root, or one of root, timestamp and
+/// snapshot that is not held, not live or not named. The error is want of memory.
+pub fn denied_to_all(
+    alloc: Global,
+    held: &Held,
+    now: Moment,
+) -> Result<Option<Denial>, AllocError> {
+    let Some(path) = TargetPath::read(alloc, "all")? else {
+        return Ok(None);
+    };
+    match search_of(held, &path, now) {
+        Ok(_) => Ok(None),
+        Err(Refusal::Denied(denial)) => Ok(Some(denial)),
+        Err(Refusal::OutOfMemory) => Err(AllocError),
+    }
 }
 
 // The paths so far.
