@@ -192,7 +192,7 @@ mirrors_of_many() {
     lacking=$url
     cd "$folder/many"
     follows_anew
-    gets_many 0 'written a.txt\nwritten pool/one.deb\nwritten pool/two.deb\n' "warning: $lying: denied 39 BlobDigest\n" \
+    gets_many 0 'written a.txt\nwritten pool/one.deb\nwritten pool/two.deb\n' "warning: $lying: denied 39 DigestMismatch\n" \
         --mirror "$lying" --mirror "$whole" a.txt pool/one.deb pool/two.deb
     same "a target of mirrors" two got/pool/two.deb
     follows_anew

@@ -47,7 +47,7 @@ fn make_folder(rt: &HostRuntime, place: &str) -> io::Result<()> {
         Ok(found) if found.is_dir() => Ok(()),
         Ok(_) => Err(io::Error::new(
             ErrorKind::NotADirectory,
-            "no folder, and no link is followed",
+            "no folder on the way to it, and no link is followed",
         )),
         Err(error) if error.kind() == ErrorKind::NotFound => fs::create_dir(rt, place),
         Err(error) => Err(error),

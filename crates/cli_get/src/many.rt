@@ -13,7 +13,7 @@ use crate::wanted::{Wanted, covered, covers_some, see_patterns};
 use cli_client::{Call, Denied, Remote, Turn, see_folders, tell_wrongs, told};
 use cli_faults::{Denial, Fault, Notes, moment};
 use cli_files::{print, unused};
-use cli_repository::{Store, Work, denied_to_all, listed_paths, worked};
+use cli_repository::{Held, Store, Work, denied_to_all, listed_paths, worked};
 use cli_tasks::{GettingMany, Server};
 use client::{ClientFault, fetch_by_each, fetch_roles_by_each};
 use metadata::Moment;
@@ -24,8 +24,8 @@ use std::fmt::{self, Display};
 use std::io::{IsTerminal, Write};
 use std::mem::replace;
 
-// After so many paths it is told again how many are done.
-const PATHS_BETWEEN: usize = 16;
+// After so many targets it is told again how many are done.
+const TARGETS_BETWEEN: usize = 16;
 
 /// Fetches what the client's own state misses for each of the paths, in the order of their bytes and each once, and writes the file of each
 /// below the folder where that state grants it; prints `written PATH` of each, or all as JSON in the end. Where one is denied, has no answer, or
@@ -101,13 +101,15 @@ impl<O: Write> Work for Gathering<'_, '_, O> {
 
     fn work<S: Alter, E: Write>(
         &mut self,
-        state: &mut Store<S>,
+        store: &mut Store<S>,
         notes: &mut Notes<'_, E>,
     ) -> Result<(), Fault> {
         let none = Wanted::Texts(Vec::new(self.task.alloc()));
         let wanted = replace(&mut self.wanted, none);
-        let texts = self.task.texts(wanted, state, &mut self.ledger, notes)?;
-        self.task.get_each(&texts, state, &mut self.ledger, notes)
+        match self.task.texts(wanted, store, &mut self.ledger, notes) {
+            Ok(texts) => { self.task.get_each(&texts, store, &mut self.ledger, notes) }
+            Err(fault) => Err(fault),
+        }
     }
 }
 
@@ -125,15 +127,15 @@ impl<'a> Task<'a> {
     fn texts<S: Alter, O: Write, E: Write>(
         &self,
         wanted: Wanted,
-        state: &mut Store<S>,
+        store: &mut Store<S>,
         ledger: &mut Ledger<'_, O>,
         notes: &mut Notes<'_, E>,
     ) -> Result<Vec<String>, Fault>
-        ensures { Updated self.now.now (seen state.old.kept (state S.Store state.old.conn)) (seen state.new.kept (state S.Store state.new.conn)) }
+        ensures { Updated self.now.now (seen store.old.kept (state S.Store store.old.conn)) (seen store.new.kept (state S.Store store.new.conn)) }
     {
         match wanted {
             Wanted::Texts(texts) => Ok(texts),
-            Wanted::Listed(patterns) => self.listed(&patterns, state, ledger, notes),
+            Wanted::Listed(patterns) => self.listed(&patterns, store, ledger, notes),
         }
     }
 
@@ -141,88 +143,123 @@ impl<'a> Task<'a> {
     fn listed<S: Alter, O: Write, E: Write>(
         &self,
         patterns: &[Pattern],
-        state: &mut Store<S>,
+        store: &mut Store<S>,
         ledger: &mut Ledger<'_, O>,
         notes: &mut Notes<'_, E>,
     ) -> Result<Vec<String>, Fault>
-        ensures { Updated self.now.now (seen state.old.kept (state S.Store state.old.conn)) (seen state.new.kept (state S.Store state.new.conn)) }
+        ensures { Updated self.now.now (seen store.old.kept (state S.Store store.old.conn)) (seen store.new.kept (state S.Store store.new.conn)) }
     {
-        let alloc = self.alloc();
-        if let Some(denial) = denied_to_all(alloc, state.held(), self.now)? {
-            ledger.miss(&self.asked.db, ClientFault::Denied(denial), notes)?;
-            return Ok(Vec::new(alloc));
+        match denied_to_all(self.alloc(), store.held(), self.now) {
+            Ok(None) => self.listed_by_roles(patterns, store, ledger, notes),
+            Ok(Some(denial)) => self.denied(denial, ledger, notes),
+            Err(error) => Err(Fault::from(error)),
         }
-        self.bring(state, ledger, notes)?;
-        let listed = listed_paths(alloc, state.held())?;
-        chosen(alloc, &listed, patterns, notes)
+    }
+
+    // No text, where the state denies each.
+    fn denied<O: Write, E: Write>(
+        &self,
+        denial: Denial,
+        ledger: &mut Ledger<'_, O>,
+        notes: &mut Notes<'_, E>,
+    ) -> Result<Vec<String>, Fault> {
+        ledger.miss(&self.asked.db, ClientFault::Denied(denial), notes)?;
+        Ok(Vec::new(self.alloc()))
+    }
+
+    fn listed_by_roles<S: Alter, O: Write, E: Write>(
+        &self,
+        patterns: &[Pattern],
+        store: &mut Store<S>,
+        ledger: &mut Ledger<'_, O>,
+        notes: &mut Notes<'_, E>,
+    ) -> Result<Vec<String>, Fault>
+        ensures { Updated self.now.now (seen store.old.kept (state S.Store store.old.conn)) (seen store.new.kept (state S.Store store.new.conn)) }
+    {
+        match self.bring(store, ledger, notes) {
+            Ok(()) => chosen(self.alloc(), store.held(), patterns, notes),
+            Err(fault) => Err(fault),
+        }
     }
 
     // Fetches the metadata of each role that the snapshot names. A fault that is none of the database or of memory is told, and what is then
     // listed is got all the same.
     fn bring<S: Alter, O: Write, E: Write>(
         &self,
-        state: &mut Store<S>,
+        store: &mut Store<S>,
         ledger: &mut Ledger<'_, O>,
         notes: &mut Notes<'_, E>,
     ) -> Result<(), Fault>
-        ensures { Updated self.now.now (seen state.old.kept (state S.Store state.old.conn)) (seen state.new.kept (state S.Store state.new.conn)) }
+        ensures { Updated self.now.now (seen store.old.kept (state S.Store store.old.conn)) (seen store.new.kept (state S.Store store.new.conn)) }
     {
-        let server = self.server();
         let (done, turns) = {
-            let mut remote = Remote::new(self.call, server, notes);
+            let mut remote = Remote::new(self.call, self.server(), notes);
             let count = remote.count();
-            let done = fetch_roles_by_each(self.alloc(), state, &mut remote, count, self.now);
+            let done = fetch_roles_by_each(self.alloc(), store, &mut remote, count, self.now);
             (done, remote.take_turns())
         };
+        self.brought(done, turns, ledger, notes)
+    }
+
+    fn brought<O: Write, E: Write>(
+        &self,
+        done: Result<(), ClientFault>,
+        turns: Result<Vec<Turn<'a>>, AllocError>,
+        ledger: &mut Ledger<'_, O>,
+        notes: &mut Notes<'_, E>,
+    ) -> Result<(), Fault> {
         let turns = turns?;
-        tell_wrongs(server, &turns, number_of(&done), notes);
+        tell_wrongs(self.server(), &turns, number_of(&done), notes);
         ledger.account.take_turns(&turns);
-        match done {
-            Ok(()) => Ok(()),
-            Err(fault) => {
-                ledger.miss(&self.asked.db, fault, notes)?;
-                Ok(())
-            }
+        if let Err(fault) = done {
+            ledger.miss(&self.asked.db, fault, notes)?;
         }
+        Ok(())
     }
 
     // Each of the texts in turn.
     fn get_each<S: Alter, O: Write, E: Write>(
         &self,
         texts: &[String],
-        state: &mut Store<S>,
+        store: &mut Store<S>,
         ledger: &mut Ledger<'_, O>,
         notes: &mut Notes<'_, E>,
     ) -> Result<(), Fault>
-        ensures { Updated self.now.now (seen state.old.kept (state S.Store state.old.conn)) (seen state.new.kept (state S.Store state.new.conn)) }
+        ensures { Updated self.now.now (seen store.old.kept (state S.Store store.old.conn)) (seen store.new.kept (state S.Store store.new.conn)) }
     {
-        let is_watched = self.call.rt().stderr().is_terminal();
-        for (place, text) in texts.iter().enumerate() {
-            if is_watched {
-                tell_place(place, texts.len(), notes);
+        let mut rest = texts;
+        'texts: while let Some((text, later)) = rest.split_first() {
+            self.tell_place(texts.len().saturating_sub(rest.len()), texts.len(), notes);
+            match self.get_text(text.as_str(), store, ledger, notes) {
+                Ok(()) => {}
+                Err(fault) => return Err(fault),
             }
-            self.get_text(text.as_str(), state, ledger, notes)?;
+            rest = later;
         }
         Ok(())
+    }
+
+    // Tells on a terminal how many targets are done, before the one at this place is.
+    fn tell_place<E: Write>(&self, place: usize, count: usize, notes: &mut Notes<'_, E>) {
+        if place > 0 && place % TARGETS_BETWEEN == 0 && self.call.rt().stderr().is_terminal() {
+            notes.progress(&Done { place, count });
+        }
     }
 
     // The file of a text, if that is a path.
     fn get_text<S: Alter, O: Write, E: Write>(
         &self,
         text: &str,
-        state: &mut Store<S>,
+        store: &mut Store<S>,
         ledger: &mut Ledger<'_, O>,
         notes: &mut Notes<'_, E>,
     ) -> Result<(), Fault>
-        ensures { Updated self.now.now (seen state.old.kept (state S.Store state.old.conn)) (seen state.new.kept (state S.Store state.new.conn)) }
+        ensures { Updated self.now.now (seen store.old.kept (state S.Store store.old.conn)) (seen store.new.kept (state S.Store store.new.conn)) }
     {
-        match TargetPath::read(self.alloc(), text)? {
-            Some(path) => self.get_path(&path, state, ledger, notes),
-            None => {
-                let end = ledger.miss(&text, ClientFault::Denied(Denial::BadPath), notes)?;
-                ledger.account.take(text, end, &[]);
-                Ok(())
-            }
+        match TargetPath::read(self.alloc(), text) {
+            Ok(Some(path)) => self.get_path(&path, store, ledger, notes),
+            Ok(None) => ledger.miss_path(text, ClientFault::Denied(Denial::BadPath), &[], notes),
+            Err(error) => Err(Fault::from(error)),
         }
     }
 
@@ -230,43 +267,52 @@ impl<'a> Task<'a> {
     fn get_path<S: Alter, O: Write, E: Write>(
         &self,
         path: &TargetPath,
-        state: &mut Store<S>,
+        store: &mut Store<S>,
         ledger: &mut Ledger<'_, O>,
         notes: &mut Notes<'_, E>,
     ) -> Result<(), Fault>
-        ensures { Updated self.now.now (seen state.old.kept (state S.Store state.old.conn)) (seen state.new.kept (state S.Store state.new.conn)) }
+        ensures { Updated self.now.now (seen store.old.kept (state S.Store store.old.conn)) (seen store.new.kept (state S.Store store.new.conn)) }
     {
-        let (done, turns) = self.fetch(path, state, notes);
-        let turns = turns?;
-        tell_wrongs(self.server(), &turns, number_of(&done), notes);
-        match done {
-            Ok(bytes) => self.put(path, &bytes, &turns, ledger, notes),
-            Err(fault) => {
-                let end = ledger.miss(&path.as_str(), fault, notes)?;
-                ledger.account.take(path.as_str(), end, &turns);
-                Ok(())
-            }
-        }
+        let fetched = self.fetch(path, store, notes);
+        let (done, turns) = fetched;
+        self.got(path, done, turns, ledger, notes)
     }
 
     // The bytes of a path that the state grants, after a fetch, and the turns of the sources.
     fn fetch<S: Alter, E: Write>(
         &self,
         path: &TargetPath,
-        state: &mut Store<S>,
+        store: &mut Store<S>,
         notes: &mut Notes<'_, E>,
     ) -> (
         Result<Vec<u8>, ClientFault>,
         Result<Vec<Turn<'a>>, AllocError>,
     )
-        ensures { Changes (seen state.old.kept (state S.Store state.old.conn)) (seen state.new.kept (state S.Store state.new.conn))
+        ensures { Changes (seen store.old.kept (state S.Store store.old.conn)) (seen store.new.kept (state S.Store store.new.conn))
             (λ C D. RunsOn IsTaking self.now.now C D
-            × (IsClean (seen state.new.kept (state S.Store state.new.conn)) → IfOk result.0 (λ b. grants D path.now None self.now.now (Ok b.items)))) }
+            × (IsClean (seen store.new.kept (state S.Store store.new.conn)) → IfOk result.0 (λ b. grants D path.now None self.now.now (Ok b.items)))) }
     {
         let mut remote = Remote::joined(self.call, self.server(), notes);
         let count = remote.count();
-        let done = fetch_by_each(self.alloc(), state, &mut remote, count, path, self.now);
+        let done = fetch_by_each(self.alloc(), store, &mut remote, count, path, self.now);
         (done, remote.take_turns())
+    }
+
+    // What came of a fetch: the file is written, or it is told why not.
+    fn got<O: Write, E: Write>(
+        &self,
+        path: &TargetPath,
+        done: Result<Vec<u8>, ClientFault>,
+        turns: Result<Vec<Turn<'a>>, AllocError>,
+        ledger: &mut Ledger<'_, O>,
+        notes: &mut Notes<'_, E>,
+    ) -> Result<(), Fault> {
+        let turns = turns?;
+        tell_wrongs(self.server(), &turns, number_of(&done), notes);
+        match done {
+            Ok(bytes) => self.put(path, &bytes, &turns, ledger, notes),
+            Err(fault) => ledger.miss_path(path.as_str(), fault, &turns, notes),
+        }
     }
 
     // Writes the file of a path, and says so.
@@ -320,6 +366,19 @@ impl<'a> Task<'a> {
 }
 
 impl<O: Write> Ledger<'_, O> {
+    // Tells why a path was not got, and takes that with the turns of its sources.
+    fn miss_path<E: Write>(
+        &mut self,
+        path: &str,
+        fault: ClientFault,
+        turns: &[Turn<'_>],
+        notes: &mut Notes<'_, E>,
+    ) -> Result<(), Fault> {
+        let end = self.miss(&path, fault, notes)?;
+        self.account.take(path, end, turns);
+        Ok(())
+    }
+
     // Tells why what has this name was not done, and takes that. What ends the call at once is a fault.
     fn miss<N: Display, E: Write>(
         &mut self,
@@ -348,22 +407,23 @@ impl<O: Write> Ledger<'_, O> {
     }
 }
 
-// Those of the paths that a pattern covers, or all. A pattern that covers none is warned of.
+// The paths that are listed, or those of them that a pattern covers. A pattern that covers none is warned of.
 fn chosen<E: Write>(
     alloc: Global,
-    listed: &[String],
+    held: &Held,
     patterns: &[Pattern],
     notes: &mut Notes<'_, E>,
 ) -> Result<Vec<String>, Fault> {
+    let listed = listed_paths(alloc, held)?;
     for pattern in patterns {
-        if !covers_some(alloc, pattern, listed)? {
+        if !covers_some(alloc, pattern, &listed)? {
             notes.warn(
                 &pattern.as_str(),
                 &"no path that is listed is of this pattern",
             );
         }
     }
-    Ok(covered(alloc, listed, patterns)?)
+    Ok(covered(alloc, &listed, patterns)?)
 }
 
 // The number of the denial in which a call ended.
@@ -374,14 +434,7 @@ fn number_of<T>(done: &Result<T, ClientFault>) -> Option<u8> {
     }
 }
 
-// Tells on a terminal how many paths are done, before the one at this place is.
-fn tell_place<E: Write>(place: usize, count: usize, notes: &mut Notes<'_, E>) {
-    if place > 0 && place % PATHS_BETWEEN == 0 {
-        notes.progress(&Done { place, count });
-    }
-}
-
-// So many of so many paths.
+// So many of so many targets.
 #[derive(Clone, Copy)]
 struct Done {
     place: usize,
