@@ -15,7 +15,7 @@ mod updating;
 mod wire;
 
 pub use asking::root_at;
-pub use fault::{fault_of_client, told};
+pub use fault::told;
 pub use publishing::{prune_at, publish_at, put_at};
 pub use remote::{Call, Remote, tell_wrongs};
 pub use report::{is_answer, say_answer, say_mirrors, say_source};

@@ -10,11 +10,11 @@ pub fn is_of_database(rt: &HostRuntime, db: &str, path: &str) -> Result<bool, Al
     Ok(are_one_file(rt, path, db) || are_one_file(rt, path, log.as_str()))
 }
 
-/// Whether a text names no folder, and none can be made there: nothing, or something else stands there. A link to a folder is one.
+/// Whether no folder stands at a place, and none can be made there. A link to a folder is one; at no text at all there is none.
 pub fn is_no_folder(rt: &HostRuntime, folder: &str) -> bool {
     match fs::metadata(rt, folder) {
         Ok(found) => !found.is_dir(),
-        Err(_) => folder.is_empty(),
+        Err(error) => folder.is_empty() || error.kind() != ErrorKind::NotFound,
     }
 }
 
