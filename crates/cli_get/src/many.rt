@@ -6,6 +6,7 @@ ghost use Rattle.store.specs.Standing.{IsClean, seen};
 ghost use Rattle.client.specs.Changes.{Changes};
 ghost use Rattle.client.specs.Taken.{IsTaking, RunsOn};
 ghost use Rattle.cli_client.specs.Clients.{Updated};
+ghost use Rattle.cli_get.specs.Getting.{IsGranted};
 
 use crate::below::{is_in_the_way, is_no_folder, is_of_database, put_below};
 use crate::report::{Account, End};
@@ -23,6 +24,7 @@ use std::alloc::{AllocError, Global};
 use std::fmt::{self, Display};
 use std::io::{IsTerminal, Write};
 use std::mem::replace;
+use store::stands;
 
 // After so many targets it is told again how many are done.
 const TARGETS_BETWEEN: usize = 16;
@@ -273,6 +275,7 @@ impl<'a> Task<'a> {
     ) -> Result<(), Fault>
         ensures { Updated self.now.now (seen store.old.kept (state S.Store store.old.conn)) (seen store.new.kept (state S.Store store.new.conn)) }
     {
+        stands(store);
         let fetched = self.fetch(path, store, notes);
         let (done, turns) = fetched;
         self.got(path, done, turns, ledger, notes)
@@ -306,7 +309,9 @@ impl<'a> Task<'a> {
         turns: Result<Vec<Turn<'a>>, AllocError>,
         ledger: &mut Ledger<'_, O>,
         notes: &mut Notes<'_, E>,
-    ) -> Result<(), Fault> {
+    ) -> Result<(), Fault>
+        requires { IfOk done (λ bytes. IsGranted path.now self.now.now bytes.items) }
+    {
         let turns = turns?;
         tell_wrongs(self.server(), &turns, number_of(&done), notes);
         match done {
@@ -315,7 +320,7 @@ impl<'a> Task<'a> {
         }
     }
 
-    // Writes the file of a path, and says so.
+    // Writes the file of a path, which a state grants, and says so.
     fn put<O: Write, E: Write>(
         &self,
         path: &TargetPath,
@@ -323,7 +328,9 @@ impl<'a> Task<'a> {
         turns: &[Turn<'_>],
         ledger: &mut Ledger<'_, O>,
         notes: &mut Notes<'_, E>,
-    ) -> Result<(), Fault> {
+    ) -> Result<(), Fault>
+        requires { IsGranted path.now self.now.now bytes.now }
+    {
         let path = path.as_str();
         if !self.is_put(path, bytes, notes)? {
             ledger.account.fail(Fault::File);
