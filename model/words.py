@@ -136,6 +136,11 @@ def compare_usage(session, _random):
     lines += [["serve", *base, "--port", "80", "--read-only=1"], ["put", *base, "--read-only", file]]
     lines += [["update", *base, "--port", "80", "--within", seconds] for seconds in ("0", "86401", "-1", "x")]
     lines += [["get", *base, "--port", "80", "--out", file, "--within", seconds, "a"] for seconds in ("0", "86401")]
+    client = ["get", *base, "--port", "80"]
+    into = [*client, "--to", str(session.folder)]
+    lines += [[*client, *more] for more in (["a"], ["--out", "o"], ["--out", "o", "a", "b"], ["--out", "o", "--all"], ["--out", "o", "--list", file, "a"])]
+    lines += [[*into, *more] for more in ([], ["--out", "o", "a"], ["--list", file, "a"], ["--list", file, "--all"], ["--list", file, "--list", file], ["a"] * 161)]
+    lines += [[*into, "--all", *patterns] for patterns in (["a b"], [""], ["*", "a" * 201], ["*"] * 161)]
     lines += [["prune"], ["prune", "--db"], ["prune", *base, file], ["prune", *base, *base]]
     lines += [["prune", *base, "--port", "80"], *(["prune", *base, "--at", moment] for moment in ("-1", "x", ""))]
     asked = (["put", file], ["publish", f"root:{file}"], ["prune"])

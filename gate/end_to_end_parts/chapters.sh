@@ -198,7 +198,7 @@ the_devices_chapter() {
     chapter devices "$devices" DEVICES.md
     {
         printf 'begun\n{"accepted":3,"same":0}\nexported 9\nbegun\nupdated\n'
-        printf "${done}written\nwritten\n"
+        printf "${done}written\nwritten\nwritten parts/aa\nwritten parts/ab\n"
         printf '{"accepted":3,"same":0}\nexported 5\nupdated\nwritten\n{"blobs":0,"rows":1}\nwritten\n'
         printf "status 3\n${done}status 1\nstatus 1\n$done"
         for count in 1 2 3 4 5; do printf 'updated\nwritten\n'; done

@@ -1,7 +1,7 @@
 //! What `update` and `get` fetch files from: a repository that is served at a port of 127.0.0.1, or folders and mirrors of one, each in its
 //! turn.
 use crate::folders::{read_in_folder, source_answer};
-use crate::server::{Asked, Peer, count_of, peer_at};
+use crate::server::{Asked, Peer, are_several, count_of, peer_at};
 use crate::turns::{End, Turn, Turns};
 use crate::wire::{Hearing, Wire, connected, host};
 use cli_faults::{Fault, Notes};
@@ -117,7 +117,7 @@ impl<'a, 'n, 'e, E: Write> Remote<'a, 'n, 'e, E> {
         notes: &'n mut Notes<'e, E>,
     ) -> Remote<'a, 'n, 'e, E> {
         let mut remote = Remote::new(call, server, notes);
-        remote.is_joined = count_of(server) > 1;
+        remote.is_joined = are_several(server);
         remote
     }
 
@@ -342,7 +342,7 @@ impl<E: Write> Sources for Remote<'_, '_, '_, E> {
     }
 }
 
-/// Warns of each of several whose turn ended in a wrong of its own; of a denial with this number it does not, since that is what is
+/// Warns once of each of several whose turn ended in a wrong of its own; of a denial with this number it does not, since that is what is
 /// told of the call. With one alone the end of the call tells it.
 pub fn tell_wrongs<E: Write>(
     server: &Server,
@@ -350,14 +350,14 @@ pub fn tell_wrongs<E: Write>(
     told: Option<u8>,
     notes: &mut Notes<'_, E>,
 ) {
-    if count_of(server) == 1 {
+    if !are_several(server) {
         return;
     }
     for turn in turns {
         match turn.wrong() {
-            Some((peer, End::Fault(fault))) => notes.warn(&peer, &fault),
+            Some((peer, End::Fault(fault))) => notes.warn_once(peer.name(), &fault),
             Some((peer, End::Denied(denial))) if told != Some(denial.number) => {
-                notes.warn(&peer, &denial);
+                notes.warn_once(peer.name(), &denial);
             }
             _ => {}
         }

@@ -1,9 +1,9 @@
-//! What `update` and `get` print with `--json`.
+//! What `update` prints with `--json`, and what `get` does as well.
 use crate::server::Peer;
 use crate::turns::{End, Turn};
 use cli_faults::Fault;
 use cli_repository::{FirstExpiry, Versions};
-use metadata::{Moment, digest_of};
+use metadata::Moment;
 use show_texts::Text;
 use std::alloc::{AllocError, Global};
 use std::fmt::Display;
@@ -51,17 +51,11 @@ pub fn update_as_json(
     });
     text.say(",\"first\":");
     say_first(&mut text, &found.first);
-    say_turns(&mut text, &found.turns, now);
+    say_mirrors(&mut text, &found.turns);
+    text.number(",\"now\":", now.seconds());
     say_source(&mut text, &found.turns);
+    text.say("}\n");
     text.done()
-}
-
-/// What a fetch got: the path, its file, if it was granted, and the turns.
-#[derive(Drop)]
-pub struct Got<'a> {
-    pub path: &'a str,
-    pub bytes: Option<Vec<u8>>,
-    pub turns: Vec<Turn<'a>>,
 }
 
 /// Whether a command came to an end that its sources made: it was done, was denied, or had no answer.
@@ -73,37 +67,8 @@ pub fn is_answer(done: &Result<(), Fault>) -> bool {
     }
 }
 
-/// One object of what a fetch got and how it ended, and a line end.
-pub fn get_as_json(
-    alloc: Global,
-    got: &Got<'_>,
-    done: &Result<(), Fault>,
-    now: Moment,
-) -> Result<Vec<u8>, AllocError> {
-    let mut text = Text::new(alloc);
-    text.say("{\"answer\":");
-    say_answer(&mut text, "written", done);
-    text.say(",\"length\":");
-    match &got.bytes {
-        Some(bytes) => text.number("", bytes.len() as u64),
-        None => text.say("null"),
-    }
-    say_turns(&mut text, &got.turns, now);
-    text.quoted(",\"path\":", got.path);
-    text.say(",\"sha256\":");
-    match &got.bytes {
-        Some(bytes) => {
-            let digits = digest_of(bytes).digits();
-            text.quoted("", str::from_utf8(&digits).unwrap_or("-"));
-        }
-        None => text.say("null"),
-    }
-    say_source(&mut text, &got.turns);
-    text.done()
-}
-
-// What each source did, and the moment.
-fn say_turns(text: &mut Text, turns: &[Turn<'_>], now: Moment) {
+/// What each source did.
+pub fn say_mirrors(text: &mut Text, turns: &[Turn<'_>]) {
     text.say(",\"mirrors\":[");
     let mut between = "";
     for turn in turns {
@@ -116,7 +81,7 @@ fn say_turns(text: &mut Text, turns: &[Turn<'_>], now: Moment) {
             between = ",";
         }
     }
-    text.number("],\"now\":", now.seconds());
+    text.say("]");
 }
 
 // How a turn ended: in a denial, in a fault, or well with so many files.
@@ -137,14 +102,13 @@ fn say_turn(text: &mut Text, turn: &Turn<'_>) {
     }
 }
 
-// Who gave the last file of the first turn that ended well, and the end of the object.
-fn say_source(text: &mut Text, turns: &[Turn<'_>]) {
+/// Who gave the last file of the first turn that ended well.
+pub fn say_source(text: &mut Text, turns: &[Turn<'_>]) {
     text.say(",\"source\":");
     match source_of(turns) {
         Some(giver) => say_shown(text, &giver),
         None => text.say("null"),
     }
-    text.say("}\n");
 }
 
 fn source_of<'a>(turns: &[Turn<'a>]) -> Option<Peer<'a>> {
@@ -156,8 +120,8 @@ fn source_of<'a>(turns: &[Turn<'a>]) -> Option<Peer<'a>> {
     None
 }
 
-// The word of a command that was done, or why it was not.
-fn say_answer(text: &mut Text, word: &str, done: &Result<(), Fault>) {
+/// The word of a command that was done, or why it was not.
+pub fn say_answer(text: &mut Text, word: &str, done: &Result<(), Fault>) {
     match done {
         Ok(()) => text.quoted("", word),
         Err(fault) => match format!(in text.alloc; "{fault}") {

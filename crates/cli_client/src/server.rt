@@ -16,6 +16,11 @@ pub fn count_of(server: &Server) -> usize {
     }
 }
 
+/// Whether more than one is asked.
+pub fn are_several(server: &Server) -> bool {
+    count_of(server) > 1
+}
+
 /// The one at a place in the order in which they are asked.
 pub fn peer_at(server: &Server, place: usize) -> Option<Peer<'_>> {
     match server {
@@ -85,6 +90,16 @@ pub enum Peer<'a> {
     Port(u16),
     Mirror(&'a str, Mirror<'a>),
     Folder(&'a str),
+}
+
+impl<'a> Peer<'a> {
+    /// The text that names it: of a port none does.
+    pub fn name(&self) -> &'a str {
+        match self {
+            Peer::Port(_) => "port",
+            Peer::Mirror(name, _) | Peer::Folder(name) => name,
+        }
+    }
 }
 
 impl fmt::Display for Peer<'_> {

@@ -9,11 +9,12 @@ use crate::publish::{publish, publish_in_folder};
 use crate::put::put;
 use crate::serve::serve;
 use crate::trusting::TrustedRoot;
-use cli_client::{get, update};
+use cli_client::update;
 use cli_drafts::{draft, show};
 use cli_export::export;
 use cli_faults::{Fault, Notes, moment};
 use cli_files::{print, read};
+use cli_get::{get, get_many};
 use cli_sign::{NewKey, leaves_of, make_keys, print_key, print_public_key, sign, sign_in};
 use cli_tasks::{FolderSigning, Showing, Subcommand, Task, task};
 use loose_json::canon;
@@ -92,6 +93,7 @@ fn perform_task<O: Write, E: Write>(
         Subcommand::Draft(drafting) => draft(rt, drafting, at, out, notes),
         Subcommand::Export { db, to } => export(rt, db, to, at, out, notes),
         Subcommand::Get(getting) => get(rt, getting, at, out, notes),
+        Subcommand::GetMany(getting) => get_many(rt, getting, at, out, notes),
         Subcommand::Init { db, root } => init(rt, db, root, at, out, notes),
         Subcommand::Key { seed, params } => print_key(rt, seed, *params, at, out, notes),
         Subcommand::NewKey {

@@ -2,10 +2,10 @@
 use crate::keys::denial_row;
 use cli_faults::{Denial, Fault, Notes};
 use cli_files::print;
-use cli_repository::{Command, Reply, Search, Store, Work, fault_of_store, search_of, worked};
-use draft_folder::{ListedFile, Said, read_said};
+use cli_repository::{
+    Command, Reply, Search, Store, Work, fault_of_store, listed_paths, search_of, worked,
+};
 use metadata::{Listing, Moment, TargetPath};
-use path_patterns::metadata_name;
 use show_texts::{DenialRow, ListedRow, TargetRow, targets_as_json, targets_as_lines};
 use sqlite::Alter;
 use std::alloc::{AllocError, Global};
@@ -52,25 +52,17 @@ impl Work for Gathering {
         repository: &mut Store<S>,
         _notes: &mut Notes<'_, E>,
     ) -> Result<(), Fault> {
-        let paths = self.paths(repository)?;
-        for path in &paths {
-            if !self.ends_in(path.as_str()) {
-                self.gather(repository, path.as_str())?;
-            }
+        if repository.root_version().is_none() {
+            return Err(Fault::Denied(Denial::NoRoot, None));
+        }
+        for path in &listed_paths(self.alloc, repository.held())? {
+            self.gather(repository, path.as_str())?;
         }
         Ok(())
     }
 }
 
 impl Gathering {
-    // Whether the last target has this path. A path that several roles list stands next to itself, once the paths are in order.
-    fn ends_in(&self, path: &str) -> bool {
-        match self.targets.last() {
-            Some(target) => target.path.as_str() == path,
-            None => false,
-        }
-    }
-
     fn gather<S: Alter>(&mut self, repository: &mut Store<S>, path: &str) -> Result<(), Fault> {
         let listed = listed_in(self.alloc, repository, path, self.now)?;
         let denied = denied_by(repository, path, self.now)?;
@@ -81,73 +73,6 @@ impl Gathering {
             denied,
         })?;
         Ok(())
-    }
-
-    // The paths that targets metadata list which the snapshot names, in order.
-    fn paths<S: Alter>(&self, repository: &mut Store<S>) -> Result<Vec<String>, Fault> {
-        if repository.root_version().is_none() {
-            return Err(Fault::Denied(Denial::NoRoot, None));
-        }
-        let mut paths = Vec::new(self.alloc);
-        for (role, version) in &self.roles(repository)? {
-            self.add_paths(repository, role.as_str(), *version, &mut paths)?;
-        }
-        paths.sort_unstable();
-        Ok(paths)
-    }
-
-    // The roles that the snapshot names which the timestamp names, with their versions.
-    fn roles<S: Alter>(&self, repository: &mut Store<S>) -> Result<Vec<(String, u32)>, Fault> {
-        let Some(bytes) = self.file(repository, "timestamp.json")? else {
-            return Ok(Vec::new(self.alloc));
-        };
-        let timestamp = read_said(self.alloc, "timestamp", &bytes)?;
-        let version = timestamp.named("snapshot").unwrap_or(0);
-        let name = metadata_name(self.alloc, version, "snapshot")?;
-        match self.file(repository, name.as_str())? {
-            Some(bytes) => self.names(&bytes),
-            None => Ok(Vec::new(self.alloc)),
-        }
-    }
-
-    fn names(&self, snapshot: &[u8]) -> Result<Vec<(String, u32)>, Fault> {
-        let Said { names, .. } = read_said(self.alloc, "snapshot", snapshot)?;
-        Ok(names)
-    }
-
-    fn add_paths<S: Alter>(
-        &self,
-        repository: &mut Store<S>,
-        role: &str,
-        version: u32,
-        paths: &mut Vec<String>,
-    ) -> Result<(), Fault> {
-        let name = metadata_name(self.alloc, version, role)?;
-        let Some(bytes) = self.file(repository, name.as_str())? else {
-            return Ok(());
-        };
-        let said = read_said(self.alloc, role, &bytes)?;
-        Ok(self.add_all(&said.files, paths)?)
-    }
-
-    fn add_all(&self, files: &[ListedFile], paths: &mut Vec<String>) -> Result<(), AllocError> {
-        for file in files {
-            paths.push(String::from_str(self.alloc, file.path.as_str())?)?;
-        }
-        Ok(())
-    }
-
-    // The metadata file of this name, if it is held.
-    fn file<S: Alter>(
-        &self,
-        repository: &mut Store<S>,
-        name: &str,
-    ) -> Result<Option<Vec<u8>>, Fault> {
-        match repository.apply(Command::Metadata(name), self.now) {
-            Ok(Reply::Bytes(bytes)) => Ok(Some(bytes)),
-            Ok(_) => Ok(None),
-            Err(fault) => Err(fault_of_store(fault)),
-        }
     }
 }
 

@@ -11,7 +11,7 @@ use Rattle.client.specs.Taken.{IsTaking, RunsOn}
 use Rattle.client.specs.declared.fault.ClientFault.{ClientFault}
 use Rattle.cli_faults.specs.declared.fault.Fault.{Fault}
 use Rattle.cli_repository.specs.Works.{Worked, over, unopened}
-use Rattle.cli_client.specs.Clients.{Fetched, IsGranted}
+use Rattle.cli_get.specs.Getting.{Fetched, IsGranted}
 
 -- what was fetched is granted, and a fault is a fault
 module _ (A B : Standing) (path : Bytes) (now : ℕ) (F : State → State → Type 0) where

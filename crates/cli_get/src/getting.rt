@@ -1,14 +1,12 @@
-//! `get`: fetches a target as a client.
+//! `get` of one target, into a file.
 ghost use Rattle.std.specs.Prelude.{IfOk};
-ghost use Rattle.cli_client.specs.Clients.{IsGranted};
+ghost use Rattle.cli_get.specs.Getting.{IsGranted};
 
-use crate::fault::told;
-use crate::remote::{Call, Remote, tell_wrongs};
-use crate::report::{Got, get_as_json, is_answer};
-use crate::server::see_folders;
-use crate::turns::Turn;
+use crate::below::is_of_database;
+use crate::report::{Got, get_as_json};
+use cli_client::{Call, Remote, Turn, is_answer, see_folders, tell_wrongs, told};
 use cli_faults::{Denial, Fault, Notes, moment};
-use cli_files::{OWNER_ALONE, are_one_file, print, put_in_place, unused};
+use cli_files::{OWNER_ALONE, print, put_in_place, unused};
 use cli_repository::{Store, Work, worked};
 use cli_tasks::{Getting, Server};
 use client::{ClientFault, fetch_by_each};
@@ -89,12 +87,6 @@ fn granted<'a, E: Write>(
     (done, turns)
 }
 
-// Whether a path leads to the file of a database, or to its log. Both are there once the database was opened.
-fn is_of_database(rt: &HostRuntime, db: &str, path: &str) -> Result<bool, AllocError> {
-    let log = format!(in rt.alloc(); "{db}-wal")?;
-    Ok(are_one_file(rt, path, db) || are_one_file(rt, path, log.as_str()))
-}
-
 // Writes the target's file, unless it is of the client's own database.
 fn put<E: Write>(
     rt: &HostRuntime,
@@ -139,7 +131,7 @@ struct Fetching<'a> {
 }
 
 impl Work for Fetching<'_> {
-    ghost use Rattle.cli_client.specs.Clients.{Fetched};
+    ghost use Rattle.cli_get.specs.Getting.{Fetched};
 
     type Done = Vec<u8>;
 

@@ -1,6 +1,6 @@
 use Rattle.client.proofs.Composing.{becomes}
-use Rattle.cli_client.proofs.Fetching.{fetched_as, fetched_not}
-use Rattle.cli_client.proofs.getting.FetchingWork.work.Goals as goal
+use Rattle.cli_get.proofs.Fetching.{fetched_as, fetched_not}
+use Rattle.cli_get.proofs.getting.FetchingWork.work.Goals as goal
 
 pub returns-in-Ok : goal.returns-in-Ok
 returns-in-Ok g c =
