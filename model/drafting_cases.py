@@ -172,17 +172,18 @@ def random_delegations(random, session):
     said, words = [], []
     terminating = random.random() < 0.3
     before = random.choice((None, None, "dev", "bin-0", "nobody", "one"))
-    for name in random.sample(("dev", "one", "two", "bin-0", "Bad", "a" * 32, "b" * 33), random.randint(0, 3)):
+    ill = random.random() < 0.2
+    for name in random.sample(("dev", "one", "two", "bin-0", "a" * 32, *(("Bad", "b" * 33) if ill else ())), random.randint(0, 3)):
         keys = random.sample(KEYS[:6], random.randint(1, 2))
         by_prefixes = random.random() < 0.5
         covers = random.choice(PREFIXES[:4] if by_prefixes else COVERS[:6])
-        if random.random() < 0.1:
+        if ill:
             covers = random.choice(PREFIXES if by_prefixes else COVERS)
         said.append(drafting.Delegation(name, keys, 1, covers, by_prefixes, terminating, before))
         words += ["--delegate", f"{next(rule_words(session.folder, [(name, keys, 1)]))}:{'#' if by_prefixes else ''}{','.join(covers)}"]
-    for name in random.sample(("bin", "dev", "a" * 30, "-"), random.choice((0, 0, 1, 1, 2))):
+    for name in random.sample(("bin", "dev", *(("a" * 30, "-") if ill else ())), random.choice((0, 0, 1, 1, 2))):
         keys = random.sample(KEYS[:6], random.randint(1, 2))
-        count = random.choice((2, 4, 8, 16, 32, 64))
+        count = random.choice((2, 2, 4, 4, 8, 16, 32, 64))
         said += [drafting.Delegation(role, keys, 1, prefixes, True, terminating, before) for role, prefixes in drafting.bins(name, count)]
         words += ["--bins", f"{next(rule_words(session.folder, [(name, keys, 1)]))}:{count}"]
     words += ["--terminating"] if terminating else []

@@ -40,7 +40,8 @@ impl<'a, 'b> Adding<'a, 'b> {
 
     /// What was added, and each file with its digest.
     pub(crate) fn into_parts(self) -> (Vec<Addition>, Vec<(String, Digest)>) {
-        (self.added, self.files)
+        let Adding { added, files, .. } = self;
+        (added, files)
     }
 
     /// Adds the file, or all files of the folder, of each word `PATH[=FILE]`.

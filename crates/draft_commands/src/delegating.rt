@@ -143,11 +143,11 @@ fn add_bins<E: Write>(
 fn parts_of(alloc: Global, name: &str, bins: Vec<Bin>) -> Result<Vec<Part>, AllocError> {
     let mut parts = Vec::new(alloc);
     for bin in bins {
-        let number = bin.number.as_str();
+        let Bin { number, prefixes } = bin;
         let name = format!(in alloc; "{name}-{number}")?;
         parts.push(Part {
             name,
-            covers: bin.prefixes,
+            covers: prefixes,
             has_prefixes: true,
         })?;
     }

@@ -67,10 +67,9 @@ fn share_removed<E: Write>(
 ) -> Result<(), Fault> {
     let (paths, removed) = paths_of(alloc, words, notes)?;
     let roles = roles_of(alloc, folder, Sought::Lister, paths, notes)?;
-    let mut roles = roles.into_iter();
-    for path in removed {
-        match roles.next() {
-            Some(Some(role)) => remove_from(alloc, shares, role, path, notes)?,
+    for (at, path) in removed.into_iter().enumerate() {
+        match roles.get(at) {
+            Some(Some(role)) => remove_from(alloc, shares, role.as_str(), path, notes)?,
             _ => notes.warn(&path, &NOT_LISTED),
         }
     }
@@ -101,7 +100,7 @@ fn paths_of<E: Write>(
 fn remove_from<E: Write>(
     alloc: Global,
     shares: &mut Vec<Share>,
-    role: String,
+    role: &str,
     path: String,
     notes: &mut Notes<'_, E>,
 ) -> Result<(), Fault> {
@@ -126,10 +125,9 @@ fn share_added<E: Write>(
 ) -> Result<(), Fault> {
     let paths = paths_in(alloc, &added)?;
     let roles = roles_of(alloc, folder, Sought::Place, paths, notes)?;
-    let mut roles = roles.into_iter();
-    for addition in added {
-        match roles.next() {
-            Some(Some(role)) => add_to(alloc, shares, role, addition, notes)?,
+    for (at, addition) in added.into_iter().enumerate() {
+        match roles.get(at) {
+            Some(Some(role)) => add_to(alloc, shares, role.as_str(), addition, notes)?,
             _ => {
                 notes.warn(
                     &addition.path,
@@ -157,7 +155,7 @@ fn paths_in(alloc: Global, added: &[Addition]) -> Result<Vec<TargetPath>, AllocE
 fn add_to<E: Write>(
     alloc: Global,
     shares: &mut Vec<Share>,
-    role: String,
+    role: &str,
     addition: Addition,
     notes: &mut Notes<'_, E>,
 ) -> Result<(), Fault> {
@@ -172,15 +170,15 @@ fn add_to<E: Write>(
 fn place_of<E: Write>(
     alloc: Global,
     shares: &mut Vec<Share>,
-    role: String,
+    role: &str,
     notes: &mut Notes<'_, E>,
 ) -> Result<usize, Fault> {
     for (at, share) in shares.iter().enumerate() {
-        if share.role == role {
+        if share.role.as_str() == role {
             return Ok(at);
         }
     }
-    if Kind::of_role(role.as_str()) != Kind::Targets {
+    if Kind::of_role(role) != Kind::Targets {
         notes.warn(
             &role,
             &"no role of targets metadata, and paths are delegated to it",
@@ -189,7 +187,7 @@ fn place_of<E: Write>(
     }
     let at = shares.len();
     shares.push(Share {
-        role,
+        role: String::from_str(alloc, role)?,
         add: Vec::new(alloc),
         remove: Vec::new(alloc),
     })?;

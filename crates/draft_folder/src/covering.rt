@@ -59,12 +59,24 @@ pub fn roles_of<E: Write>(
         ways: ways_of(alloc, paths)?,
     };
     for _ in 0..MOST_VISITS {
-        for role in due_roles(alloc, &walk.ways)? {
-            walk.role = role;
-            visit(alloc, folder, &mut walk, notes)?;
-        }
+        visit_due(alloc, folder, &mut walk, notes)?;
     }
-    Ok(found_in(alloc, walk.ways)?)
+    let Walk { ways, .. } = walk;
+    Ok(found_in(alloc, ways)?)
+}
+
+// Visits each role to which some way leads next.
+fn visit_due<E: Write>(
+    alloc: Global,
+    folder: Folder<'_>,
+    walk: &mut Walk,
+    notes: &mut Notes<'_, E>,
+) -> Result<(), Fault> {
+    for role in due_roles(alloc, &walk.ways)? {
+        walk.role = role;
+        visit(alloc, folder, walk, notes)?;
+    }
+    Ok(())
 }
 
 fn ways_of(alloc: Global, paths: Vec<TargetPath>) -> Result<Vec<Way>, AllocError> {
@@ -98,7 +110,8 @@ fn due_roles(alloc: Global, ways: &[Way]) -> Result<Vec<String>, AllocError> {
 fn found_in(alloc: Global, ways: Vec<Way>) -> Result<Vec<Option<String>>, AllocError> {
     let mut found = Vec::new(alloc);
     for way in ways {
-        found.push(way.found)?;
+        let Way { found: role, .. } = way;
+        found.push(role)?;
     }
     Ok(found)
 }
@@ -211,8 +224,11 @@ fn add_unvisited(
 }
 
 fn lists(body: Option<&Body>, path: &TargetPath) -> bool {
+    let Some(body) = body else {
+        return false;
+    };
     match body {
-        Some(Body::Targets(targets)) => targets.listing(path.as_str()).is_some(),
+        Body::Targets(targets) => targets.listing(path.as_str()).is_some(),
         _ => false,
     }
 }
