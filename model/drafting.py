@@ -131,7 +131,8 @@ class Delegation:
 
     def is_fit(self):
         test = patterns.is_prefix if self.by_prefixes else patterns.is_pattern
-        return bool(re.fullmatch(r"[a-z0-9][a-z0-9_-]{0,31}", self.name)) and 0 < len(self.covers) <= MOST_TEXTS and all(map(test, self.covers))
+        is_name = re.fullmatch(r"[a-z0-9][a-z0-9_-]{0,31}", self.name) and self.name not in TOP_ROLES
+        return bool(is_name) and 0 < len(self.covers) <= MOST_TEXTS and all(map(test, self.covers))
 
     def said(self):
         member = "path_hash_prefixes" if self.by_prefixes else "paths"

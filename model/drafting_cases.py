@@ -173,7 +173,7 @@ def random_delegations(random, session):
     terminating = random.random() < 0.3
     before = random.choice((None, None, "dev", "bin-0", "nobody", "one"))
     ill = random.random() < 0.2
-    for name in random.sample(("dev", "one", "two", "bin-0", "a" * 32, *(("Bad", "b" * 33) if ill else ())), random.randint(0, 3)):
+    for name in random.sample(("dev", "one", "two", "bin-0", "a" * 32, *(("Bad", "b" * 33, "targets") if ill else ())), random.randint(0, 3)):
         keys = random.sample(KEYS[:6], random.randint(1, 2))
         by_prefixes = random.random() < 0.5
         covers = random.choice(PREFIXES[:4] if by_prefixes else COVERS[:6])
@@ -181,7 +181,7 @@ def random_delegations(random, session):
             covers = random.choice(PREFIXES if by_prefixes else COVERS)
         said.append(drafting.Delegation(name, keys, 1, covers, by_prefixes, terminating, before))
         words += ["--delegate", f"{next(rule_words(session.folder, [(name, keys, 1)]))}:{'#' if by_prefixes else ''}{','.join(covers)}"]
-    for name in random.sample(("bin", "dev", *(("a" * 30, "-") if ill else ())), random.choice((0, 0, 1, 1, 2))):
+    for name in random.sample(("bin", "dev", *(("a" * 30, "_") if ill else ())), random.choice((0, 0, 1, 1, 2))):
         keys = random.sample(KEYS[:6], random.randint(1, 2))
         count = random.choice((2, 2, 4, 4, 8, 16, 32, 64))
         said += [drafting.Delegation(role, keys, 1, prefixes, True, terminating, before) for role, prefixes in drafting.bins(name, count)]
@@ -218,7 +218,7 @@ def random_index(random, folder, now):
         keys = KEYS[:1]
         delegated = [
             drafting.Delegation(name, keys, 1, *random.choice(SCOPES), random.random() < 0.2)
-            for name in random.sample(ROLES, random.randint(0, 3))
+            for name in random.sample(ROLES[1:], random.randint(0, 3))
         ]
         if random.random() < (0.6 if role == "targets" else 0.1):
             delegated += [drafting.Delegation(name, keys, 1, prefixes, True, random.random() < 0.2) for name, prefixes in drafting.bins("bin", 4)]
@@ -253,7 +253,8 @@ def compare_spreads(session, random, count):
             words = [*(["--anew"] if anew else []), "targets", "--spread", *term_words(given)]
             words += [word for path, _, _, place in added for word in ("--add", f"{path}={place}")]
             words += [word for path in removed for word in ("--remove", path)]
-            folder.draft_some("spread", ROLES, wanted, words, now)
+            if not folder.draft_some("spread", ROLES, wanted, words, now):
+                break
             for role in list(folder.begun):
                 if random.random() < 0.3:
                     folder.publish(role)

@@ -10,7 +10,7 @@ use cli_tasks::{Drafting, TargetsDraft};
 use draft_folder::{Folder, Sought, roles_of};
 use drafting::{Addition, TargetsChanges, draft_targets};
 use limits::BLOB_LIMIT;
-use metadata::{Digest, Kind, Moment, TargetPath, digest_of};
+use metadata::{Digest, Moment, TargetPath, digest_of};
 use std::alloc::{AllocError, Global};
 use std::io::Write;
 
@@ -104,7 +104,7 @@ fn remove_from<E: Write>(
     path: String,
     notes: &mut Notes<'_, E>,
 ) -> Result<(), Fault> {
-    let at = place_of(alloc, shares, role, notes)?;
+    let at = place_of(alloc, shares, role)?;
     if let Some(share) = shares.get_mut(at) {
         if share.remove.contains(&path) {
             notes.warn(&path, &NOT_LISTED);
@@ -127,7 +127,7 @@ fn share_added<E: Write>(
     let roles = roles_of(alloc, folder, Sought::Place, paths, notes)?;
     for (at, addition) in added.into_iter().enumerate() {
         match roles.get(at) {
-            Some(Some(role)) => add_to(alloc, shares, role.as_str(), addition, notes)?,
+            Some(Some(role)) => add_to(alloc, shares, role.as_str(), addition)?,
             _ => {
                 notes.warn(
                     &addition.path,
@@ -152,14 +152,13 @@ fn paths_in(alloc: Global, added: &[Addition]) -> Result<Vec<TargetPath>, AllocE
 }
 
 // The role lists the target.
-fn add_to<E: Write>(
+fn add_to(
     alloc: Global,
     shares: &mut Vec<Share>,
     role: &str,
     addition: Addition,
-    notes: &mut Notes<'_, E>,
-) -> Result<(), Fault> {
-    let at = place_of(alloc, shares, role, notes)?;
+) -> Result<(), AllocError> {
+    let at = place_of(alloc, shares, role)?;
     if let Some(share) = shares.get_mut(at) {
         share.add.push(addition)?;
     }
@@ -167,23 +166,11 @@ fn add_to<E: Write>(
 }
 
 // Which of the shares is the role's: the last one, where it had none.
-fn place_of<E: Write>(
-    alloc: Global,
-    shares: &mut Vec<Share>,
-    role: &str,
-    notes: &mut Notes<'_, E>,
-) -> Result<usize, Fault> {
+fn place_of(alloc: Global, shares: &mut Vec<Share>, role: &str) -> Result<usize, AllocError> {
     for (at, share) in shares.iter().enumerate() {
         if share.role.as_str() == role {
             return Ok(at);
         }
-    }
-    if Kind::of_role(role) != Kind::Targets {
-        notes.warn(
-            &role,
-            &"no role of targets metadata, and paths are delegated to it",
-        );
-        return Err(Fault::Slip(Slip::Path));
     }
     let at = shares.len();
     shares.push(Share {
