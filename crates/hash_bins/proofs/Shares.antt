@@ -1,5 +1,5 @@
 -- The bins that come about share all prefixes.
-use Rattle.std.proofs.Common.{◌≡◌, ◌<◌, ◌≤◌, ℕ, true, false, List, [], ◌∷◌, ◌++◌, drop, length, map, nat_lt, take, refl, ap, sym, ◌∙◌, subst, arith, string_bytes, String}
+use Rattle.std.proofs.Common.{◌≡◌, ◌<◌, ◌≤◌, ℕ, true, false, List, [], ◌∷◌, ◌++◌, drop, length, nat_lt, take, refl, ap, sym, ◌∙◌, subst, arith, string_bytes, String}
 use Rattle.std.proofs.lemmas.Bool.Decides.{nat_tests}
 use Rattle.std.proofs.lemmas.List.{append-nil, append_assoc, drop-map, length-map, map-append, take-map}
 use Rattle.std.specs.declared.alloc.Global.{Global}
