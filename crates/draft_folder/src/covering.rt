@@ -8,8 +8,8 @@ use metadata::{Body, Delegation, Document, Kind, TargetPath};
 use std::alloc::{AllocError, Global};
 use std::io::Write;
 
-// The most roles that a search visits.
-const MOST_VISITS: usize = 32;
+// The most roles of a way: as many as a search visits (`delegations`).
+const LONGEST_WAY: usize = 32;
 
 /// Which role of a path is sought, among those to which a search comes for it from `targets` on.
 #[derive(Clone, Copy, PartialEq, Eq)]
@@ -58,7 +58,7 @@ pub fn roles_of<E: Write>(
         role: String::new(alloc),
         ways: ways_of(alloc, paths)?,
     };
-    for _ in 0..MOST_VISITS {
+    for _ in 0..LONGEST_WAY {
         visit_due(alloc, folder, &mut walk, notes)?;
     }
     let Walk { ways, .. } = walk;
@@ -200,7 +200,7 @@ impl Way {
         for role in covering.roles.iter().rev() {
             next.push(String::from_str(alloc, role.as_str())?)?;
         }
-        if self.visited.len() >= MOST_VISITS {
+        if self.visited.len() >= LONGEST_WAY {
             next = Vec::new(alloc);
         }
         self.next = next;
