@@ -9,14 +9,10 @@ import re
 import canonical_json
 import drafting
 from document_parts import MAXIMUM_SIGNATURES, key_object
-from drafting import DAY, Refused
+from drafting import DAY, Denied, Refused
 from signed_documents import date, digest
 
 FIRST_DAYS = 365
-
-
-class Denied(Exception):
-    """Why there is no draft: the line that is told."""
 
 
 class Step:

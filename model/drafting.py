@@ -8,6 +8,7 @@ import copy
 import re
 
 import canonical_json
+import patterns
 from document_parts import key_object
 from signed_documents import date
 
@@ -22,10 +23,17 @@ FIRST = {
     "timestamp": {"meta": {}},
 }
 LAST_VERSION = 4294967295
+MOST_DELEGATIONS = 64
+MOST_TEXTS = 64
+MOST_VISITS = 32
 
 
 class Refused(Exception):
     """Why there is no draft: the word that is told."""
+
+
+class Denied(Exception):
+    """Why there is no draft: the line that is told."""
 
 
 def last_term(signed, days):
@@ -103,6 +111,127 @@ def next_targets(held, begun, added, removed, given, now):
         listing["length"] = length
         listing["hashes"] = {"sha256": sha256}
     return headed(signed, "targets", held, given, begun or held, now)
+
+
+def bins(name, count):
+    """The roles of so many bins, each with its share of all prefixes of one digit, or of two for more than 16. A role's number is as wide as the last one's."""
+    digits = 1 if count <= 16 else 2
+    texts = [f"{n:0{digits}x}" for n in range(16**digits)]
+    share = len(texts) // count
+    return [(f"{name}-{n:0{len(f'{count - 1:x}')}x}", texts[n * share:(n + 1) * share]) for n in range(count)]
+
+
+class Delegation:
+    """What is said of a delegation: patterns of paths, or prefixes of their digests."""
+
+    def __init__(self, name, keys, threshold, covers, by_prefixes=False, terminating=False, before=None):
+        self.name, self.keys, self.threshold = name, keys, threshold
+        self.covers, self.by_prefixes = covers, by_prefixes
+        self.terminating, self.before = terminating, before
+
+    def is_fit(self):
+        test = patterns.is_prefix if self.by_prefixes else patterns.is_pattern
+        is_name = re.fullmatch(r"[a-z0-9][a-z0-9_-]{0,31}", self.name) and self.name not in TOP_ROLES
+        return bool(is_name) and 0 < len(self.covers) <= MOST_TEXTS and all(map(test, self.covers))
+
+    def said(self):
+        member = "path_hash_prefixes" if self.by_prefixes else "paths"
+        return {"name": self.name, **rule_said(self.keys, self.threshold), member: self.covers, "terminating": self.terminating}
+
+
+def delegated_further(signed, delegated, called):
+    """The signed part with these delegations, one after the other: each in the place of the role's own, before another role's, or last."""
+    if not delegated:
+        return signed
+    delegations = signed.setdefault("delegations", {"keys": {}, "roles": []})
+    roles, names = delegations["roles"], signed.setdefault("names", {})
+    for one in delegated:
+        order = [it["name"] for it in roles]
+        place = order.index(one.name) if one.name in order else len(roles)
+        roles[:] = [it for it in roles if it["name"] != one.name]
+        if one.before is not None:
+            order = [it["name"] for it in roles]
+            place = order.index(one.before) if one.before in order else len(roles)
+        roles.insert(place, one.said())
+        put_keys(delegations["keys"], names, one.keys, called)
+    used = ids_of(roles)
+    delegations["keys"] = {keyid: key for keyid, key in delegations["keys"].items() if keyid in used}
+    signed["names"] = {keyid: name for keyid, name in names.items() if keyid in used}
+    if len(roles) > MOST_DELEGATIONS or not all(one.is_fit() for one in delegated):
+        raise Denied("denied 3 WrongShape")
+    return signed
+
+
+def covers(delegation, path):
+    if "paths" in delegation:
+        return any(patterns.matches_segmented(pattern, path) for pattern in delegation["paths"])
+    return any(patterns.prefix_covers(prefix, path) for prefix in delegation["path_hash_prefixes"])
+
+
+def covering(document, path):
+    """The delegations that a search follows for the path, in their order: none after a terminating one."""
+    found = []
+    for delegation in (document or {}).get("delegations", {"roles": []})["roles"]:
+        if covers(delegation, path):
+            found.append(delegation)
+            if delegation["terminating"]:
+                break
+    return found
+
+
+def place_of(documents, path):
+    """The role that is to list the path: from `targets` on the first one that lists it, or that delegates it to no role that is still to be visited."""
+    role, visited = "targets", []
+    while len(visited) < MOST_VISITS:
+        visited.append(role)
+        document = documents.get(role)
+        further = [it["name"] for it in covering(document, path) if it["name"] not in visited]
+        if path in (document or {"targets": ()})["targets"] or not further:
+            return role
+        role = further[0]
+    raise Refused("path")
+
+
+def lister_of(documents, path):
+    """The first role of a search that lists the path, or None. A terminating delegation leaves nothing to be visited after it."""
+    visited = []
+
+    def search(role):
+        if role in visited:
+            return None, False
+        if len(visited) == MOST_VISITS:
+            return None, True
+        visited.append(role)
+        document = documents.get(role)
+        if path in (document or {"targets": ()})["targets"]:
+            return role, True
+        for delegation in covering(document, path):
+            found, is_over = search(delegation["name"])
+            if is_over or delegation["terminating"]:
+                return found, True
+        return None, False
+
+    return search("targets")[0]
+
+
+def spread(held, begun, signed, added, removed, given, now, anew):
+    """The drafts of all roles that have a change: each target that is added in the role that covers it, each that is removed out of the one that lists it."""
+    documents = {**held, **begun}
+    shares = {}
+    for path in dict.fromkeys(removed):
+        role = lister_of(documents, path)
+        if role:
+            shares.setdefault(role, ([], []))[1].append(path)
+    for one in added:
+        shares.setdefault(place_of(documents, one[0]), ([], []))[0].append(one)
+    if not shares:
+        raise Refused("path" if removed and not added else "nothing")
+    made = {}
+    for role, share in shares.items():
+        if role in signed and not anew:
+            raise Refused("signed")
+        made[role] = next_targets(held.get(role), begun.get(role), *share, given, now)
+    return made
 
 
 def next_timestamp(held, begun, version, given, now):

@@ -44,12 +44,28 @@ class Folder:
         found = {kind: self.read(kind) for kind in kinds}
         if isinstance(wanted, str):
             said = ended[2].decode().splitlines()[-1:]
-            end = (2, said) if wanted == "usage" else (1, [f"refused {wanted}"])
+            end = (2, said) if wanted == "usage" else (1, [wanted if wanted.startswith("denied") else f"refused {wanted}"])
             return self.session.check(f"{label}: refused", (*end, stood), (ended[0], said, found), " ".join(words))
         self.signed -= set(kinds)
         files = {kind: drafting.file_of(wanted[kind]) if wanted.get(kind) else None for kind in kinds}
         self.begun.update({kind: wanted[kind] for kind in kinds if wanted.get(kind)})
         return self.session.check(f"{label}: drafts", (0, files), (ended[0], found), " ".join(words))
+
+    def draft_some(self, label, kinds, wanted, words, now):
+        """The same where `wanted` has the documents that are drafted, and the others stay as they are."""
+        if isinstance(wanted, str):
+            return self.draft(label, kinds, wanted, words, now)
+        stood = {kind: self.read(kind) for kind in kinds}
+        ended = self.session.run("draft", "--at", str(now), "--in", str(self.path), *words)
+        found = {kind: self.read(kind) for kind in kinds}
+        self.signed -= set(wanted)
+        self.begun.update(wanted)
+        files = {**stood, **{kind: drafting.file_of(signed) for kind, signed in wanted.items()}}
+        return self.session.check(f"{label}: drafts", (0, files), (ended[0], found), " ".join(words))
+
+    def begin(self, kind, signed):
+        self.begun[kind] = signed
+        (self.path / f"{kind}.json").write_bytes(drafting.file_of(signed))
 
     def read(self, kind):
         place = self.path / f"{kind}.json"
@@ -100,7 +116,7 @@ def rule_words(folder, rules):
 def answered(make):
     try:
         return make()
-    except drafting.Refused as refused:
+    except (drafting.Refused, drafting.Denied) as refused:
         return str(refused)
 
 
@@ -145,6 +161,103 @@ def compare_targets(session, random, count):
             folder.draft("targets", [role], *folder.signed_between(random, role, wanted, words), now)
             if folder.begun.get(role) and random.random() < 0.5:
                 folder.publish(role)
+
+
+COVERS = (["dir/*"], ["*"], ["*/*", "e-?_2"], ["dir/deep/d"], ["none"], ["00", "0f"], ["x"] * 65, ["/"], ["a#b"], ["é"])
+PREFIXES = (["0", "1", "2"], ["00"], ["a", "b", "c", "d", "e", "f"], ["3", "45", "678"], ["0F"], [""], ["7" * 64], ["7" * 65], ["0", "#1"], ["app/*"])
+
+
+def random_delegations(random, session):
+    """Delegations to roles by patterns, by prefixes and in bins, as they are said and as words."""
+    said, words = [], []
+    terminating = random.random() < 0.3
+    before = random.choice((None, None, "dev", "bin-0", "nobody", "one"))
+    ill = random.random() < 0.2
+    for name in random.sample(("dev", "one", "two", "bin-0", "a" * 32, *(("Bad", "b" * 33, "targets") if ill else ())), random.randint(0, 3)):
+        keys = random.sample(KEYS[:6], random.randint(1, 2))
+        by_prefixes = random.random() < 0.5
+        covers = random.choice(PREFIXES[:4] if by_prefixes else COVERS[:6])
+        if ill:
+            covers = random.choice(PREFIXES if by_prefixes else COVERS)
+        said.append(drafting.Delegation(name, keys, 1, covers, by_prefixes, terminating, before))
+        words += ["--delegate", f"{next(rule_words(session.folder, [(name, keys, 1)]))}:{'#' if by_prefixes else ''}{','.join(covers)}"]
+    for name in random.sample(("bin", "dev", *(("a" * 30, "_") if ill else ())), random.choice((0, 0, 1, 1, 2))):
+        keys = random.sample(KEYS[:6], random.randint(1, 2))
+        count = random.choice((2, 2, 4, 4, 8, 16, 32, 64))
+        said += [drafting.Delegation(role, keys, 1, prefixes, True, terminating, before) for role, prefixes in drafting.bins(name, count)]
+        words += ["--bins", f"{next(rule_words(session.folder, [(name, keys, 1)]))}:{count}"]
+    words += ["--terminating"] if terminating else []
+    words += ["--before", before] if before else []
+    return said, words
+
+
+def compare_delegations(session, random, count):
+    """Delegations of `targets` and of another role, one call after the other: by patterns, by prefixes of digests and in bins."""
+    for _ in range(count):
+        folder = Folder(session)
+        role = random.choice(("targets", "dev"))
+        for step in range(random.randint(1, 4)):
+            now = BEGIN + step * 1000
+            held, begun = folder.held.get(role), folder.begun.get(role)
+            delegated, words = random_delegations(random, session)
+            wanted = answered(lambda: {role: drafting.delegated_further(drafting.next_targets(held, begun, [], [], None, now), delegated, CALLED)})
+            words = ["targets", *([] if role == "targets" else ["--role", role]), *words]
+            folder.draft("delegations", [role], *folder.signed_between(random, role, wanted, words), now)
+            if folder.begun.get(role) and random.random() < 0.5:
+                folder.publish(role)
+
+
+ROLES = ("targets", "dev", "one", "two", "bin-0", "bin-1", "bin-2", "bin-3")
+
+
+def random_index(random, folder, now):
+    """Targets metadata, of which some are held and some are drafts, that delegate to one another: in circles, to what is not there, and in bins."""
+    for role in ROLES:
+        if role != "targets" and random.random() < 0.4:
+            continue
+        keys = KEYS[:1]
+        delegated = [
+            drafting.Delegation(name, keys, 1, *random.choice(SCOPES), random.random() < 0.2)
+            for name in random.sample(ROLES[1:], random.randint(0, 3))
+        ]
+        if random.random() < (0.6 if role == "targets" else 0.1):
+            delegated += [drafting.Delegation(name, keys, 1, prefixes, True, random.random() < 0.2) for name, prefixes in drafting.bins("bin", 4)]
+        listed = [(path, 1, digest(b"x")) for path in PATHS if random.random() < 0.15]
+        signed = drafting.delegated_further(drafting.next_targets(None, None, listed, [], None, now), delegated, CALLED)
+        if random.random() < 0.6:
+            folder.hold(role, signed)
+        else:
+            folder.begin(role, signed)
+
+
+SCOPES = [(covers, False) for covers in COVERS[:5]] + [(prefixes, True) for prefixes in PREFIXES[:4]]
+
+
+def compare_spreads(session, random, count):
+    """Targets that go into the role that covers them, over an index at random: which roles are drafted, and what each then has."""
+    for _ in range(count):
+        folder = Folder(session)
+        random_index(random, folder, BEGIN)
+        for step in range(random.randint(1, 4)):
+            now = BEGIN + 1 + step * 1000
+            for role in list(folder.begun):
+                if role not in folder.signed and random.random() < 0.1:
+                    folder.sign(role, KEYS[0])
+            added = [file_said(session, random, path) for path in random.sample(PATHS, random.randint(0, 4))]
+            removed = random.sample((*PATHS, "none", "../x"), random.choice((0, 0, 1, 3)))
+            removed += removed[:1] if random.random() < 0.2 else []
+            given, anew = random.choice(TERMS), random.random() < 0.4
+            wanted = answered(
+                lambda: drafting.spread(folder.held, folder.begun, folder.signed, [it[:3] for it in added], removed, given, now, anew)
+            )
+            words = [*(["--anew"] if anew else []), "targets", "--spread", *term_words(given)]
+            words += [word for path, _, _, place in added for word in ("--add", f"{path}={place}")]
+            words += [word for path in removed for word in ("--remove", path)]
+            if not folder.draft_some("spread", ROLES, wanted, words, now):
+                break
+            for role in list(folder.begun):
+                if random.random() < 0.3:
+                    folder.publish(role)
 
 
 def file_said(session, random, path):

@@ -102,6 +102,8 @@ def of_databases_and_words(chosen):
     yield "drafts: keys that are made", signing_cases.compare_new_keys, 1 + chosen.histories // 10
     yield "drafts: roots", drafting_cases.compare_roots, chosen.histories
     yield "drafts: targets metadata", drafting_cases.compare_targets, chosen.histories
+    yield "drafts: delegations", drafting_cases.compare_delegations, chosen.histories
+    yield "drafts: targets that are spread", drafting_cases.compare_spreads, 2 * chosen.histories
     yield "drafts: seals", drafting_cases.compare_seals, 4 * chosen.histories
     yield "drafts: layouts", chain_drafting_cases.compare_layouts, chosen.histories
     yield "drafts: links", chain_drafting_cases.compare_links, chosen.histories

@@ -145,12 +145,28 @@ def compare_usage(session, _random):
     lines += [["prune", *base, "--port", "80"], *(["prune", *base, "--at", moment] for moment in ("-1", "x", ""))]
     asked = (["put", file], ["publish", f"root:{file}"], ["prune"])
     lines += [[*words, *more] for words in asked for more in (["--port", "80", "--at", "1"], [*base, "--port", "80"], ["--port", "0"], ["--at", "1"])]
+    drafts = ["draft", "--in", str(session.folder / "never")]
+    lines += [[*drafts, "targets", "--spread", *more] for more in (["--role", "dev"], ["--delegate", "a=b:c"], ["--bins", "a=b:4"], ["--terminating"])]
+    lines += [[*drafts, "targets", "--spread", "--before", "a"], [*drafts, "targets", "--spread", "--undelegate", "a"], [*drafts, "seal", "--spread"]]
+    lines += [[*drafts, "root", "--bins", "a=b:4"], [*drafts, "targets", "--spread=1"], [*drafts, "targets", "--spread", "--spread"]]
     lines += [[], ["nope"], ["canon"]]
     for words in lines:
         status, output, text = session.run(*words)
         label = f"usage: {[word for word in words[:6] if word not in (database, file)]}"
         session.check(label, (USAGE, b"", True), (status, output, bool(text)))
     session.check("usage: no database", False, (session.folder / "never.db").exists())
+    session.check("usage: no folder of drafts", False, (session.folder / "never").exists())
+    compare_bins(session)
+
+
+def compare_bins(session):
+    """How many bins there may be, before a draft is written."""
+    folder = session.folder / "bins"
+    for said in ("0", "1", "3", "5", "7", "12", "24", "31", "63", "65", "128", "256", "-4", "+4", "04", "4.", " 4", "4,", "x", ""):
+        status, output, text = session.run("draft", "--in", str(folder), "targets", "--bins", f"a=b:{said}")
+        line = b"error: '--bins' is NAME=RULE:N, N one of 2, 4, 8, 16, 32 and 64\n"
+        session.check(f"usage: bins {said}", (USAGE, b"", line), (status, output, text[:len(line)]))
+    session.check("usage: no draft of bins", False, (folder / "targets.json").exists())
 
 
 def compare_full_output(session, _random):

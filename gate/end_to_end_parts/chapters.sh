@@ -180,6 +180,16 @@ the_machines_chapter() {
     checks=$((checks + 1))
 }
 
+# An index in bins.
+the_bins_chapter() {
+    local bins=$folder/in-bins
+    mkdir "$bins"
+    chapter bins "$bins" OPERATING.md
+    grep -e '^begun$' -e '^{' -e '^  granted' "$bins/out" >"$bins/said"
+    printf 'begun\n{"accepted":7,"same":0}\n{"accepted":4,"same":0}\n  granted, 18 bytes\n' >"$bins/wanted"
+    same "what the chapter 'bins' prints" "$bins/wanted" "$bins/said"
+}
+
 # A client over a mirror of plain files.
 the_client_chapter() {
     mkdir "$folder/clients"

@@ -1,5 +1,5 @@
 -- Drafts of the delegations of targets metadata (TUF 1.0, section 4.5, DELEGATIONS).
-use Rattle.std.specs.Prelude.{◌≡◌, ◌⊎◌, ℕ, pos, Bool, not, List, [], ◌∷◌, ◌++◌, bytes_eq, codes, flat_map, map, take_while, Option, Some, None}
+use Rattle.std.specs.Prelude.{◌≡◌, ◌⊎◌, ℕ, pos, Bool, true, false, not, List, [], ◌∷◌, ◌++◌, bytes_eq, codes, flat_map, map, take_while, Option, Some, None}
 use Rattle.std.specs.List.{AllByRecursion}
 use Rattle.canonical_json.specs.Json.{Json, boolean, integer, text, array, object, Items, Members, no_members, member, HasMember}
 use Rattle.canonical_json.specs.View.{items_of}
@@ -15,12 +15,13 @@ use Rattle.drafting.specs.declared.faults.DraftFault.TheVariants.{Unlisted}
 
 -- ---- what is said
 
--- a delegation: the role, its rule, the patterns of what it covers, whether nothing after it is searched for that, and before the
--- delegation to which role it stands
+-- a delegation: the role, its rule, the patterns of what it covers, or the prefixes of the digests of the paths, whether nothing after it
+-- is searched for that, and before the delegation to which role it stands
 pub record Delegated : Type 0 where
   pub role : List ℕ
   pub rule : Rule
-  pub patterns : List (List ℕ)
+  pub covers : List (List ℕ)
+  pub has_prefixes : Bool
   pub terminating : Bool
   pub before : Option (List ℕ)
 
@@ -29,12 +30,18 @@ pub record Changes : Type 0 where
   pub undelegated : List (List ℕ)
   pub delegated : List Delegated
 
--- {"keyids":[..],"name":..,"paths":[..],"terminating":..,"threshold":..}
+-- the member that says what a delegation covers: prefixes of the digests of paths, or patterns
+abbrev pub scope_name : Bool → List ℕ
+scope_name true = codes "path_hash_prefixes"
+scope_name false = codes "paths"
+
+-- {"keyids":[..],"name":..,"paths":[..],"terminating":..,"threshold":..}, and with `path_hash_prefixes` in the place of `paths` where it
+-- covers by prefixes
 abbrev pub delegation_object : Delegated → Json
 delegation_object d =
     object (member (codes "keyids") (array (items_of (ids_of d.rule.keys)))
     (member (codes "name") (text d.role)
-    (member (codes "paths") (array (items_of (map text d.patterns)))
+    (member (scope_name d.has_prefixes) (array (items_of (map text d.covers)))
     (member (codes "terminating") (boolean d.terminating)
     (member (codes "threshold") (integer (pos d.rule.threshold)) no_members)))))
 

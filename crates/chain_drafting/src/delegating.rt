@@ -20,13 +20,14 @@ use drafting::{
 use metadata::Kind;
 use std::alloc::{AllocError, Global};
 
-/// A delegation: the role, its rule, the patterns of what it covers, whether nothing after it is searched for that, and before the
-/// delegation of which role it stands; where none is given, in the place of the role's own, or last.
+/// A delegation: the role, its rule, the patterns of what it covers, or the prefixes of the SHA-256 of the paths, whether nothing after it is
+/// searched for that, and before the delegation of which role it stands; where none is given, in the place of the role's own, or last.
 #[derive(Clone, Copy)]
 pub struct Delegated<'a> {
     pub name: &'a str,
     pub rule: Rule<'a>,
-    pub patterns: &'a [String],
+    pub covers: &'a [String],
+    pub has_prefixes: bool,
     pub terminating: bool,
     pub before: Option<&'a str>,
 }

@@ -3,7 +3,7 @@ ghost use Rattle.std.specs.Prelude.{◌≡◌, ◌≤◌, ◌∷◌, [], codes, 
 ghost use Rattle.std.specs.List.{AllByRecursion};
 ghost use Rattle.canonical_json.specs.Json.{object};
 ghost use Rattle.canonical_json.specs.View.{view, members_view};
-ghost use Rattle.chain_drafting.specs.Delegations.{AreIn, IsTo, PutsDelegation, PutsEach, ahead_of, delegation_object, front_of};
+ghost use Rattle.chain_drafting.specs.Delegations.{AreIn, IsTo, PutsDelegation, PutsEach, ahead_of, delegation_object, front_of, scope_name};
 ghost use Rattle.drafting.specs.Members.{AlikeBut, without};
 ghost use Rattle.chain_drafting.specs.steps.Delegated.{all_view, delegated_view};
 ghost use Rattle.drafting.specs.steps.Rows.{rows_view};
@@ -129,7 +129,18 @@ fn place_of(list: &[(String, Value)], role: &str) -> usize
     list.len()
 }
 
-// {"keyids":[..],"name":..,"paths":[..],"terminating":..,"threshold":..}
+// The member that says what a delegation covers.
+fn scope_name(has_prefixes: bool) -> &'static str
+    ensures { result.now ≡ scope_name has_prefixes }
+{
+    if has_prefixes {
+        "path_hash_prefixes"
+    } else {
+        "paths"
+    }
+}
+
+// {"keyids":[..],"name":..,"paths":[..],"terminating":..,"threshold":..}, or with `path_hash_prefixes` in the place of `paths`.
 fn delegation_value(alloc: Global, said: &Delegated<'_>) -> Result<Value, AllocError>
     ensures { IfOk result (λ v. view v ≡ delegation_object (delegated_view said.now)) }
 {
@@ -140,8 +151,8 @@ fn delegation_value(alloc: Global, said: &Delegated<'_>) -> Result<Value, AllocE
     let name = String::from_str(alloc, "name")?;
     let value = text_value(alloc, said.name)?;
     members.push((name, value))?;
-    let name = String::from_str(alloc, "paths")?;
-    let value = texts_value(alloc, said.patterns)?;
+    let name = String::from_str(alloc, scope_name(said.has_prefixes))?;
+    let value = texts_value(alloc, said.covers)?;
     members.push((name, value))?;
     let name = String::from_str(alloc, "terminating")?;
     members.push((name, Value::Bool(said.terminating)))?;

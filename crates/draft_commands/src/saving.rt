@@ -21,9 +21,19 @@ impl Before {
         anew: bool,
         notes: &mut Notes<'_, E>,
     ) -> Result<Before, Fault> {
+        let before = Before::read(folder, role, notes)?;
+        see_unsigned(rt.alloc(), folder, role, before.begun(), anew, notes)?;
+        Ok(before)
+    }
+
+    /// The same, whether or not the draft has signatures.
+    pub fn read<E: Write>(
+        folder: Folder<'_>,
+        role: &str,
+        notes: &mut Notes<'_, E>,
+    ) -> Result<Before, Fault> {
         let held = folder.held(role, notes)?;
         let begun = folder.draft(role, notes)?;
-        see_unsigned(rt.alloc(), folder, role, begun.as_deref(), anew, notes)?;
         Ok(Before { held, begun })
     }
 

@@ -12,7 +12,8 @@ abbrev pub delegated_view : Delegated → Said
 delegated_view d = record {
   role = d.name.now;
   rule = rule_view d.rule;
-  patterns = texts_view d.patterns.now;
+  covers = texts_view d.covers.now;
+  has_prefixes = d.has_prefixes;
   terminating = d.terminating;
   before = option_map (λ t. t.now) d.before;
 }

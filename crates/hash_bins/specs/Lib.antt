@@ -1,0 +1,3 @@
+pub mod Bins
+pub mod Views
+pub mod steps
