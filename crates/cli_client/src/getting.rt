@@ -7,7 +7,7 @@ use crate::remote::{Call, Remote, tell_wrongs};
 use crate::report::{Got, get_as_json, is_answer};
 use crate::server::see_folders;
 use crate::turns::Turn;
-use cli_faults::{Denial, Fault, Notes, moment};
+use cli_faults::{Denial, Fault, Notes, moment, warn_of_clock};
 use cli_files::{OWNER_ALONE, are_one_file, print, put_in_place, unused};
 use cli_repository::{Store, Work, worked};
 use cli_tasks::{Getting, Server};
@@ -29,6 +29,7 @@ pub fn get<'a, O: Write, E: Write>(
     notes: &mut Notes<'_, E>,
 ) -> Result<(), Fault> {
     let now = moment(rt, at)?;
+    warn_of_clock(now, notes);
     let path = target_path(rt, asked.path.as_str(), notes)?;
     see_folders(rt, &asked.server, notes)?;
     let call = Call::begun(rt, asked.within)?;

@@ -1,5 +1,5 @@
 //! `draft targets`.
-use crate::drafting_faults::{draft_or_fault, usage};
+use crate::drafting_faults::{document_or_fault, usage};
 use crate::keys::{Known, RuleRead, items_in, rule_of};
 use crate::saving::Before;
 use crate::terms::terms_of;
@@ -11,6 +11,7 @@ use draft_folder::Folder;
 use drafting::{Addition, DraftFault, Rule, TargetsChanges, Terms, draft_targets};
 use limits::BLOB_LIMIT;
 use metadata::{Kind, Moment, RoleName, TargetPath, digest_of};
+use show_limits::put_draft;
 use std::alloc::{AllocError, Global};
 use std::io::{IsTerminal, Write};
 use std::{fmt, fs};
@@ -102,7 +103,7 @@ impl Next<'_> {
         let (held, begun) = (self.before.held(), self.before.begun());
         match draft_targets(self.rt.alloc(), held, begun, self.terms, &listed) {
             Err(DraftFault::Unlisted(at)) => Err(unlisted(&self.told.remove, at, notes)),
-            draft => draft_or_fault(self.rt.alloc(), draft, self.role, notes),
+            draft => document_or_fault(self.rt.alloc(), draft, self.role, notes),
         }
     }
 
@@ -114,10 +115,10 @@ impl Next<'_> {
         notes: &mut Notes<'_, E>,
     ) -> Result<(), Fault> {
         if read.is_empty() && self.told.undelegate.is_empty() {
-            return self.folder.put_draft(self.role, draft, notes);
+            return put_draft(self.rt.alloc(), self.folder, self.role, draft, notes);
         }
         let next = self.delegating(draft, read, notes)?;
-        self.folder.put_draft(self.role, &next, notes)
+        put_draft(self.rt.alloc(), self.folder, self.role, &next, notes)
     }
 
     fn delegating<E: Write>(
@@ -133,7 +134,7 @@ impl Next<'_> {
         };
         let held = self.before.held();
         let next = draft_delegations(self.rt.alloc(), held, Some(draft), self.terms, &changes);
-        draft_or_fault(self.rt.alloc(), next, self.role, notes)
+        document_or_fault(self.rt.alloc(), next, self.role, notes)
     }
 }
 
