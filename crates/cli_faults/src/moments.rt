@@ -1,4 +1,4 @@
-//! The moment of a command, and the moment at which a document expires.
+//! The moment of a command, with a warning where it is before 2020, and the moment at which a document expires.
 ghost use Rattle.std.specs.Prelude.{◌≡◌, IfErr, IfOk, IfSome};
 
 use crate::fault::Fault;
