@@ -149,8 +149,8 @@ clocks_that_began_anew() {
     wants 0 'begun\n' '' init --at=0 --db "$db" "$example/root.json"
     for moment in 0:1970 31535999:1970 31536000:1971 94694400:1973 1577836799:2019; do
         wants 3 '' "warning: the clock says ${moment#*:}: $said\nfault network\n" update --at="${moment%:*}" --db "$db" --port 1
-        wants 3 '' "warning: the clock says ${moment#*:}: $said\nfault network\n" get --at="${moment%:*}" --db "$db" --port 1 --out "$out" hello.txt
+        wants 1 '' "warning: the clock says ${moment#*:}: $said\ndenied 16 NoTimestamp\n" get --at="${moment%:*}" --db "$db" --port 1 --out "$out" hello.txt
     done
     wants 3 '' 'fault network\n' update --at=1577836800 --db "$db" --port 1
-    wants 3 '' 'fault network\n' get --at=1577836800 --db "$db" --port 1 --out "$out" hello.txt
+    wants 1 '' 'denied 16 NoTimestamp\n' get --at=1577836800 --db "$db" --port 1 --out "$out" hello.txt
 }
