@@ -4,7 +4,7 @@ limits_are_told() {
     local said here=$PWD now=$at
     said=$(python3 "$repository/gate/near_limits.py" "$release") || fail "near limits: $said"
     checks=$((checks + said))
-    mkdir -p "$folder/long" && cd "$folder/long"
+    mkdir -p "$folder/measured" && cd "$folder/measured"
     drafts_are_measured
     drafts_that_are_too_long
     what_is_too_long_is_named
