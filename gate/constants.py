@@ -1,5 +1,7 @@
 """No number twice: a constant of one meaning stands in one crate, and the others read it there.
 
+A limit that one crate has for itself alone may stand in a second one that shows it, where PAIRS says so: then both are the same number.
+
 Tools and tests say their own. Else two crates that have a constant of the same name and value are a fault,
 and so are two that have one of the same number over 1,000, but for those numbers of which REASONS says that they mean something else in each place.
 """
@@ -14,6 +16,10 @@ REASONS = {
     "86400": "the longest time that a command waits, and the seconds of a day",
     "4294967295": "the last version and length, and the most connections",
 }
+
+
+# A constant of a crate that lends it to nobody, and the one in a crate above that tells of it.
+PAIRS = [(("metadata", "MOST_ROLES"), ("show_limits", "ROLES_LIMIT"))]
 
 
 def constants(sources):
@@ -38,6 +44,14 @@ def repeated(sources):
             yield f"{value} is a constant of {', '.join(sorted(found))}: one of them has it, or gate/constants.py says why not"
 
 
+def unequal(sources):
+    """The pairs of constants that are to be the same and are not."""
+    found = {(crate, name): value for name, value, crate in constants(sources)}
+    for below, above in PAIRS:
+        if below not in found or found[below] != found.get(above):
+            yield f"{above[1]} of {above[0]} is not the {below[1]} of {below[0]}"
+
+
 def misses():
     """What this would not find in sources that are made up."""
     made = [("a", "pub const MOST: usize = 1_500;\n"), ("b", "const LARGEST: u32 = 1500;\n"), ("c", "const FEW: u8 = 3;\n"), ("d", "    const FEW: u8 = 3;\n")]
@@ -46,6 +60,10 @@ def misses():
         yield f"constants: of two that are repeated it finds {len(said)}: {said}"
     if [*repeated([("a", "const FEW: u8 = 3;\nconst MANY: u8 = 3;\n"), ("b", "const OTHER: u8 = 3;\n")])]:
         yield "constants: a small number under another name is no fault"
+    for value, faults_of_pairs in (("128", 0), ("127", 1)):
+        pair = [("metadata", "const MOST_ROLES: usize = 128;\n"), ("show_limits", f"const ROLES_LIMIT: usize = {value};\n")]
+        if len([*unequal(pair)]) != faults_of_pairs:
+            yield f"constants: a pair of 128 and {value} is taken otherwise"
 
 
 def faults():
@@ -58,3 +76,4 @@ def faults():
         with open(path, encoding="utf-8") as file:
             sources.append((path.split("/")[1], file.read()))
     yield from repeated(sources)
+    yield from unequal(sources)

@@ -83,13 +83,15 @@ ROW = {
     "covers": [], "days": -3, "depth": 0, "due": True, "expires": 5, "held": True, "keys": [{"id": ID, "left": 1, "most": 32, "name": "a"}], "layouts": 0,
     "low": True, "prefixes": False, "role": "root", "targets": 0, "terminating": False, "threshold": 1, "version": 1,
 }
+USED = {"most": 4096, "near": False, "used": 1}
+LIMITS = {"documents": [{"bytes": USED, "role": "targets"}], "roles": USED, "rows": USED, "target_files": USED}
 RULE = {"by": {"role": "root", "version": 1}, "met": False, "signed": [], "threshold": 1, "unsigned": [KEY]}
 RIGHT = [
-    {"now": 0, "rows": [ROW]},
+    {"limits": LIMITS, "now": 0, "rows": [ROW]},
     [{"denied": {"name": "NotFound", "number": 35}, "length": None, "path": "a", "role": None, "sha256": None}],
     {
         "answer": {"at": None, "denied": None, "ready": True}, "layouts": [], "links": [], "next": [["release", "sign"]], "now": 0,
-        "drafts": [{"changes": ["+ a"], "days": None, "expires": None, "held": 0, "role": "root", "rules": [RULE], "version": 1}],
+        "drafts": [{"bytes": USED, "changes": ["+ a"], "days": None, "expires": None, "held": 0, "role": "root", "rules": [RULE], "version": 1}],
     },
 ]
 
@@ -104,10 +106,14 @@ def wrong():
         (0, lambda it: it["rows"][0].update(version=True)),
         (0, lambda it: it["rows"][0].update(expires=-1)),
         (0, lambda it: it["rows"][0]["keys"][0].update(id="0")),
+        (0, lambda it: it.pop("limits")),
+        (0, lambda it: it["limits"]["documents"][0].pop("role")),
+        (0, lambda it: it["limits"]["rows"].update(used="1")),
         (1, lambda it: it[0].update(denied=35)),
         (1, lambda it: it[0].update(length="1")),
         (2, lambda it: it.update(next=["next: release sign"])),
         (2, lambda it: it["answer"].pop("at")),
+        (2, lambda it: it["drafts"][0].pop("bytes")),
         (2, lambda it: it["drafts"][0]["rules"][0]["unsigned"].append("a")),
     ]
     for which, change in changes:

@@ -26,6 +26,7 @@ LAST_VERSION = 4294967295
 MOST_DELEGATIONS = 64
 MOST_TEXTS = 64
 MOST_VISITS = 32
+MOST_BYTES = 262144
 
 
 class Refused(Exception):
@@ -269,3 +270,22 @@ def sealed(held_snapshot, held_timestamp, versions, given, now):
 
 def file_of(signed):
     return canonical_json.write({"signatures": [], "signed": signed})
+
+
+def entry_length(key):
+    """The bytes of the entry of a signature by an LMS key (RFC 8554, sections 4.5 and 5.4), which stands in hex digits."""
+    signature = 4 + (4 + 32 + 32 * key.elements) + 4 + 32 * key.height
+    return len(canonical_json.write({"keyid": key.id, "sig": ""})) + 2 * signature
+
+
+def signed_length(signed, keys, threshold):
+    """The bytes of a document with the signatures that a rule wants, the shortest that its keys can make, and a comma between two."""
+    lengths = sorted(entry_length(key) for key in keys)[:threshold]
+    return len(file_of(signed)) + sum(lengths) + len(lengths) - 1
+
+
+def room_for(signed, keys, threshold):
+    """The warning of a document that is long with its signatures, if it is; one that is too long is refused."""
+    length = signed_length(signed, keys, threshold)
+    warning = f"warning: targets: {length} of {MOST_BYTES} bytes with the signatures that it wants: delegate a part of it: --delegate or --bins"
+    return length > MOST_BYTES, [warning] if 4 * length >= 3 * MOST_BYTES else []

@@ -5,7 +5,7 @@ import shutil
 
 import canonical_json
 import drafting
-from signed_documents import BEGIN, date, digest, signature_entry
+from signed_documents import BEGIN, date, digest, root, signature_entry
 from test_keys import LMS_KEYS as KEYS
 
 PATHS = ("a", "b.txt", "dir/c", "dir/deep/d", "e-1_2", "f.tar.gz")
@@ -258,6 +258,24 @@ def compare_spreads(session, random, count):
             for role in list(folder.begun):
                 if random.random() < 0.3:
                     folder.publish(role)
+
+
+def compare_long(session, random, count):
+    """Targets metadata that are near their limit with the signatures of a rule of several keys, at it, and one byte over it."""
+    for _ in range(count):
+        folder = Folder(session)
+        keys = random.sample(KEYS[:8], random.randint(1, 4))
+        threshold = random.randint(1, len(keys))
+        folder.hold("root", root(1, BEGIN + 10**7, {role: (keys, threshold) for role in drafting.TOP_ROLES}))
+        held = {"_type": "targets", "spec_version": "1.0.0", "version": 1, "expires": date(BEGIN), "targets": {}, "z": ""}
+        most = random.choice((196607, 196608, 200000, drafting.MOST_BYTES - 1, drafting.MOST_BYTES, drafting.MOST_BYTES + 1))
+        held["z"] = "z" * (most - drafting.signed_length(drafting.next_targets(held, None, [], [], None, BEGIN), keys, threshold))
+        folder.hold("targets", held)
+        wanted = drafting.next_targets(held, None, [], [], None, BEGIN)
+        is_refused, told = drafting.room_for(wanted, keys, threshold)
+        status, _, found = session.run("draft", "--at", str(BEGIN), "--in", str(folder.path), "targets")
+        end = (1, None, [*told, "refused long"]) if is_refused else (0, drafting.file_of(wanted), told)
+        session.check(f"long drafts: {most} bytes", end, (status, folder.read("targets"), found.decode().splitlines()), f"{threshold} of {len(keys)} keys")
 
 
 def file_said(session, random, path):

@@ -105,6 +105,7 @@ def of_databases_and_words(chosen):
     yield "drafts: delegations", drafting_cases.compare_delegations, chosen.histories
     yield "drafts: targets that are spread", drafting_cases.compare_spreads, 2 * chosen.histories
     yield "drafts: seals", drafting_cases.compare_seals, 4 * chosen.histories
+    yield "drafts: long ones", drafting_cases.compare_long, chosen.histories
     yield "drafts: layouts", chain_drafting_cases.compare_layouts, chosen.histories
     yield "drafts: links", chain_drafting_cases.compare_links, chosen.histories
     yield "drafts: what is taken", chain_drafting_cases.compare_takes, chosen.histories

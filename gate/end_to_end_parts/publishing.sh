@@ -35,7 +35,7 @@ publishing_beside_a_server() {
     both 0 '{"accepted":3,"same":0}\n' '' publish "${all[@]}"
     both 0 '{"accepted":0,"same":3}\n' '' publish "${all[@]}"
     both 0 '{"accepted":0,"same":4}\n' '' publish "root:$example/root.json" "${all[@]}"
-    both 1 '' "targets:$folder/long: length 262145\nrelease: targets:$folder/long: denied; 'release help 1' says what to do\ndenied 1 TooLong at 1\n" \
+    both 1 '' "targets:$folder/long: length 262145\nrelease: targets:$folder/long: denied; 'release help 1' says what to do\nrelease: targets:$folder/long: 262145 bytes, of at most 262144: delegate a part of it, by 'release draft targets' with --delegate or --bins\ndenied 1 TooLong at 1\n" \
         publish -v "timestamp:$example/timestamp.json" "targets:$folder/long"
     both 1 '' 'denied 20 SnapshotVersion at 2\n' publish "root:$example/refused/root.json" \
         "timestamp:$example/refused/timestamp.json" "snapshot:$example/refused/snapshot.json"

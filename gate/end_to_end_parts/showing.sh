@@ -78,9 +78,12 @@ a_chain_is_shown() {
     it_holds 'it["target"]["layout"]["path"] == "tool.tgz.layout.json" and it["target"]["layout"]["step"] == "pack" and len(it["target"]["layout"]["links"]) == 2'
     on_a_terminal show --at $now --db repository.db tool.tgz
     grep -q '^<ESC>32m  \[pack\]  1 of 1 links  packer '"$(digits_of packer)"'<ESC>0m$' "$folder/out" || fail "no chain of the target: $(cat "$folder/out")"
+    grep -q '^<ESC>32m\.\{8\}<ESC>0m  target files [1-9][0-9]* of 4096$' "$folder/out" || fail "no bar of a limit: $(cat "$folder/out")"
     "$release" show --at $now --db repository.db --html page.html tool.tgz >"$folder/out"
+    is_told 'roles 2 of 128'
+    grep -qx '<tr><td>roles</td><td>2 of 128</td></tr>' page.html || fail "no limits in the page"
     grep -q '<span class="step"><b>build</b> 1 of 1 links builder '"$(digits_of builder)"'</span>' page.html || fail "no chain in the page of the target"
-    checks=$((checks + 2))
+    checks=$((checks + 4))
 }
 
 # list_line PATH FILE ROLE: the line of a target in a list.

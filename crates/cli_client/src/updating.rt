@@ -4,7 +4,7 @@ use crate::remote::{Call, Remote, tell_wrongs};
 use crate::report::{Found, is_answer, update_as_json};
 use crate::server::{Named, see_folders};
 use crate::turns::Turn;
-use cli_faults::{Fault, Notes, moment};
+use cli_faults::{Fault, Notes, moment, warn_of_clock};
 use cli_files::print;
 use cli_repository::{FirstExpiry, Store, Versions, Work, tell_standing, worked};
 use cli_tasks::Updating;
@@ -28,6 +28,7 @@ pub fn update<O: Write, E: Write>(
     notes: &mut Notes<'_, E>,
 ) -> Result<(), Fault> {
     let now = moment(rt, at)?;
+    warn_of_clock(now, notes);
     see_folders(rt, &asked.server, notes)?;
     let call = Call::begun(rt, asked.within)?;
     let mut bringing = Bringing {

@@ -2,10 +2,11 @@
 use cli_faults::{Fault, Notes, Slip};
 use cli_repository::forgets;
 use cli_tasks::Drafting;
-use draft_commands::{Before, draft_or_fault, terms_of};
+use draft_commands::{Before, document_or_fault, terms_of};
 use draft_folder::{Folder, Said, TargetsRead, held_said, layout_in, target_of_layout, version_in};
 use drafting::{draft_snapshot, draft_timestamp};
 use metadata::{Kind, Moment};
+use show_limits::put_draft;
 use show_rows::lacks_targets;
 use std::alloc::Global;
 use std::io::Write;
@@ -51,8 +52,8 @@ fn draft_next_timestamp<E: Write>(
     let given = asked.expires.as_deref();
     let terms = terms_of(alloc, given, before.latest(), TIMESTAMP_DAYS, now)?;
     let draft = draft_timestamp(alloc, before.held(), before.begun(), terms, version);
-    let draft = draft_or_fault(alloc, draft, "timestamp", notes)?;
-    folder.put_draft("timestamp", &draft, notes)
+    let draft = document_or_fault(alloc, draft, "timestamp", notes)?;
+    put_draft(alloc, folder, "timestamp", &draft, notes)
 }
 
 /// Whether the drafted root is one behind the held one that a repository forgets its timestamp, its snapshot and its targets metadata by.
@@ -174,8 +175,8 @@ fn draft_next_snapshot<E: Write>(
     let given = asked.expires.as_deref();
     let terms = terms_of(alloc, given, before.latest(), SNAPSHOT_DAYS, now)?;
     let draft = draft_snapshot(alloc, before.held(), before.begun(), terms, listed);
-    let draft = draft_or_fault(alloc, draft, "snapshot", notes)?;
-    folder.put_draft("snapshot", &draft, notes)?;
+    let draft = document_or_fault(alloc, draft, "snapshot", notes)?;
+    put_draft(alloc, folder, "snapshot", &draft, notes)?;
     version_in(alloc, "snapshot", &draft)
 }
 

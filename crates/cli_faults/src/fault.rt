@@ -28,6 +28,8 @@ pub enum Slip {
     Held,
     /// No key, or more than one, is called so, or bytes are no public key.
     Key,
+    /// The document would have more bytes than it may, with the signatures that it wants.
+    Long,
     /// Nothing to do: no document that the key may sign, or no draft.
     Nothing,
     /// Documents that a snapshot or timestamp is over have too few signatures.
@@ -58,6 +60,7 @@ impl Slip {
             Slip::File => "file",
             Slip::Held => "held",
             Slip::Key => "key",
+            Slip::Long => "long",
             Slip::Nothing => "nothing",
             Slip::Order => "order",
             Slip::Other => "other",

@@ -7,5 +7,5 @@ mod notes;
 
 pub use denials::Denial;
 pub use fault::{Fault, Slip, file_fault};
-pub use moments::{expiry_of, moment};
+pub use moments::{expiry_of, moment, warn_of_clock};
 pub use notes::{MOST_DENIALS, Notes};

@@ -5,7 +5,7 @@ ghost use Rattle.cli_get.specs.Getting.{IsGranted};
 use crate::below::is_of_database;
 use crate::report::{Got, get_as_json};
 use cli_client::{Call, Remote, Turn, is_answer, see_folders, tell_wrongs, told};
-use cli_faults::{Denial, Fault, Notes, moment};
+use cli_faults::{Denial, Fault, Notes, moment, warn_of_clock};
 use cli_files::{OWNER_ALONE, print, put_in_place, unused};
 use cli_repository::{Store, Work, worked};
 use cli_tasks::{Getting, Server};
@@ -27,6 +27,7 @@ pub fn get<'a, O: Write, E: Write>(
     notes: &mut Notes<'_, E>,
 ) -> Result<(), Fault> {
     let now = moment(rt, at)?;
+    warn_of_clock(now, notes);
     let path = target_path(rt, asked.path.as_str(), notes)?;
     see_folders(rt, &asked.server, notes)?;
     let call = Call::begun(rt, asked.within)?;

@@ -4,13 +4,14 @@ use cli_faults::{Fault, Notes, Slip};
 use cli_files::{FILE_LIMIT, read_at_most};
 use cli_tasks::{Drafting, LayoutDraft};
 use draft_commands::{
-    Before, Known, RuleRead, TARGETS_DAYS, addition_of, digest_in, draft_or_fault, items_in,
-    kept_terms, rule_of, see_unsigned, terms_of, usage,
+    Before, Known, RuleRead, TARGETS_DAYS, addition_of, digest_in, document_or_fault,
+    draft_or_fault, items_in, kept_terms, rule_of, see_unsigned, terms_of, usage,
 };
 use draft_folder::{Folder, chain_name, layout_in, layout_name, layout_path, link_path, read_said};
 use drafting::{Addition, Rule, TargetsChanges, draft_targets};
 use keys_roles::key_id;
 use metadata::{Kind, Moment};
+use show_limits::put_draft;
 use std::alloc::{AllocError, Global};
 use std::io::Write;
 
@@ -426,7 +427,7 @@ impl Chain<'_> {
             remove: &[],
         };
         let draft = draft_targets(self.alloc(), before.held(), Some(begun), terms, &listed);
-        let draft = draft_or_fault(self.alloc(), draft, self.role, notes)?;
+        let draft = document_or_fault(self.alloc(), draft, self.role, notes)?;
         self.refer_in(&draft, reference, notes)
     }
 
@@ -438,7 +439,7 @@ impl Chain<'_> {
         notes: &mut Notes<'_, E>,
     ) -> Result<(), Fault> {
         let draft = with_reference(self.alloc(), draft, self.target, reference);
-        let draft = draft_or_fault(self.alloc(), draft, self.role, notes)?;
-        self.folder.put_draft(self.role, &draft, notes)
+        let draft = document_or_fault(self.alloc(), draft, self.role, notes)?;
+        put_draft(self.alloc(), self.folder, self.role, &draft, notes)
     }
 }

@@ -1,6 +1,7 @@
 //! What there being no draft comes to.
 use cli_faults::{Fault, Notes, Slip};
-use drafting::DraftFault;
+use drafting::{Denial, DraftFault};
+use show_limits::warn_too_long;
 use std::alloc::Global;
 use std::io::Write;
 
@@ -18,6 +19,20 @@ pub fn draft_or_fault<T: Drop, E: Write>(
             Err(fault_of(alloc, fault))
         }
     }
+}
+
+/// The same of a role's document: one that is too long before it is signed is refused as one that would be too long with its signatures.
+pub fn document_or_fault<E: Write>(
+    alloc: Global,
+    done: Result<Vec<u8>, DraftFault>,
+    role: &str,
+    notes: &mut Notes<'_, E>,
+) -> Result<Vec<u8>, Fault> {
+    if let Err(DraftFault::Unfit(Denial::TooLong)) = &done {
+        warn_too_long(alloc, role, notes);
+        return Err(Fault::Slip(Slip::Long));
+    }
+    draft_or_fault(alloc, done, role, notes)
 }
 
 fn fault_of(alloc: Global, fault: DraftFault) -> Fault {

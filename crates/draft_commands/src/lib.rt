@@ -13,7 +13,7 @@ mod spreading;
 mod terms;
 
 pub use adding::{addition_of, digest_in};
-pub use drafting_faults::{draft_or_fault, usage};
+pub use drafting_faults::{document_or_fault, draft_or_fault, usage};
 pub use keys::{Known, RuleRead, items_in, key_in_file, last_segment, rule_of};
 pub use listing::{TARGETS_DAYS, draft_listing};
 pub use messages::{draft_there, print_message};

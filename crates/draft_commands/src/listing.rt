@@ -1,7 +1,7 @@
 //! `draft targets`.
 use crate::adding::Adding;
 use crate::delegating::{DelegationRead, bins_said, delegations_of, lent};
-use crate::drafting_faults::{draft_or_fault, usage};
+use crate::drafting_faults::{document_or_fault, usage};
 use crate::keys::Known;
 use crate::saving::Before;
 use crate::spreading::spread;
@@ -12,6 +12,7 @@ use cli_tasks::{Drafting, TargetsDraft};
 use draft_folder::Folder;
 use drafting::{Addition, DraftFault, TargetsChanges, Terms, draft_targets};
 use metadata::{Kind, Moment, RoleName};
+use show_limits::put_draft;
 use std::io::Write;
 
 // The days that a first one is valid.
@@ -91,7 +92,7 @@ impl Next<'_> {
         let (held, begun) = (self.before.held(), self.before.begun());
         match draft_targets(self.rt.alloc(), held, begun, self.terms, &listed) {
             Err(DraftFault::Unlisted(at)) => Err(unlisted(&self.told.remove, at, notes)),
-            draft => draft_or_fault(self.rt.alloc(), draft, self.role, notes),
+            draft => document_or_fault(self.rt.alloc(), draft, self.role, notes),
         }
     }
 
@@ -103,10 +104,10 @@ impl Next<'_> {
         notes: &mut Notes<'_, E>,
     ) -> Result<(), Fault> {
         if read.is_empty() && self.told.undelegate.is_empty() {
-            return self.folder.put_draft(self.role, draft, notes);
+            return put_draft(self.rt.alloc(), self.folder, self.role, draft, notes);
         }
         let next = self.delegating(draft, read, notes)?;
-        self.folder.put_draft(self.role, &next, notes)
+        put_draft(self.rt.alloc(), self.folder, self.role, &next, notes)
     }
 
     fn delegating<E: Write>(
@@ -122,7 +123,7 @@ impl Next<'_> {
         };
         let held = self.before.held();
         let next = draft_delegations(self.rt.alloc(), held, Some(draft), self.terms, &changes);
-        draft_or_fault(self.rt.alloc(), next, self.role, notes)
+        document_or_fault(self.rt.alloc(), next, self.role, notes)
     }
 }
 

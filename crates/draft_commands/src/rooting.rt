@@ -1,5 +1,5 @@
 //! `draft root`.
-use crate::drafting_faults::{draft_or_fault, usage};
+use crate::drafting_faults::{document_or_fault, usage};
 use crate::keys::{Known, RuleRead, rule_of};
 use crate::saving::Before;
 use crate::terms::terms_of;
@@ -8,6 +8,7 @@ use cli_tasks::Drafting;
 use draft_folder::Folder;
 use drafting::{Rule, TopRole, draft_root};
 use metadata::{Kind, Moment};
+use show_limits::put_draft;
 use std::alloc::AllocError;
 use std::io::Write;
 
@@ -60,8 +61,8 @@ fn put_root<E: Write>(
     let terms = terms_of(rt.alloc(), given, before.latest(), ROOT_DAYS, now)?;
     let rules = lent(rt, read)?;
     let draft = draft_root(rt.alloc(), before.held(), before.begun(), terms, &rules);
-    let draft = draft_or_fault(rt.alloc(), draft, "root", notes)?;
-    folder.put_draft("root", &draft, notes)
+    let draft = document_or_fault(rt.alloc(), draft, "root", notes)?;
+    put_draft(rt.alloc(), folder, "root", &draft, notes)
 }
 
 fn lent<'a>(

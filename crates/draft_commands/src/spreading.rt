@@ -1,6 +1,6 @@
 //! `draft targets --spread`: each target in the role that covers it.
 use crate::adding::Adding;
-use crate::drafting_faults::draft_or_fault;
+use crate::drafting_faults::document_or_fault;
 use crate::listing::TARGETS_DAYS;
 use crate::saving::{Before, see_unsigned};
 use crate::terms::terms_of;
@@ -11,6 +11,7 @@ use draft_folder::{Folder, Sought, roles_of};
 use drafting::{Addition, TargetsChanges, draft_targets};
 use limits::BLOB_LIMIT;
 use metadata::{Digest, Moment, TargetPath, digest_of};
+use show_limits::{put_draft, see_room};
 use std::alloc::{AllocError, Global};
 use std::io::Write;
 
@@ -52,9 +53,12 @@ pub(crate) fn spread<E: Write>(
     share_added(rt.alloc(), folder, added, &mut shares, notes)?;
     see_some(&shares, told, notes)?;
     let made = drafts_of(rt, folder, asked, shares, now, notes)?;
+    for one in &made {
+        see_room(rt.alloc(), folder, one.role.as_str(), &one.draft, notes)?;
+    }
     take_signatures_off(rt.alloc(), folder, &made, notes)?;
     put_files(rt, folder, &files, notes)?;
-    put_drafts(folder, &made, notes)
+    put_drafts(rt.alloc(), folder, &made, notes)
 }
 
 // Shares out what is removed. What no role lists is warned of.
@@ -234,7 +238,7 @@ fn draft_of<E: Write>(
         remove: &share.remove,
     };
     let draft = draft_targets(alloc, before.held(), before.begun(), terms, &changes);
-    let draft = draft_or_fault(alloc, draft, role, notes)?;
+    let draft = document_or_fault(alloc, draft, role, notes)?;
     Ok(Made {
         role: String::from_str(alloc, role)?,
         before,
@@ -275,12 +279,13 @@ fn put_files<E: Write>(
 }
 
 fn put_drafts<E: Write>(
+    alloc: Global,
     folder: Folder<'_>,
     made: &[Made],
     notes: &mut Notes<'_, E>,
 ) -> Result<(), Fault> {
     for one in made {
-        folder.put_draft(one.role.as_str(), &one.draft, notes)?;
+        put_draft(alloc, folder, one.role.as_str(), &one.draft, notes)?;
     }
     Ok(())
 }

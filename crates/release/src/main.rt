@@ -3,6 +3,7 @@
 
 mod help;
 mod init;
+mod lengths;
 mod printing;
 mod prune;
 mod publish;

@@ -19,6 +19,7 @@ use cli_tasks::Place;
 use draft_folder::Folder;
 use http_messages::accepted_body;
 use metadata::Moment;
+use show_limits::warn_near;
 use sqlite::Alter;
 use std::alloc::Global;
 use std::io::Write;
@@ -242,6 +243,7 @@ impl Work for Offering<'_> {
                 match &reply {
                     Reply::Batch { same, .. } => {
                         batch.warn_after(alloc, held, before, *same, &self.db, notes);
+                        warn_near(alloc, repository.held(), &self.db, notes);
                     }
                     Reply::Denied(denial, Some(index)) => {
                         batch.tell(alloc, held, denial.number(), *index, notes);

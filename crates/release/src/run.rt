@@ -4,6 +4,7 @@ ghost use Rattle.cli_faults.specs.Statuses.{EndsWith, status_of};
 
 use crate::help::{denial_asked, page_asked};
 use crate::init::init;
+use crate::lengths::tell_lengths;
 use crate::prune::prune;
 use crate::publish::{publish, publish_in_folder};
 use crate::put::put;
@@ -77,7 +78,16 @@ fn perform<O: Write, E: Write>(
         return print(out, &page, &mut Notes::new(rt.alloc(), err, false));
     }
     let task = task(rt.alloc(), words)?;
-    perform_task(rt, &task, out, err)
+    let done = perform_task(rt, &task, out, err);
+    if let Err(fault) = &done {
+        tell_lengths(
+            rt,
+            &task,
+            fault,
+            &mut Notes::new(rt.alloc(), err, task.verbose),
+        );
+    }
+    done
 }
 
 fn perform_task<O: Write, E: Write>(

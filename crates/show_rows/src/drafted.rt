@@ -11,7 +11,8 @@ use keys_roles::KeyId;
 use metadata::{Kind, Moment, SignedFile, read_signed};
 use path_patterns::Digest;
 use plain_text::{is_plain_name, plain};
-use show_texts::{DraftRow, Drafts, Growing, LayoutRow, Next, RuleOf, RuleRow, StepRow};
+use show_limits::bytes_wanted;
+use show_texts::{DraftRow, Drafts, Growing, LayoutRow, Next, RuleOf, RuleRow, StepRow, Used};
 use std::alloc::{AllocError, Global};
 use std::io::Write;
 
@@ -136,8 +137,9 @@ impl Looking<'_> {
         let changes = changes_of(self.alloc, held.as_deref(), &bytes, notes.are_told())?;
         let rules = self.targets.rules(role, notes)?;
         self.is_waiting = self.targets.unfinished_layout(&said, notes)?.is_some();
+        let length = bytes_wanted(self.alloc, &rules, &bytes)?;
         let rules = self.signers_in(&rules, &bytes)?;
-        self.put_draft(role, version, changes, &said, rules)
+        self.put_draft(role, version, changes, &said, rules, length)
     }
 
     // Targets metadata that list a layout or a link otherwise than it stands by now are drafted again before they are signed.
@@ -166,6 +168,7 @@ impl Looking<'_> {
         changes: Vec<String>,
         said: &Said,
         rules: Vec<RuleRow>,
+        bytes: Used,
     ) -> Result<(), Fault> {
         let role = String::from_str(self.alloc, role)?;
         self.shown.drafts.push(DraftRow {
@@ -175,6 +178,7 @@ impl Looking<'_> {
             expires: said.expires.map(|expires| expires.seconds()),
             changes,
             rules,
+            bytes,
         })?;
         Ok(())
     }

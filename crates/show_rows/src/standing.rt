@@ -8,6 +8,7 @@ use cli_repository::{Store, Work, worked};
 use cli_tasks::Showing;
 use keys_roles::KeyId;
 use metadata::Moment;
+use show_limits::limits_of;
 use show_texts::{Days, Overview, as_bars, as_columns, as_json, as_page};
 use sqlite::Alter;
 use std::alloc::{AllocError, Global};
@@ -17,8 +18,8 @@ use std::io::{IsTerminal, Write};
 const DUE: u64 = 7;
 
 /// Shows what a database holds, as columns, on a terminal with bars, or as JSON; and where a file is given, writes a page. Where something
-/// expires within the days that are given, or the leaves of a key, or of all keys of which any one meets a rule, are a quarter or fewer, that is
-/// the answer; before it what denies the target that is asked for.
+/// expires within the days that are given, or the leaves of a key, or of all keys of which any one meets a rule, are a quarter or fewer, or three
+/// quarters of a limit or more are used, that is the answer; before it what denies the target that is asked for.
 pub fn show_standing<'a, O: Write, E: Write>(
     rt: &HostRuntime,
     db: &str,
@@ -61,6 +62,7 @@ impl Work for Looked<'_> {
         _notes: &mut Notes<'_, E>,
     ) -> Result<(), Fault> {
         self.looking.look(repository)?;
+        self.looking.shown.limits = limits_of(repository.held());
         if let Some(path) = self.asked.paths.first() {
             let (row, denial) = look_for(
                 self.looking.alloc,
@@ -114,7 +116,48 @@ fn end<E: Write>(alloc: Global, shown: &Overview, notes: &mut Notes<'_, E>) -> R
             notes.fault(&row.role, &"its keys have few leaves left");
         }
     }
-    if is_due { Err(Fault::Due) } else { Ok(()) }
+    let are_near = are_limits_near(alloc, shown, notes)?;
+    let are_long = are_documents_long(alloc, shown, notes)?;
+    if is_due || are_near || are_long {
+        Err(Fault::Due)
+    } else {
+        Ok(())
+    }
+}
+
+// Whether three quarters or more are used of a limit of the repository. Each is told.
+fn are_limits_near<E: Write>(
+    alloc: Global,
+    shown: &Overview,
+    notes: &mut Notes<'_, E>,
+) -> Result<bool, AllocError> {
+    let mut are_near = false;
+    for (name, used) in shown.limits.named() {
+        if used.is_near() {
+            are_near = true;
+            let told = format!(in alloc; "{used} are used")?;
+            notes.fault(&name, &told);
+        }
+    }
+    Ok(are_near)
+}
+
+// Whether a document has three quarters or more of the bytes that it may have. Each is told.
+fn are_documents_long<E: Write>(
+    alloc: Global,
+    shown: &Overview,
+    notes: &mut Notes<'_, E>,
+) -> Result<bool, AllocError> {
+    let mut are_long = false;
+    for row in &shown.rows {
+        if row.bytes.is_near() {
+            are_long = true;
+            let bytes = row.bytes;
+            let told = format!(in alloc; "it has {bytes} bytes")?;
+            notes.fault(&row.role, &told);
+        }
+    }
+    Ok(are_long)
 }
 
 // Why a document is due, by the days that it has left.

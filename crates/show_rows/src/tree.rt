@@ -7,7 +7,8 @@ use draft_folder::{Said, SaidRule, read_said};
 use keys_roles::KeyId;
 use metadata::{Moment, read_signed};
 use path_patterns::metadata_name;
-use show_texts::{Covers, Growing, KeyRow, Overview, Row};
+use show_limits::document_bytes;
+use show_texts::{Covers, Growing, KeyRow, Limits, Overview, Row};
 use sqlite::Alter;
 use std::alloc::{AllocError, Global};
 
@@ -38,6 +39,7 @@ impl<'a> Looking<'a> {
                 now: now.seconds(),
                 due,
                 rows: Vec::new(alloc),
+                limits: Limits::default(),
                 path: None,
             },
             leaves,
@@ -63,7 +65,7 @@ impl<'a> Looking<'a> {
         root: &[u8],
     ) -> Result<(), Fault> {
         let said = read_said(self.alloc, "root", root)?;
-        self.put_top(root, &said, "root", &said)?;
+        self.put_top(root, &said, "root", &said, root.len())?;
         let Some(timestamp) = file_of(repository, "timestamp.json", self.now) else {
             return Ok(());
         };
@@ -74,7 +76,7 @@ impl<'a> Looking<'a> {
             &said,
             stamp.named("snapshot").unwrap_or(0),
         )?;
-        self.put_top(root, &said, "timestamp", &stamp)
+        self.put_top(root, &said, "timestamp", &stamp, timestamp.len())
     }
 
     fn look_at_snapshot<S: Alter>(
@@ -93,14 +95,21 @@ impl<'a> Looking<'a> {
             let row = self.row_of(root, rule, 0)?;
             self.look_at_roles(repository, &snapshot, row)?;
         }
-        self.put_top(root, rules, "snapshot", &snapshot)
+        self.put_top(root, rules, "snapshot", &snapshot, bytes.len())
     }
 
-    // Puts the row of one of the four roles of a root.
-    fn put_top(&mut self, root: &[u8], rules: &Said, role: &str, said: &Said) -> Result<(), Fault> {
+    // Puts the row of one of the four roles of a root, whose document has so many bytes.
+    fn put_top(
+        &mut self,
+        root: &[u8],
+        rules: &Said,
+        role: &str,
+        said: &Said,
+        bytes: usize,
+    ) -> Result<(), Fault> {
         if let Some(rule) = rules.rule(role) {
             let row = self.row_of(root, rule, 0)?;
-            self.put(row, said)?;
+            self.put(row, said, bytes)?;
         }
         Ok(())
     }
@@ -154,7 +163,7 @@ impl<'a> Looking<'a> {
     fn put_role(&mut self, row: Row, bytes: &[u8], waiting: &mut Vec<Row>) -> Result<(), Fault> {
         let said = read_said(self.alloc, "targets", bytes)?;
         let depth = row.depth.saturating_add(1);
-        self.put(row, &said)?;
+        self.put(row, &said, bytes.len())?;
         for rule in said.rules.iter().rev() {
             let row = self.row_of(bytes, rule, depth)?;
             waiting.push(row)?;
@@ -162,11 +171,12 @@ impl<'a> Looking<'a> {
         Ok(())
     }
 
-    fn put(&mut self, row: Row, said: &Said) -> Result<(), AllocError> {
+    fn put(&mut self, row: Row, said: &Said, bytes: usize) -> Result<(), AllocError> {
         let mut row = row;
         row.version = said.version;
         row.expires = said.expires.map(|expires| expires.seconds());
         row.is_held = true;
+        row.bytes = document_bytes(bytes);
         row.targets = said.files.len();
         row.layouts = said.files.iter().filter(|file| file.has_layout).count();
         self.shown.rows.push(row)?;
@@ -198,6 +208,7 @@ impl<'a> Looking<'a> {
                 is_terminating: rule.is_terminating,
             },
             is_held: false,
+            bytes: document_bytes(0),
             targets: 0,
             layouts: 0,
         })

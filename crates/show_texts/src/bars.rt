@@ -1,16 +1,18 @@
 //! Bars and colour, as a terminal gets them.
 use crate::chain::draw_steps;
+use crate::colours::{GREEN, PLAIN, RED, in_order};
 use crate::columns::say_path;
 use crate::days::say_days;
+use crate::limits::draw_limits;
 use crate::rows::{KeyRow, Leaves, Overview, Row, say_rest};
-use crate::writing::{GREEN, PLAIN, RED, Text, in_order};
+use growing_texts::Text;
 use std::alloc::{AllocError, Global};
 
 /// So many parts has a bar.
 pub(crate) const PARTS: u64 = 8;
 
 /// The rows as a tree with bars: the days left, red where they are due, and the leaves of each key, red where a quarter or fewer are left;
-/// then the same rows by expiry, the nearest first, and what becomes of the target that is asked for.
+/// then the same rows by expiry, the nearest first, how much of its limits is used, and what becomes of the target that is asked for.
 pub fn as_bars(alloc: Global, shown: &Overview) -> Result<Vec<u8>, AllocError> {
     let mut text = Text::new(alloc);
     for row in &shown.rows {
@@ -22,6 +24,7 @@ pub fn as_bars(alloc: Global, shown: &Overview) -> Result<Vec<u8>, AllocError> {
             say_expiry(&mut text, shown, row);
         }
     }
+    draw_limits(&mut text, shown);
     if let Some(path) = &shown.path {
         text.say(if path.is_granted { GREEN } else { RED });
         say_path(&mut text, path);
@@ -97,7 +100,8 @@ fn say_leaves(text: &mut Text, key: &KeyRow, is_alone: bool) {
     }
 }
 
-fn say_bar(text: &mut Text, parts: u64, is_red: bool) {
+/// A bar of so many parts.
+pub(crate) fn say_bar(text: &mut Text, parts: u64, is_red: bool) {
     text.say(if is_red { RED } else { GREEN });
     for part in 0..PARTS {
         text.say(if part < parts { "#" } else { "." });

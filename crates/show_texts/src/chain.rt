@@ -1,6 +1,7 @@
 //! The chain of a layout: its steps, each with its keys and links.
+use crate::colours::{GREEN, PLAIN, RED};
 use crate::names::{KeyWords, json_keys, say_keys};
-use crate::writing::{GREEN, PLAIN, RED, Text};
+use growing_texts::Text;
 
 /// A step of a layout: its name, how many links of which keys it has to have, and how many are there.
 #[derive(Drop)]

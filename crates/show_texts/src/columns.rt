@@ -1,17 +1,20 @@
 //! Plain columns, as a pipe gets them.
 use crate::chain::say_steps;
 use crate::days::say_days;
+use crate::limits::say_limits;
 use crate::rows::{KeyRow, Leaves, Overview, PathRow, Row, say_rest};
-use crate::writing::Text;
+use growing_texts::Text;
 use std::alloc::{AllocError, Global};
 
 /// The rows as columns: role, version, days left, rule, keys with their leaves, and those of several together where any one of them meets the
-/// rule, what is delegated to it and what else is said of it; after them what becomes of the target that is asked for.
+/// rule, what is delegated to it and what else is said of it; after them how much of its limits is used, a line each, and what becomes of the
+/// target that is asked for.
 pub fn as_columns(alloc: Global, shown: &Overview) -> Result<Vec<u8>, AllocError> {
     let mut text = Text::new(alloc);
     for row in &shown.rows {
         say_row(&mut text, shown, row);
     }
+    say_limits(&mut text, shown);
     if let Some(path) = &shown.path {
         say_path(&mut text, path);
     }

@@ -1,5 +1,5 @@
 //! How long something has left.
-use crate::writing::Text;
+use growing_texts::Text;
 
 /// The whole days that something has left; or for how many days it has expired, of which the last may have begun alone, so that it is 1 or more;
 /// or neither, where it says no moment.

@@ -1,8 +1,9 @@
 //! What a folder of drafts has.
 use crate::chain::StepRow;
 use crate::days::Days;
+use crate::limits::Used;
 use crate::names::{DenialRow, KeyWords, say_denial};
-use crate::writing::Text;
+use growing_texts::Text;
 
 /// The document that has a rule: its role and its version.
 #[derive(Drop)]
@@ -29,7 +30,7 @@ impl RuleRow {
 }
 
 /// A draft: its role, its version and the held one, 0 where none is held, when it expires in seconds since 1970-01-01T00:00:00Z, what it
-/// changes, a line each, and the rules over it.
+/// changes, a line each, the rules over it, and how many bytes it has with the signatures that these still want.
 #[derive(Drop)]
 pub struct DraftRow {
     pub role: String,
@@ -38,6 +39,7 @@ pub struct DraftRow {
     pub expires: Option<u64>,
     pub changes: Vec<String>,
     pub rules: Vec<RuleRow>,
+    pub bytes: Used,
 }
 
 /// A layout on its way: its target, its steps, and the rules over it.

@@ -2,8 +2,9 @@
 use crate::chain::json_steps;
 use crate::days::json_days;
 use crate::folder::{Answer, DraftRow, Drafts, LayoutRow, Next, RuleRow};
+use crate::limits::json_used;
 use crate::names::{json_denial, json_keys};
-use crate::writing::Text;
+use growing_texts::Text;
 use std::alloc::{AllocError, Global};
 
 /// One object with the members `answer`, where a database was looked at, `draft_folder`, `layouts`, `links`, `next` and `now`, and a line end.
@@ -42,7 +43,8 @@ fn say_answer(text: &mut Text, answer: Answer) {
 }
 
 fn say_draft(text: &mut Text, shown: &Drafts, draft: &DraftRow) {
-    text.list("{\"changes\":", &draft.changes);
+    json_used(text, "{\"bytes\":", draft.bytes);
+    text.list(",\"changes\":", &draft.changes);
     json_days(text, ",\"days\":", shown.days(draft));
     text.number_or_null(",\"expires\":", draft.expires);
     text.number(",\"held\":", u64::from(draft.held));

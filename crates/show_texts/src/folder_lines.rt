@@ -1,12 +1,14 @@
 //! A folder of drafts as lines.
 use crate::chain::{draw_steps, say_steps};
+use crate::colours::{GREEN, PLAIN, RED, YELLOW};
 use crate::days::say_expiry;
 use crate::folder::{Answer, DraftRow, Drafts, LayoutRow, RuleRow, say_next};
+use crate::limits::say_limit;
 use crate::names::say_keys;
-use crate::writing::{GREEN, PLAIN, RED, Text, YELLOW};
+use growing_texts::Text;
 use std::alloc::{AllocError, Global};
 
-/// The drafts with what they change and how many have signed, the layouts with their steps, the links, what is to be done next, and `ready` where
+/// The drafts with what they change, how many have signed, and how long they are where that is near what they may be, the layouts with their steps, the links, what is to be done next, and `ready` where
 /// `publish` would be taken. On a terminal what is new is green, what is gone red and what is another yellow, who has signed stands after a mark and who has not after a gap, and a layout is drawn as its chain.
 pub fn drafts_as_lines(
     alloc: Global,
@@ -52,6 +54,22 @@ fn say_draft(text: &mut Text, shown: &Drafts, draft: &DraftRow, on_terminal: boo
         say_change(text, change.as_str(), on_terminal);
     }
     say_rules(text, &draft.rules, on_terminal);
+    say_bytes(text, draft, on_terminal);
+}
+
+// How long a draft will be, where that is near what it may be. On a terminal it is red.
+fn say_bytes(text: &mut Text, draft: &DraftRow, on_terminal: bool) {
+    if !draft.bytes.is_near() {
+        return;
+    }
+    if on_terminal {
+        text.say(RED);
+    }
+    text.say("  ");
+    say_limit(text, draft.role.as_str(), draft.bytes, " bytes");
+    if on_terminal {
+        text.say(PLAIN);
+    }
 }
 
 fn say_change(text: &mut Text, change: &str, on_terminal: bool) {

@@ -4,7 +4,7 @@ use crate::days::say_days;
 use crate::folder::{Answer, DraftRow, Drafts, LayoutRow, Next, RuleRow, say_answer};
 use crate::names::KeyWords;
 use crate::page::HEAD;
-use crate::writing::Text;
+use growing_texts::Text;
 use std::alloc::{AllocError, Global};
 
 const DRAFTS: &str =
@@ -47,7 +47,17 @@ fn say_draft(text: &mut Text, shown: &Drafts, draft: &DraftRow) {
     }
     text.say("</td><td>");
     say_rules(text, &draft.rules);
+    say_bytes(text, draft);
     text.say("</td></tr>\n");
+}
+
+// How long a draft will be, where that is near what it may be.
+fn say_bytes(text: &mut Text, draft: &DraftRow) {
+    if draft.bytes.is_near() {
+        text.number("<div class=\"denied\">", draft.bytes.count);
+        text.number(" of ", draft.bytes.most);
+        text.say(" bytes</div>");
+    }
 }
 
 fn say_change(text: &mut Text, change: &str) {

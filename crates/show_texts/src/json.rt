@@ -1,16 +1,18 @@
 //! The same facts as JSON.
 use crate::chain::json_steps;
 use crate::days::json_days;
+use crate::limits::json_limits;
 use crate::names::json_denial;
 use crate::rows::{KeyRow, Overview, PathRow, ReferenceRow, Row};
 use crate::targets::json_listed;
-use crate::writing::Text;
+use growing_texts::Text;
 use std::alloc::{AllocError, Global};
 
-/// One object with the members `now`, `rows` and, where a target is asked for, `target`, and a line end.
+/// One object with the members `limits`, `now`, `rows` and, where a target is asked for, `target`, and a line end.
 pub fn as_json(alloc: Global, shown: &Overview) -> Result<Vec<u8>, AllocError> {
     let mut text = Text::new(alloc);
-    text.number("{\"now\":", shown.now);
+    json_limits(&mut text, "{\"limits\":", shown);
+    text.number(",\"now\":", shown.now);
     text.say(",\"rows\":[");
     for (index, row) in shown.rows.iter().enumerate() {
         text.comma(index);

@@ -1,5 +1,5 @@
 //! Keys and denials, as rows have them.
-use crate::writing::Text;
+use growing_texts::Text;
 
 /// A key: the digits of its id, what a document calls it, if one does, whether the draft alone does so, and the words by which lines have it.
 #[derive(Drop)]

@@ -1,9 +1,11 @@
 //! A page that stands alone: no script, nothing that is fetched.
 use crate::bars::{expiries, parts_of_days, parts_of_leaves};
 use crate::chain::page_steps;
+use crate::colours::in_order;
 use crate::days::say_days;
+use crate::limits::page_limits;
 use crate::rows::{Covers, KeyRow, Leaves, Overview, PathRow, Row};
-use crate::writing::{Text, in_order};
+use growing_texts::Text;
 use std::alloc::{AllocError, Global};
 
 pub(crate) const HEAD: &str = concat!(
@@ -24,8 +26,10 @@ const TREE: &str =
 
 const EXPIRY: &str = "<h2>By expiry</h2>\n<table id=\"expiry\">\n";
 
-/// The page: the tree of the documents with bars of the days and of the leaves that are left, the same by expiry, and what becomes of the
-/// target that is asked for.
+const LIMITS: &str = "<h2>Limits</h2>\n<table id=\"limits\">\n";
+
+/// The page: the tree of the documents with bars of the days and of the leaves that are left, the same by expiry, how much of its limits is used,
+/// and what becomes of the target that is asked for.
 pub fn as_page(alloc: Global, shown: &Overview) -> Result<Vec<u8>, AllocError> {
     let mut text = Text::new(alloc);
     text.say(HEAD);
@@ -40,6 +44,9 @@ pub fn as_page(alloc: Global, shown: &Overview) -> Result<Vec<u8>, AllocError> {
             say_expiry(&mut text, shown, row);
         }
     }
+    text.say("</table>\n");
+    text.say(LIMITS);
+    page_limits(&mut text, shown);
     text.say("</table>\n");
     if let Some(path) = &shown.path {
         say_path(&mut text, path);

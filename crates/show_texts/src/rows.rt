@@ -1,9 +1,10 @@
 //! What is shown of a repository.
 use crate::chain::StepRow;
 use crate::days::Days;
+use crate::limits::{Limits, Used};
 use crate::names::{DenialRow, KeyWords};
 use crate::targets::ListedRow;
-use crate::writing::Text;
+use growing_texts::Text;
 
 /// A key of a rule: how many of its leaves are left, of how many, where its book was looked at.
 #[derive(Drop)]
@@ -22,7 +23,7 @@ pub struct Covers {
 }
 
 /// A document: its role, how deep it stands below `targets`, its version, when it expires in seconds since 1970-01-01T00:00:00Z, how many of
-/// which keys have to sign, what is delegated to it, whether it is held, and how many targets it lists, and with a layout.
+/// which keys have to sign, what is delegated to it, whether it is held, how many bytes it has, and how many targets it lists, and with a layout.
 #[derive(Drop)]
 pub struct Row {
     pub role: String,
@@ -33,6 +34,7 @@ pub struct Row {
     pub keys: Vec<KeyRow>,
     pub covers: Covers,
     pub is_held: bool,
+    pub bytes: Used,
     pub targets: usize,
     pub layouts: usize,
 }
@@ -60,13 +62,14 @@ pub struct PathRow {
     pub denied: Option<DenialRow>,
 }
 
-/// What is shown: the moment, the rows in the order of the search, and the target that is asked for, if one is. What expires within so many
-/// days is due.
+/// What is shown: the moment, the rows in the order of the search, how much of its limits is used, and the target that is asked for, if one is.
+/// What expires within so many days is due.
 #[derive(Drop)]
 pub struct Overview {
     pub now: u64,
     pub due: u64,
     pub rows: Vec<Row>,
+    pub limits: Limits,
     pub path: Option<PathRow>,
 }
 

@@ -1,6 +1,6 @@
 //! The targets of a repository, as lines and as JSON.
 use crate::names::{DenialRow, json_denial, say_denial};
-use crate::writing::Text;
+use growing_texts::Text;
 use std::alloc::{AllocError, Global};
 
 /// What the metadata that a search finds say of a target: how long it is, the digits of its digest, and the role that lists it.

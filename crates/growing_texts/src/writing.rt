@@ -1,14 +1,6 @@
 //! Text that grows.
 use std::alloc::{AllocError, Global};
 
-pub(crate) const RED: &str = "\x1b[31m";
-
-pub(crate) const GREEN: &str = "\x1b[32m";
-
-pub(crate) const YELLOW: &str = "\x1b[33m";
-
-pub(crate) const PLAIN: &str = "\x1b[0m";
-
 /// Text so far. Once memory has run out it takes nothing more, and there is no text in the end.
 #[derive(Drop)]
 pub struct Text {
@@ -58,14 +50,14 @@ impl Text {
     }
 
     /// Says two parts of a line, and ends it.
-    pub(crate) fn line(&mut self, first: &str, second: &str) {
+    pub fn line(&mut self, first: &str, second: &str) {
         self.say(first);
         self.say(second);
         self.say("\n");
     }
 
     /// Says the text so many times.
-    pub(crate) fn repeat(&mut self, text: &str, times: usize) {
+    pub fn repeat(&mut self, text: &str, times: usize) {
         for _ in 0..times {
             self.say(text);
         }
@@ -77,7 +69,7 @@ impl Text {
     }
 
     /// Says the text as a page has it, and before it what leads to it.
-    pub(crate) fn escaped(&mut self, lead: &str, text: &str) {
+    pub fn escaped(&mut self, lead: &str, text: &str) {
         self.say(lead);
         for byte in text.as_bytes() {
             match *byte {
@@ -106,7 +98,7 @@ impl Text {
     }
 
     /// Says the texts as a list of JSON, and before it what leads to it.
-    pub(crate) fn list(&mut self, lead: &str, items: &[String]) {
+    pub fn list(&mut self, lead: &str, items: &[String]) {
         self.say(lead);
         self.say("[");
         for (index, item) in items.iter().enumerate() {
@@ -117,13 +109,13 @@ impl Text {
     }
 
     /// Says whether something is so as JSON has it, and before it what leads to it.
-    pub(crate) fn flag(&mut self, lead: &str, is_so: bool) {
+    pub fn flag(&mut self, lead: &str, is_so: bool) {
         self.say(lead);
         self.say(if is_so { "true" } else { "false" });
     }
 
     /// Says a number, or that there is none, as JSON has it, and before it what leads to it.
-    pub(crate) fn number_or_null(&mut self, lead: &str, number: Option<u64>) {
+    pub fn number_or_null(&mut self, lead: &str, number: Option<u64>) {
         match number {
             Some(number) => self.number(lead, number),
             None => self.null(lead),
@@ -131,7 +123,7 @@ impl Text {
     }
 
     /// Says a text, or that there is none, as JSON has it, and before it what leads to it.
-    pub(crate) fn quoted_or_null(&mut self, lead: &str, text: Option<&str>) {
+    pub fn quoted_or_null(&mut self, lead: &str, text: Option<&str>) {
         match text {
             Some(text) => self.quoted(lead, text),
             None => self.null(lead),
@@ -144,31 +136,17 @@ impl Text {
     }
 
     /// Says the comma that stands before each item of a list but the first.
-    pub(crate) fn comma(&mut self, index: usize) {
+    pub fn comma(&mut self, index: usize) {
         if index > 0 {
             self.say(",");
         }
     }
 
     /// Says each of the texts as an item of a page's list.
-    pub(crate) fn items(&mut self, items: &[String]) {
+    pub fn items(&mut self, items: &[String]) {
         for item in items {
             self.escaped("<li>", item.as_str());
             self.say("</li>\n");
         }
     }
-}
-
-/// The order of the rows by a number of each, the least first.
-pub(crate) fn in_order(alloc: Global, numbers: &[u64]) -> Result<Vec<usize>, AllocError> {
-    let mut order = Vec::new(alloc);
-    for (index, number) in numbers.iter().enumerate() {
-        order.push((*number, index))?;
-    }
-    order.sort_unstable();
-    let mut indices = Vec::new(alloc);
-    for (_, index) in &order {
-        indices.push(*index)?;
-    }
-    Ok(indices)
 }
