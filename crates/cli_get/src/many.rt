@@ -12,7 +12,7 @@ use crate::below::{is_in_the_way, is_no_folder, is_of_database, put_below};
 use crate::report::{Account, End};
 use crate::wanted::{Wanted, covered, covers_some, see_patterns};
 use cli_client::{Call, Denied, Remote, Turn, see_folders, tell_wrongs, told};
-use cli_faults::{Denial, Fault, Notes, moment};
+use cli_faults::{Denial, Fault, Notes, moment, warn_of_clock};
 use cli_files::{print, unused};
 use cli_repository::{Held, Store, Work, denied_to_all, listed_paths, worked};
 use cli_tasks::{GettingMany, Server};
@@ -42,6 +42,7 @@ pub fn get_many<O: Write, E: Write>(
 ) -> Result<(), Fault> {
     see_patterns(rt.alloc(), &asked.which)?;
     let now = moment(rt, at)?;
+    warn_of_clock(now, notes);
     let wanted = Wanted::read(rt, &asked.which, notes)?;
     see_folders(rt, &asked.server, notes)?;
     if is_no_folder(rt, asked.to.as_str()) {

@@ -38,7 +38,7 @@ pub ended : (count : Count) (share : ℕ) (made : List CodeBin) (numbers rest : 
     → bins_with share (texts_view numbers) (texts_view rest) ≡ [] → AreBins count (bins_view made)
 ended count share made numbers rest is invariant none =
     let all : bins_view made ≡ bins_with share (all_of count) (all_of count) =
-        sym (append-nil (bins_view made)) ∙ ap (λ (bs : List Bin). bins_view made ++ bs) (sym none) ∙ invariant in
+    sym (append-nil (bins_view made)) ∙ ap (λ (bs : List Bin). bins_view made ++ bs) (sym none) ∙ invariant in
     subst (λ (bs : List Bin). AreBins count bs) (sym (all ∙ ap (λ (n : ℕ). bins_with n (all_of count) (all_of count)) is)) (shares count)
 
 pub none_left : (share : ℕ) (numbers rest : List (String Global)) → length numbers ≡ 0 → bins_with share (texts_view numbers) (texts_view rest) ≡ []
@@ -62,7 +62,7 @@ made_one share made bin number others rest own later more own_is later_is is =
     let own_view : texts_view own ≡ take share (texts_view rest) = ap texts_view own_is ∙ sym (take-map string_bytes share rest) in
     let later_view : texts_view later ≡ drop share (texts_view rest) = ap texts_view later_is ∙ sym (drop-map string_bytes share rest) in
     let whole : bin_view bin ≡ record { number = string_bytes number; prefixes = take share (texts_view rest) } =
-        is ∙ ap (λ (ps : List (List ℕ)). record { number = string_bytes number; prefixes = ps }) own_view in
+    is ∙ ap (λ (ps : List (List ℕ)). record { number = string_bytes number; prefixes = ps }) own_view in
     ap (λ (bs : List Bin). bs ++ bins_with share (texts_view others) (texts_view later)) (map-append bin_view made (bin ∷ []))
     ∙ append_assoc (bins_view made) (bin_view bin ∷ []) (bins_with share (texts_view others) (texts_view later))
     ∙ ap (λ (b : Bin). bins_view made ++ b ∷ bins_with share (texts_view others) (texts_view later)) whole
