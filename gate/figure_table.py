@@ -12,7 +12,7 @@ BEGIN, END = "<!-- made by gate/figures --page: begin -->", "<!-- made by gate/f
 # The rows that say how a cost grows, with their sizes.
 OVER_TARGETS, CONNECTIONS = (64, 512, 4096), (4, 16, 64)
 SIZES = {"batch-roles": (16, 32, 64, 127)}
-SIZES |= {name: OVER_TARGETS for name in ("draft", "seal", "sign", "show", "show-list", "export")}
+SIZES |= {name: OVER_TARGETS for name in ("draft", "seal", "sign", "show", "show-list", "export", "get-all")}
 SIZES |= {f"load-{name}": CONNECTIONS for name in ("straight", "proxy", "cached")}
 MONTHS = "January February March April May June July August September October November December".split()
 

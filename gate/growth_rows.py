@@ -91,7 +91,7 @@ def index(scene):
 
 COMMANDS = {
     "draft": "`draft targets --role`", "sign": "`sign --in`, of the bin, then of snapshot and timestamp,", "seal": "`draft seal`", "show": "`show --db`",
-    "show-list": "`show --list`", "export": "`export`",
+    "show-list": "`show --list`", "export": "`export`", "get-all": "`get --all` of an export, by a client that holds none of them,",
 }
 
 
@@ -152,7 +152,12 @@ def daily(place, number, bins):
         "show-list": release("show", "--db", db, "--list", folder=place),
         "export": release("export", "--db", db, "--to", f"files{number}", folder=place),
     }
+    client = ["--db", f"client{number}.db"]
+    release("init", *client, "root.json", folder=place)
+    release("update", *client, "--from", f"files{number}", folder=place)
+    took["get-all"] = release("get", *client, "--from", f"files{number}", "--to", f"got{number}", "--all", folder=place)
     shutil.rmtree(place / f"files{number}")
+    shutil.rmtree(place / f"got{number}")
     return took
 
 
