@@ -17,6 +17,7 @@ pub mod OwnDenials
 pub mod Refused
 pub mod Replied
 pub mod Roots
+pub mod RolesTaken
 pub mod RootsFollow
 pub mod Rounds
 pub mod Runs
