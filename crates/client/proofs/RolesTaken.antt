@@ -1,5 +1,5 @@
 -- Targets metadata that a snapshot lists are offers.
-use Rattle.std.proofs.Common.{◌≡◌, ℕ, Bool, List, Result, refl, subst, sym}
+use Rattle.std.proofs.Common.{◌≡◌, ℕ, Bool, List, Result, subst}
 use Rattle.trust_rules.specs.State.{State}
 use Rattle.store.specs.Standing.{Standing}
 use Rattle.fetch.specs.Source.{Gives}

@@ -1,6 +1,4 @@
-use Rattle.std.proofs.Common.{refl, subst, sym}
 use Rattle.client.specs.Taken.{IsTaking}
-use Rattle.client.specs.WantedViews.{wanted_view}
 use Rattle.client.proofs.Composing.{becomes, rests}
 use Rattle.client.proofs.RolesTaken.{row_runs}
 use Rattle.client.proofs.Runs.{stays}
