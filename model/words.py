@@ -148,7 +148,7 @@ def compare_usage(session, _random):
     drafts = ["draft", "--in", str(session.folder / "never")]
     lines += [[*drafts, "targets", "--spread", *more] for more in (["--role", "dev"], ["--delegate", "a=b:c"], ["--bins", "a=b:4"], ["--terminating"])]
     lines += [[*drafts, "targets", "--spread", "--before", "a"], [*drafts, "targets", "--spread", "--undelegate", "a"], [*drafts, "seal", "--spread"]]
-    lines += [[*drafts, "root", "--bins", "a=b:4"], [*drafts, "targets", "--spread=1"], [*drafts, "targets", "--spread", "--spread"]]
+    lines += [[*drafts, "root", "--bins", "a=b:4"], [*drafts, "targets", "--spread=1"], [*drafts, "root", "--terminating"], [*drafts, "seal", "--terminating"]]
     lines += [[], ["nope"], ["canon"]]
     for words in lines:
         status, output, text = session.run(*words)
