@@ -52,7 +52,7 @@ pub fn get_many<O: Write, E: Write>(
     let task = Task {
         call: Call::begun(rt, asked.within)?,
         asked,
-        now,
+        moment: now,
     };
     let mut gathering = Gathering {
         task,
@@ -85,7 +85,7 @@ struct Gathering<'a, 'o, O: Write> {
 struct Task<'a> {
     call: Call<'a>,
     asked: &'a GettingMany,
-    now: Moment,
+    moment: Moment,
 }
 
 // What became of the paths so far, and where it is printed.
@@ -100,7 +100,7 @@ impl<O: Write> Work for Gathering<'_, '_, O> {
 
     type Done = ();
 
-    ghost does = { λ gathering A _ B _. Updated gathering.task.now A B };
+    ghost does = { λ gathering A _ B _. Updated gathering.task.moment A B };
 
     fn work<S: Alter, E: Write>(
         &mut self,
@@ -134,7 +134,7 @@ impl<'a> Task<'a> {
         ledger: &mut Ledger<'_, O>,
         notes: &mut Notes<'_, E>,
     ) -> Result<Vec<String>, Fault>
-        ensures { Updated self.now.now (seen store.old.kept (state S.Store store.old.conn)) (seen store.new.kept (state S.Store store.new.conn)) }
+        ensures { Updated self.now.moment (seen store.old.kept (state S.Store store.old.conn)) (seen store.new.kept (state S.Store store.new.conn)) }
     {
         match wanted {
             Wanted::Texts(texts) => Ok(texts),
@@ -150,9 +150,9 @@ impl<'a> Task<'a> {
         ledger: &mut Ledger<'_, O>,
         notes: &mut Notes<'_, E>,
     ) -> Result<Vec<String>, Fault>
-        ensures { Updated self.now.now (seen store.old.kept (state S.Store store.old.conn)) (seen store.new.kept (state S.Store store.new.conn)) }
+        ensures { Updated self.now.moment (seen store.old.kept (state S.Store store.old.conn)) (seen store.new.kept (state S.Store store.new.conn)) }
     {
-        match denied_to_all(self.alloc(), store.held(), self.now) {
+        match denied_to_all(self.alloc(), store.held(), self.moment) {
             Ok(None) => self.listed_by_roles(patterns, store, ledger, notes),
             Ok(Some(denial)) => self.denied(denial, ledger, notes),
             Err(error) => Err(Fault::from(error)),
@@ -177,7 +177,7 @@ impl<'a> Task<'a> {
         ledger: &mut Ledger<'_, O>,
         notes: &mut Notes<'_, E>,
     ) -> Result<Vec<String>, Fault>
-        ensures { Updated self.now.now (seen store.old.kept (state S.Store store.old.conn)) (seen store.new.kept (state S.Store store.new.conn)) }
+        ensures { Updated self.now.moment (seen store.old.kept (state S.Store store.old.conn)) (seen store.new.kept (state S.Store store.new.conn)) }
     {
         match self.bring(store, ledger, notes) {
             Ok(()) => chosen(self.alloc(), store.held(), patterns, notes),
@@ -193,12 +193,12 @@ impl<'a> Task<'a> {
         ledger: &mut Ledger<'_, O>,
         notes: &mut Notes<'_, E>,
     ) -> Result<(), Fault>
-        ensures { Updated self.now.now (seen store.old.kept (state S.Store store.old.conn)) (seen store.new.kept (state S.Store store.new.conn)) }
+        ensures { Updated self.now.moment (seen store.old.kept (state S.Store store.old.conn)) (seen store.new.kept (state S.Store store.new.conn)) }
     {
         let (done, turns) = {
             let mut remote = Remote::new(self.call, self.server(), notes);
             let count = remote.count();
-            let done = fetch_roles_by_each(self.alloc(), store, &mut remote, count, self.now);
+            let done = fetch_roles_by_each(self.alloc(), store, &mut remote, count, self.moment);
             (done, remote.take_turns())
         };
         self.brought(done, turns, ledger, notes)
@@ -228,7 +228,7 @@ impl<'a> Task<'a> {
         ledger: &mut Ledger<'_, O>,
         notes: &mut Notes<'_, E>,
     ) -> Result<(), Fault>
-        ensures { Updated self.now.now (seen store.old.kept (state S.Store store.old.conn)) (seen store.new.kept (state S.Store store.new.conn)) }
+        ensures { Updated self.now.moment (seen store.old.kept (state S.Store store.old.conn)) (seen store.new.kept (state S.Store store.new.conn)) }
     {
         let mut rest = texts;
         'texts: while let Some((text, later)) = rest.split_first() {
@@ -257,7 +257,7 @@ impl<'a> Task<'a> {
         ledger: &mut Ledger<'_, O>,
         notes: &mut Notes<'_, E>,
     ) -> Result<(), Fault>
-        ensures { Updated self.now.now (seen store.old.kept (state S.Store store.old.conn)) (seen store.new.kept (state S.Store store.new.conn)) }
+        ensures { Updated self.now.moment (seen store.old.kept (state S.Store store.old.conn)) (seen store.new.kept (state S.Store store.new.conn)) }
     {
         match TargetPath::read(self.alloc(), text) {
             Ok(Some(path)) => self.get_path(&path, store, ledger, notes),
@@ -274,7 +274,7 @@ impl<'a> Task<'a> {
         ledger: &mut Ledger<'_, O>,
         notes: &mut Notes<'_, E>,
     ) -> Result<(), Fault>
-        ensures { Updated self.now.now (seen store.old.kept (state S.Store store.old.conn)) (seen store.new.kept (state S.Store store.new.conn)) }
+        ensures { Updated self.now.moment (seen store.old.kept (state S.Store store.old.conn)) (seen store.new.kept (state S.Store store.new.conn)) }
     {
         stands(store);
         let fetched = self.fetch(path, store, notes);
@@ -293,12 +293,12 @@ impl<'a> Task<'a> {
         Result<Vec<Turn<'a>>, AllocError>,
     )
         ensures { Changes (seen store.old.kept (state S.Store store.old.conn)) (seen store.new.kept (state S.Store store.new.conn))
-            (λ C D. RunsOn IsTaking self.now.now C D
-            × (IsClean (seen store.new.kept (state S.Store store.new.conn)) → IfOk result.0 (λ b. grants D path.now None self.now.now (Ok b.items)))) }
+            (λ C D. RunsOn IsTaking self.now.moment C D
+            × (IsClean (seen store.new.kept (state S.Store store.new.conn)) → IfOk result.0 (λ b. grants D path.now None self.now.moment (Ok b.items)))) }
     {
         let mut remote = Remote::joined(self.call, self.server(), notes);
         let count = remote.count();
-        let done = fetch_by_each(self.alloc(), store, &mut remote, count, path, self.now);
+        let done = fetch_by_each(self.alloc(), store, &mut remote, count, path, self.moment);
         (done, remote.take_turns())
     }
 
@@ -311,7 +311,7 @@ impl<'a> Task<'a> {
         ledger: &mut Ledger<'_, O>,
         notes: &mut Notes<'_, E>,
     ) -> Result<(), Fault>
-        requires { IfOk done (λ bytes. IsGranted path.now self.now.now bytes.items) }
+        requires { IfOk done (λ bytes. IsGranted path.now self.now.moment bytes.items) }
     {
         let turns = turns?;
         tell_wrongs(self.server(), &turns, number_of(&done), notes);
@@ -330,7 +330,7 @@ impl<'a> Task<'a> {
         ledger: &mut Ledger<'_, O>,
         notes: &mut Notes<'_, E>,
     ) -> Result<(), Fault>
-        requires { IsGranted path.now self.now.now bytes.now }
+        requires { IsGranted path.now self.now.moment bytes.now }
     {
         let path = path.as_str();
         if !self.is_put(path, bytes, notes)? {

@@ -124,7 +124,8 @@ impl BookWork for SigningOne<'_, '_, '_, '_> {
         _is_new: bool,
         notes: &mut Notes<'_, E>,
     ) -> Result<Vec<u8>, Fault> {
-        self.judging.look(book, notes)?;
+        let (one, bytes) = (self.judging.one, self.judging.bytes);
+        one.judge(self.judging.judged, book, bytes, notes)?;
         if book.registered(self.judging.judged.signer.top()).is_none() {
             return Err(Fault::UnknownKey);
         }

@@ -6,7 +6,7 @@ use Rattle.cli_get.proofs.many.Task.get_each.Given as goal
 
 -- the texts so far
 abbrev pub invariant-texts : goal.invariant-texts
-invariant-texts g l = Updated l.self.now (seen l.fn.store.kept (state g.S.Store l.fn.store.conn)) (seen l.store.kept (state g.S.Store l.store.conn))
+invariant-texts g l = Updated l.self.moment (seen l.fn.store.kept (state g.S.Store l.fn.store.conn)) (seen l.store.kept (state g.S.Store l.store.conn))
 
 abbrev pub decreases-texts : goal.decreases-texts
 decreases-texts g l = length l.rest
