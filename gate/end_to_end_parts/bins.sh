@@ -161,7 +161,7 @@ targets_are_spread() {
     lists_where dev app
     is_told 'bin-0 1 (held: 0), expires in 90 days'
     is_told 'dev 1 (held: 0), expires in 90 days'
-    signs online && signs bin && signs dev
+    signs online && signs bin --again && signs dev
     draft seal
     signs online
     wants 0 '{"accepted":8,"same":0}\n' '' publish --at $now --db repository.db --in d
@@ -189,7 +189,7 @@ a_spread_goes_on() {
     ! grep -q '"app/2"' "d/$other.json" || fail "a target that was removed"
     rm app/2
     lists_where dev app
-    signs bin
+    signs bin --again
     [ ! -e d/dev.json ] || signs dev
     draft seal
     signs online
@@ -214,7 +214,7 @@ a_spread_that_is_refused() {
     local role
     draft targets --spread --add dev --add app
     role=$(listed_in app/1)
-    signs bin "$role.json"
+    signs bin --again "$role.json"
     echo more >app/1
     echo more >dev/2
     nothing_changes 1 "warning: $role: its draft has signatures; --anew takes them off" 'refused signed' targets --spread --add app --add dev
