@@ -222,7 +222,7 @@ a_spread_that_is_refused() {
     nothing_changes 1 'warning: --spread: no target is added or removed' 'refused nothing' targets --spread
     nothing_changes 1 'warning: app/../x: no target path; PATH=FILE gives a file another one' 'denied 36 BadPath' targets --spread --add app/3 --add app/../x=app/1
     nothing_changes 3 'release: app/none: No such file or directory (os error 2)' 'fault file' targets --spread --add app/3 --add app/none
-    nothing_changes 1 'warning: dev: the draft would be denied' 'denied 1 TooLong' targets --anew --spread $(many_targets)
+    nothing_changes 1 'warning: dev: over 262144 bytes: delegate a part of it: --delegate or --bins' 'refused long' targets --anew --spread $(many_targets)
     draft targets --anew --spread --add app --add dev
     [ "$(ls d/spent)" != '' ] || fail "signatures are gone"
     python3 -c 'import json, sys; assert json.load(open(sys.argv[1]))["signatures"] == []' "d/$role.json" || fail "signatures stay"
