@@ -58,7 +58,7 @@ drafts_are_measured() {
     grep -q '^<ESC>31m  targets 196608 of 262144 bytes !$' "$folder/out" || fail "a terminal is not told how long a draft is: $(cat "$folder/out")"
     pads $((262144 - grown)) && drafts_again
     is_told '  targets 262144 of 262144 bytes !'
-    signs wide targets.json
+    signs wide --again targets.json
     [ "$(size d/targets.json)" = 262144 ] || fail "a signed draft has not the bytes that it was to have: $(size d/targets.json)"
     "$release" show --at $now --in d >"$folder/out"
     is_told '  targets 262144 of 262144 bytes !'
