@@ -70,7 +70,8 @@ drafts_are_measured() {
 drafts_of_two_signatures() {
     local first both
     draft_alone root targets=2@wide.key,narrow.key,tiny.key
-    draft_alone --anew targets --expires 90d
+    rm d/targets.json
+    draft_alone targets --expires 90d
     pads 100000
     cp d/targets.json begun.json
     signs tiny targets.json
