@@ -161,7 +161,7 @@ what_stands_in_the_way() {
     rm -r got
     mkdir got
     for name in client.db client.db-wal; do
-        ln -f "$name" got/a.txt
+        ln -sf "../$name" got/a.txt
         gets_many 3 'written b/c.txt\n' "release: got/a.txt: a file of the client's own database\nfault file\n" --from site a.txt b/c.txt
     done
     rm -r got
