@@ -87,19 +87,44 @@ def ratio(row):
     return f"{float(row['ratio']):.2f}" if re.fullmatch(r"[\d.e+-]+", row["ratio"]) else row["ratio"]
 
 
-def line(row, run):
-    bar = ", ".join(filter(None, (row["bar"].replace("at most 1.25 in", "in"), row["verdict"])))
-    cells = (f"`{row['name']}`", numbers(row), numbers(row, "peer_"), ratio(row), row["growth"], bar, run)
+def sized(row):
+    """What the sizes of a figure have in common, and its size: of 'verify-w4' they are 'verify-wN' and '4'."""
+    size = re.fullmatch(r"(.*-w?)(\d+)", row["name"])
+    return (f"{size[1]}N", size[2]) if size else (row["name"], "")
+
+
+def grouped(rows):
+    """The sizes of a figure that have one run, one bar and one verdict, for a line of the table each."""
+    groups = {}
+    for at, row in enumerate(rows):
+        name, size = sized(row)
+        same = groups.setdefault((name, row["unit"], row["bar"], *(row[it] for it in RUN), "" if size else at), [[]])
+        if len({it["verdict"] for it in [*same[-1], row]} - {""}) > 1:
+            same.append([])
+        same[-1].append(row)
+    return [group for same in groups.values() for group in same]
+
+
+def middles(group, prefix=""):
+    """The medians of a group with their unit, or their ends where they have none."""
+    found = [short(row[f"{prefix}median"]) for row in group if row[f"{prefix}median"]]
+    return f"{'; '.join(found)} {group[0]['unit'].replace('a second', '/ s')}" if found else numbers(group[0], prefix)
+
+
+def line(group, run):
+    """Sizes of a figure as one line of the table."""
+    name, sizes = sized(group[0])[0], [size for _, size in map(sized, group) if size]
+    growth = "; ".join(row["growth"].split(" ")[0] for row in group if row["growth"])
+    bar = ", ".join(filter(None, (group[-1]["bar"].replace("at most 1.25 in", "in"), group[-1]["verdict"])))
+    cells = (", ".join([f"`{name}`", *sizes]), middles(group), middles(group, "peer_"), "; ".join(filter(None, map(ratio, group))), growth, bar, run)
     return "| " + " | ".join(map(str, cells)) + " |"
 
 
-def meaning(row):
+def meaning(group):
     """The name of a figure, what it is and what stands next to it, the same for all sizes."""
-    name, what = row["name"], row["what"]
-    size = re.fullmatch(r"(.*-)(\d+)", name)
-    if size:
-        name, what = f"{size[1]}N", re.sub(rf"\b{size[2]}\b", "N", what)
-    return f"| `{name}` | {what} | {row['peer']} |"
+    name, size = sized(group[-1])
+    what = re.sub(rf"\b(w?){size}\b", r"\1N", group[-1]["what"]) if size else group[-1]["what"]
+    return f"- `{name}`: {what}" + (f"; next to {group[-1]['peer']}" if group[-1]["peer"] else "")
 
 
 def day(date):
@@ -108,13 +133,14 @@ def day(date):
 
 
 def markdown(rows):
-    """The table, and what is said of each run."""
+    """The table, what each figure is, and what is said of each run."""
     runs = [*dict.fromkeys(tuple(row[it] for it in RUN) for row in rows)]
+    groups = grouped(rows)
     lines = ["| Row | Figure | Floor or peer | Ratio | Growth | Bar | Run |", "|" + "---|" * 7]
-    lines += [line(row, runs.index(tuple(row[it] for it in RUN)) + 1) for row in rows]
+    lines += [line(group, runs.index(tuple(group[0][it] for it in RUN)) + 1) for group in groups]
+    lines += ["", *dict.fromkeys(map(meaning, groups))]
     lines += ["", *(told_of(number, run, runs[number - 2] if number > 1 else None) for number, run in enumerate(runs, 1))]
     lines += no_figure({row["name"] for row in rows})
-    lines += ["", "| Row | What it is | Next to it |", "|---|---|---|", *dict.fromkeys(map(meaning, rows))]
     return "\n".join(lines) + "\n"
 
 

@@ -15,6 +15,7 @@ EXAMPLE = f"{TOP}/example"
 AT = ["--at", "1893456000"]
 ROLES = ("timestamp", "snapshot", "targets")
 HELLO = b"GET /targets/hello.txt HTTP/1.1\r\n\r\n"
+TRIES = 5
 
 
 class Wrong(Exception):
@@ -67,11 +68,15 @@ class Server:
     """A server in a process of its own."""
 
     def __init__(self, db, *words, release=RELEASE, front=(), at=AT, **env):
-        self.port = free_port()
-        self.said = tempfile.TemporaryFile()
-        words = [*front, release, "serve", *at, "--db", db, "--port", str(self.port), *words]
-        self.process = subprocess.Popen(words, stdout=subprocess.PIPE, stderr=self.said, env={**os.environ, **env})
-        line = self.process.stdout.readline()
+        for _ in range(TRIES):
+            self.port = free_port()
+            self.said = tempfile.TemporaryFile()
+            started = [*front, release, "serve", *at, "--db", db, "--port", str(self.port), *words]
+            self.process = subprocess.Popen(started, stdout=subprocess.PIPE, stderr=self.said, env={**os.environ, **env})
+            line = self.process.stdout.readline()
+            if line or b"Address already in use" not in self.errors():
+                break
+            self.__exit__()  # Somebody took the port between the look and the start.
         want(line == b"listening on 127.0.0.1:%d\n" % self.port, f"serve said {line!r}: {self.errors()!r}")
 
     def errors(self):
@@ -126,11 +131,15 @@ def rest(peer):
 
 
 def free_port():
+    """A port that nobody has: it may be another's by the time a server takes it."""
     while True:
         port = random.randrange(10000, 20000)
         with socket.socket() as trial:
-            if trial.connect_ex(("127.0.0.1", port)):
-                return port
+            try:
+                trial.bind(("127.0.0.1", port))
+            except OSError:
+                continue
+            return port
 
 
 def is_granted(reply):

@@ -27,3 +27,4 @@ pub mod Grows
 pub mod Missing
 pub mod GoodChains
 pub mod TrueVerdicts
+pub mod FoundOut

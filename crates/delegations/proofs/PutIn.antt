@@ -17,7 +17,7 @@ module _ {K A : Type 0} (below same : K → K → Bool)
     (chain : (a b c : K) → below a b ≡ true → below b c ≡ true → below a c ≡ true)
     (apart : (a b : K) → below a b ≡ true → same b a ≡ false)
     (one : (a b : K) → same a b ≡ true → a ≡ b) where
-  skipped : (rows : List (K × A)) (k : K) (v : A) (q : K) → same k q ≡ false → value_at same (with_row below rows k v) q ≡ value_at same rows q
+  pub skipped : (rows : List (K × A)) (k : K) (v : A) (q : K) → same k q ≡ false → value_at same (with_row below rows k v) q ≡ value_at same rows q
   skipped [] k v q h = rw h refl
   skipped (row ∷ rows) k v q h = split (skipped rows k v q h) (below k row.0)
     where

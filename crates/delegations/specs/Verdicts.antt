@@ -32,6 +32,10 @@ AreTrue rows T = AllByRecursion (λ known. (file : File Targets) → row_at rows
 abbrev pub AreOfRows : Rows → Table → Type 0
 AreOfRows rows T = AllByRecursion (λ row. IsSome (row_at rows row.0.0 row.0.1)) T
 
+-- what was found out so far: each verdict is the truth, of a row that stands on the shelf
+abbrev pub AreFoundOut : Rows → Table → Type 0
+AreFoundOut rows T = AreTrue rows T × AreOfRows rows T
+
 -- each row that the table names is at the version that the snapshot lists
 abbrev pub AreListed : List (Name × MetaFile) → Table → Type 0
 AreListed listing T = AllByRecursion (λ row. option_map (λ m. m.version) (look_up listing row.0.0) ≡ Some row.0.1) T

@@ -6,9 +6,9 @@ ghost use Rattle.keys_roles.specs.Views.{verdict_views};
 ghost use Rattle.document_parts.specs.Documents as plain;
 ghost use Rattle.metadata.specs.File as files;
 ghost use Rattle.metadata.specs.FileViews.{targets_file};
-ghost use Rattle.delegations.specs.Rows.{AllFiles, row_at, same_place, value_at};
+ghost use Rattle.delegations.specs.Rows.{AllFiles, Rows as Shelved, row_at, same_place, value_at};
 ghost use Rattle.delegations.specs.Search.{doc};
-ghost use Rattle.delegations.specs.Verdicts.{AreListed, AreOfRows, AreTrue, IsComplete, known_at, most_verdicts, verdict_count};
+ghost use Rattle.delegations.specs.Verdicts.{AreFoundOut, AreListed, AreOfRows, AreTrue, IsComplete, known_at, most_verdicts, verdict_count};
 ghost use Rattle.delegations.specs.Views.{edge_view, held_rows, known_row, row_views, rows_view, shelf_view, table_view};
 ghost use Rattle.delegations.specs.steps.Gathering.{AreEdges, IsRow};
 
@@ -16,7 +16,7 @@ use crate::gathering::{all_edges, gather};
 use crate::rows::Rows;
 use crate::shelf::{Edge, Shelf};
 use crate::visiting::{has_hash, has_length};
-use keys_roles::Verdict;
+use keys_roles::{Steps, Verdict, with_verdicts};
 use metadata::{File, Targets};
 use std::alloc::{AllocError, Global};
 use std::marker::Model;
@@ -67,11 +67,67 @@ impl Verdicts {
         count_of(&self.rows)
     }
 
+    /// Nothing is known any more.
+    pub fn forget(&mut self)
+        ensures { self.new ≡ [] }
+    {
+        self.rows.clear();
+    }
+
+    // Finds out what is not known yet of the document of the row at the end of an edge: the verdicts under the edge's rule, where nothing is
+    // known of the row and there is room.
+    pub(crate) fn learn(
+        &mut self,
+        alloc: Global,
+        edge: &Edge,
+        version: u32,
+        file: &File<Targets>,
+    ) -> Result<(), AllocError>
+        ensures { (rows : Shelved) → row_at rows edge.now.role.now version ≡ Some (targets_file file.now) → AreFoundOut rows self.old → AreFoundOut rows self.new }
+    {
+        if first_of(&self.rows, edge.role, version).is_some() {
+            return Ok(());
+        }
+        let row = learnt(alloc, edge, version, file)?;
+        if self.count() + row.verdicts.len() > MOST_VERDICTS {
+            return Ok(());
+        }
+        self.rows.push(row)?;
+        Ok(())
+    }
+
     pub(crate) fn rows(&self) -> &[RowVerdicts]
         ensures { table_view result.now ≡ self.now }
     {
         &self.rows
     }
+}
+
+// The verdicts on the document of a row under the rule of an edge into its role.
+fn learnt(
+    alloc: Global,
+    edge: &Edge,
+    version: u32,
+    file: &File<Targets>,
+) -> Result<RowVerdicts, AllocError>
+    ensures place { IfOk result (λ r. (known_row r).0 ≡ (edge.now.role.now, version)) }
+    ensures sound { IfOk result (λ r. AreVerdicts (targets_file file.now).signed (targets_file file.now).entries (known_row r).1) }
+{
+    let verdicts = with_verdicts(
+        Vec::new(alloc),
+        edge.rule,
+        edge.keys,
+        file.source.signed(),
+        file.source.signatures(),
+        &[],
+        &mut Steps::new(),
+    )?;
+    let role = String::from_str(alloc, edge.role)?;
+    Ok(RowVerdicts {
+        role,
+        version,
+        verdicts,
+    })
 }
 
 // How many verdicts the rows have.

@@ -1,4 +1,7 @@
 //! Lists that grow.
+ghost use Rattle.std.specs.Prelude.{◌≡◌, [], None, Some, IfErr, IfOk};
+ghost use Rattle.growing_texts.specs.Lists.{Puts, kept};
+
 use std::alloc::{AllocError, Global};
 
 /// A list that grows. After the first part for which memory ran out it takes no more, and there is no list in the end.
@@ -10,7 +13,9 @@ pub struct Growing<T> {
 
 impl<T: Drop> Growing<T> {
     /// An empty list.
-    pub fn new(alloc: Global) -> Growing<T> {
+    pub fn new(alloc: Global) -> Growing<T>
+        ensures { kept result ≡ Some [] }
+    {
         Growing {
             list: Vec::new(alloc),
             is_cut: false,
@@ -18,7 +23,10 @@ impl<T: Drop> Growing<T> {
     }
 
     /// Puts a part after the others, if it was made.
-    pub fn put(&mut self, part: Result<T, AllocError>) {
+    pub fn put(&mut self, part: Result<T, AllocError>)
+        ensures put { IfOk part (Puts self.old self.new) }
+        ensures unmade { IfErr part (λ _. kept self.new ≡ None) }
+    {
         let Ok(part) = part else {
             self.is_cut = true;
             return;
@@ -29,12 +37,17 @@ impl<T: Drop> Growing<T> {
     }
 
     /// The parts so far.
-    pub fn parts(&self) -> &[T] {
+    pub fn parts(&self) -> &[T]
+        ensures { result.now ≡ self.now.list.items }
+    {
         &self.list
     }
 
     /// The whole list.
-    pub fn done(self) -> Result<Vec<T>, AllocError> {
+    pub fn done(self) -> Result<Vec<T>, AllocError>
+        ensures done { IfOk result (λ list. kept self ≡ Some list.items) }
+        ensures cut { IfErr result (λ _. kept self ≡ None) }
+    {
         let Growing { list, is_cut } = self;
         if is_cut {
             return Err(AllocError);

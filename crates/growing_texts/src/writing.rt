@@ -1,4 +1,7 @@
 //! Text that grows.
+ghost use Rattle.std.specs.Prelude.{◌≡◌, ◌++◌, ◌<◌, [], ◌∷◌, None, Some, IfErr, IfOk, MatchResult, codes, cond, nat_lt, option_map, string_bytes, unwrap_or};
+ghost use Rattle.growing_texts.specs.Texts.{Says, control, hex_digit, in_quotes, json_text, on_page, page_text, said};
+
 use std::alloc::{AllocError, Global};
 
 /// Text so far. Once memory has run out it takes nothing more, and there is no text in the end.
@@ -11,7 +14,9 @@ pub struct Text {
 
 impl Text {
     /// No text so far.
-    pub fn new(alloc: Global) -> Text {
+    pub fn new(alloc: Global) -> Text
+        ensures { said result ≡ Some [] }
+    {
         Text {
             alloc,
             bytes: Vec::new(alloc),
@@ -20,7 +25,10 @@ impl Text {
     }
 
     /// The whole text.
-    pub fn done(self) -> Result<Vec<u8>, AllocError> {
+    pub fn done(self) -> Result<Vec<u8>, AllocError>
+        ensures done { IfOk result (λ bytes. said self ≡ Some bytes.items) }
+        ensures cut { IfErr result (λ _. said self ≡ None) }
+    {
         if self.is_cut {
             return Err(AllocError);
         }
@@ -28,21 +36,28 @@ impl Text {
     }
 
     /// Says the text.
-    pub fn say(&mut self, text: &str) {
+    pub fn say(&mut self, text: &str)
+        ensures { Says self.old self.new text.now }
+    {
         if !self.is_cut {
             self.is_cut = self.bytes.extend_from_slice(text.as_bytes()).is_err();
         }
     }
 
     /// Says a byte, which is a part of a text.
-    pub fn say_byte(&mut self, byte: u8) {
+    pub fn say_byte(&mut self, byte: u8)
+        ensures { Says self.old self.new (byte ∷ []) }
+    {
         if !self.is_cut {
             self.is_cut = self.bytes.push(byte).is_err();
         }
     }
 
     /// Says what was formed, if there was memory for it.
-    pub fn formed(&mut self, text: Result<String, AllocError>) {
+    pub fn formed(&mut self, text: Result<String, AllocError>)
+        ensures formed { IfOk text (λ t. Says self.old self.new (string_bytes t)) }
+        ensures unformed { IfErr text (λ _. said self.new ≡ None) }
+    {
         match text {
             Ok(text) => self.say(text.as_str()),
             Err(_) => self.is_cut = true,
@@ -50,7 +65,9 @@ impl Text {
     }
 
     /// Says two parts of a line, and ends it.
-    pub fn line(&mut self, first: &str, second: &str) {
+    pub fn line(&mut self, first: &str, second: &str)
+        ensures { Says self.old self.new (first.now ++ second.now ++ 10 ∷ []) }
+    {
         self.say(first);
         self.say(second);
         self.say("\n");
@@ -69,32 +86,74 @@ impl Text {
     }
 
     /// Says the text as a page has it, and before it what leads to it.
-    pub fn escaped(&mut self, lead: &str, text: &str) {
+    pub fn escaped(&mut self, lead: &str, text: &str)
+        ensures { Says self.old self.new (lead.now ++ page_text text.now) }
+    {
         self.say(lead);
-        for byte in text.as_bytes() {
-            match *byte {
-                b'&' => self.say("&amp;"),
-                b'<' => self.say("&lt;"),
-                b'>' => self.say("&gt;"),
-                b'"' => self.say("&quot;"),
-                byte => self.say_byte(byte),
-            }
+        let mut rest = text.as_bytes();
+        'bytes: while let Some((byte, later)) = rest.split_first() {
+            self.on_page(*byte);
+            rest = later;
+        }
+    }
+
+    // Says a byte of a text as a page has it.
+    fn on_page(&mut self, byte: u8)
+        ensures { Says self.old self.new (on_page byte) }
+    {
+        match byte {
+            b'&' => self.say("&amp;"),
+            b'<' => self.say("&lt;"),
+            b'>' => self.say("&gt;"),
+            b'"' => self.say("&quot;"),
+            byte => self.say_byte(byte),
         }
     }
 
     /// Says the text as JSON has it, with its quotation marks, and before it what leads to it.
-    pub fn quoted(&mut self, lead: &str, text: &str) {
+    pub fn quoted(&mut self, lead: &str, text: &str)
+        ensures { Says self.old self.new (lead.now ++ json_text text.now) }
+    {
         self.say(lead);
-        self.say("\"");
-        for byte in text.as_bytes() {
-            match *byte {
-                b'"' => self.say("\\\""),
-                b'\\' => self.say("\\\\"),
-                byte if byte < 0x20 => self.formed(format!(in self.alloc; "\\u{byte:04x}")),
-                byte => self.say_byte(byte),
-            }
+        self.say_byte(b'"');
+        let mut rest = text.as_bytes();
+        'bytes: while let Some((byte, later)) = rest.split_first() {
+            self.in_quotes(*byte);
+            rest = later;
         }
-        self.say("\"");
+        self.say_byte(b'"');
+    }
+
+    // Says a byte of a text that stands between quotation marks.
+    fn in_quotes(&mut self, byte: u8)
+        ensures { Says self.old self.new (in_quotes byte) }
+    {
+        match byte {
+            b'"' => self.say("\\\""),
+            b'\\' => self.say("\\\\"),
+            byte => self.plain(byte),
+        }
+    }
+
+    // Says a byte of such a text that is neither a quotation mark nor a backslash.
+    fn plain(&mut self, byte: u8)
+        ensures { Says self.old self.new (cond (nat_lt byte 32) (control byte) (byte ∷ [])) }
+    {
+        if byte < 0x20 {
+            self.control(byte);
+        } else {
+            self.say_byte(byte);
+        }
+    }
+
+    // Says a control character of such a text.
+    #[tactic(auto, using(crate::proofs::Saying::then))]
+    fn control(&mut self, byte: u8)
+        ensures { Says self.old self.new (control byte) }
+    {
+        self.say("\\u00");
+        self.say_byte(digit(byte / 16));
+        self.say_byte(digit(byte % 16));
     }
 
     /// Says the texts as a list of JSON, and before it what leads to it.
@@ -109,7 +168,9 @@ impl Text {
     }
 
     /// Says whether something is so as JSON has it, and before it what leads to it.
-    pub fn flag(&mut self, lead: &str, is_so: bool) {
+    pub fn flag(&mut self, lead: &str, is_so: bool)
+        ensures { Says self.old self.new (lead.now ++ cond is_so (codes "true") (codes "false")) }
+    {
         self.say(lead);
         self.say(if is_so { "true" } else { "false" });
     }
@@ -123,20 +184,27 @@ impl Text {
     }
 
     /// Says a text, or that there is none, as JSON has it, and before it what leads to it.
-    pub fn quoted_or_null(&mut self, lead: &str, text: Option<&str>) {
+    pub fn quoted_or_null(&mut self, lead: &str, text: Option<&str>)
+        ensures { Says self.old self.new (lead.now ++ unwrap_or (option_map (λ t. json_text t.now) text.entry) (codes "null")) }
+    {
         match text {
             Some(text) => self.quoted(lead, text),
             None => self.null(lead),
         }
     }
 
-    fn null(&mut self, lead: &str) {
+    fn null(&mut self, lead: &str)
+        ensures { Says self.old self.new (lead.now ++ codes "null") }
+    {
         self.say(lead);
         self.say("null");
     }
 
     /// Says the comma that stands before each item of a list but the first.
-    pub fn comma(&mut self, index: usize) {
+    pub fn comma(&mut self, index: usize)
+        ensures first { index ≡ 0 → self.new ≡ self.old }
+        ensures later { 0 < index → Says self.old self.new (44 ∷ []) }
+    {
         if index > 0 {
             self.say(",");
         }
@@ -149,4 +217,12 @@ impl Text {
             self.say("</li>\n");
         }
     }
+}
+
+// A hex digit of lower case.
+fn digit(value: u8) -> u8
+    requires { value < 16 }
+    ensures { result ≡ hex_digit value }
+{
+    if value < 10 { 48 + value } else { 87 + value }
 }

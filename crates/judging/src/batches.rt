@@ -16,6 +16,7 @@ ghost use Rattle.trusted_state.specs.Views.{documents_view, draft_view};
 
 use crate::calls::offer_one;
 use crate::compared::are_coherent;
+use delegations::Verdicts;
 use denials::Denial;
 use metadata::Moment;
 use std::alloc::Global;
@@ -126,12 +127,13 @@ fn judge_all<'a>(
     ensures err { IfErr result (IsDeniedAt (commands.batch (draft_view draft.entry) (documents_view documents.now) now)) }
 {
     let mut draft = draft;
+    let mut known = Verdicts::new(alloc);
     let mut accepted = 0usize;
     let mut same = 0usize;
     let mut index = 0usize;
     while index < documents.len() {
         let document = &documents[index];
-        let taken = match offer_one(alloc, &mut draft, &document.0, document.1, now) {
+        let taken = match offer_one(alloc, &mut draft, &mut known, &document.0, document.1, now) {
             Ok(taken) => taken,
             Err(refusal) => return Err(refused_at(refusal, index)),
         };

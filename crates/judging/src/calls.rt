@@ -1,6 +1,7 @@
 //! The commands: each is judged on a state that is borrowed, and answers what it changes, or the first rule that fails.
 ghost use Rattle.std.specs.Prelude.{◌≡◌, ◌∷◌, [], IfOk};
 ghost use Rattle.metadata.specs.FileViews.{root_file};
+ghost use Rattle.delegations.specs.Verdicts.{AreFoundOut};
 ghost use Rattle.trusted_state.specs.Answers.{Answers};
 ghost use Rattle.trust_rules.specs.Held.{OfEachState};
 ghost use Rattle.trusted_state.specs.Knowing.{CarriesKnown, CarriesVerdicts};
@@ -16,6 +17,7 @@ use crate::roots::offer_root;
 use crate::snapshots::offer_snapshot;
 use crate::targets_metadata::offer_targets;
 use crate::timestamps::offer_timestamp;
+use delegations::Verdicts;
 use denials::Denial;
 use metadata::{File, Moment, Root};
 use std::alloc::{AllocError, Global};
@@ -117,27 +119,41 @@ fn judge_offer(
 {
     stays_valid();
     let mut draft = Draft::new(alloc, held.trusted());
-    if !offer_one(alloc, &mut draft, offer, bytes, now)? {
+    let mut known = Verdicts::new(alloc);
+    if !offer_one(alloc, &mut draft, &mut known, offer, bytes, now)? {
         return Ok(Outcome::Same);
     }
     Ok(Outcome::Changed(Effects::of(alloc, draft.into_changes())))
 }
 
-// Offers one document to a draft. The answer is whether it was taken.
+// Offers one document to a draft. The answer is whether it was taken. What is found out of signatures on the shelf is known to the targets
+// documents that follow, up to the next document of another role.
 pub(crate) fn offer_one(
     alloc: Global,
     draft: &mut Draft<'_>,
+    known: &mut Verdicts,
     offer: &Offer,
     bytes: &[u8],
     now: Moment,
 ) -> Result<bool, Refusal>
+    requires { AreFoundOut (draft_view draft.old).shelf known.old }
     ensures ends { Ends (commands.offer (draft_view draft.old) (offer_view offer.now) bytes.now now) (draft_view draft.old) (draft_view draft.new) result }
     ensures base { draft.new.base.now ≡ draft.old.base.now }
+    ensures known { IfOk result (λ _. AreFoundOut (draft_view draft.new).shelf known.new) }
 {
     match offer {
-        Offer::Root => offer_root(alloc, draft, bytes),
-        Offer::Timestamp => offer_timestamp(alloc, draft, bytes, now),
-        Offer::Snapshot => offer_snapshot(alloc, draft, bytes, now),
-        Offer::Targets(role) => offer_targets(alloc, draft, role, bytes, now),
+        Offer::Root => {
+            known.forget();
+            offer_root(alloc, draft, bytes)
+        }
+        Offer::Timestamp => {
+            known.forget();
+            offer_timestamp(alloc, draft, bytes, now)
+        }
+        Offer::Snapshot => {
+            known.forget();
+            offer_snapshot(alloc, draft, bytes, now)
+        }
+        Offer::Targets(role) => offer_targets(alloc, draft, known, role, bytes, now),
     }
 }

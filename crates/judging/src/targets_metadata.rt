@@ -1,15 +1,16 @@
 //! Targets metadata: the order of its checks.
-ghost use Rattle.std.specs.Prelude.{◌≡◌, IfOk};
+ghost use Rattle.std.specs.Prelude.{◌≡◌, None, IfOk, IsTrue};
 ghost use Rattle.metadata.specs.FileViews.{root_file, targets_file};
 ghost use Rattle.document_parts.specs.Views.{meta_view};
-ghost use Rattle.delegations.specs.Rows.{with_row, place_before};
+ghost use Rattle.delegations.specs.Rows.{with_row, place_before, row_at};
+ghost use Rattle.delegations.specs.Verdicts.{AreFoundOut};
 ghost use Rattle.trusted_state.specs.Answers.{Gives};
 ghost use Rattle.trusted_state.specs.steps.Judging.{Judges, Ends};
 ghost use Rattle.trust_rules.specs.Offers as commands;
 ghost use Rattle.trusted_state.specs.Views.{draft_view};
 
 use crate::files::new_targets;
-use delegations::{Row, Shelf, has_hash, has_length, vouched};
+use delegations::{Row, Shelf, Verdicts, has_hash, has_length, vouched};
 use denials::Denial;
 use metadata::{File, Meta, Moment, Root, Targets, live};
 use path_patterns::RoleName;
@@ -42,8 +43,9 @@ fn placed(
     version: u32,
     new: &File<Targets>,
 ) -> Result<bool, Refusal>
-    ensures { Judges (commands.placed (draft_view draft.now) role.now version (targets_file new.now))
+    ensures judged { Judges (commands.placed (draft_view draft.now) role.now version (targets_file new.now))
         (record (draft_view draft.now) { shelf = with_row place_before (draft_view draft.now).shelf (role.now, version) (targets_file new.now) }) result }
+    ensures free { IfOk result (λ taken. IsTrue taken → row_at (draft_view draft.now).shelf role.now version ≡ None) }
 {
     if let Some(old) = draft.row_at(role.as_str(), version) {
         if are_same(old.source.bytes(), new.source.bytes()) {
@@ -61,13 +63,17 @@ fn placed(
 fn judge_targets(
     alloc: Global,
     draft: &Draft<'_>,
+    known: &mut Verdicts,
     root: &File<Root>,
     role: &RoleName,
     new: &File<Targets>,
     now: Moment,
 ) -> Result<bool, Refusal>
-    ensures { Judges (commands.renew_targets (draft_view draft.now) (root_file root.now) role.now (targets_file new.now) now)
+    requires { AreFoundOut (draft_view draft.now).shelf known.old }
+    ensures judged { Judges (commands.renew_targets (draft_view draft.now) (root_file root.now) role.now (targets_file new.now) now)
         (record (draft_view draft.now) { shelf = with_row place_before (draft_view draft.now).shelf (role.now, new.now.body.version) (targets_file new.now) }) result }
+    ensures free { IfOk result (λ taken. IsTrue taken → row_at (draft_view draft.now).shelf role.now new.now.body.version ≡ None) }
+    ensures known { AreFoundOut (draft_view draft.now).shelf known.new }
 {
     let snapshot = live_snapshot(draft.timestamp(), draft.snapshot(), root, now)?;
     let Some(entry) = snapshot.body.entry(role.as_str()) else {
@@ -75,7 +81,7 @@ fn judge_targets(
     };
     named_targets(entry, new)?;
     let shelf = Shelf::new(&root.body, &snapshot.body, draft.rows());
-    if !vouched(alloc, &shelf, role, new, now)? {
+    if !vouched(alloc, &shelf, known, role, new, now)? {
         return Err(Refusal::Denied(Denial::RoleThreshold));
     }
     if !live(new.body.expires, now) {
@@ -107,18 +113,21 @@ fn put_targets(
 pub(crate) fn offer_targets(
     alloc: Global,
     draft: &mut Draft<'_>,
+    known: &mut Verdicts,
     role: &RoleName,
     bytes: &[u8],
     now: Moment,
 ) -> Result<bool, Refusal>
+    requires { AreFoundOut (draft_view draft.old).shelf known.old }
     ensures ends { Ends (commands.offer_targets (draft_view draft.old) role.now bytes.now now) (draft_view draft.old) (draft_view draft.new) result }
     ensures base { draft.new.base.now ≡ draft.old.base.now }
+    ensures known { IfOk result (λ _. AreFoundOut (draft_view draft.new).shelf known.new) }
 {
     let Some(root) = draft.root() else {
         return Err(Refusal::Denied(Denial::NoRoot));
     };
     let new = new_targets(alloc, bytes)?;
-    if !judge_targets(alloc, draft, root, role, &new, now)? {
+    if !judge_targets(alloc, draft, known, root, role, &new, now)? {
         return Ok(false);
     }
     put_targets(draft, role, new)?;

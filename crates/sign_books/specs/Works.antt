@@ -28,8 +28,9 @@ IsSignedOnceBy (Two pair) file b out c = SignsBelowOnce b pair file (Ok out) c
 abbrev pub Does : Type 0 → Type 0 → Type 1
 Does Work Done = Work → Book → Result Done Fault → Book → Work → Type 0
 
--- What is answered came of the work, which was done once, over a book in order, by events of the law. Where the book's log could not be
--- copied, what came of it is not handed on, and where no book was opened, the work is as it was: then the answer is a fault.
+-- What is answered came of the work, which was done once, over a book in order, by events of the law (`over`). Or the answer is a fault,
+-- and what came of the work is not handed on (`unclosed`: the book's log could not be copied), or no book was opened, and the work is as it
+-- was (`unopened`). It does not say that the log is copied wherever the answer is none.
 pub data Worked {Work Done : Type 0} (does : Does Work Done) (work : Work) : Result Done Fault → Work → Type 0 where
   over : {r : Result Done Fault} {left : Work} (b c : Book) → IsBook b → Leads b c → does work b r c left → Worked does work r left
   unclosed : {r : Result Done Fault} {fault : Fault} {left : Work} (b c : Book) → IsBook b → Leads b c → does work b r c left → Worked does work (Err fault) left

@@ -1,4 +1,4 @@
-use Rattle.std.proofs.Common.{◌≡◌, ◌+◌, ◌++◌, ◌∙◌, List, [], ◌∷◌, Some, None, Option, IfSome, IfNone, codes, length, map, refl, sym, ap, subst, arith, string_bytes}
+use Rattle.std.proofs.Common.{◌≡◌, ◌+◌, ◌++◌, ◌∙◌, List, [], ◌∷◌, None, codes, length, map, refl, sym, ap, subst, arith, string_bytes}
 use Rattle.std.proofs.lemmas.List.{length-map}
 use Rattle.keys_roles.specs.Views.{verdict_view}
 use Rattle.metadata.specs.File.{Name, Names}
@@ -10,6 +10,7 @@ use Rattle.delegations.specs.Verdicts.{Table, verdict_count}
 use Rattle.delegations.specs.Views.{known_row, shelf_view, table_view}
 use Rattle.delegations.specs.declared.verdicts.RowVerdicts.{RowVerdicts}
 use Rattle.delegations.specs.steps.Gathering.{AreGathered, IsRow}
+use Rattle.delegations.proofs.FoundOut.{of_none, of_some, rows_more}
 use Rattle.delegations.proofs.Gathered.{count_more, listed_names, names_distinct, no_row, no_rows, with_row}
 use Rattle.delegations.proofs.Holding.{all_listed, all_of_rows, all_true, complete, too_many}
 use Rattle.delegations.proofs.verdicts.all_verdicts.Goals as goal
@@ -20,16 +21,6 @@ names es = map (λ e. e.0) es
 none_left : {A : Type 0} (xs : List A) → length xs ≡ 0 → xs ≡ []
 none_left [] h = refl
 none_left (x ∷ xs) h = absurd (omega (arith, h))
-
-rows_more : (rows : List RowVerdicts) (row : RowVerdicts) → table_view (rows ++ row ∷ []) ≡ table_view rows ++ known_row row ∷ []
-rows_more [] row = refl
-rows_more (r ∷ rows) row = ap (λ (T : Table). known_row r ∷ T) (rows_more rows row)
-
-of_some : {A : Type 0} (P : A → Type 0) (o : Option A) (x : A) → o ≡ Some x → IfSome o P → P x
-of_some P o x is h = subst (λ p. IfSome p P) is h
-
-of_none : {A : Type 0} (P : Type 0) (o : Option A) → o ≡ None → IfNone o P → P
-of_none P o is h = subst (λ p. IfNone p P) is h
 
 -- the names that are left, the first of them apart
 first_name : (rest : List (Name × Meta)) (e : Name × Meta) (later : List (Name × Meta)) (role : Name) → rest ≡ e ∷ later → role ≡ e.0 → names rest ≡ role ∷ names later

@@ -51,6 +51,7 @@ roles-preserved c =
     (follows_next V c.args.now c.args.role.now new met hss (whole_of c.args.frame) coded (rest_of K c.in-Some.later.now) (map (λ n. n.now) c.follow.new.met.items) (waiting c.follow.new.todo.items) c.in_ok-follow.field-0 looking c.in_ok-follow.ensures.follows) in
     record {
       looking = looks_on V c.args.now c.args.role.now new met hss (whole_of c.args.frame) coded (rest_of K c.in-Some.later.now) (map (λ n. n.now) c.follow.new.met.items) (waiting c.follow.new.todo.items) looking follows;
+      known = c.in_ok-follow.ensures.known;
       less = let before = c.roles.invariant.less in let more = c.in_ok-follow.ensures.less in omega (arith, before, more);
     }
 

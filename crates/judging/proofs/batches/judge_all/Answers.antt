@@ -28,6 +28,7 @@ loop-index-preserved c =
           (offer_view c.index-documents-index.result.0, c.index-documents-index.result.1.now) (documents_view (drop (c.loop-index.index + 1) c.args.documents.now)) c.args.now c.in-Ok.taken r
           (ap (λ (n : ℕ). c.loop-index.accepted + n) c.one_if-accepted.ensures) (ap (λ (n : ℕ). c.loop-index.same + n) c.one_if-same.ensures) refl c.in-Ok.ensures.ends h));
       base = c.offer_one.ensures.base ∙ c.loop-index.invariant.base;
+      known = c.in-Ok.ensures.known;
       count = omega (arith, c.loop-index-test.true);
       few_accepted = at_most_one_more c.in-Ok.taken c.loop-index.invariant.few_accepted c.one_if-accepted.ensures;
       few_same = at_most_one_more (not c.in-Ok.taken) c.loop-index.invariant.few_same c.one_if-same.ensures;
