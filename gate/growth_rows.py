@@ -1,6 +1,7 @@
 """The rows of gate/figures that say how a cost grows: a batch of delegated roles, commands over an index in bins, and a server under load."""
 import hashlib
 import http.client
+import os
 import re
 import shutil
 
@@ -85,8 +86,12 @@ def index(scene):
         (place / "new").write_bytes(b"new\n")
         days = [daily(place, number, bins) for number in range(scene.rounds)]
         for name, command in COMMANDS.items():
-            took = [1000 * day[name] for day in days]
-            figure(f"{name}-{targets}", f"{command} over {targets} targets in {bins} bins", "ms", took, bar=tools.IN_PROPORTION, size=targets)
+            took, copied = ([1000 * day[it] for day in days] for it in (name, "copied"))
+            what = f"{command} over {targets} targets in {bins} bins"
+            if name in ("export", "get-all"):
+                figure(f"{name}-{targets}", what, "ms", took, "each of its files read, hashed, written and synced", copied, "at most 2", targets)
+            else:
+                figure(f"{name}-{targets}", what, "ms", took, bar=tools.IN_PROPORTION, size=targets)
 
 
 COMMANDS = {
@@ -156,9 +161,26 @@ def daily(place, number, bins):
     release("init", *client, "root.json", folder=place)
     release("update", *client, "--from", f"files{number}", folder=place)
     took["get-all"] = release("get", *client, "--from", f"files{number}", "--to", f"got{number}", "--all", folder=place)
-    shutil.rmtree(place / f"files{number}")
-    shutil.rmtree(place / f"got{number}")
+    took["copied"] = tools.seconds(lambda: copy_synced(place / f"got{number}", place / f"copy{number}"))
+    for folder in ("files", "got", "copy"):
+        shutil.rmtree(place / f"{folder}{number}")
     return took
+
+
+def copy_synced(source, target):
+    """Copies a folder, one file after the other: each is read, hashed, written next to its place, synced and put there."""
+    for folder, _, names in os.walk(source):
+        into = target / os.path.relpath(folder, source)
+        into.mkdir(parents=True)
+        for name in names:
+            with open(os.path.join(folder, name), "rb") as file:
+                data = file.read()
+            hashlib.sha256(data).digest()
+            with open(into / f"{name}.new", "wb") as file:
+                file.write(data)
+                file.flush()
+                os.fsync(file.fileno())
+            os.replace(into / f"{name}.new", into / name)
 
 
 ASKED = {"straight": "the server, straight", "proxy": "the proxy, a name that may change", "cached": "the proxy, a consistent name, from its cache"}
