@@ -68,13 +68,13 @@ class Server:
     """A server in a process of its own."""
 
     def __init__(self, db, *words, release=RELEASE, front=(), at=AT, **env):
-        for _ in range(TRIES):
+        for left in reversed(range(TRIES)):
             self.port = free_port()
             self.said = tempfile.TemporaryFile()
             started = [*front, release, "serve", *at, "--db", db, "--port", str(self.port), *words]
             self.process = subprocess.Popen(started, stdout=subprocess.PIPE, stderr=self.said, env={**os.environ, **env})
             line = self.process.stdout.readline()
-            if line or b"Address already in use" not in self.errors():
+            if line or left == 0 or b"Address already in use" not in self.errors():
                 break
             self.__exit__()  # Somebody took the port between the look and the start.
         want(line == b"listening on 127.0.0.1:%d\n" % self.port, f"serve said {line!r}: {self.errors()!r}")
