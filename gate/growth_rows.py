@@ -88,10 +88,9 @@ def index(scene):
         for name, command in COMMANDS.items():
             took, copied = ([1000 * day[it] for day in days] for it in (name, "copied"))
             what = f"{command} over {targets} targets in {bins} bins"
+            figure(f"{name}-{targets}", what, "ms", took, bar=tools.IN_PROPORTION, size=targets)
             if name in ("export", "get-all"):
-                figure(f"{name}-{targets}", what, "ms", took, "each of its files read, hashed, written and synced", copied, "at most 2", targets)
-            else:
-                figure(f"{name}-{targets}", what, "ms", took, bar=tools.IN_PROPORTION, size=targets)
+                figure(f"{name}-copied-{targets}", what, "ms", took, "each of its files read, hashed, written and synced", copied, "at most 2", targets)
 
 
 COMMANDS = {
